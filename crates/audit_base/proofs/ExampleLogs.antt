@@ -1,0 +1,110 @@
+-- How the worked examples write their logs: buyers have firm A, sellers firm B, the symbol is Z, and all times are equal.
+use Rattle.std.specs.Prelude.{◌≡◌, ℕ, ◌+◌, ◌*◌, ◌^◌, Bool, true, ◌&&◌, nat_lt, nat_le, List, [], ◌∷◌, length, All, codes}
+use Rattle.std.specs.List.{list_all}
+use Rattle.std.proofs.Common.{zero, suc, arith}
+use Rattle.std.proofs.lemmas.Bool.{and_parts, ltb-true, leb-true}
+use Rattle.std.proofs.lemmas.List.Elements.{All-nil, All-cons}
+use Rattle.audit_base.specs.Moments.{Moment}
+use Rattle.audit_base.specs.declared.names.Key.{Key}
+use Rattle.audit_base.specs.declared.terms.Side.{Side}
+use Rattle.audit_base.specs.declared.terms.Side.TheVariants.{Buy, Sell}
+use Rattle.audit_base.specs.declared.terms.Life.TheVariants.{Rests, Immediate, Market}
+use Rattle.audit_base.specs.declared.records.OrderRecord.{OrderRecord}
+use Rattle.audit_base.specs.declared.records.OrderRecord.TheVariants.{New, Cancel, Replace}
+use Rattle.audit_base.specs.declared.records.TradeRecord.{TradeRecord}
+use Rattle.audit_base.specs.declared.orders.Order.{Order}
+use Rattle.audit_base.specs.declared.orders.Deal.{Deal}
+use Rattle.audit_base.specs.declared.findings.OrderLine.{OrderLine}
+use Rattle.audit_base.specs.Numbers.{market_price}
+use Rattle.audit_base.specs.Orders.{side_at, same_side, on_side_with_key}
+use Rattle.audit_base.specs.Priority.{best}
+use Rattle.audit_base.specs.Deals.{NamesOrders}
+use Rattle.audit_base.specs.Histories.{history, earlier_with_key, target_of, duplicate_id, time_back, unknown_target, ended_before, is_placed, cancelled_of, order_index, order_list, instant_order}
+use Rattle.audit_base.specs.Trades.{trades_of, duplicate_trade, unknown_order, unsound_trade, deals_of}
+use Rattle.audit_base.specs.CallOffences.{inactive, off_limit, other_price, bid_overfilled, ask_overfilled, best_short, is_passed_over, bid_passed_over, ask_passed_over}
+use Rattle.audit_base.specs.Continuous.{traded_before, traded_at, chain, before, entered, size, rests, active}
+use Rattle.audit_base.specs.ContinuousOffences.{not_active, over_limit, over_size, priority_fault, active_meet, spread_fault}
+use Rattle.audit_base.specs.Expected.{pair_deals, available, pair_share}
+use Rattle.audit_base.proofs.OrderLemmas.{same_side-is}
+use Rattle.audit_base.proofs.ContinuousOffenceLemmas.{IsLast}
+
+abbrev pub symbol : List ℕ
+symbol = codes "Z"
+
+abbrev pub firm : Side → List ℕ
+firm Buy = codes "A"
+firm Sell = codes "B"
+
+abbrev pub key : Side → List ℕ → Key
+key side id = record { firm = firm side; id = id }
+
+-- 20240102-09:00:00, and so many seconds later
+abbrev pub at : ℕ → Moment
+at later = record { second = 66137316300 + later; nano = 0 }
+
+-- a price, and a price and a half, in units of 10^-8
+abbrev pub whole : ℕ → ℕ
+whole n = n * 10 ^ 8
+
+abbrev pub half_over : ℕ → ℕ
+half_over n = n * 10 ^ 8 + 5 * 10 ^ 7
+
+abbrev pub new_order : Side → List ℕ → ℕ → ℕ → OrderRecord
+new_order side id quantity price = New (key side id) (at 0) symbol side quantity (whole price) Rests
+
+abbrev pub immediate_order : Side → List ℕ → ℕ → ℕ → OrderRecord
+immediate_order side id quantity price = New (key side id) (at 0) symbol side quantity (whole price) Immediate
+
+abbrev pub market_order : Side → List ℕ → ℕ → OrderRecord
+market_order side id quantity = New (key side id) (at 0) symbol side quantity (market_price side) Market
+
+abbrev pub cancel : Side → List ℕ → List ℕ → OrderRecord
+cancel side id target = Cancel (key side id) (at 0) symbol target
+
+abbrev pub replace : Side → List ℕ → List ℕ → ℕ → ℕ → OrderRecord
+replace side id target quantity price = Replace (key side id) (at 0) symbol target side quantity (whole price)
+
+abbrev pub trade : List ℕ → List ℕ → List ℕ → ℕ → ℕ → TradeRecord
+trade id buy sell quantity price = record { trade = id; time = at 1; symbol = symbol; buy = key Buy buy; sell = key Sell sell; quantity = quantity; price = price }
+
+-- the orders of an order log, and the deals of a trade log beside it
+abbrev pub orders_in : List OrderRecord → List Order
+orders_in entries = order_list symbol entries
+
+abbrev pub deals_in : List OrderRecord → List TradeRecord → List Deal
+deals_in entries trades = deals_of (order_list symbol entries) symbol trades
+
+-- an order as a finding shows it
+abbrev pub line : ℕ → Side → List ℕ → ℕ → ℕ → ℕ → OrderLine
+line place side id quantity price traded = record { place = place; side = side; key = key side id; quantity = quantity; limit = whole price; traded = traded }
+
+-- what an example computes with: to unfold this is to unfold all that its line names
+unfoldable pub all_definitions : ℕ
+unfolding trades_of duplicate_trade unknown_order unsound_trade deals_of best inactive off_limit other_price bid_overfilled ask_overfilled best_short is_passed_over bid_passed_over ask_passed_over traded_before traded_at chain before entered size rests active not_active over_limit over_size priority_fault active_meet spread_fault pair_deals available pair_share
+all_definitions = 0
+
+-- whether each deal names a bid and an ask, as a test
+abbrev pub named_test : List Order → Deal → Bool
+named_test orders d = (nat_lt d.bid (length orders) && nat_lt d.ask (length orders)) && (same_side Buy (side_at orders d.bid) && same_side Sell (side_at orders d.ask))
+
+test-named : (orders : List Order) (d : Deal) → named_test orders d ≡ true → NamesOrders orders d
+test-named orders d t =
+    let parts = and_parts (nat_lt d.bid (length orders) && nat_lt d.ask (length orders)) (same_side Buy (side_at orders d.bid) && same_side Sell (side_at orders d.ask)) t in
+    let inside = and_parts (nat_lt d.bid (length orders)) (nat_lt d.ask (length orders)) parts.0 in
+    let sides = and_parts (same_side Buy (side_at orders d.bid)) (same_side Sell (side_at orders d.ask)) parts.1 in
+    record { bid_inside = ltb-true _ _ inside.0; ask_inside = ltb-true _ _ inside.1; buys = same_side-is Buy _ sides.0; sells = same_side-is Sell _ sides.1 }
+
+pub all_named : (orders : List Order) (deals : List Deal) → list_all (named_test orders) deals ≡ true → All (NamesOrders orders) deals
+all_named orders [] t = All-nil (NamesOrders orders)
+all_named orders (d ∷ ds) t =
+    let parts = and_parts (named_test orders d) (list_all (named_test orders) ds) t in
+    All-cons (NamesOrders orders) d ds (test-named orders d parts.0) (all_named orders ds parts.1)
+
+-- whether each place is at most the last, as a test
+abbrev pub last_test : ℕ → Order → Bool
+last_test last o = nat_le o.place last
+
+pub is_last : (orders : List Order) (last : ℕ) → list_all (last_test last) orders ≡ true → IsLast orders last
+is_last [] last t x lt = absurd (omega arith)
+is_last (o ∷ os) last t zero lt = leb-true o.place last ((and_parts (last_test last o) (list_all (last_test last) os) t).0)
+is_last (o ∷ os) last t (suc x) lt = is_last os last ((and_parts (last_test last o) (list_all (last_test last) os) t).1) x (omega arith)

@@ -1,0 +1,59 @@
+-- Demand, supply and cut at a price, and the price that shows how great a volume can be.
+use Rattle.std.specs.Prelude.{◌≡◌, ◌≤◌, ◌^◌, ℕ, ◌+◌, min, ◌&&◌, nat_lt, nat_le, List, sum_by, if◌then◌else◌}
+use Rattle.audit_base.specs.declared.terms.Side.TheVariants.{Buy, Sell}
+use Rattle.audit_base.specs.declared.orders.Order.{Order}
+use Rattle.audit_base.specs.declared.orders.Cut.{Cut}
+use Rattle.audit_base.specs.declared.terms.Rule.{Rule}
+use Rattle.audit_base.specs.declared.terms.Rule.TheVariants as rule
+use Rattle.audit_base.specs.Least.{IsLeast}
+use Rattle.audit_base.specs.Orders.{stands_on}
+
+-- what an order asks for at a price, if it is a bid that no record cancels
+abbrev pub wanted : ℕ → Order → ℕ
+wanted p o = if stands_on Buy o && nat_le p o.limit then o.quantity else 0
+
+-- what an order offers at a price, if it is an ask that no record cancels
+abbrev pub offered : ℕ → Order → ℕ
+offered p o = if stands_on Sell o && nat_le o.limit p then o.quantity else 0
+
+-- the same below it
+abbrev pub offered_below : ℕ → Order → ℕ
+offered_below p o = if stands_on Sell o && nat_lt o.limit p then o.quantity else 0
+
+-- Demand: the quantity of the bids with limit at least p
+abbrev pub demand : List Order → ℕ → ℕ
+demand orders p = sum_by (wanted p) orders
+
+-- Supply: the quantity of the asks with limit at most p
+abbrev pub supply : List Order → ℕ → ℕ
+supply orders p = sum_by (offered p) orders
+
+-- the quantity of the asks with limit below p
+abbrev pub supply_below : List Order → ℕ → ℕ
+supply_below orders p = sum_by (offered_below p) orders
+
+-- Cut: the demand at p, and the quantity of the asks with limit below p
+abbrev pub cut : List Order → ℕ → ℕ
+cut orders p = demand orders p + supply_below orders p
+
+-- the lesser of demand and supply: what can trade at one price
+abbrev pub uniform_most : List Order → ℕ → ℕ
+uniform_most orders p = min (demand orders p) (supply orders p)
+
+-- the least cut over all prices from 0 to 10^18, and the least price that reaches it
+pub record IsLeastCut (orders : List Order) (c : Cut) : Type 0 where
+  pub reached : IsLeast (λ q. (q ≤ 10 ^ 18) × (cut orders q ≡ c.volume)) c.price
+  pub least : (q : ℕ) → q ≤ 10 ^ 18 → c.volume ≤ cut orders q
+
+-- the greatest lesser of demand and supply over these prices, and the least price that reaches it
+pub record IsBestUniform (orders : List Order) (c : Cut) : Type 0 where
+  pub reached : IsLeast (λ q. (q ≤ 10 ^ 18) × (uniform_most orders q ≡ c.volume)) c.price
+  pub greatest : (q : ℕ) → q ≤ 10 ^ 18 → uniform_most orders q ≤ c.volume
+
+-- Bound: the least price from 0 to 10^18 at which the cut (under `uniform`, the lesser of demand and supply) is the volume
+abbrev pub IsBound : Rule → List Order → ℕ → ℕ → Type 0
+IsBound rule.Maximum orders volume p = IsLeast (λ q. (q ≤ 10 ^ 18) × (cut orders q ≡ volume)) p
+IsBound rule.Uniform orders volume p = IsLeast (λ q. (q ≤ 10 ^ 18) × (uniform_most orders q ≡ volume)) p
+IsBound rule.Matching orders volume p = ⊥
+IsBound rule.Fair orders volume p = ⊥
+IsBound rule.Continuous orders volume p = ⊥

@@ -1,0 +1,147 @@
+-- The first offence under the rules of a call, and what shows it.
+use Rattle.std.specs.Prelude.{◌≡◌, ◌<◌, ℕ, ◌+◌, Bool, true, false, ◌==◌, ◌&&◌, not, nat_lt, nat_le, is_some, List, [], ◌∷◌, Option, None, Some, take, length, MatchOption}
+use Rattle.std.specs.Option.{option_or}
+use Rattle.audit_base.specs.declared.terms.Side.{Side}
+use Rattle.audit_base.specs.declared.terms.Side.TheVariants.{Buy, Sell}
+use Rattle.audit_base.specs.declared.terms.Which.TheVariants as which
+use Rattle.audit_base.specs.declared.terms.Rule.{Rule}
+use Rattle.audit_base.specs.declared.terms.Rule.TheVariants as rule
+use Rattle.audit_base.specs.declared.orders.Order.{Order}
+use Rattle.audit_base.specs.declared.orders.Deal.{Deal}
+use Rattle.audit_base.specs.declared.findings.Property.TheVariants as property
+use Rattle.audit_base.specs.declared.findings.Finding.{Finding}
+use Rattle.audit_base.specs.declared.findings.Shown.TheVariants as shown
+use Rattle.audit_base.specs.Least.{least_answer, any_below, first_of, only_if}
+use Rattle.audit_base.specs.Orders.{order_at, quantity_at, limit_at, stands_on}
+use Rattle.audit_base.specs.Priority.{better, best}
+use Rattle.audit_base.specs.Deals.{deal_at, traded, volume}
+use Rattle.audit_base.specs.Calls.{IsGreatestVolume, IsGreatestUniformVolume}
+use Rattle.audit_base.specs.Rules.{Only}
+use Rattle.audit_base.specs.Shows.{at_deal, order_line, show_order, show_found, show_place}
+
+-- First part: the least deal up to which the deals aren't a matching (or, under `uniform`, haven't one price).
+
+-- some record cancels the order
+abbrev pub is_cancelled : List Order → ℕ → Bool
+is_cancelled orders i = is_some (order_at orders i).cancelled
+
+-- the price is from the ask's limit to the bid's
+abbrev pub keeps_limits : List Order → Deal → Bool
+keeps_limits orders d = nat_le (limit_at orders d.ask) d.price && nat_le d.price (limit_at orders d.bid)
+
+-- The findings 7 to 11 at the deal at k. Orders are shown with what they trade up to this deal.
+
+-- 7: the bid, or else the ask, is one that some record cancels
+unfoldable pub inactive : List Order → List Deal → ℕ → Option Finding
+inactive orders deals k = let d = deal_at deals k in let so_far = traded (take (k + 1) deals) in
+    first_of (only_if (is_cancelled orders d.bid) (at_deal property.Inactive d (show_order orders so_far d.bid) None)
+    ∷ only_if (is_cancelled orders d.ask) (at_deal property.Inactive d (show_order orders so_far d.ask) None) ∷ [])
+
+-- 8: the price is outside a limit
+unfoldable pub off_limit : List Order → List Deal → ℕ → Option Finding
+off_limit orders deals k = let d = deal_at deals k in let so_far = traded (take (k + 1) deals) in
+    only_if (not (keeps_limits orders d))
+    (at_deal property.Limit d (show_order orders so_far d.bid) (show_order orders so_far d.ask))
+
+-- 9: one price is asked for, and the price is not that of the first deal
+unfoldable pub other_price : Bool → List Deal → ℕ → Option Finding
+other_price uniform deals k = let d = deal_at deals k in
+    only_if (uniform && not (d.price == (deal_at deals 0).price))
+    (at_deal property.UniformPrice d (show_place which.Trades (deal_at deals 0).place) None)
+
+-- 10: up to this deal the bid trades more than its quantity
+unfoldable pub bid_overfilled : List Order → List Deal → ℕ → Option Finding
+bid_overfilled orders deals k = let d = deal_at deals k in let so_far = traded (take (k + 1) deals) in
+    only_if (nat_lt (quantity_at orders d.bid) (so_far d.bid)) (at_deal property.BuyQuantity d (show_order orders so_far d.bid) None)
+
+-- 11: up to this deal the ask trades more than its quantity
+unfoldable pub ask_overfilled : List Order → List Deal → ℕ → Option Finding
+ask_overfilled orders deals k = let d = deal_at deals k in let so_far = traded (take (k + 1) deals) in
+    only_if (nat_lt (quantity_at orders d.ask) (so_far d.ask)) (at_deal property.SellQuantity d (show_order orders so_far d.ask) None)
+
+-- the first of these at the deal at k
+abbrev pub matching_fault : Bool → List Order → List Deal → ℕ → Option Finding
+matching_fault uniform orders deals k = first_of (inactive orders deals k ∷ off_limit orders deals k ∷ other_price uniform deals k
+    ∷ bid_overfilled orders deals k ∷ ask_overfilled orders deals k ∷ [])
+
+-- the offence of the first part, if there is one
+abbrev pub matching_offence : Bool → List Order → List Deal → Option Finding
+matching_offence uniform orders deals = least_answer (matching_fault uniform orders deals) (length deals)
+
+-- Second part: the least deal whose bid or ask is outranked by a short order.
+
+-- short: no record cancels the order, and its Traded in the whole log is below its quantity
+abbrev pub is_short : List Order → List Deal → Side → ℕ → Bool
+is_short orders deals side i = stands_on side (order_at orders i) && nat_lt (traded deals i) (quantity_at orders i)
+
+-- the best short order of a side
+unfoldable pub best_short : List Order → List Deal → Side → Option ℕ
+best_short orders deals side = best orders (is_short orders deals side)
+
+-- a short order is better than the order at i
+unfoldable pub is_passed_over : List Order → List Deal → Side → ℕ → Bool
+is_passed_over orders deals side i =
+    any_below (λ j. is_short orders deals side j && better (order_at orders j) (order_at orders i)) (length orders)
+
+-- 12: the best short bid is shown, and the deal's bid, with what they trade in the whole log
+unfoldable pub bid_passed_over : List Order → List Deal → ℕ → Option Finding
+bid_passed_over orders deals k = let d = deal_at deals k in
+    only_if (is_passed_over orders deals Buy d.bid)
+    (at_deal property.BuyPriority d (show_found orders (traded deals) (best_short orders deals Buy)) (show_order orders (traded deals) d.bid))
+
+-- 13: the same of the asks
+unfoldable pub ask_passed_over : List Order → List Deal → ℕ → Option Finding
+ask_passed_over orders deals k = let d = deal_at deals k in
+    only_if (is_passed_over orders deals Sell d.ask)
+    (at_deal property.SellPriority d (show_found orders (traded deals) (best_short orders deals Sell)) (show_order orders (traded deals) d.ask))
+
+-- the offence of the second part, if there is one
+abbrev pub fair_offence : List Order → List Deal → Option Finding
+fair_offence orders deals =
+    least_answer (λ k. option_or (bid_passed_over orders deals k) (ask_passed_over orders deals k)) (length deals)
+
+-- Third part: the volume isn't the greatest that the rule allows.
+
+-- the greatest volume that the rule allows; the rules `matching` and `fair` ask for none
+abbrev pub IsGreatestUnder : Rule → List Order → ℕ → Type 0
+IsGreatestUnder rule.Uniform orders v = IsGreatestUniformVolume orders v
+IsGreatestUnder rule.Maximum orders v = IsGreatestVolume orders v
+IsGreatestUnder rule.Matching orders v = ⊥
+IsGreatestUnder rule.Fair orders v = ⊥
+IsGreatestUnder rule.Continuous orders v = ⊥
+
+-- 14: the volume is below the greatest. It stands at one more than the number of trades of the whole log, and shows the best
+-- short bid and the best short ask, with what they trade in the whole log and their dues
+pub record IsVolumeOffence (the_rule : Rule) (orders : List Order) (deals : List Deal) (count : ℕ) (finding : Finding) : Type 0 where
+  pub most : ℕ
+  pub bid : ℕ
+  pub ask : ℕ
+  pub bid_due : ℕ
+  pub ask_due : ℕ
+  pub greatest : IsGreatestUnder the_rule orders most
+  pub below : volume deals < most
+  pub short_bid : best_short orders deals Buy ≡ Some bid
+  pub short_ask : best_short orders deals Sell ≡ Some ask
+  pub only_bid : Only the_rule orders bid bid_due
+  pub only_ask : Only the_rule orders ask ask_due
+  pub shows : finding ≡ record {
+    property = property.Volume;
+    log = which.Trades;
+    place = count + 1;
+    first = Some (shown.Due (order_line (order_at orders bid) (traded deals bid)) bid_due);
+    second = Some (shown.Due (order_line (order_at orders ask) (traded deals ask)) ask_due);
+    short = Some (record { reached = volume deals; greatest = most });
+  }
+
+-- what the parts before the volume find under each rule of a call
+abbrev pub early_offence : Rule → List Order → List Deal → Option Finding
+early_offence rule.Matching orders deals = matching_offence false orders deals
+early_offence rule.Fair orders deals = option_or (matching_offence false orders deals) (fair_offence orders deals)
+early_offence rule.Uniform orders deals = option_or (matching_offence true orders deals) (fair_offence orders deals)
+early_offence rule.Maximum orders deals = option_or (matching_offence false orders deals) (fair_offence orders deals)
+early_offence rule.Continuous orders deals = None
+
+-- First offence (call): the first of the three parts
+abbrev pub IsCallOffence : Rule → List Order → List Deal → ℕ → Finding → Type 0
+IsCallOffence the_rule orders deals count finding =
+    MatchOption (early_offence the_rule orders deals) (IsVolumeOffence the_rule orders deals count finding) (λ f. finding ≡ f)

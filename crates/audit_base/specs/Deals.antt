@@ -1,0 +1,56 @@
+-- Deals, and the sums over them.
+use Rattle.std.specs.Prelude.{◌≡◌, ◌<◌, ◌≤◌, ◌^◌, ℕ, Bool, ◌==◌, ◌||◌, ◌&&◌, List, All, AllPairs, length, sum_by, slice_index_or, if◌then◌else◌}
+use Rattle.audit_base.specs.declared.terms.Side.TheVariants.{Buy, Sell}
+use Rattle.audit_base.specs.declared.orders.Order.{Order}
+use Rattle.audit_base.specs.declared.orders.Deal.{Deal}
+use Rattle.audit_base.specs.Orders.{side_at}
+
+-- the deal names the order at this index
+abbrev pub names : ℕ → Deal → Bool
+names i d = (d.bid == i) || (d.ask == i)
+
+-- the quantity of a deal that belongs to this order
+abbrev pub part_of : ℕ → Deal → ℕ
+part_of i d = if names i d then d.quantity else 0
+
+-- Traded: the quantities of the deals that name an order, added
+abbrev pub traded : List Deal → ℕ → ℕ
+traded deals i = sum_by (part_of i) deals
+
+-- Pair: the quantities of the deals that name both a bid and an ask, added
+abbrev pub pair : List Deal → ℕ → ℕ → ℕ
+pair deals bid ask = sum_by (λ d. if (d.bid == bid) && (d.ask == ask) then d.quantity else 0) deals
+
+-- Volume: the quantities of all deals, added
+abbrev pub volume : List Deal → ℕ
+volume deals = sum_by (λ d. d.quantity) deals
+
+-- what stands for a deal past the end of a list, and the deal at an index
+abbrev pub any_deal : Deal
+any_deal = record { place = 0; bid = 0; ask = 0; quantity = 0; price = 0 }
+
+abbrev pub deal_at : List Deal → ℕ → Deal
+deal_at deals k = slice_index_or deals k any_deal
+
+-- the deal names a bid and an ask of the order list
+pub record NamesOrders (orders : List Order) (d : Deal) : Type 0 where
+  pub bid_inside : d.bid < length orders
+  pub ask_inside : d.ask < length orders
+  pub buys : side_at orders d.bid ≡ Buy
+  pub sells : side_at orders d.ask ≡ Sell
+
+-- a list of deals over an order list: each names a bid and an ask, places rise strictly, and there are fewer than 2^32
+pub record IsDealList (orders : List Order) (deals : List Deal) : Type 0 where
+  pub named : All (NamesOrders orders) deals
+  pub rising : AllPairs (λ d e. d.place < e.place) deals
+  pub few : length deals < 2 ^ 32
+
+-- what the numbers of a deal may be: a quantity from 1 to 10^12, and a price from 0 to 10^18 - 1
+pub record IsDeal (d : Deal) : Type 0 where
+  pub some : 0 < d.quantity
+  pub most : d.quantity ≤ 10 ^ 12
+  pub priced : d.price < 10 ^ 18
+
+-- each deal of the list has such numbers
+abbrev pub AreDeals : List Deal → Type 0
+AreDeals deals = All IsDeal deals

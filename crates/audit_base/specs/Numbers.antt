@@ -1,0 +1,67 @@
+-- The written forms of prices and quantities. The codes of `.` and `0` are 46 and 48.
+use Rattle.std.specs.Prelude.{ℕ, Bool, ◌+◌, ◌-◌, ◌*◌, ◌/◌, ◌%◌, ◌^◌, ◌==◌, ◌&&◌, nat_lt, nat_le, Option, Some, None, List, [], ◌∷◌, ◌++◌, length, take, drop, decimal, if◌then◌else◌}
+use Rattle.std.specs.List.{list_all, position}
+use Rattle.audit_base.specs.declared.terms.Side.{Side}
+use Rattle.audit_base.specs.declared.terms.Side.TheVariants.{Buy, Sell}
+use Rattle.audit_base.specs.Digits.{digits_form, fraction_digits}
+
+abbrev pub is_point : ℕ → Bool
+is_point b = b == 46
+
+-- a price of a whole number of currency units has 10^8 units for each
+abbrev pub whole_price : Option ℕ → Option ℕ
+whole_price None = None
+whole_price (Some whole) = Some (whole * 10 ^ 8)
+
+-- a price with a fraction of this many places
+abbrev pub price_with_fraction : Option ℕ → ℕ → Option ℕ → Option ℕ
+price_with_fraction None places fraction = None
+price_with_fraction (Some whole) places None = None
+price_with_fraction (Some whole) places (Some fraction) = Some (whole * 10 ^ 8 + fraction * 10 ^ (8 - places))
+
+abbrev pub price_around : List ℕ → Option ℕ → Option ℕ
+price_around text None = whole_price (digits_form 10 text)
+price_around text (Some point) =
+    price_with_fraction (digits_form 10 (take point text)) (length (drop (point + 1) text)) (digits_form 8 (drop (point + 1) text))
+
+-- a price in units of 10^-8: 1 to 10 digits, then optionally a point and 1 to 8 digits
+abbrev pub price_form : List ℕ → Option ℕ
+price_form text = price_around text (position is_point text)
+
+-- a market order takes any price: a bid the greatest, an ask the least
+abbrev pub market_price : Side → ℕ
+market_price Buy = 10 ^ 18 - 1
+market_price Sell = 0
+
+abbrev pub is_zero : ℕ → Bool
+is_zero b = b == 48
+
+-- one or more zeros
+abbrev pub is_zeros : List ℕ → Bool
+is_zeros text = nat_le 1 (length text) && list_all is_zero text
+
+-- a quantity is from 1 to 10^12
+abbrev pub is_quantity : ℕ → Bool
+is_quantity value = nat_lt 0 value && nat_le value (10 ^ 12)
+
+abbrev pub in_quantity : Option ℕ → Option ℕ
+in_quantity None = None
+in_quantity (Some value) = if is_quantity value then Some value else None
+
+abbrev pub quantity_around : List ℕ → Option ℕ → Option ℕ
+quantity_around text None = in_quantity (digits_form 13 text)
+quantity_around text (Some point) =
+    if is_zeros (drop (point + 1) text) then in_quantity (digits_form 13 (take point text)) else None
+
+-- a quantity: 1 to 13 digits, then optionally a point and zeros, with a whole part from 1 to 10^12
+abbrev pub quantity_form : List ℕ → Option ℕ
+quantity_form text = quantity_around text (position is_point text)
+
+-- a fraction's digits with the point before them, or nothing
+abbrev pub after_point : List ℕ → List ℕ
+after_point [] = []
+after_point (digit ∷ digits) = 46 ∷ digit ∷ digits
+
+-- the canonical text of a price: its whole part, and its fraction without zeros at its end
+abbrev pub price_text : ℕ → List ℕ
+price_text units = decimal (units / 10 ^ 8) ++ after_point (fraction_digits 8 (units % 10 ^ 8))

@@ -1,0 +1,108 @@
+-- Orders and order lists. An order is named by its index in the order list, from 0.
+use Rattle.std.specs.Prelude.{◌≡◌, ◌≢◌, ◌<◌, ◌≤◌, ◌^◌, ◌-◌, ℕ, Bool, true, false, ◌&&◌, List, [], Option, None, Some, is_none, AllPairs, All, length, slice_index_or, bytes_eq}
+use Rattle.audit_base.specs.declared.names.Key.{Key}
+use Rattle.audit_base.specs.declared.terms.Side.{Side}
+use Rattle.audit_base.specs.declared.terms.Side.TheVariants.{Buy, Sell}
+use Rattle.audit_base.specs.declared.terms.Life.{Life}
+use Rattle.audit_base.specs.declared.terms.Life.TheVariants.{Rests, Immediate, Market}
+use Rattle.audit_base.specs.declared.orders.Order.{Order}
+use Rattle.audit_base.specs.Numbers.{market_price}
+use Rattle.audit_base.specs.Least.{least_with}
+
+-- two names are the same text
+abbrev pub same_name : List ℕ → List ℕ → Bool
+same_name a b = bytes_eq a b
+
+-- two keys have the same firm and the same id
+abbrev pub same_key : Key → Key → Bool
+same_key a b = same_name a.firm b.firm && same_name a.id b.id
+
+-- two sides are the same
+abbrev pub same_side : Side → Side → Bool
+same_side Buy Buy = true
+same_side Buy Sell = false
+same_side Sell Buy = false
+same_side Sell Sell = true
+
+-- bids for asks, and asks for bids
+abbrev pub other_side : Side → Side
+other_side Buy = Sell
+other_side Sell = Buy
+
+-- an order that is left over from its own record may wait for others
+abbrev pub is_rests : Life → Bool
+is_rests Rests = true
+is_rests Immediate = false
+is_rests Market = false
+
+-- what stands for an order past the end of a list: it has quantity 0 and waits for nobody
+abbrev pub any_order : Order
+any_order = record {
+  place = 0;
+  key = record { firm = []; id = [] };
+  time = record { second = 0; nano = 0 };
+  side = Buy;
+  quantity = 0;
+  limit = 0;
+  cancelled = None;
+  target = None;
+  life = Immediate;
+}
+
+-- the order at an index
+abbrev pub order_at : List Order → ℕ → Order
+order_at orders i = slice_index_or orders i any_order
+
+-- its place, its side, its quantity and its limit
+abbrev pub place_at : List Order → ℕ → ℕ
+place_at orders i = (order_at orders i).place
+
+abbrev pub side_at : List Order → ℕ → Side
+side_at orders i = (order_at orders i).side
+
+abbrev pub quantity_at : List Order → ℕ → ℕ
+quantity_at orders i = (order_at orders i).quantity
+
+abbrev pub limit_at : List Order → ℕ → ℕ
+limit_at orders i = (order_at orders i).limit
+
+-- an order list: places rise strictly, there are fewer than 2^32 orders, and each target is a lower index of the same side
+pub record IsOrderList (orders : List Order) : Type 0 where
+  pub rising : AllPairs (λ o p. o.place < p.place) orders
+  pub few : length orders < 2 ^ 32
+  pub targets : (i t : ℕ) → i < length orders → (order_at orders i).target ≡ Some t → (t < i) × (side_at orders t ≡ side_at orders i)
+
+-- an order of a side that no record cancels
+pub record Stands (orders : List Order) (side : Side) (i : ℕ) : Type 0 where
+  pub inside : i < length orders
+  pub of_side : side_at orders i ≡ side
+  pub uncancelled : (order_at orders i).cancelled ≡ None
+
+-- the same as a test of the order
+abbrev pub stands_on : Side → Order → Bool
+stands_on side o = is_none o.cancelled && same_side side o.side
+
+-- no two orders have one key
+abbrev pub HaveOwnKeys : List Order → Type 0
+HaveOwnKeys orders = AllPairs (λ o p. o.key ≢ p.key) orders
+
+-- the order that has a key, of either side and of one side
+abbrev pub with_key : List Order → Key → Option ℕ
+with_key orders key = least_with (λ i. same_key (order_at orders i).key key) (length orders)
+
+abbrev pub on_side_with_key : List Order → Side → Key → Option ℕ
+on_side_with_key orders side key = least_with (λ i. same_side side (side_at orders i) && same_key (order_at orders i).key key) (length orders)
+
+-- an order, or the record of one, of life Market has this price
+abbrev pub IsMarketPriced : Life → Side → ℕ → Type 0
+IsMarketPriced life side price = life ≡ Market → price ≡ market_price side
+
+-- what the numbers of an order may be: a quantity from 1 to 10^12, and a limit from 0 to 10^18 - 1
+pub record IsOrder (o : Order) : Type 0 where
+  pub some : 0 < o.quantity
+  pub most : o.quantity ≤ 10 ^ 12
+  pub priced : o.limit < 10 ^ 18
+
+-- each order of the list has such numbers
+abbrev pub AreOrders : List Order → Type 0
+AreOrders orders = All IsOrder orders

@@ -1,0 +1,35 @@
+-- Price-time priority, the rank of the orders of a side.
+use Rattle.std.specs.Prelude.{ℕ, Bool, ◌==◌, ◌||◌, ◌&&◌, not, nat_lt, List, Option, AllPairs, All, Contains, length, IsTrue}
+use Rattle.audit_base.specs.declared.terms.Side.{Side}
+use Rattle.audit_base.specs.declared.terms.Side.TheVariants.{Buy, Sell}
+use Rattle.audit_base.specs.declared.orders.Order.{Order}
+use Rattle.audit_base.specs.Least.{least_with, any_below}
+use Rattle.audit_base.specs.Orders.{order_at, same_side, Stands}
+
+-- a limit that is better: higher for a bid, lower for an ask
+abbrev pub better_limit : Side → ℕ → ℕ → Bool
+better_limit Buy a b = nat_lt b a
+better_limit Sell a b = nat_lt a b
+
+-- of two orders of this side, the first has the better limit, or the same limit and the smaller place
+abbrev pub outranks : Side → Order → Order → Bool
+outranks side o p = better_limit side o.limit p.limit || ((o.limit == p.limit) && nat_lt o.place p.place)
+
+-- Better (source: price-time priority): both are of one side, and the first outranks the second
+abbrev pub better : Order → Order → Bool
+better o p = same_side o.side p.side && outranks o.side o p
+
+-- the same of two orders of a list
+abbrev pub Better : List Order → ℕ → ℕ → Type 0
+Better orders i j = IsTrue (better (order_at orders i) (order_at orders j))
+
+-- the orders of a side that no record cancels, each once, best first
+pub record IsRanked (orders : List Order) (side : Side) (ranks : List ℕ) : Type 0 where
+  pub only : All (Stands orders side) ranks
+  pub each : (i : ℕ) → Stands orders side i → Contains ranks i
+  pub best_first : AllPairs (Better orders) ranks
+
+-- the best of the orders that pass a test of their index: it passes, and none that passes is better
+unfoldable pub best : List Order → (ℕ → Bool) → Option ℕ
+best orders test = least_with (λ i. test i
+    && not (any_below (λ j. test j && better (order_at orders j) (order_at orders i)) (length orders))) (length orders)

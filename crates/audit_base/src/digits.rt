@@ -1,0 +1,108 @@
+//! Runs of decimal digits, read and written.
+ghost use Rattle.std.specs.Prelude.{◌≡◌, ℕ, ◌+◌, ◌<◌, ◌≤◌, ◌^◌, ◌++◌, ◌∷◌, [], length, IsTrue, IfSome, vec_len, ◌-◌, ◌*◌, ◌/◌};
+ghost use Rattle.std.specs.Vec.{vec_capacity};
+ghost use Rattle.std.specs.List.{list_all};
+ghost use Rattle.std.specs.Char.{is_ascii_digit};
+ghost use Rattle.std.specs.Str.Parse.{digits_value};
+ghost use Rattle.audit_base.specs.Digits as form;
+
+/// Whether each byte is a decimal digit.
+fn all_digits(text: &[u8]) -> bool
+    ensures { result ≡ list_all is_ascii_digit text.now }
+{
+    text.iter().all(|byte| byte.is_ascii_digit())
+}
+
+/// The number that the digits write.
+fn value_of(text: &[u8]) -> u64
+    requires digits { IsTrue (list_all is_ascii_digit text.now) }
+    requires short { length text.now ≤ 19 }
+    ensures value { result ≡ digits_value 10 text.now }
+    ensures in_range { result < 10 ^ length text.now }
+{
+    let mut value: u64 = 0;
+    for byte in text {
+        value = value * 10 + (*byte - b'0') as u64;
+    }
+    value
+}
+
+/// The number that 1 to `most` digits write.
+pub fn read_digits(text: &[u8], most: usize) -> Option<u64>
+    requires { most ≤ 19 }
+    ensures value { result ≡ form.digits_form most text.now }
+    ensures in_range { IfSome result (λ v. (1 ≤ length text.now) × (length text.now ≤ most) × (v < 10 ^ length text.now)) }
+{
+    if 1 <= text.len() && text.len() <= most && all_digits(text) {
+        Some(value_of(text))
+    } else {
+        None
+    }
+}
+
+/// The number from `low` to `high` that exactly `width` digits write.
+pub fn read_digits_between(text: &[u8], width: usize, low: u64, high: u64) -> Option<u64>
+    requires { width ≤ 19 }
+    ensures value { result ≡ form.digits_between width low high text.now }
+    ensures in_range { IfSome result (λ v. (low ≤ v) × (v ≤ high)) }
+{
+    if text.len() != width || !all_digits(text) {
+        return None;
+    }
+    let value = value_of(text);
+    if low <= value && value <= high {
+        Some(value)
+    } else {
+        None
+    }
+}
+
+/// A fraction of this many places as one of `most` places.
+pub fn scaled(fraction: u64, places: usize, most: usize) -> u64
+    requires places { (places ≤ most) × (most ≤ 18) }
+    requires fraction { fraction < 10 ^ places }
+    ensures value { result ≡ fraction * 10 ^ (most - places) }
+    ensures in_range { result < 10 ^ most }
+{
+    fraction * 10u64.pow((most - places) as u32)
+}
+
+/// Appends the last `width` digits of the number, zeros in front where it is shorter. Needs no memory
+/// where there is room.
+pub fn append_digits(out: &mut Vec<u8>, width: usize, number: u64)
+    requires { vec_len out.old + width ≤ vec_capacity out.old }
+    ensures appended { out.new.items ≡ out.old.items ++ form.fixed_digits width number }
+    ensures len { vec_len out.new ≡ vec_len out.old + width }
+    ensures capacity { vec_capacity out.old ≤ vec_capacity out.new }
+{
+    if width > 0 {
+        append_digits(out, width - 1, number / 10);
+        append_byte(out, b'0' + (number % 10) as u8);
+    }
+}
+
+/// Appends the digits of a fraction of this many places, without zeros at its end. Needs no memory
+/// where there is room.
+pub fn append_fraction_digits(out: &mut Vec<u8>, places: usize, number: u64)
+    requires { vec_len out.old + places ≤ vec_capacity out.old }
+    ensures appended { out.new.items ≡ out.old.items ++ form.fraction_digits places number }
+    ensures capacity { vec_capacity out.old ≤ vec_capacity out.new }
+{
+    if places > 0 {
+        if number % 10 == 0 {
+            append_fraction_digits(out, places - 1, number / 10);
+        } else {
+            append_digits(out, places, number);
+        }
+    }
+}
+
+/// Appends a byte where there is room.
+pub fn append_byte(out: &mut Vec<u8>, byte: u8)
+    requires { vec_len out.old < vec_capacity out.old }
+    ensures appended { out.new.items ≡ out.old.items ++ byte ∷ [] }
+    ensures len { vec_len out.new ≡ vec_len out.old + 1 }
+    ensures capacity { vec_capacity out.old ≤ vec_capacity out.new }
+{
+    let _ = out.push(byte);
+}

@@ -1,0 +1,15 @@
+//! The words of a double auction: what an order and a trade are, the forms they are written in,
+//! and what a finding about them says. Every other crate speaks in these types, and the
+//! definitions of the auction rules stand in this crate's `specs/`.
+#![tactic(auto)]
+
+mod digits;
+pub mod faults;
+pub mod findings;
+pub mod names;
+pub mod numbers;
+pub mod orders;
+pub mod records;
+pub mod stamps;
+pub mod terms;
+pub mod texts;

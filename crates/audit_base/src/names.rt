@@ -1,0 +1,215 @@
+//! Names of firms, orders, symbols and trades.
+ghost use Rattle.std.specs.Prelude.{◌≡◌, ◌-◌, ◌≤◌, ◌++◌, IsTrue, length, replicate};
+ghost use Rattle.std.specs.List.{list_all};
+ghost use Rattle.audit_base.specs.Names as form;
+
+use std::cmp::Ordering;
+use std::hash::{Hash, Hasher};
+use std::marker::Model;
+
+/// A name: 1 to 64 bytes, each from 0x20 to 0x7E and neither `,` nor `"`. Contracts see the list of
+/// its bytes. Names are ordered byte by byte.
+#[derive(Clone, Copy, Debug)]
+pub struct Name {
+    bytes: [u8; 64],
+    size: u8,
+}
+
+impl Model for Name {
+    ghost use Rattle.std.specs.Prelude.{ℕ, List};
+
+    ghost Value = { List ℕ };
+
+    ghost use Rattle.audit_base.specs.Names.{shown, packed, IsPacked, packed-shown};
+
+    ghost view = { shown };
+
+    ghost invariant = { IsPacked };
+
+    ghost inverse = { packed };
+
+    ghost inverse_ok = { packed-shown };
+}
+
+impl Name {
+    ghost use Rattle.audit_base.specs.Names.{is_name};
+
+    /// The bytes of the name.
+    pub fn bytes(&self) -> &[u8]
+        ensures same { result.now ≡ self.now }
+        ensures in_form { IsTrue (is_name self.now) }
+    {
+        &self.bytes[..self.size as usize]
+    }
+}
+
+impl PartialEq for Name {
+    ghost use Rattle.std.specs.Prelude.{◌==◌};
+    ghost use Rattle.std.specs.Cmp.Lexicographic.{pointwise};
+    ghost use Rattle.std.specs.Cmp.Rules.{comparing};
+    ghost use Rattle.std.proofs.Common.{rules};
+
+    ghost eq = { pointwise ◌==◌ };
+
+    ghost laws = { Prim.search (comparing, rules) };
+
+    fn eq(&self, other: &Name) -> bool {
+        self.bytes() == other.bytes()
+    }
+}
+
+impl Eq for Name {
+    ghost use Rattle.std.specs.Cmp.Rules.{comparing};
+    ghost use Rattle.std.proofs.Common.{rules};
+
+    ghost laws = { Prim.search (comparing, rules) };
+}
+
+impl PartialOrd for Name {
+    ghost use Rattle.std.specs.Ordering.{as_partial_cmp, nat_cmp};
+    ghost use Rattle.std.specs.Cmp.Lexicographic.{slice_cmp};
+    ghost use Rattle.std.specs.Cmp.{partial_order_from_own_ties};
+    ghost use Rattle.std.specs.Cmp.Rules.{comparing};
+    ghost use Rattle.std.proofs.Common.{rules};
+
+    ghost partial_cmp = { as_partial_cmp (slice_cmp nat_cmp) };
+
+    ghost laws = { partial_order_from_own_ties (Prim.search (comparing, rules)) (Prim.search (comparing, rules)) };
+
+    fn partial_cmp(&self, other: &Name) -> Option<Ordering> {
+        Some(self.cmp(other))
+    }
+}
+
+impl Ord for Name {
+    ghost use Rattle.std.specs.Ordering.{nat_cmp};
+    ghost use Rattle.std.specs.Cmp.Lexicographic.{slice_cmp};
+    ghost use Rattle.std.specs.Cmp.Rules.{comparing};
+    ghost use Rattle.std.proofs.Common.{rules};
+
+    ghost cmp = { slice_cmp nat_cmp };
+
+    ghost total = { Prim.search (comparing, rules) };
+
+    ghost matches_partial_cmp = { Prim.search (comparing, rules) };
+
+    ghost matches_eq = { Prim.search (comparing, rules) };
+
+    fn cmp(&self, other: &Name) -> Ordering {
+        self.bytes().cmp(other.bytes())
+    }
+}
+
+impl Hash for Name {
+    ghost use Rattle.std.specs.Hash as fed;
+    ghost use Rattle.std.specs.Cmp.Rules.{hashing};
+    ghost use Rattle.std.proofs.Common.{rules};
+
+    ghost hash_input = { fed.slice fed.u8 };
+
+    ghost respects_eq = { Prim.search (hashing, rules) };
+
+    fn hash<H: Hasher>(&self, state: &mut H) {
+        self.bytes().hash(state);
+    }
+}
+
+/// The name of a record: the firm that sent it, and the id that the firm gave it. No two records of
+/// one history have one key (FIX tags 49 and 11).
+#[derive(Clone, Copy, Debug, PartialEq, Eq, Hash, PartialOrd, Ord)]
+pub struct Key {
+    pub firm: Name,
+    pub id: Name,
+}
+
+/// Whether a name may hold the byte.
+fn is_name_byte(byte: u8) -> bool
+    ensures { result ≡ form.is_name_byte byte }
+{
+    32 <= byte && byte <= 126 && byte != b'"' && byte != b','
+}
+
+/// Whether a name may hold each of the bytes.
+fn all_name_bytes(text: &[u8]) -> bool
+    ensures { result ≡ list_all form.is_name_byte text.now }
+{
+    text.iter().all(|byte| is_name_byte(*byte))
+}
+
+/// Whether the text is a name.
+fn is_name(text: &[u8]) -> bool
+    ensures { result ≡ form.is_name text.now }
+{
+    1 <= text.len() && text.len() <= 64 && all_name_bytes(text)
+}
+
+/// The block of 64 bytes that begins with the text and goes on with zeros.
+fn block_of(text: &[u8]) -> [u8; 64]
+    requires { length text.now ≤ 64 }
+    ensures { result ≡ text.now ++ replicate (64 - length text.now) 0 }
+{
+    let mut bytes = [0; 64];
+    for (i, byte) in text.iter().enumerate() {
+        bytes[i] = *byte;
+    }
+    bytes
+}
+
+/// The name that the text writes, which is the text itself. None exactly where it is empty, has more
+/// than 64 bytes, or holds a byte outside 0x20 to 0x7E, a `,` or a `"`.
+pub fn read_name(text: &[u8]) -> Option<Name>
+    ensures { result ≡ form.name_form text.now }
+{
+    if is_name(text) {
+        Some(Name {
+            bytes: block_of(text),
+            size: text.len() as u8,
+        })
+    } else {
+        None
+    }
+}
+
+#[cfg(test)]
+mod tests {
+    use super::*;
+
+    #[test]
+    fn names_have_1_to_64_bytes(rt: HostRuntime) {
+        let text = b"0123456789abcdef0123456789abcdef0123456789abcdef0123456789abcdef0";
+        assert!(rt; read_name(b"").is_none());
+        assert!(rt; read_name(&text[..1]).is_some());
+        assert!(rt; read_name(&text[..64]).is_some());
+        assert!(rt; read_name(text).is_none());
+    }
+
+    #[test]
+    fn names_hold_printable_bytes_but_commas_and_quotes(rt: HostRuntime) {
+        let cases = [
+            (0x1F, false),
+            (b' ', true),
+            (b'!', true),
+            (b'"', false),
+            (b'#', true),
+            (b'+', true),
+            (b',', false),
+            (b'-', true),
+            (b'~', true),
+            (0x7F, false),
+            (0xFF, false),
+        ];
+        for (byte, allowed) in cases {
+            assert_eq!(rt; read_name(&[b'A', byte]).is_some(), allowed, "at {byte}");
+        }
+    }
+
+    #[test]
+    fn names_are_ordered_byte_by_byte(rt: HostRuntime) {
+        for (lesser, greater) in [("A", "AA"), ("AZ", "B"), ("B1", "B2"), ("Z", "a")] {
+            assert!(rt;
+                read_name(lesser.as_bytes()) < read_name(greater.as_bytes()),
+                "{lesser}"
+            );
+        }
+    }
+}

@@ -1,0 +1,262 @@
+//! Prices and quantities.
+ghost use Rattle.std.specs.Prelude.{◌≡◌, ℕ, ◌<◌, ◌≤◌, ◌^◌, ◌&&◌, nat_lt, nat_le, if◌then◌else◌, Option, IfSome, length, take, drop};
+ghost use Rattle.std.specs.List.{list_all, position};
+ghost use Rattle.audit_base.specs.Digits.{digits_form};
+ghost use Rattle.audit_base.specs.Numbers as form;
+
+use super::digits::{read_digits, scaled};
+use super::terms::Side;
+use std::marker::Model;
+
+/// A price in units of 10^-8, from 0 to 999,999,999,999,999,999.
+#[derive(Clone, Copy, Debug, PartialEq, Eq, Hash, PartialOrd, Ord)]
+pub struct Price {
+    units: u64,
+}
+
+impl Model for Price {
+    ghost use Rattle.std.specs.Prelude.{ℕ, ◌<◌, ◌^◌};
+
+    ghost Value = { ℕ };
+
+    ghost view = { λ p. p.units };
+
+    ghost invariant = { λ p. p.units < 10 ^ 18 };
+
+    ghost inverse = { λ n. record { units = n } };
+}
+
+impl Price {
+    /// The price of this many units; None exactly from 10^18 on.
+    pub fn of(units: u64) -> Option<Self>
+        ensures { result ≡ (if nat_lt units (10 ^ 18) then Some units else None) }
+    {
+        if units < 1_000_000_000_000_000_000 {
+            Some(Price { units })
+        } else {
+            None
+        }
+    }
+
+    /// The price in units of 10^-8, below 10^18.
+    pub fn units(self) -> u64
+        ensures same { result ≡ self }
+        ensures in_range { self < 10 ^ 18 }
+    {
+        self.units
+    }
+}
+
+/// The price of a market order of this side: 999,999,999,999,999,999 units of a bid, 0 of an ask. So
+/// it takes any price.
+pub fn market_price(side: Side) -> Price
+    ensures { result ≡ form.market_price side }
+{
+    match side {
+        Side::Buy => Price {
+            units: 999_999_999_999_999_999,
+        },
+        Side::Sell => Price { units: 0 },
+    }
+}
+
+/// A number of shares, from 1 to 1,000,000,000,000.
+#[derive(Clone, Copy, Debug, PartialEq, Eq, Hash, PartialOrd, Ord)]
+pub struct Quantity {
+    value: u64,
+}
+
+impl Model for Quantity {
+    ghost use Rattle.std.specs.Prelude.{ℕ, ◌<◌, ◌≤◌, ◌^◌};
+
+    ghost Value = { ℕ };
+
+    ghost view = { λ q. q.value };
+
+    ghost invariant = { λ q. (0 < q.value) × (q.value ≤ 10 ^ 12) };
+
+    ghost inverse = { λ n. record { value = n } };
+}
+
+impl Quantity {
+    /// The quantity of this number; None exactly at 0 and above 1,000,000,000,000.
+    pub fn of(value: u64) -> Option<Self>
+        ensures { result ≡ (if form.is_quantity value then Some value else None) }
+    {
+        if 0 < value && value <= 1_000_000_000_000 {
+            Some(Quantity { value })
+        } else {
+            None
+        }
+    }
+
+    /// The number, from 1 to 1,000,000,000,000.
+    pub fn value(self) -> u64
+        ensures same { result ≡ self }
+        ensures positive { 0 < self }
+        ensures in_range { self ≤ 10 ^ 12 }
+    {
+        self.value
+    }
+}
+
+/// The first point of the text.
+fn point_in(text: &[u8]) -> Option<usize>
+    ensures { result ≡ position form.is_point text.now }
+{
+    text.iter().position(|byte| *byte == b'.')
+}
+
+/// A price of a whole number of currency units.
+fn whole_price(whole: Option<u64>) -> Option<Price>
+    requires { IfSome whole (λ w. w < 10 ^ 10) }
+    ensures { result ≡ form.whole_price whole }
+{
+    Some(Price {
+        units: whole? * 100_000_000,
+    })
+}
+
+/// A price with a fraction of this many places.
+fn price_with_fraction(whole: Option<u64>, places: usize, fraction: Option<u64>) -> Option<Price>
+    requires whole { IfSome whole (λ w. w < 10 ^ 10) }
+    requires fraction { IfSome fraction (λ f. (places ≤ 8) × (f < 10 ^ places)) }
+    ensures { result ≡ form.price_with_fraction whole places fraction }
+{
+    let whole = whole?;
+    let fraction = fraction?;
+    Some(Price {
+        units: whole * 100_000_000 + scaled(fraction, places, 8),
+    })
+}
+
+/// 1 to 10 digits.
+fn read_whole(text: &[u8]) -> Option<u64>
+    ensures value { result ≡ digits_form 10 text.now }
+    ensures in_range { IfSome result (λ w. w < 10 ^ 10) }
+{
+    read_digits(text, 10)
+}
+
+/// The price that the text writes: 1 to 10 digits, then optionally `.` and 1 to 8 digits. None
+/// exactly where it is not in this form.
+pub fn read_price(text: &[u8]) -> Option<Price>
+    ensures { result ≡ form.price_form text.now }
+{
+    match point_in(text) {
+        None => whole_price(read_whole(text)),
+        Some(point) => {
+            let fraction = &text[point + 1..];
+            price_with_fraction(
+                read_whole(&text[..point]),
+                fraction.len(),
+                read_digits(fraction, 8),
+            )
+        }
+    }
+}
+
+/// Whether each byte is a zero.
+fn all_zeros(text: &[u8]) -> bool
+    ensures { result ≡ list_all form.is_zero text.now }
+{
+    text.iter().all(|byte| *byte == b'0')
+}
+
+/// Whether the text is one or more zeros.
+fn is_zeros(text: &[u8]) -> bool
+    ensures { result ≡ form.is_zeros text.now }
+{
+    1 <= text.len() && all_zeros(text)
+}
+
+/// The number as a quantity.
+fn in_quantity(value: Option<u64>) -> Option<Quantity>
+    ensures { result ≡ form.in_quantity value }
+{
+    Quantity::of(value?)
+}
+
+/// The quantity that the text writes: 1 to 13 digits, then optionally `.` and one or more zeros, with
+/// a whole part from 1 to 1,000,000,000,000. None exactly where it is not in this form.
+pub fn read_quantity(text: &[u8]) -> Option<Quantity>
+    ensures { result ≡ form.quantity_form text.now }
+{
+    match point_in(text) {
+        None => in_quantity(read_digits(text, 13)),
+        Some(point) => {
+            if is_zeros(&text[point + 1..]) {
+                in_quantity(read_digits(&text[..point], 13))
+            } else {
+                None
+            }
+        }
+    }
+}
+
+#[cfg(test)]
+mod tests {
+    use super::*;
+
+    #[test]
+    fn prices(rt: HostRuntime) {
+        let cases = [
+            ("0", Some(0)),
+            ("100", Some(10_000_000_000)),
+            ("00100.0", Some(10_000_000_000)),
+            ("010.50", Some(1_050_000_000)),
+            ("0.00000001", Some(1)),
+            ("0000000007.30000000", Some(730_000_000)),
+            ("9999999999.99999999", Some(999_999_999_999_999_999)),
+            ("10000000000", None),
+            ("0.000000001", None),
+            ("", None),
+            (".5", None),
+            ("5.", None),
+            ("1.2.3", None),
+            ("+1", None),
+            ("-1", None),
+            ("1e3", None),
+            (" 1", None),
+            ("1,5", None),
+        ];
+        for (text, units) in cases {
+            assert_eq!(rt;
+                read_price(text.as_bytes()).map(|price| price.units()),
+                units,
+                "{text}"
+            );
+        }
+    }
+
+    #[test]
+    fn quantities(rt: HostRuntime) {
+        let cases = [
+            ("1", Some(1)),
+            ("100.0", Some(100)),
+            ("0000000000007", Some(7)),
+            ("00000000000007", None),
+            ("5.00000000000000000000", Some(5)),
+            ("1000000000000", Some(1_000_000_000_000)),
+            ("1000000000001", None),
+            ("9999999999999", None),
+            ("0", None),
+            ("0.0", None),
+            ("5.", None),
+            ("5.01", None),
+            (".0", None),
+            ("", None),
+            ("-5", None),
+        ];
+        for (text, value) in cases {
+            let read = read_quantity(text.as_bytes());
+            assert_eq!(rt; read.map(|quantity| quantity.value()), value, "{text}");
+        }
+    }
+
+    #[test]
+    fn market_orders_take_any_price(rt: HostRuntime) {
+        assert_eq!(rt; market_price(Side::Buy).units(), 999_999_999_999_999_999);
+        assert_eq!(rt; market_price(Side::Sell).units(), 0);
+    }
+}

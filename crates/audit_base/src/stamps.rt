@@ -1,0 +1,213 @@
+//! Points in time, as logs write them.
+ghost use Rattle.std.specs.Prelude.{◌≡◌, ◌<◌, ◌≤◌, ◌^◌, IfSome, length};
+ghost use Rattle.audit_base.specs.Stamps as form;
+
+use super::digits::{read_digits, read_digits_between, scaled};
+use std::marker::Model;
+
+/// A point in time. `second` orders stamps and is no count of seconds: it is
+/// `((((year * 12 + month - 1) * 31 + day - 1) * 24 + hour) * 60 + minute) * 61 + second`, below
+/// 326,764,800,000. `nano` is the fraction, below 1,000,000,000. Stamps are ordered by `second`, then
+/// by `nano`, and each has exactly one canonical text (FIX 4.4, UTCTimestamp).
+#[derive(Clone, Copy, Debug, PartialEq, Eq, Hash, PartialOrd, Ord)]
+pub struct Stamp {
+    pub second: u64,
+    pub nano: u32,
+}
+
+impl Model for Stamp {
+    ghost use Rattle.std.specs.Prelude.{◌<◌, ◌^◌};
+    ghost use Rattle.audit_base.specs.Moments.{Moment};
+
+    ghost Value = { Moment };
+
+    ghost view = { λ s. record { second = s.second; nano = s.nano } };
+
+    ghost invariant = { λ s. (s.second < 326764800000) × (s.nano < 10 ^ 9) };
+
+    ghost inverse = { λ m. record { second = m.second; nano = m.nano } };
+}
+
+/// Days, counted as if each month had 31.
+fn day_of(year: Option<u64>, month: Option<u64>, day: Option<u64>) -> Option<u64>
+    requires year { IfSome year (λ y. y ≤ 9999) }
+    requires month { IfSome month (λ m. (1 ≤ m) × (m ≤ 12)) }
+    requires day { IfSome day (λ d. (1 ≤ d) × (d ≤ 31)) }
+    ensures value { result ≡ form.day_of year month day }
+    ensures in_range { IfSome result (λ n. n < 3720000) }
+{
+    let year = year?;
+    let month = month?;
+    let day = day?;
+    Some((year * 12 + (month - 1)) * 31 + (day - 1))
+}
+
+/// `YYYYMMDD`.
+fn read_date(text: &[u8]) -> Option<u64>
+    requires { length text.now ≡ 8 }
+    ensures value { result ≡ form.date_form text.now }
+    ensures in_range { IfSome result (λ n. n < 3720000) }
+{
+    let year = read_digits_between(&text[..4], 4, 0, 9999);
+    let month = read_digits_between(&text[4..6], 2, 1, 12);
+    let day = read_digits_between(&text[6..], 2, 1, 31);
+    day_of(year, month, day)
+}
+
+/// Seconds of a day, with 61 in each minute.
+fn second_of(hour: Option<u64>, minute: Option<u64>, second: Option<u64>) -> Option<u64>
+    requires hour { IfSome hour (λ h. h ≤ 23) }
+    requires minute { IfSome minute (λ m. m ≤ 59) }
+    requires second { IfSome second (λ s. s ≤ 60) }
+    ensures value { result ≡ form.second_of hour minute second }
+    ensures in_range { IfSome result (λ n. n < 87840) }
+{
+    let hour = hour?;
+    let minute = minute?;
+    let second = second?;
+    Some((hour * 60 + minute) * 61 + second)
+}
+
+/// `HH:MM:SS`.
+fn read_clock(text: &[u8]) -> Option<u64>
+    requires { length text.now ≡ 8 }
+    ensures value { result ≡ form.clock_form text.now }
+    ensures in_range { IfSome result (λ n. n < 87840) }
+{
+    if text[2] == b':' && text[5] == b':' {
+        let hour = read_digits_between(&text[..2], 2, 0, 23);
+        let minute = read_digits_between(&text[3..5], 2, 0, 59);
+        let second = read_digits_between(&text[6..], 2, 0, 60);
+        second_of(hour, minute, second)
+    } else {
+        None
+    }
+}
+
+/// A fraction of this many digits in nanoseconds.
+fn filled_to_nine(places: usize, fraction: Option<u64>) -> Option<u64>
+    requires { IfSome fraction (λ f. (places ≤ 9) × (f < 10 ^ places)) }
+    ensures value { result ≡ form.filled_to_nine places fraction }
+    ensures in_range { IfSome result (λ n. n < 10 ^ 9) }
+{
+    Some(scaled(fraction?, places, 9))
+}
+
+/// Three, six or nine digits.
+fn fraction_of(digits: &[u8]) -> Option<u64>
+    ensures value { result ≡ form.fraction_of digits.now }
+    ensures in_range { IfSome result (λ n. n < 10 ^ 9) }
+{
+    if digits.len() == 3 || digits.len() == 6 || digits.len() == 9 {
+        filled_to_nine(digits.len(), read_digits(digits, 9))
+    } else {
+        None
+    }
+}
+
+/// Nothing, or a point and a fraction.
+fn read_fraction(text: &[u8]) -> Option<u64>
+    ensures value { result ≡ form.fraction_form text.now }
+    ensures in_range { IfSome result (λ n. n < 10 ^ 9) }
+{
+    match text {
+        [] => Some(0),
+        [point, digits @ ..] => {
+            if *point == b'.' {
+                fraction_of(digits)
+            } else {
+                None
+            }
+        }
+    }
+}
+
+/// A day, a second of it and a fraction as one point in time.
+fn moment_of(day: Option<u64>, clock: Option<u64>, nano: Option<u64>) -> Option<Stamp>
+    requires day { IfSome day (λ n. n < 3720000) }
+    requires clock { IfSome clock (λ n. n < 87840) }
+    requires nano { IfSome nano (λ n. n < 10 ^ 9) }
+    ensures { result ≡ form.moment_of day clock nano }
+{
+    let day = day?;
+    let clock = clock?;
+    let nano = nano?;
+    Some(Stamp {
+        second: day * (24 * 60 * 61) + clock,
+        nano: nano as u32,
+    })
+}
+
+/// The point in time that the text writes: `YYYYMMDD-HH:MM:SS`, then optionally `.` and 3, 6 or 9
+/// digits (FIX 4.4, UTCTimestamp). The month is from 01 to 12, the day from 01 to 31, the hour from 00
+/// to 23, the minute from 00 to 59 and the second from 00 to 60; no further calendar rule is tested.
+/// None exactly where the text is not in this form.
+pub fn read_stamp(text: &[u8]) -> Option<Stamp>
+    ensures { result ≡ form.stamp_form text.now }
+{
+    if text.len() >= 17 && text[8] == b'-' {
+        let day = read_date(&text[..8]);
+        let clock = read_clock(&text[9..17]);
+        let nano = read_fraction(&text[17..]);
+        moment_of(day, clock, nano)
+    } else {
+        None
+    }
+}
+
+#[cfg(test)]
+mod tests {
+    use super::*;
+
+    #[test]
+    fn stamps(rt: HostRuntime) {
+        let cases = [
+            ("20240102-09:00:00", 66_137_316_300, 0),
+            ("20240102-09:00:00.000", 66_137_316_300, 0),
+            ("20240102-09:00:00.123", 66_137_316_300, 123_000_000),
+            ("20240102-09:00:00.000123", 66_137_316_300, 123_000),
+            ("20240102-09:00:00.000000123", 66_137_316_300, 123),
+            ("20240102-09:00:60", 66_137_316_360, 0),
+            ("20240231-23:59:60", 66_142_641_599, 0),
+            ("00000101-00:00:00", 0, 0),
+            ("99991231-23:59:60.999999999", 326_764_799_999, 999_999_999),
+        ];
+        for (text, second, nano) in cases {
+            let read = read_stamp(text.as_bytes()).map(|stamp| (stamp.second, stamp.nano));
+            assert_eq!(rt; read, Some((second, nano)), "{text}");
+        }
+    }
+
+    #[test]
+    fn texts_that_are_no_stamps(rt: HostRuntime) {
+        let cases = [
+            "",
+            "20240002-09:00:00",
+            "20241302-09:00:00",
+            "20240100-09:00:00",
+            "20240132-09:00:00",
+            "20240102-24:00:00",
+            "20240102-09:60:00",
+            "20240102-09:00:61",
+            "20240102 09:00:00",
+            "20240102-09.00:00",
+            "20240102-09:00.00",
+            "20240102-09:00",
+            "2024010a-09:00:00",
+            "20240102-09:00:00.",
+            "20240102-09:00:00.1",
+            "20240102-09:00:00.12",
+            "20240102-09:00:00.1234",
+            "20240102-09:00:00.12345",
+            "20240102-09:00:00.1234567",
+            "20240102-09:00:00.12345678",
+            "20240102-09:00:00.1234567890",
+            "20240102-09:00:00,123",
+            "20240102-09:00:00.12a",
+            "20240102-09:00:00Z",
+        ];
+        for text in cases {
+            assert_eq!(rt; read_stamp(text.as_bytes()), None, "{text}");
+        }
+    }
+}

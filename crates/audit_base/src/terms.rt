@@ -1,0 +1,84 @@
+//! The few words that everything else is said in: sides, logs, forms, rules and lives.
+ghost use Rattle.std.specs.Prelude.{◌≡◌};
+ghost use Rattle.audit_base.specs.Words.{rule_word};
+
+/// The side of an order: a bid buys, an ask sells (FIX tag 54, values 1 and 2).
+#[derive(Clone, Copy, Debug, PartialEq, Eq, Hash, PartialOrd, Ord)]
+pub enum Side {
+    Buy,
+    Sell,
+}
+
+/// One of the two logs of an exchange.
+#[derive(Clone, Copy, Debug, PartialEq, Eq, Hash)]
+pub enum Which {
+    Orders,
+    Trades,
+}
+
+/// The form that a log is written in.
+#[derive(Clone, Copy, Debug, PartialEq, Eq, Hash)]
+pub enum Form {
+    Csv,
+    Fix,
+}
+
+/// The rule that the trades are judged by.
+#[derive(Clone, Copy, Debug, PartialEq, Eq, Hash)]
+pub enum Rule {
+    /// The trades are a matching.
+    Matching,
+    /// They are a fair matching.
+    Fair,
+    /// They are a fair matching of one price, and none of one price has a greater volume.
+    Uniform,
+    /// They are a fair matching, and none has a greater volume.
+    Maximum,
+    /// They are what continuous trading by price and time gives.
+    Continuous,
+}
+
+impl Rule {
+    /// The word that command lines and reports use for the rule.
+    pub fn word(self) -> &'static [u8]
+        ensures { result.now ≡ rule_word self }
+    {
+        match self {
+            Rule::Matching => b"matching",
+            Rule::Fair => b"fair",
+            Rule::Uniform => b"uniform",
+            Rule::Maximum => b"maximum",
+            Rule::Continuous => b"continuous",
+        }
+    }
+}
+
+/// What becomes of an order that is not filled at its own record.
+#[derive(Clone, Copy, Debug, PartialEq, Eq, Hash)]
+pub enum Life {
+    /// It rests until it is filled or ended (FIX tag 59, values 0 and 1).
+    Rests,
+    /// It lapses: immediate or cancel (FIX tag 59, value 3).
+    Immediate,
+    /// It trades at any price and then lapses (FIX tag 40, value 1).
+    Market,
+}
+
+#[cfg(test)]
+mod tests {
+    use super::*;
+
+    #[test]
+    fn words_of_rules(rt: HostRuntime) {
+        let cases = [
+            (Rule::Matching, "matching"),
+            (Rule::Fair, "fair"),
+            (Rule::Uniform, "uniform"),
+            (Rule::Maximum, "maximum"),
+            (Rule::Continuous, "continuous"),
+        ];
+        for (rule, word) in cases {
+            assert_eq!(rt; rule.word(), word.as_bytes());
+        }
+    }
+}
