@@ -1,0 +1,22 @@
+-- What stands in the slots of a shelf over files.
+use Rattle.std.specs.Prelude.{ℕ, List, Option, is_some}
+use Rattle.std.specs.Option.{option_and_then}
+use Rattle.audit_base.specs.declared.terms.Which.{Which}
+use Rattle.audit_base.specs.declared.terms.Which.TheVariants.{Orders, Trades}
+use Rattle.log_source.specs.Sources.{Slot}
+use Rattle.log_source.specs.declared.file_shelf.FileSlot.{FileSlot}
+
+-- What stands in one slot: a file that is open is started, and what is left is what the file itself
+-- tells of it, which is nothing at a file of the system.
+abbrev pub file_standing : {X : Type 0} → (X → Option (List ℕ)) → FileSlot X → Slot
+file_standing remaining slot = record {
+  started = is_some slot.file;
+  left = option_and_then remaining slot.file;
+  taken = slot.taken;
+  faults = slot.faults;
+}
+
+-- what stands in the slot of each log
+abbrev pub file_slot : {X : Type 0} → (X → Option (List ℕ)) → FileSlot X → FileSlot X → Which → Slot
+file_slot remaining orders trades Orders = file_standing remaining orders
+file_slot remaining orders trades Trades = file_standing remaining trades

@@ -1,0 +1,12 @@
+pub mod Calls
+pub mod EndlessShelves
+pub mod Feeds
+pub mod FileShelves
+pub mod MemoryShelves
+pub mod MemorySinks
+pub mod Places
+pub mod QuietShelves
+pub mod Sinks
+pub mod Sources
+pub mod StdSinks
+pub mod Taking

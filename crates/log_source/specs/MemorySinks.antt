@@ -1,0 +1,45 @@
+-- A sink in memory: what it holds, its room, and which writes fail.
+use Rattle.std.specs.Prelude.{◌≡◌, ℕ, Bool, List, [], length, Some, nat_le, ◌||◌, ◌∷◌}
+use Rattle.log_source.specs.Calls.{count_after, is_listed}
+use Rattle.log_source.specs.Sinks.{Held}
+use Rattle.log_source.specs.declared.memory_sink.MemorySink.{MemorySink}
+
+-- a sink none of whose writes is to fail takes its whole room for sure
+abbrev pub sure_room : List ℕ → ℕ → ℕ
+sure_room [] room = room
+sure_room (_ ∷ _) room = 0
+
+-- what the sink holds
+abbrev pub memory_held : MemorySink → Held
+memory_held sink = record { wrote = Some (sink.bytes.items); faults = sink.faults; sure = sure_room sink.fails.items sink.room }
+
+-- how many bytes the sink can hold
+abbrev pub room_of : MemorySink → ℕ
+room_of sink = sink.room
+
+-- the greatest number of bytes of one write
+abbrev pub most_of : MemorySink → ℕ
+most_of sink = sink.most
+
+-- how many writes were made
+abbrev pub writes_made : MemorySink → ℕ
+writes_made sink = sink.calls
+
+-- the numbers of the writes that are to fail
+abbrev pub failing_writes : MemorySink → List ℕ
+failing_writes sink = sink.fails.items
+
+-- how many bytes were written
+abbrev pub length_of : MemorySink → ℕ
+length_of sink = length sink.bytes.items
+
+-- the next write fails: its number is listed, or the room is full
+abbrev pub write_fails : MemorySink → Bool
+write_fails sink = is_listed (count_after sink.calls) sink.fails.items || nat_le sink.room (length_of sink)
+
+-- one more write was made; the room, the most and the list stay
+pub record CountsWrite (old new : MemorySink) : Type 0 where
+  pub calls : writes_made new ≡ count_after (writes_made old)
+  pub fails : failing_writes new ≡ failing_writes old
+  pub room : room_of new ≡ room_of old
+  pub most : most_of new ≡ most_of old

@@ -1,0 +1,48 @@
+-- What a shelf holds of its two logs: what stands before and after a start and a read.
+use Rattle.std.specs.Prelude.{◌≡◌, ℕ, ◌+◌, ◌-◌, ◌<◌, ◌≤◌, ◌^◌, ◌⊎◌, Bool, true, List, Option, None, IsSome, Result, is_ok, OnOk, OnErr, IsErrOf, MatchResult}
+use Rattle.std.specs.Io.{ReadsAtMost}
+use Rattle.std.specs.Io.KnownBytes.{ReadConsumes}
+use Rattle.audit_base.specs.declared.terms.Which.{Which}
+use Rattle.audit_base.specs.declared.terms.Which.TheVariants.{Orders, Trades}
+use Rattle.log_source.specs.declared.shelf.Failed.{Failed}
+use Rattle.log_source.specs.declared.shelf.StartFault.{StartFault}
+use Rattle.log_source.specs.declared.shelf.StartFault.TheVariants as start
+
+-- the greatest number of bytes of one log
+abbrev pub longest_log : ℕ
+longest_log = 67108864
+
+-- the slot beside this one
+abbrev pub other_of : Which → Which
+other_of Orders = Trades
+other_of Trades = Orders
+
+-- What a shelf stands at in one slot: whether a log is started, the bytes still to come where they are
+-- known, how many bytes reads have given since the start, and how many faults were counted.
+pub record Slot : Type 0 where
+  pub started : Bool
+  pub left : Option (List ℕ)
+  pub taken : ℕ
+  pub faults : ℕ
+
+-- a count of faults rose, or stands at the greatest value that it can show
+abbrev pub Rose : ℕ → ℕ → Type 0
+Rose old new = (old < new) ⊎ (new ≡ 2 ^ 64 - 1)
+
+-- What a start does to its slot. `log` is what the shelf has under the name, known where it tells.
+pub record Starts {T : Type 0} (tells : Bool) (log : Option (List ℕ)) (old new : Slot) (result : Result T StartFault) : Type 0 where
+  pub fresh : new.taken ≡ 0
+  pub later : old.faults ≤ new.faults
+  pub started : new.started ≡ is_ok result
+  pub known : OnOk result (tells ≡ true → IsSome log × (new.left ≡ log))
+  pub cause : IsErrOf result start.Failed → Rose old.faults new.faults ⊎ ((tells ≡ true) × (log ≡ None))
+
+-- What a read into `buf` does to its slot: at `Ok n` the first n bytes of what was left stand at the
+-- front of `buf`, and n is 0 only where nothing is left. After a failure left and taken stay.
+pub record Reads (old new : Slot) (result : Result ℕ Failed) (buf : List ℕ) : Type 0 where
+  pub bound : ReadsAtMost result buf
+  pub bytes : ReadConsumes old.left new.left result buf
+  pub taken : MatchResult result (λ n. new.taken ≡ old.taken + n) (λ _. new.taken ≡ old.taken)
+  pub started : new.started ≡ old.started
+  pub later : old.faults ≤ new.faults
+  pub cause : OnErr result (Rose old.faults new.faults)

@@ -1,0 +1,89 @@
+//! A shelf whose logs have no end.
+ghost use Rattle.std.specs.Prelude.{◌≡◌, ◌<◌, ◌≤◌, true, false, length, replicate, None, IsOk, Ok};
+ghost use Rattle.audit_base.specs.declared.terms.Which.{Which};
+ghost use Rattle.log_source.specs.Sources.{Starts, Reads, other_of, longest_log};
+
+use crate::shelf::{Failed, Shelf, StartFault};
+use audit_base::terms::Which;
+
+/// One slot.
+#[derive(Clone, Copy)]
+struct EndlessSlot {
+    started: bool,
+    taken: u64,
+}
+
+/// A shelf both of whose slots give one byte without end, under every name. It tells nothing of its
+/// logs, and no call of it fails.
+#[derive(Clone, Copy)]
+pub struct EndlessShelf {
+    byte: u8,
+    orders: EndlessSlot,
+    trades: EndlessSlot,
+}
+
+impl EndlessShelf {
+    ghost use Rattle.log_source.specs.EndlessShelves.{endless_slot, endless_byte};
+
+    /// A shelf that fills every buffer with this byte, with nothing started.
+    pub fn new(byte: u8) -> EndlessShelf
+        ensures byte { endless_byte result ≡ byte }
+        ensures fresh { (w : Which) → endless_slot result w ≡ record { started = false; left = None; taken = 0; faults = 0 } }
+    {
+        let fresh = EndlessSlot {
+            started: false,
+            taken: 0,
+        };
+        EndlessShelf {
+            byte,
+            orders: fresh,
+            trades: fresh,
+        }
+    }
+}
+
+impl Shelf for EndlessShelf {
+    ghost use Rattle.log_source.specs.EndlessShelves.{endless_slot, endless_byte};
+
+    ghost tells = { λ _. false };
+
+    ghost log_of = { λ _ _ _. None };
+
+    ghost slot = { endless_slot };
+
+    fn start(&mut self, which: Which, name: &str) -> Result<(), StartFault>
+        ensures slot { Starts false None (endless_slot self.old which) (endless_slot self.new which) result }
+        ensures other { endless_slot self.new (other_of which) ≡ endless_slot self.old (other_of which) }
+        ensures byte { endless_byte self.new ≡ endless_byte self.old }
+        ensures starts { IsOk result }
+    {
+        let started = EndlessSlot {
+            started: true,
+            taken: 0,
+        };
+        match which {
+            Which::Orders => self.orders = started,
+            Which::Trades => self.trades = started,
+        }
+        Ok(())
+    }
+
+    fn read(&mut self, which: Which, buf: &mut [u8]) -> Result<usize, Failed>
+        requires room { 0 < length buf.old }
+        requires started { (endless_slot self.old which).started ≡ true }
+        requires within { (endless_slot self.old which).taken ≤ longest_log }
+        ensures slot { Reads (endless_slot self.old which) (endless_slot self.new which) result buf.new }
+        ensures other { endless_slot self.new (other_of which) ≡ endless_slot self.old (other_of which) }
+        ensures byte { endless_byte self.new ≡ endless_byte self.old }
+        ensures reads { result ≡ Ok (length buf.old) }
+        ensures filled { buf.new ≡ replicate (length buf.old) (endless_byte self.old) }
+    {
+        buf.fill(self.byte);
+        let count = buf.len();
+        match which {
+            Which::Orders => self.orders.taken += count as u64,
+            Which::Trades => self.trades.taken += count as u64,
+        }
+        Ok(count)
+    }
+}

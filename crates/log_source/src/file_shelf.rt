@@ -1,0 +1,151 @@
+//! The shelf of the program: files, each opened under its path.
+ghost use Rattle.std.specs.Prelude.{◌≡◌, ◌<◌, ◌≤◌, true, false, length, None, IsErrOf};
+ghost use Rattle.audit_base.specs.declared.terms.Which.{Which};
+ghost use Rattle.log_source.specs.Sources.{Starts, Reads, other_of, longest_log};
+ghost use Rattle.log_source.specs.FileShelves.{file_standing, file_slot};
+
+use crate::shelf::{Failed, Shelf, StartFault};
+use audit_base::terms::Which;
+use std::fs;
+use std::io::{ErrorKind, Read};
+use std::rt::Files;
+
+/// One slot and the file that is open in it.
+#[derive(Drop)]
+struct FileSlot<X> {
+    file: Option<X>,
+    taken: u64,
+    faults: u64,
+}
+
+impl<X: Read + Drop> FileSlot<X> {
+    fn new() -> FileSlot<X>
+        ensures { file_standing X.remaining result ≡ record { started = false; left = None; taken = 0; faults = 0 } }
+    {
+        FileSlot {
+            file: None,
+            taken: 0,
+            faults: 0,
+        }
+    }
+
+    fn start<R: Files<File = X>>(&mut self, files: &R, name: &str) -> Result<(), StartFault>
+        ensures slot { Starts false None (file_standing X.remaining self.old) (file_standing X.remaining self.new) result }
+        ensures memory { IsErrOf result StartFault.Memory → self.new.faults ≡ self.old.faults }
+    {
+        self.file = None;
+        self.taken = 0;
+        match fs::open(files, name) {
+            Ok(file) => {
+                self.file = Some(file);
+                Ok(())
+            }
+            Err(error) if error.kind() == ErrorKind::OutOfMemory => Err(StartFault::Memory),
+            Err(_) => {
+                self.faults = self.faults.saturating_add(1);
+                Err(StartFault::Failed)
+            }
+        }
+    }
+
+    fn read(&mut self, buf: &mut [u8]) -> Result<usize, Failed>
+        requires room { 0 < length buf.old }
+        requires started { (file_standing X.remaining self.old).started ≡ true }
+        requires within { self.old.taken ≤ longest_log }
+        ensures { Reads (file_standing X.remaining self.old) (file_standing X.remaining self.new) result buf.new }
+    {
+        let Some(file) = &mut self.file else {
+            unreachable!()
+        };
+        match file.read(buf) {
+            Ok(count) => {
+                self.taken += count as u64;
+                Ok(count)
+            }
+            Err(_) => {
+                self.faults = self.faults.saturating_add(1);
+                Err(Failed)
+            }
+        }
+    }
+}
+
+/// A shelf over the files of the runtime, where a log's name is its path. It tells nothing of what
+/// is under a name. An open or a read that is refused is counted as a fault of its slot, as of
+/// a file that is not there, a directory, or a file that may not be read. An open that finds no
+/// memory is no fault.
+#[derive(Drop)]
+pub struct FileShelf<R: Files> {
+    files: R,
+    orders: FileSlot<R::File>,
+    trades: FileSlot<R::File>,
+}
+
+impl<R: Files + Drop> FileShelf<R> {
+    /// A shelf over these files, with nothing started and no fault counted.
+    pub fn new(files: R) -> FileShelf<R>
+        ensures { (w : Which) → ⟦<FileShelf<R> as Shelf>⟧.slot result w ≡ record { started = false; left = None; taken = 0; faults = 0 } }
+    {
+        FileShelf {
+            files,
+            orders: FileSlot::new(),
+            trades: FileSlot::new(),
+        }
+    }
+}
+
+impl<R: Files + Drop> Shelf for FileShelf<R> {
+    ghost tells = { λ _. false };
+
+    ghost log_of = { λ _ _ _. None };
+
+    ghost slot = { λ shelf which. file_slot R.File.remaining shelf.orders shelf.trades which };
+
+    fn start(&mut self, which: Which, name: &str) -> Result<(), StartFault>
+        ensures slot { Starts false None (⟦<FileShelf<R> as Shelf>⟧.slot self.old which) (⟦<FileShelf<R> as Shelf>⟧.slot self.new which) result }
+        ensures other { ⟦<FileShelf<R> as Shelf>⟧.slot self.new (other_of which) ≡ ⟦<FileShelf<R> as Shelf>⟧.slot self.old (other_of which) }
+        ensures memory { IsErrOf result StartFault.Memory → (⟦<FileShelf<R> as Shelf>⟧.slot self.new which).faults ≡ (⟦<FileShelf<R> as Shelf>⟧.slot self.old which).faults }
+    {
+        match which {
+            Which::Orders => self.orders.start(&self.files, name),
+            Which::Trades => self.trades.start(&self.files, name),
+        }
+    }
+
+    fn read(&mut self, which: Which, buf: &mut [u8]) -> Result<usize, Failed> {
+        match which {
+            Which::Orders => self.orders.read(buf),
+            Which::Trades => self.trades.read(buf),
+        }
+    }
+}
+
+#[cfg(test)]
+mod tests {
+    use super::FileShelf;
+    use crate::take::{TakeFault, take_log};
+    use audit_base::terms::Which;
+    use std::test::Fail;
+    use std::{env, fs, process};
+
+    #[test]
+    fn a_file_is_taken_whole_and_what_is_none_is_a_fault(rt: HostRuntime) -> Result<(), Fail> {
+        let folder = env::temp_dir(&rt)?;
+        let name = format!(in rt.alloc(); "file_shelf-{}.test", process::id(rt.process()))?;
+        let path = folder.join(rt.alloc(), name.as_str())?;
+        let log = vec![in rt.alloc(); b'x'; 200_000]?;
+        fs::write(&rt, path.as_str(), log.as_slice())?;
+        let mut shelf = FileShelf::new(&rt);
+        let taken = take_log(rt.alloc(), &mut shelf, Which::Orders, path.as_str());
+        fs::remove_file(&rt, path.as_str())?;
+        assert!(rt; taken?.as_slice() == log.as_slice());
+
+        // The file is gone, and a folder is no file.
+        let gone = take_log(rt.alloc(), &mut shelf, Which::Orders, path.as_str());
+        assert!(rt; gone == Err(TakeFault::Fault));
+        let none = take_log(rt.alloc(), &mut shelf, Which::Trades, folder.as_str());
+        assert!(rt; none == Err(TakeFault::Fault));
+        assert_eq!(rt; (shelf.orders.faults, shelf.trades.faults), (1, 1));
+        Ok(())
+    }
+}

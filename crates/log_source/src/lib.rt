@@ -1,0 +1,21 @@
+//! Where the logs come from and where the report goes: shelves that give two logs piece by piece,
+//! sinks that take a text piece by piece, and the calls that take a log whole or pump it into a
+//! feed. What a shelf holds in memory is known to contracts; over real files nothing of content is
+//! claimed, and the causes of every failure still are.
+#![tactic(auto)]
+
+mod calls;
+pub mod endless_shelf;
+pub mod feed;
+pub mod file_shelf;
+pub mod memory_shelf;
+pub mod memory_sink;
+mod pieces;
+mod places;
+pub mod pump;
+pub mod put;
+pub mod quiet_shelf;
+pub mod shelf;
+pub mod sink;
+pub mod std_sink;
+pub mod take;

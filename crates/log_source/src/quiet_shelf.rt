@@ -1,0 +1,122 @@
+//! A shelf in memory that never fails.
+ghost use Rattle.std.specs.Prelude.{◌≡◌, ◌<◌, ◌≤◌, true, [], length, Some, IsOk, IsOkAnd, Ok, false};
+ghost use Rattle.audit_base.specs.declared.terms.Which.{Which};
+ghost use Rattle.log_source.specs.Sources.{Starts, Reads, other_of, longest_log};
+
+use crate::pieces::copy_piece;
+use crate::shelf::{Failed, Shelf, StartFault};
+use audit_base::terms::Which;
+
+/// One slot and its log.
+#[derive(Drop)]
+struct QuietSlot {
+    log: Vec<u8>,
+    started: bool,
+    at: usize,
+}
+
+impl QuietSlot {
+    ghost use Rattle.log_source.specs.QuietShelves.{quiet_standing};
+
+    fn new(log: Vec<u8>) -> QuietSlot
+        ensures log { result.log.items ≡ log.items }
+        ensures fresh { quiet_standing result ≡ record { started = false; left = Some []; taken = 0; faults = 0 } }
+    {
+        QuietSlot {
+            log,
+            started: false,
+            at: 0,
+        }
+    }
+
+    fn start(&mut self)
+        ensures log { self.new.log.items ≡ self.old.log.items }
+        ensures slot { quiet_standing self.new ≡ record { started = true; left = Some (self.old.log.items); taken = 0; faults = 0 } }
+    {
+        self.started = true;
+        self.at = 0;
+    }
+
+    fn read(&mut self, piece: usize, buf: &mut [u8]) -> usize
+        requires room { 0 < length buf.old }
+        requires piece { 1 ≤ piece }
+        requires started { (quiet_standing self.old).started ≡ true }
+        ensures log { self.new.log.items ≡ self.old.log.items }
+        ensures slot { Reads (quiet_standing self.old) (quiet_standing self.new) (Ok result) buf.new }
+        ensures piece { result ≤ piece }
+    {
+        let rest = self.log.get(self.at..).unwrap_or(&[]);
+        let count = copy_piece(rest, piece, buf);
+        self.at += count;
+        count
+    }
+}
+
+/// A shelf over two logs in memory, one in each slot under every name. No call of it fails.
+#[derive(Drop)]
+pub struct QuietShelf {
+    orders: QuietSlot,
+    trades: QuietSlot,
+    piece: usize,
+    ghost piece_given: { 1 ≤ piece },
+}
+
+impl QuietShelf {
+    ghost use Rattle.log_source.specs.QuietShelves.{quiet_log, quiet_slot, quiet_piece};
+
+    /// A shelf over these two logs, with nothing started. A read gives at most `piece` bytes.
+    pub fn new(orders: Vec<u8>, trades: Vec<u8>, piece: usize) -> QuietShelf
+        requires { 1 ≤ piece }
+        ensures orders { quiet_log result Which.Orders ≡ orders.items }
+        ensures trades { quiet_log result Which.Trades ≡ trades.items }
+        ensures piece { quiet_piece result ≡ piece }
+        ensures fresh { (w : Which) → quiet_slot result w ≡ record { started = false; left = Some []; taken = 0; faults = 0 } }
+    {
+        QuietShelf {
+            orders: QuietSlot::new(orders),
+            trades: QuietSlot::new(trades),
+            piece,
+        }
+    }
+}
+
+impl Shelf for QuietShelf {
+    ghost use Rattle.log_source.specs.QuietShelves.{quiet_log, quiet_slot, quiet_piece};
+
+    ghost tells = { λ _. true };
+
+    ghost log_of = { λ shelf which _. Some (quiet_log shelf which) };
+
+    ghost slot = { quiet_slot };
+
+    fn start(&mut self, which: Which, name: &str) -> Result<(), StartFault>
+        ensures logs { (w : Which) → quiet_log self.new w ≡ quiet_log self.old w }
+        ensures slot { Starts true (Some (quiet_log self.old which)) (quiet_slot self.old which) (quiet_slot self.new which) result }
+        ensures other { quiet_slot self.new (other_of which) ≡ quiet_slot self.old (other_of which) }
+        ensures piece { quiet_piece self.new ≡ quiet_piece self.old }
+        ensures starts { IsOk result }
+    {
+        match which {
+            Which::Orders => self.orders.start(),
+            Which::Trades => self.trades.start(),
+        }
+        Ok(())
+    }
+
+    fn read(&mut self, which: Which, buf: &mut [u8]) -> Result<usize, Failed>
+        requires room { 0 < length buf.old }
+        requires started { (quiet_slot self.old which).started ≡ true }
+        requires within { (quiet_slot self.old which).taken ≤ longest_log }
+        ensures logs { (w : Which) → quiet_log self.new w ≡ quiet_log self.old w }
+        ensures slot { Reads (quiet_slot self.old which) (quiet_slot self.new which) result buf.new }
+        ensures other { quiet_slot self.new (other_of which) ≡ quiet_slot self.old (other_of which) }
+        ensures piece { quiet_piece self.new ≡ quiet_piece self.old }
+        ensures reads { IsOkAnd result (λ n. n ≤ quiet_piece self.old) }
+    {
+        let count = match which {
+            Which::Orders => self.orders.read(self.piece, buf),
+            Which::Trades => self.trades.read(self.piece, buf),
+        };
+        Ok(count)
+    }
+}

@@ -1,0 +1,57 @@
+//! A shelf: two slots, one for each log, that give their bytes piece by piece.
+ghost use Rattle.std.specs.Prelude.{◌≡◌, ℕ, ◌<◌, ◌≤◌, Bool, true, List, length, Option};
+ghost use Rattle.audit_base.specs.declared.terms.Which.{Which};
+ghost use Rattle.log_source.specs.Sources.{Slot, Starts, Reads, other_of, longest_log};
+
+use audit_base::terms::Which;
+use thiserror::Error;
+
+/// A start, a read or a write failed, and its fault was counted.
+#[derive(Clone, Copy, Debug, PartialEq, Eq, Error)]
+#[error("input or output failed")]
+pub struct Failed;
+
+/// Why a log was not started.
+#[derive(Clone, Copy, Debug, PartialEq, Eq, Error)]
+pub enum StartFault {
+    /// The shelf could not start it, or knows that it has no log of this name.
+    #[error("the log could not be opened")]
+    Failed,
+    #[error("out of memory")]
+    Memory,
+}
+
+/// Two logs that are read piece by piece, one in each slot.
+///
+/// A shelf that tells has known bytes under each name that it knows, and they never change. Each
+/// slot counts its own faults, which never fall, and no call on one slot touches the other.
+pub trait Shelf {
+    // Whether the bytes of its logs are known.
+    ghost tells: { Self → Bool };
+
+    // The bytes that a slot finds under a name, or nothing; known where the shelf tells.
+    ghost log_of: { Self → Which → List ℕ → Option (List ℕ) };
+
+    // What stands in a slot.
+    ghost slot: { Self → Which → Slot };
+
+    /// Starts the log of this name in the slot, from its first byte. `Failed` comes only where the
+    /// slot's faults rose, or where the shelf tells and has no such log.
+    fn start(&mut self, which: Which, name: &str) -> Result<(), StartFault>
+        ensures tells { tells self.new ≡ tells self.old }
+        ensures logs { (w : Which) (n : List ℕ) → log_of self.new w n ≡ log_of self.old w n }
+        ensures slot { Starts (tells self.old) (log_of self.old which name.now) (slot self.old which) (slot self.new which) result }
+        ensures other { slot self.new (other_of which) ≡ slot self.old (other_of which) };
+
+    /// Reads the next bytes of the started log to the front of `buf`, and answers how many; 0 is
+    /// the end of the log. `Failed` comes only where the slot's faults rose, and the same bytes
+    /// are then still to come.
+    fn read(&mut self, which: Which, buf: &mut [u8]) -> Result<usize, Failed>
+        requires room { 0 < length buf.old }
+        requires started { (slot self.old which).started ≡ true }
+        requires within { (slot self.old which).taken ≤ longest_log }
+        ensures tells { tells self.new ≡ tells self.old }
+        ensures logs { (w : Which) (n : List ℕ) → log_of self.new w n ≡ log_of self.old w n }
+        ensures slot { Reads (slot self.old which) (slot self.new which) result buf.new }
+        ensures other { slot self.new (other_of which) ≡ slot self.old (other_of which) };
+}

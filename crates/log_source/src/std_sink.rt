@@ -1,0 +1,73 @@
+//! The sink of the program: standard output, or any writer of the system.
+ghost use Rattle.std.specs.Prelude.{◌≡◌, ◌<◌, length, None};
+ghost use Rattle.std.specs.Io.KnownBytes.{WriteAppends};
+ghost use Rattle.log_source.specs.Sinks.{Writes};
+
+use crate::shelf::Failed;
+use crate::sink::Sink;
+use std::io::Write;
+
+/// A sink over a writer. What reaches the system is not known to contracts. A write that fails, or
+/// that takes nothing of its piece, is counted as a fault.
+#[derive(Drop)]
+pub struct StdSink<W> {
+    writer: W,
+    faults: u64,
+}
+
+impl<W: Write> StdSink<W> {
+    ghost use Rattle.log_source.specs.StdSinks.{std_held};
+
+    /// A sink over this writer, with no fault counted.
+    pub fn new(writer: W) -> StdSink<W>
+        ensures { std_held result ≡ record { wrote = None; faults = 0; sure = 0 } }
+    {
+        StdSink { writer, faults: 0 }
+    }
+}
+
+impl<W: Write> Sink for StdSink<W> {
+    ghost use Rattle.log_source.specs.StdSinks.{std_held, writer_of};
+
+    ghost held = { std_held };
+
+    fn write(&mut self, piece: &[u8]) -> Result<usize, Failed>
+        requires { 0 < length piece.now }
+        ensures written { Writes (std_held self.old) (std_held self.new) result piece.now }
+        // Where the writer tells what it holds, that is what was written.
+        ensures writer { WriteAppends (W.contents (writer_of self.old)) (W.contents (writer_of self.new)) result piece.now }
+    {
+        match self.writer.write(piece) {
+            Ok(count) if count > 0 => Ok(count),
+            _ => {
+                self.faults = self.faults.saturating_add(1);
+                Err(Failed)
+            }
+        }
+    }
+}
+
+#[cfg(test)]
+mod tests {
+    use super::StdSink;
+    use crate::put::put_all;
+    use crate::shelf::Failed;
+    use std::io;
+    use std::test::Fail;
+
+    #[test]
+    fn a_text_reaches_its_writer(rt: HostRuntime) -> Result<(), Fail> {
+        let text = b"accepted,matching,Z\n";
+        let mut written = Vec::new(rt.alloc());
+        assert_eq!(rt; put_all(&mut StdSink::new(&mut written), text), Ok(()));
+        assert!(rt; written.as_slice() == text.as_slice());
+        assert_eq!(rt; put_all(&mut StdSink::new(io::writer(&rt)), text), Ok(()));
+
+        // A writer that takes nothing more is a fault.
+        let mut room = [0u8; 4];
+        let mut full = StdSink::new(room.as_mut_slice());
+        assert_eq!(rt; put_all(&mut full, text), Err(Failed));
+        assert_eq!(rt; full.faults, 1);
+        Ok(())
+    }
+}
