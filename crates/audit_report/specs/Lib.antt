@@ -1,0 +1,5 @@
+pub mod Lines
+pub mod Parts
+pub mod Reasons
+pub mod Statuses
+pub mod Texts

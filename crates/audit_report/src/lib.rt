@@ -1,0 +1,14 @@
+//! Verdicts and how they are told: the text that a desk reads, line by line, and the status that the
+//! program ends with. The definitions in `specs/` say each line as a function of its parts.
+#![tactic(auto)]
+
+mod lines;
+mod parts;
+mod reasons;
+pub mod reports;
+pub mod statuses;
+pub mod tables;
+#[cfg(test)]
+mod tests;
+pub mod verdicts;
+mod words;
