@@ -1,0 +1,10 @@
+pub mod FieldLemmas
+pub mod LineLemmas
+pub mod PlainLemmas
+pub mod LogLemmas
+pub mod ReadingLemmas
+pub mod FeedLemmas
+pub mod WrittenLemmas
+pub mod RecordLemmas
+pub mod BlockLemmas
+pub mod PricedLemmas

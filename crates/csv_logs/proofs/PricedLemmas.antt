@@ -1,0 +1,74 @@
+-- A market order that is read has the market price of its side.
+use Rattle.std.proofs.Common.{◌≡◌, ℕ, List, subst, refl, Ok, Err, Result}
+use Rattle.std.specs.Prelude.{All, IfOk, MatchResult}
+use Rattle.audit_base.specs.declared.faults.Reason.{Reason}
+use Rattle.audit_base.specs.declared.records.OrderRecord.{OrderRecord}
+use Rattle.audit_base.specs.declared.records.OrderRecord.TheVariants as record_of
+use Rattle.audit_base.specs.declared.terms.Life.TheVariants as life
+use Rattle.csv_logs.specs.declared.orders.Head.{Head}
+use Rattle.csv_logs.specs.declared.orders.Kind.{Kind}
+use Rattle.csv_logs.specs.declared.orders.Kind.TheVariants as kind
+use Rattle.csv_logs.specs.Columns.{◌>>=◌, column, in_column, name_at, side_at, quantity_at, price_at, empty_at}
+use Rattle.csv_logs.specs.Logs.{order_log}
+use Rattle.audit_base.specs.Numbers.{market_price}
+use Rattle.csv_logs.specs.OrderLines.{kind_form, head_at, limit_order, market_order, cancel, replacement, order_of, order_names, order_entry}
+use Rattle.csv_logs.specs.Written.{HasMarketPrice}
+use Rattle.csv_logs.proofs.ReadingLemmas.{log-has}
+
+same : (a b : OrderRecord) → HasMarketPrice a → ◌≡◌ {A = Result OrderRecord Reason} (Ok a) (Ok b) → HasMarketPrice b
+same a b has e = let eq : a ≡ b = cc in subst HasMarketPrice eq has
+
+-- four columns, and the record that they make
+four : {A B C D : Type 0} (a : Result A Reason) (b : Result B Reason) (c : Result C Reason) (d : Result D Reason) (make : A → B → C → D → OrderRecord) (order : OrderRecord)
+    → a >>= (λ w. b >>= (λ x. c >>= (λ y. d >>= (λ z. Ok (make w x y z))))) ≡ Ok order → ((w : A) (x : B) (y : C) (z : D) → HasMarketPrice (make w x y z)) → HasMarketPrice order
+four (Ok w) (Ok x) (Ok y) (Ok z) make order e each = same (make w x y z) order (each w x y z) e
+four (Ok w) (Ok x) (Ok y) (Err why) make order e each = absurd (cc e)
+four (Ok w) (Ok x) (Err why) d make order e each = absurd (cc e)
+four (Ok w) (Err why) c d make order e each = absurd (cc e)
+four (Err why) b c d make order e each = absurd (cc e)
+
+limit-priced : (head : Head) (fields : List (List ℕ)) (order : OrderRecord) → limit_order head life.Rests fields ≡ Ok order → HasMarketPrice order
+limit-priced head fields order e =
+    four (side_at 6 fields) (quantity_at 7 fields) (price_at 8 fields) (empty_at 9 fields) (λ side quantity price none. record_of.New head.key head.time head.symbol side quantity price life.Rests) order e (λ _ _ _ _. tt)
+
+immediate-priced : (head : Head) (fields : List (List ℕ)) (order : OrderRecord) → limit_order head life.Immediate fields ≡ Ok order → HasMarketPrice order
+immediate-priced head fields order e =
+    four (side_at 6 fields) (quantity_at 7 fields) (price_at 8 fields) (empty_at 9 fields) (λ side quantity price none. record_of.New head.key head.time head.symbol side quantity price life.Immediate) order e (λ _ _ _ _. tt)
+
+market-priced : (head : Head) (fields : List (List ℕ)) (order : OrderRecord) → market_order head fields ≡ Ok order → HasMarketPrice order
+market-priced head fields order e =
+    four (side_at 6 fields) (quantity_at 7 fields) (empty_at 8 fields) (empty_at 9 fields) (λ side quantity none nothing. record_of.New head.key head.time head.symbol side quantity (market_price side) life.Market) order e (λ _ _ _ _. refl)
+
+cancel-priced : (head : Head) (fields : List (List ℕ)) (order : OrderRecord) → cancel head fields ≡ Ok order → HasMarketPrice order
+cancel-priced head fields order e =
+    four (empty_at 6 fields) (empty_at 7 fields) (empty_at 8 fields) (name_at 9 fields) (λ x y z target. record_of.Cancel head.key head.time head.symbol target) order e (λ _ _ _ _. tt)
+
+replace-priced : (head : Head) (fields : List (List ℕ)) (order : OrderRecord) → replacement head fields ≡ Ok order → HasMarketPrice order
+replace-priced head fields order e =
+    four (side_at 6 fields) (quantity_at 7 fields) (price_at 8 fields) (name_at 9 fields) (λ side quantity price target. record_of.Replace head.key head.time head.symbol target side quantity price) order e (λ _ _ _ _. tt)
+
+order-priced : (k : Kind) (head : Head) (fields : List (List ℕ)) (order : OrderRecord) → order_of k head fields ≡ Ok order → HasMarketPrice order
+order-priced kind.New head fields order e = limit-priced head fields order e
+order-priced kind.Immediate head fields order e = immediate-priced head fields order e
+order-priced kind.Market head fields order e = market-priced head fields order e
+order-priced kind.Cancel head fields order e = cancel-priced head fields order e
+order-priced kind.Replace head fields order e = replace-priced head fields order e
+
+two : {A B : Type 0} (a : Result A Reason) (b : Result B Reason) (make : A → B → Result OrderRecord Reason) (order : OrderRecord)
+    → a >>= (λ x. b >>= (λ y. make x y)) ≡ Ok order → ((x : A) (y : B) → make x y ≡ Ok order → HasMarketPrice order) → HasMarketPrice order
+two (Ok x) (Ok y) make order e each = each x y e
+two (Ok x) (Err why) make order e each = absurd (cc e)
+two (Err why) b make order e each = absurd (cc e)
+
+entry-priced : (fields : List (List ℕ)) (order : OrderRecord) → order_entry fields ≡ Ok order → HasMarketPrice order
+unfolding order_entry
+entry-priced fields order e =
+    two (in_column 1 (kind_form (column 1 fields))) (head_at fields) (λ k head. order_of k head fields) order e (λ k head. order-priced k head fields order)
+
+pub orders-priced : (log : List ℕ) (entries : List OrderRecord) → order_log log ≡ Ok entries → All HasMarketPrice entries
+orders-priced log entries e = log-has order_entry HasMarketPrice entry-priced order_names log entries e
+
+-- what follows from an `Ok` that a reader gives
+pub read-then : {V E : Type 0} (P P' : V → Type 0) (Q : E → Type 0) (result : Result V E) → ((value : V) → P value → P' value) → MatchResult result P Q → IfOk result P'
+read-then P P' Q (Ok value) goes is = goes value is
+read-then P P' Q (Err why) goes is = tt

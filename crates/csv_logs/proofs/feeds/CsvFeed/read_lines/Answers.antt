@@ -1,0 +1,41 @@
+use Rattle.std.proofs.Common.{◌≡◌, [], ◌∷◌, ◌++◌, List, ℕ, not, ap, subst, sym, ◌∙◌, arith}
+use Rattle.csv.specs.Reading.{builder_config, builder_names_headers, builder_trim}
+use Rattle.csv_logs.specs.Blocks.{IsReading}
+use Rattle.csv_logs.specs.Feeds.{IsOpen, StandsAt}
+use Rattle.csv_logs.specs.Steps.{HasLine}
+use Rattle.csv_logs.proofs.BlockLemmas.{new-reading}
+use Rattle.csv_logs.proofs.FeedLemmas.{goes-none, goes-room, goes-line}
+use Rattle.csv_logs.proofs.feeds.CsvFeed.read_lines.Goals as goal
+
+pub lines-init : goal.lines-init
+lines-init g c = record {
+  goes = goes-none _ c.args.text.now;
+  nothing = c.requires.rest;
+  started = omega (arith, c.if-self-eq0.false);
+  reading =
+      let made = c.from_reader-reader.ensures in
+      new-reading _ c.from_reader-reader.result c.args.text.now (made.config ∙ ap builder_config c.flexible.ensures ∙ ap builder_config c.has_headers.ensures ∙ c.new.ensures.config)
+      (made.trim ∙ ap builder_trim c.flexible.ensures ∙ ap builder_trim c.has_headers.ensures ∙ c.new.ensures.trim)
+      (made.has_headers ∙ ap builder_names_headers c.flexible.ensures ∙ ap builder_names_headers c.has_headers.ensures)
+      made.headers made.fresh made.state made.source (c.starts_plain.ensures c.if-not-starts_plain.false);
+}
+
+pub read_line-requires-clause-room : goal.read_line-requires-clause-room
+read_line-requires-clause-room g c =
+    let room = goes-room _ _ _ _ _ _ _ _ _ _ _ _ c.lines.invariant.goes (c.is_none.ensures ∙ ap not c.lines-test.true) c.in-Some.ensures.0 c.in-Some.ensures.1 c.requires.room.bytes c.requires.room.stands c.requires.room.room in
+    subst (λ (r : List ℕ). HasLine g.R.LogEntry.names g.R.LogEntry.meaning c.lines.self.entries.items (r ++ c.in-Some.line.now) c.lines.self.offset c.lines.self.header) c.lines.invariant.nothing room
+
+pub lines-preserved : goal.lines-preserved
+lines-preserved g c =
+    let was = c.lines.self in
+    let now = c.read_line.new.self in
+    let said = c.in_ok-read_line.ensures in
+    let nothing : now.rest.items ≡ [] = said.rest ∙ c.lines.invariant.nothing in
+    record {
+      goes = goes-line _ _ _ _ _ _ _ _ _ _ _ _ c.lines.invariant.goes (c.is_none.ensures ∙ ap not c.lines-test.true) c.in-Some.ensures.0 c.in-Some.ensures.1 _
+          (λ log is. subst (λ (r : List ℕ). StandsAt g.R.LogEntry.names g.R.LogEntry.meaning now.entries.items r now.offset now.header now.bad (log ++ 10 ∷ [])) (sym nothing)
+          (said.taken log (subst (λ (r : List ℕ). IsOpen g.R.LogEntry.names g.R.LogEntry.meaning was.entries.items (r ++ c.in-Some.line.now) was.offset was.header log) c.lines.invariant.nothing is)));
+      nothing = nothing;
+      started = omega (arith, c.lines.invariant.started, said.moved);
+      reading = said.reading c.in-Some.later.now (subst (IsReading _ c.lines.reader) c.in-Some.ensures.0 c.lines.invariant.reading);
+    }

@@ -1,0 +1,83 @@
+-- The fields of a line of CSV, and how a column is read. The code of `"` is 34.
+use Rattle.std.specs.Prelude.{ℕ, Bool, not, ◌+◌, ◌-◌, ◌%◌, ◌==◌, ◌||◌, ◌&&◌, nat_le, Option, Some, None, option_map, unwrap_or, Result, Ok, Err, List, [], ◌∷◌, ◌++◌, count_by, if◌then◌else◌}
+use Rattle.std.specs.List.{list_all}
+use Rattle.csv.specs.Machine.{next_record}
+use Rattle.csv.specs.Reading.{default_config, strip_bom}
+use Rattle.csv.specs.Records.{field_at}
+use Rattle.csv.specs.declared.parser.State.TheVariants as st
+use Rattle.audit_base.specs.declared.faults.Reason.{Reason}
+use Rattle.audit_base.specs.declared.faults.Reason.TheVariants as reason
+use Rattle.audit_base.specs.declared.terms.Side.{Side}
+use Rattle.audit_base.specs.declared.terms.Side.TheVariants as side
+use Rattle.audit_base.specs.declared.names.Key.{Key}
+use Rattle.audit_base.specs.Moments.{Moment}
+use Rattle.audit_base.specs.Names.{name_form}
+use Rattle.audit_base.specs.Numbers.{price_form, quantity_form}
+use Rattle.audit_base.specs.Stamps.{stamp_form}
+
+-- the fields of a line: those of the first record that `csv` reads, by its defaults, from the line and one LF
+unfoldable pub line_fields : List ℕ → List (List ℕ)
+line_fields line =
+    unwrap_or (option_map (λ read. read.0) (next_record default_config st.StartRecord [] [] (strip_bom (line ++ 10 ∷ [])))) []
+
+abbrev pub is_printable : ℕ → Bool
+is_printable byte = nat_le 0x20 byte && nat_le byte 0x7E
+
+abbrev pub is_quote : ℕ → Bool
+is_quote byte = byte == 34
+
+-- a byte that no line may hold, or an odd number of quotes
+abbrev pub is_broken : List ℕ → Bool
+is_broken line = not (list_all is_printable line) || (count_by is_quote line % 2 == 1)
+
+-- the text of a column, from 1 on
+abbrev pub column : ℕ → List (List ℕ) → List ℕ
+column number fields = unwrap_or (field_at fields (number - 1)) []
+
+-- a column's value, or that it is the column which is not in its form
+abbrev pub in_column : {T : Type 0} → ℕ → Option T → Result T Reason
+in_column number None = Err (reason.Column number)
+in_column number (Some value) = Ok value
+
+-- what is read from a column is read before the columns that follow
+infixl 10 ◌>>=◌
+abbrev pub ◌>>=◌ : {S T : Type 0} → Result S Reason → (S → Result T Reason) → Result T Reason
+Ok value >>= next = next value
+Err why >>= next = Err why
+
+-- the form of a column that holds nothing
+abbrev pub empty_form : List ℕ → Option (Unit {0})
+empty_form [] = Some tt
+empty_form (byte ∷ rest) = None
+
+-- `B` for a bid, `S` for an ask
+abbrev pub side_form : List ℕ → Option Side
+side_form [] = None
+side_form (byte ∷ []) = if byte == 66 then Some side.Buy else if byte == 83 then Some side.Sell else None
+side_form (byte ∷ next ∷ rest) = None
+
+-- the values of a column
+abbrev pub name_at : ℕ → List (List ℕ) → Result (List ℕ) Reason
+name_at number fields = in_column number (name_form (column number fields))
+
+abbrev pub stamp_at : ℕ → List (List ℕ) → Result Moment Reason
+stamp_at number fields = in_column number (stamp_form (column number fields))
+
+abbrev pub side_at : ℕ → List (List ℕ) → Result Side Reason
+side_at number fields = in_column number (side_form (column number fields))
+
+abbrev pub quantity_at : ℕ → List (List ℕ) → Result ℕ Reason
+quantity_at number fields = in_column number (quantity_form (column number fields))
+
+abbrev pub price_at : ℕ → List (List ℕ) → Result ℕ Reason
+price_at number fields = in_column number (price_form (column number fields))
+
+abbrev pub empty_at : ℕ → List (List ℕ) → Result (Unit {0}) Reason
+empty_at number fields = in_column number (empty_form (column number fields))
+
+-- a firm, and in the next column its id
+abbrev pub key_at : ℕ → List (List ℕ) → Result Key Reason
+key_at number fields = do
+  firm ← name_at number fields
+  id ← name_at (number + 1) fields
+  Ok (record { firm = firm; id = id })

@@ -1,0 +1,61 @@
+-- What a CSV feed stands for, and what it and the readers of whole logs answer. The code of LF is 10.
+use Rattle.std.specs.Prelude.{◌≡◌, ⊤, ℕ, Bool, true, false, ◌==◌, ◌≤◌, IsTrue, Option, Some, None, Result, Ok, Err, List, [], ◌∷◌, ◌++◌, length, drop}
+use Rattle.std.specs.List.{list_any}
+use Rattle.audit_base.specs.declared.faults.Reason.{Reason}
+use Rattle.audit_base.specs.declared.faults.BadPlace.{BadPlace}
+use Rattle.audit_base.specs.declared.faults.LogFault.{LogFault}
+use Rattle.audit_base.specs.declared.faults.LogFault.TheVariants as fault
+use Rattle.log_source.specs.Sources.{longest_log}
+use Rattle.csv_logs.specs.declared.feeds.CsvFeed.{CsvFeed}
+use Rattle.csv_logs.specs.Lines.{Line, full_lines}
+use Rattle.csv_logs.specs.Logs.{read_lines, read_log}
+
+abbrev pub is_lf : ℕ → Bool
+is_lf byte = byte == 10
+
+-- bytes that are lines with their LF: there are none, or the last is an LF
+abbrev pub is_whole : List ℕ → Bool
+is_whole [] = true
+is_whole (byte ∷ []) = is_lf byte
+is_whole (byte ∷ next ∷ rest) = is_whole (next ∷ rest)
+
+-- these lines are all good, `header` says whether the header is among them, and `entries` are their records
+abbrev pub IsPassed : {R : Type 0} → List (List ℕ) → (List (List ℕ) → Result R Reason) → Bool → List R → List Line → Type 0
+IsPassed names entry false entries lines = (lines ≡ []) × (entries ≡ [])
+IsPassed names entry true entries lines = read_lines names entry 0 lines ≡ Ok entries
+
+-- No bad line has ended yet: `offset` is the number of bytes up to the last LF and with it, and `rest` is the bytes after these.
+pub record IsOpen {R : Type 0} (names : List (List ℕ)) (entry : List (List ℕ) → Result R Reason) (entries : List R) (rest : List ℕ) (offset : ℕ) (header : Bool) (log : List ℕ) : Type 0 where
+  pub lines : List ℕ
+  pub cut : log ≡ lines ++ rest
+  pub whole : IsTrue (is_whole lines)
+  pub size : length lines ≡ offset
+  pub unfinished : list_any is_lf rest ≡ false
+  pub good : IsPassed names entry header entries (full_lines lines)
+
+-- The log is bad at a line that has ended with an LF, and nothing of it is kept.
+pub record IsShut {R : Type 0} (names : List (List ℕ)) (entry : List (List ℕ) → Result R Reason) (rest : List ℕ) (bad : BadPlace) (log : List ℕ) : Type 0 where
+  pub is_bad : read_log names entry log ≡ Err bad
+  pub ended : IsTrue (list_any is_lf (drop bad.offset log))
+  pub nothing : rest ≡ []
+
+-- these fields of a feed stand for this log
+abbrev pub StandsAt : {R : Type 0} → List (List ℕ) → (List (List ℕ) → Result R Reason) → List R → List ℕ → ℕ → Bool → Option BadPlace → List ℕ → Type 0
+StandsAt names entry entries rest offset header None log = IsOpen names entry entries rest offset header log
+StandsAt names entry entries rest offset header (Some bad) log = IsShut names entry rest bad log
+
+-- the feed stands for this log
+abbrev pub StandsFor : {R : Type 0} → List (List ℕ) → (List (List ℕ) → Result R Reason) → CsvFeed R → List ℕ → Type 0
+StandsFor names entry feed log =
+    StandsAt names entry feed.entries.items feed.rest.items feed.offset feed.header feed.bad log
+
+-- The feed stands for some log that is no longer than a log may be.
+pub record IsWithin {R : Type 0} (names : List (List ℕ)) (entry : List (List ℕ) → Result R Reason) (feed : CsvFeed R) : Type 0 where
+  pub log : List ℕ
+  pub stands : StandsFor names entry feed log
+  pub within : length log ≤ longest_log
+
+-- why a log is not read: it is bad there, or memory was wanted
+abbrev pub IsCause : {R : Type 0} → Result (List R) BadPlace → LogFault → Type 0
+IsCause reading (fault.Bad bad) = reading ≡ Err bad
+IsCause reading fault.Memory = ⊤

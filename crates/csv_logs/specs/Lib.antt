@@ -1,0 +1,10 @@
+pub mod Lines
+pub mod Columns
+pub mod OrderLines
+pub mod TradeLines
+pub mod Logs
+pub mod Feeds
+pub mod Written
+pub mod Blocks
+pub mod Steps
+pub mod Rows

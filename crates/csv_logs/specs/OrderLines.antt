@@ -1,0 +1,86 @@
+-- What a line of an order log means. The codes of `N`, `X`, `R`, `I` and `M` are 78, 88, 82, 73 and 77.
+use Rattle.std.specs.Prelude.{ℕ, ◌==◌, Option, Some, None, Result, Ok, List, [], ◌∷◌, codes, if◌then◌else◌}
+use Rattle.audit_base.specs.declared.faults.Reason.{Reason}
+use Rattle.audit_base.specs.declared.records.OrderRecord.{OrderRecord}
+use Rattle.audit_base.specs.declared.records.OrderRecord.TheVariants as record_of
+use Rattle.audit_base.specs.declared.terms.Life.{Life}
+use Rattle.audit_base.specs.declared.terms.Life.TheVariants as life
+use Rattle.audit_base.specs.Numbers.{market_price}
+use Rattle.csv_logs.specs.declared.orders.Kind.{Kind}
+use Rattle.csv_logs.specs.declared.orders.Kind.TheVariants as kind
+use Rattle.csv_logs.specs.declared.orders.Head.{Head}
+use Rattle.csv_logs.specs.Columns.{column, in_column, ◌>>=◌, name_at, stamp_at, side_at, quantity_at, price_at, empty_at, key_at}
+
+-- the header of an order log
+abbrev pub order_names : List (List ℕ)
+order_names =
+    codes "kind" ∷ codes "firm" ∷ codes "id" ∷ codes "time" ∷ codes "symbol" ∷ codes "side" ∷ codes "quantity" ∷ codes "price" ∷ codes "target" ∷ []
+
+abbrev pub kind_of : ℕ → Option Kind
+kind_of letter =
+    if letter == 78 then Some kind.New else if letter == 88 then Some kind.Cancel else if letter == 82 then Some kind.Replace else if letter == 73 then Some kind.Immediate else if letter == 77 then Some kind.Market else None
+
+-- the kind of an order line is one letter
+abbrev pub kind_form : List ℕ → Option Kind
+kind_form [] = None
+kind_form (letter ∷ []) = kind_of letter
+kind_form (letter ∷ next ∷ rest) = None
+
+-- columns 2 to 5, which every kind has: firm and id, time, symbol
+abbrev pub head_at : List (List ℕ) → Result Head Reason
+head_at fields = do
+  key ← key_at 2 fields
+  time ← stamp_at 4 fields
+  symbol ← name_at 5 fields
+  Ok (record { key = key; time = time; symbol = symbol })
+
+-- a new order with a limit has a side, a quantity and a price, and no target
+abbrev pub limit_order : Head → Life → List (List ℕ) → Result OrderRecord Reason
+limit_order head life fields = do
+  side ← side_at 6 fields
+  quantity ← quantity_at 7 fields
+  price ← price_at 8 fields
+  none ← empty_at 9 fields
+  Ok (record_of.New head.key head.time head.symbol side quantity price life)
+
+-- a market order has a side and a quantity, and no price and no target
+abbrev pub market_order : Head → List (List ℕ) → Result OrderRecord Reason
+market_order head fields = do
+  side ← side_at 6 fields
+  quantity ← quantity_at 7 fields
+  no_price ← empty_at 8 fields
+  no_target ← empty_at 9 fields
+  Ok (record_of.New head.key head.time head.symbol side quantity (market_price side) life.Market)
+
+-- a cancel has a target alone
+abbrev pub cancel : Head → List (List ℕ) → Result OrderRecord Reason
+cancel head fields = do
+  no_side ← empty_at 6 fields
+  no_quantity ← empty_at 7 fields
+  no_price ← empty_at 8 fields
+  target ← name_at 9 fields
+  Ok (record_of.Cancel head.key head.time head.symbol target)
+
+-- a replacement has a side, a quantity, a price and a target
+abbrev pub replacement : Head → List (List ℕ) → Result OrderRecord Reason
+replacement head fields = do
+  side ← side_at 6 fields
+  quantity ← quantity_at 7 fields
+  price ← price_at 8 fields
+  target ← name_at 9 fields
+  Ok (record_of.Replace head.key head.time head.symbol target side quantity price)
+
+-- columns 6 to 9, by the kind
+abbrev pub order_of : Kind → Head → List (List ℕ) → Result OrderRecord Reason
+order_of kind.New head fields = limit_order head life.Rests fields
+order_of kind.Immediate head fields = limit_order head life.Immediate fields
+order_of kind.Market head fields = market_order head fields
+order_of kind.Cancel head fields = cancel head fields
+order_of kind.Replace head fields = replacement head fields
+
+-- what nine fields mean in an order log: a record, or the first column that is not in its form
+unfoldable pub order_entry : List (List ℕ) → Result OrderRecord Reason
+order_entry fields = do
+  kind ← in_column 1 (kind_form (column 1 fields))
+  head ← head_at fields
+  order_of kind head fields

@@ -1,0 +1,29 @@
+-- What a line of a trade log means.
+use Rattle.std.specs.Prelude.{ℕ, Result, Ok, List, [], ◌∷◌, codes}
+use Rattle.audit_base.specs.declared.faults.Reason.{Reason}
+use Rattle.audit_base.specs.declared.names.Key.{Key}
+use Rattle.audit_base.specs.declared.records.TradeRecord.{TradeRecord}
+use Rattle.csv_logs.specs.Columns.{◌>>=◌, name_at, stamp_at, quantity_at, price_at, key_at}
+
+-- the header of a trade log
+abbrev pub trade_names : List (List ℕ)
+trade_names =
+    codes "trade" ∷ codes "time" ∷ codes "symbol" ∷ codes "buy_firm" ∷ codes "buy_id" ∷ codes "sell_firm" ∷ codes "sell_id" ∷ codes "quantity" ∷ codes "price" ∷ []
+
+-- columns 4 to 7: the bid's key and the ask's
+abbrev pub parties_at : List (List ℕ) → Result (Key × Key) Reason
+parties_at fields = do
+  buy ← key_at 4 fields
+  sell ← key_at 6 fields
+  Ok (buy, sell)
+
+-- what nine fields mean in a trade log: a record, or the first column that is not in its form
+unfoldable pub trade_entry : List (List ℕ) → Result TradeRecord Reason
+trade_entry fields = do
+  trade ← name_at 1 fields
+  time ← stamp_at 2 fields
+  symbol ← name_at 3 fields
+  parties ← parties_at fields
+  quantity ← quantity_at 8 fields
+  price ← price_at 9 fields
+  Ok (record { trade = trade; time = time; symbol = symbol; buy = parties.0; sell = parties.1; quantity = quantity; price = price })

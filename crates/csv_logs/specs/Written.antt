@@ -1,0 +1,71 @@
+-- How logs are written: the header, then a line for each record, of canonical texts joined by commas. The codes of `,` and LF are 44
+-- and 10.
+use Rattle.std.specs.Prelude.{◌≡◌, ⊤, ℕ, List, [], ◌∷◌, ◌++◌, codes, decimal}
+use Rattle.std.specs.List.{flat_map, join_with_byte}
+use Rattle.audit_base.specs.Numbers.{price_text}
+use Rattle.audit_base.specs.Stamps.{stamp_text}
+use Rattle.audit_base.specs.declared.records.OrderRecord.{OrderRecord}
+use Rattle.audit_base.specs.declared.records.OrderRecord.TheVariants as record_of
+use Rattle.audit_base.specs.declared.records.TradeRecord.{TradeRecord}
+use Rattle.audit_base.specs.declared.terms.Life.{Life}
+use Rattle.audit_base.specs.declared.terms.Life.TheVariants as life
+use Rattle.audit_base.specs.declared.terms.Side.{Side}
+use Rattle.audit_base.specs.declared.terms.Side.TheVariants as side
+use Rattle.audit_base.specs.Numbers.{market_price}
+use Rattle.csv_logs.specs.OrderLines.{order_names}
+use Rattle.csv_logs.specs.TradeLines.{trade_names}
+
+-- fields joined by commas, and an LF
+abbrev pub line_text : List (List ℕ) → List ℕ
+line_text fields = join_with_byte 44 fields ++ 10 ∷ []
+
+-- the header and a line for each record
+abbrev pub log_text : {R : Type 0} → List (List ℕ) → (R → List (List ℕ)) → List R → List ℕ
+log_text names fields entries = line_text names ++ flat_map (λ entry. line_text (fields entry)) entries
+
+abbrev pub side_text : Side → List ℕ
+side_text side.Buy = codes "B"
+side_text side.Sell = codes "S"
+
+abbrev pub kind_text : Life → List ℕ
+kind_text life.Rests = codes "N"
+kind_text life.Immediate = codes "I"
+kind_text life.Market = codes "M"
+
+-- the price column, which a market order leaves empty
+abbrev pub limit_text : Life → ℕ → List ℕ
+limit_text life.Rests price = price_text price
+limit_text life.Immediate price = price_text price
+limit_text life.Market price = []
+
+-- the nine fields of an order's line
+abbrev pub order_fields : OrderRecord → List (List ℕ)
+order_fields (record_of.New key time symbol side quantity price life) =
+    kind_text life ∷ key.firm ∷ key.id ∷ stamp_text time ∷ symbol ∷ side_text side ∷ decimal quantity ∷ limit_text life price ∷ [] ∷ []
+order_fields (record_of.Cancel key time symbol target) =
+    codes "X" ∷ key.firm ∷ key.id ∷ stamp_text time ∷ symbol ∷ [] ∷ [] ∷ [] ∷ target ∷ []
+order_fields (record_of.Replace key time symbol target side quantity price) =
+    codes "R" ∷ key.firm ∷ key.id ∷ stamp_text time ∷ symbol ∷ side_text side ∷ decimal quantity ∷ price_text price ∷ target ∷ []
+
+-- the nine fields of a trade's line
+abbrev pub trade_fields : TradeRecord → List (List ℕ)
+trade_fields trade =
+    trade.trade ∷ stamp_text trade.time ∷ trade.symbol ∷ trade.buy.firm ∷ trade.buy.id ∷ trade.sell.firm ∷ trade.sell.id ∷ decimal trade.quantity ∷ price_text trade.price ∷ []
+
+-- the canonical order log and trade log of a list
+abbrev pub orders_text : List OrderRecord → List ℕ
+orders_text entries = log_text order_names order_fields entries
+
+abbrev pub trades_text : List TradeRecord → List ℕ
+trades_text trades = log_text trade_names trade_fields trades
+
+abbrev pub HasPriceOfLife : Life → Side → ℕ → Type 0
+HasPriceOfLife life.Rests side price = ⊤
+HasPriceOfLife life.Immediate side price = ⊤
+HasPriceOfLife life.Market side price = price ≡ market_price side
+
+-- a market order has the market price of its side
+abbrev pub HasMarketPrice : OrderRecord → Type 0
+HasMarketPrice (record_of.New key time symbol side quantity price life) = HasPriceOfLife life side price
+HasMarketPrice (record_of.Cancel key time symbol target) = ⊤
+HasMarketPrice (record_of.Replace key time symbol target side quantity price) = ⊤

@@ -1,0 +1,130 @@
+//! The columns of a line, each read in its form. A column that is not in its form is named by its
+//! number, from 1 on.
+ghost use Rattle.std.specs.Prelude.{◌≡◌, ◌<◌, ◌↔◌, IsTrue, Some, map};
+ghost use Rattle.csv.specs.Records.{field_at, fields_of};
+ghost use Rattle.csv_logs.specs.Columns.{column, in_column, empty_form, side_form, name_at, stamp_at, side_at, quantity_at, price_at, empty_at, key_at};
+ghost use Rattle.csv_logs.specs.Logs.{same_fields};
+
+use audit_base::faults::Reason;
+use audit_base::names::{Key, Name, read_name};
+use audit_base::numbers::{Price, Quantity, read_price, read_quantity};
+use audit_base::stamps::{Stamp, read_stamp};
+use audit_base::terms::Side;
+use csv::ByteRecord;
+
+/// The text of a column, which is empty where the line has fewer columns.
+pub(crate) fn column(fields: &ByteRecord, number: u8) -> &[u8]
+    requires { 0 < number }
+    ensures { result.now ≡ column number (fields_of fields.now) }
+{
+    match fields.get(usize::from(number) - 1) {
+        Some(text) => text,
+        None => &[],
+    }
+}
+
+/// A column's value, or that the column is not in its form.
+pub(crate) fn in_column<T>(number: u8, value: Option<T>) -> Result<T, Reason>
+    ensures { result ≡ in_column number value }
+{
+    value.ok_or(Reason::Column(number))
+}
+
+fn read_side(text: &[u8]) -> Option<Side>
+    ensures { result ≡ side_form text.now }
+{
+    match text {
+        b"B" => Some(Side::Buy),
+        b"S" => Some(Side::Sell),
+        _ => None,
+    }
+}
+
+fn read_empty(text: &[u8]) -> Option<()>
+    ensures { result ≡ empty_form text.now }
+{
+    if text.is_empty() { Some(()) } else { None }
+}
+
+/// The name in a column.
+pub(crate) fn name_at(number: u8, fields: &ByteRecord) -> Result<Name, Reason>
+    requires { 0 < number }
+    ensures { result ≡ name_at number (fields_of fields.now) }
+{
+    in_column(number, read_name(column(fields, number)))
+}
+
+/// The point in time in a column.
+pub(crate) fn stamp_at(number: u8, fields: &ByteRecord) -> Result<Stamp, Reason>
+    requires { 0 < number }
+    ensures { result ≡ stamp_at number (fields_of fields.now) }
+{
+    in_column(number, read_stamp(column(fields, number)))
+}
+
+/// The side in a column: `B` for a bid, `S` for an ask.
+pub(crate) fn side_at(number: u8, fields: &ByteRecord) -> Result<Side, Reason>
+    requires { 0 < number }
+    ensures { result ≡ side_at number (fields_of fields.now) }
+{
+    in_column(number, read_side(column(fields, number)))
+}
+
+/// The quantity in a column.
+pub(crate) fn quantity_at(number: u8, fields: &ByteRecord) -> Result<Quantity, Reason>
+    requires { 0 < number }
+    ensures { result ≡ quantity_at number (fields_of fields.now) }
+{
+    in_column(number, read_quantity(column(fields, number)))
+}
+
+/// The price in a column.
+pub(crate) fn price_at(number: u8, fields: &ByteRecord) -> Result<Price, Reason>
+    requires { 0 < number }
+    ensures { result ≡ price_at number (fields_of fields.now) }
+{
+    in_column(number, read_price(column(fields, number)))
+}
+
+/// A column that holds nothing.
+pub(crate) fn empty_at(number: u8, fields: &ByteRecord) -> Result<(), Reason>
+    requires { 0 < number }
+    ensures { result ≡ empty_at number (fields_of fields.now) }
+{
+    in_column(number, read_empty(column(fields, number)))
+}
+
+/// The firm in a column, and its id in the next one.
+pub(crate) fn key_at(number: u8, fields: &ByteRecord) -> Result<Key, Reason>
+    requires first { 0 < number }
+    requires next { number < 9 }
+    ensures { result ≡ key_at number (fields_of fields.now) }
+{
+    let firm = name_at(number, fields)?;
+    let id = name_at(number + 1, fields)?;
+    Ok(Key { firm, id })
+}
+
+fn has_name(fields: &ByteRecord, at: usize, name: &[u8]) -> bool
+    ensures { IsTrue result ↔ (field_at (fields_of fields.now) at ≡ Some name.now) }
+{
+    match fields.get(at) {
+        Some(text) => text == name,
+        None => false,
+    }
+}
+
+/// Whether the fields are these names.
+pub(crate) fn have_names(fields: &ByteRecord, names: &[&[u8]]) -> bool
+    ensures { result ≡ same_fields (fields_of fields.now) (map (λ name. name.now) names.now) }
+{
+    if fields.len() != names.len() {
+        return false;
+    }
+    for (at, name) in names.iter().enumerate() {
+        if !has_name(fields, at, name) {
+            return false;
+        }
+    }
+    true
+}

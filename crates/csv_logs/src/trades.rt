@@ -1,0 +1,53 @@
+//! The lines of a trade log.
+ghost use Rattle.std.specs.Prelude.{◌≡◌};
+ghost use Rattle.csv.specs.Records.{fields_of};
+ghost use Rattle.csv_logs.specs.TradeLines.{parties_at, trade_entry};
+
+use crate::columns::{key_at, name_at, price_at, quantity_at, stamp_at};
+use audit_base::faults::Reason;
+use audit_base::names::Key;
+use audit_base::records::TradeRecord;
+use csv::ByteRecord;
+
+/// The header of a trade log.
+pub(crate) const TRADE_NAMES: [&[u8]; 9] = [
+    b"trade",
+    b"time",
+    b"symbol",
+    b"buy_firm",
+    b"buy_id",
+    b"sell_firm",
+    b"sell_id",
+    b"quantity",
+    b"price",
+];
+
+fn parties_at(fields: &ByteRecord) -> Result<(Key, Key), Reason>
+    ensures { result ≡ parties_at (fields_of fields.now) }
+{
+    let buy = key_at(4, fields)?;
+    let sell = key_at(6, fields)?;
+    Ok((buy, sell))
+}
+
+/// What nine fields mean in a trade log: a record, or the first column that is not in its form.
+#[tactic(auto, unfolding(crate::specs::TradeLines::trade_entry))]
+pub(crate) fn trade_entry(fields: &ByteRecord) -> Result<TradeRecord, Reason>
+    ensures { result ≡ trade_entry (fields_of fields.now) }
+{
+    let trade = name_at(1, fields)?;
+    let time = stamp_at(2, fields)?;
+    let symbol = name_at(3, fields)?;
+    let (buy, sell) = parties_at(fields)?;
+    let quantity = quantity_at(8, fields)?;
+    let price = price_at(9, fields)?;
+    Ok(TradeRecord {
+        trade,
+        time,
+        symbol,
+        buy,
+        sell,
+        quantity,
+        price,
+    })
+}
