@@ -1,0 +1,18 @@
+-- The first field with a tag, and whether there are more.
+use Rattle.std.specs.Prelude.{ℕ, Bool, ◌==◌, Option, Some, None, List, position, count_by, if◌then◌else◌}
+use Rattle.fix_fields.specs.declared.field.Field.{Field}
+use Rattle.fix_fields.specs.declared.field.Found.{Found}
+use Rattle.fix_fields.specs.declared.field.Found.TheVariants.{Absent, One, Many}
+
+-- whether a field has the tag
+abbrev pub has_tag : ℕ → Field → Bool
+has_tag tag field = field.tag == tag
+
+-- what there is to say of a first place and a number of places
+abbrev pub found_at : Option ℕ → ℕ → Found
+found_at None count = Absent
+found_at (Some first) count = if count == 1 then One first else Many first
+
+-- the index of the first field with the tag, and whether it is the only one
+abbrev pub found_of : List Field → ℕ → Found
+found_of fields tag = found_at (position (has_tag tag) fields) (count_by (has_tag tag) fields)

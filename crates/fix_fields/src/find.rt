@@ -1,0 +1,52 @@
+//! Looks a tag up among the fields of a body.
+ghost use Rattle.std.specs.Prelude.{◌≡◌, position};
+ghost use Rattle.std.specs.List.{list_any};
+ghost use Rattle.fix_fields.specs.Finding.{found_of, has_tag};
+
+use crate::field::{Field, Found};
+
+/// The first field with the tag, and whether there are more. It takes no memory.
+pub fn find_field(fields: &[Field], tag: u32) -> Found
+    ensures { result ≡ found_of fields.now tag }
+{
+    match first_place(fields, tag) {
+        None => Found::Absent,
+        Some(first) if occurs(&fields[first + 1..], tag) => Found::Many(first),
+        Some(first) => Found::One(first),
+    }
+}
+
+fn first_place(fields: &[Field], tag: u32) -> Option<usize>
+    ensures { result ≡ position (has_tag tag) fields.now }
+{
+    fields.iter().position(|field| field.tag == tag)
+}
+
+fn occurs(fields: &[Field], tag: u32) -> bool
+    ensures { result ≡ list_any (has_tag tag) fields.now }
+{
+    fields.iter().any(|field| field.tag == tag)
+}
+
+#[cfg(test)]
+mod tests {
+    use super::find_field;
+    use crate::field::{Field, Found};
+
+    #[test]
+    fn the_first_field_is_found(rt: HostRuntime) {
+        let fields = [35, 448, 447, 448, 448].map(|tag| Field {
+            tag,
+            from: 0,
+            to: 1,
+        });
+        for (tag, want) in [
+            (35, Found::One(0)),
+            (448, Found::Many(1)),
+            (447, Found::One(2)),
+            (44, Found::Absent),
+        ] {
+            assert_eq!(rt; find_field(&fields, tag), want, "{tag}");
+        }
+    }
+}

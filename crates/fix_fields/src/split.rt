@@ -1,0 +1,88 @@
+//! Reads a body as its list of fields, in one pass from left to right.
+ghost use Rattle.std.specs.Prelude.{◌≡◌, ◌≤◌, ℕ, List, length, drop, IfOk, IfErr, IfSome, IfNone, IsOkAnd};
+ghost use Rattle.std.specs.Option.{option_map, ForSome};
+ghost use Rattle.std.specs.Result.{IsErrOf};
+ghost use Rattle.fix_fields.specs.Answers.{Refuses, OrMemory};
+ghost use Rattle.fix_fields.specs.Grammar.{TagValue, Fields, IsUnreadable, LacksType, NoField};
+ghost use Rattle.fix_fields.specs.Places.{AreFieldsOf, IsWithin, all_shown, shown};
+ghost use Rattle.fix_fields.specs.Reading.{BeginsAt, first_is_type};
+
+use crate::field::{Field, FieldFault};
+use crate::tags::tag_at;
+use crate::values::value_size;
+use std::alloc::Global;
+
+const MSG_TYPE: u32 = 35;
+
+/// The fields of a body of at most 1,048,576 bytes, each with the range of its value.
+///
+/// A body is fields `tag=value` SOH one after another, the first with tag 35 (FIX 4.4, field
+/// syntax). A tag has 1 to 9 digits and no leading zero. A value is one or more bytes without SOH,
+/// but that of a data field right behind its length field is as many bytes as that field says in
+/// 1 to 7 digits, whatever they are.
+///
+/// `Field` tells the byte at which the first field begins that can't be read in this way. `MsgType`
+/// says that all fields can be read, but there is none or the first has another tag.
+pub fn fields(alloc: Global, body: &[u8]) -> Result<Vec<Field>, FieldFault>
+    requires { length body.now ≤ 1048576 }
+
+    // What each answer says.
+    ensures fields { IfOk result (λ v. AreFieldsOf body.now v.items) }
+    ensures fault { IfErr result (λ e. Refuses body.now e) }
+
+    // Each comes wherever what it says holds, unless memory runs out.
+    ensures reads { (fs : List TagValue) → Fields body.now fs
+        → OrMemory result (IsOkAnd result (λ v. all_shown body.now v.items ≡ fs)) }
+    ensures unreadable { (n : ℕ) → IsUnreadable body.now n
+        → OrMemory result (IsErrOf result (FieldFault.Field n)) }
+    ensures untyped { LacksType body.now → OrMemory result (IsErrOf result FieldFault.MsgType) }
+{
+    let mut found = Vec::new(alloc);
+    let mut before = None;
+    let mut at = 0;
+    while at < body.len() {
+        let Some(field) = field_at(body, at, before) else {
+            return Err(FieldFault::Field(at as u32));
+        };
+        if found.push(field).is_err() {
+            return Err(FieldFault::Memory);
+        }
+        before = Some(field);
+        at = field.to + 1;
+    }
+    if begins_with_type(&found) {
+        Ok(found)
+    } else {
+        Err(FieldFault::MsgType)
+    }
+}
+
+/// The field that begins at byte `at`, where `before` is the field right before it; None exactly
+/// where no field can be read there.
+fn field_at(body: &[u8], at: usize, before: Option<Field>) -> Option<Field>
+    requires before { ForSome before (λ f. IsWithin body.now f) }
+    requires at { at ≤ length body.now }
+    ensures found { IfSome result (BeginsAt body.now at (option_map (shown body.now) before)) }
+    ensures none { IfNone result (NoField (option_map (shown body.now) before) (drop at body.now)) }
+{
+    let (tag, size) = tag_at(&body[at..])?;
+    let from = at + size;
+    let size = value_size(body, before, tag, &body[from..])?;
+    Some(Field {
+        tag,
+        from,
+        to: from + size,
+    })
+}
+
+fn begins_with_type(fields: &[Field]) -> bool
+    ensures { result ≡ first_is_type fields.now }
+{
+    match fields.first() {
+        Some(field) => field.tag == MSG_TYPE,
+        None => false,
+    }
+}
+
+#[cfg(test)]
+mod tests;

@@ -1,0 +1,204 @@
+-- Tests 3 to 5, from how many digits follow the header.
+use Rattle.std.proofs.Common.{◌≡◌, ◌≢◌, ℕ, zero, suc, ◌+◌, ◌-◌, ◌<◌, ◌≤◌, min, Bool, true, false, cond, ◌==◌, inl, inr, Some, None, List, [], ◌∷◌, length, take, drop, refl, sym, ap, ◌∙◌, arith}
+use Rattle.std.specs.Prelude.{slice_index, nat_lt}
+use Rattle.std.specs.List.{list_all, prefix_len}
+use Rattle.std.specs.Char.{is_ascii_digit}
+use Rattle.std.specs.Str.Parse.{digits_value}
+use Rattle.std.proofs.lemmas.List.{length-take-le, length-take, length-drop, get_or-take, get_or-drop, take-take}
+use Rattle.std.proofs.lemmas.List.Sums.{prefix_len-le-length, prefix_len_passes}
+use Rattle.std.proofs.lemmas.Bool.{and_parts, and_cases, or_left, or_right, or_from, not_from_false, not_from_true, lt-ltb, le-ltb, le-leb, lt-leb, eq-eqb, eqb-true, ne_eqb, cases_lt}
+use Rattle.memchr.specs.Find.{Nowhere, NoneBefore, Passes, is_byte}
+use Rattle.fix_framing.specs.declared.frames.FrameFault.TheVariants.{Length, Truncated}
+use Rattle.fix_framing.specs.Frames.{length_digits, length_tests, has_long_length, ends_in_length, has_bad_length, first_failing, body_size, body_place, IsLengthField}
+
+-- how many digits follow the header
+abbrev pub count_of : List ℕ → ℕ
+count_of r = prefix_len is_ascii_digit (drop 12 r)
+
+pub length-length_digits : (r : List ℕ) → length (length_digits r) ≡ count_of r
+length-length_digits r = length-take-le (count_of r) (drop 12 r) (prefix_len-le-length is_ascii_digit (drop 12 r))
+
+-- the front of a text that passes, where the text is all or in part such
+pub prefix_len-all : (p : ℕ → Bool) (xs : List ℕ) → list_all p xs ≡ true → prefix_len p xs ≡ length xs
+prefix_len-all p [] h = refl
+prefix_len-all p (x ∷ xs) h =
+    let both = and_parts (p x) (list_all p xs) h in
+    let more = prefix_len-all p xs both.1 in rw both.0 (omega arith)
+
+cond-le : (b : Bool) (n : ℕ) → cond b (1 + n) 0 ≤ 1 + n
+cond-le true n = omega arith
+cond-le false n = omega arith
+
+pub prefix_len-part : (p : ℕ → Bool) (xs : List ℕ) → list_all p xs ≡ false → prefix_len p xs < length xs
+prefix_len-part p [] h = absurd (cc)
+prefix_len-part p (x ∷ xs) h =
+    elim (and_cases (p x) (list_all p xs) h) [
+      | inl here ↦ rw here (omega arith)
+      | inr later ↦ let more = prefix_len-part p xs later in let most = cond-le (p x) (prefix_len p xs) in omega arith
+    ]
+
+min-cond : (b : Bool) (m n : ℕ) → cond b (1 + min n m) 0 ≡ min (suc n) (cond b (1 + m) 0)
+min-cond true m n = omega arith
+min-cond false m n = omega arith
+
+pub prefix_len-take : (p : ℕ → Bool) (n : ℕ) (xs : List ℕ) → prefix_len p (take n xs) ≡ min n (prefix_len p xs)
+prefix_len-take p zero xs = omega arith
+prefix_len-take p (suc n) [] = omega arith
+prefix_len-take p (suc n) (x ∷ xs) = rw (prefix_len-take p n xs) (min-cond (p x) (prefix_len p xs) n)
+
+-- which fault tests 3 to 5 give, by their answers
+choose-long : (a b c : Bool) → a ≡ true → first_failing ((a, Length) ∷ (b, Truncated) ∷ (c, Length) ∷ []) ≡ Some Length
+choose-long true b c h = refl
+choose-long false b c h = absurd (cc)
+
+choose-cut : (a b c : Bool) → a ≡ false → b ≡ true → first_failing ((a, Length) ∷ (b, Truncated) ∷ (c, Length) ∷ []) ≡ Some Truncated
+choose-cut false true c h k = refl
+choose-cut true b c h k = absurd (cc)
+choose-cut false false c h k = absurd (cc)
+
+choose-bad : (a b c : Bool) → b ≡ false → c ≡ true → first_failing ((a, Length) ∷ (b, Truncated) ∷ (c, Length) ∷ []) ≡ Some Length
+choose-bad true b c h k = refl
+choose-bad false false true h k = refl
+choose-bad false true c h k = absurd (cc)
+choose-bad false false false h k = absurd (cc)
+
+choose-none : (a b c : Bool) → a ≡ false → b ≡ false → c ≡ false → first_failing ((a, Length) ∷ (b, Truncated) ∷ (c, Length) ∷ []) ≡ None
+choose-none false false false h k l = refl
+choose-none true b c h k l = absurd (cc)
+choose-none false true c h k l = absurd (cc)
+choose-none false false true h k l = absurd (cc)
+
+-- ten digits or more
+pub fault-long : (r : List ℕ) → 10 ≤ count_of r → first_failing (length_tests r) ≡ Some Length
+fault-long r many =
+    let count = length-length_digits r in
+    choose-long (has_long_length r) (ends_in_length r) (has_bad_length r) (le-leb 10 (length (length_digits r)) (omega arith))
+
+-- fewer, and nothing after them
+pub fault-cut : (r : List ℕ) → count_of r < 10 → length r ≡ 12 + count_of r → first_failing (length_tests r) ≡ Some Truncated
+fault-cut r few ends =
+    let count = length-length_digits r in
+    choose-cut (has_long_length r) (ends_in_length r) (has_bad_length r) (lt-leb 10 (length (length_digits r)) (omega arith)) (eq-eqb (length r) (12 + length (length_digits r)) (omega arith))
+
+-- something else than SOH after them
+pub fault-other : (r : List ℕ) → 12 + count_of r < length r → slice_index r (12 + count_of r) ≢ 1 → first_failing (length_tests r) ≡ Some Length
+fault-other r more other =
+    let count = length-length_digits r in
+    let here : slice_index r (12 + length (length_digits r)) ≢ 1 = rw count other in
+    let bad = or_right (length (length_digits r) == 0) _ (not_from_false (slice_index r (12 + length (length_digits r)) == 1) (ne_eqb (slice_index r (12 + length (length_digits r))) 1 here)) in
+    choose-bad (has_long_length r) (ends_in_length r) (has_bad_length r) (ne_eqb (length r) (12 + length (length_digits r)) (λ e. omega arith)) (or_left _ (nat_lt 1048576 (body_size r)) bad)
+
+-- the ten bytes behind the header
+abbrev pub window_of : List ℕ → List ℕ
+window_of r = take 10 (drop 12 r)
+
+length-window : (r : List ℕ) → length (window_of r) ≡ min 10 (length r - 12)
+length-window r = rw (length-take 10 (drop 12 r), length-drop 12 r) refl
+
+-- a byte of theirs that is neither a digit nor SOH
+other-in-window : (r : List ℕ) → count_of r < length (window_of r) → ((slice_index (window_of r) (count_of r) == 1) ≡ true → ⊥) → first_failing (length_tests r) ≡ Some Length
+other-in-window r inside other =
+    let most = length-window r in
+    let front = get_or-take 10 (drop 12 r) (count_of r) 0 (omega arith) in
+    let back = get_or-drop 12 r (count_of r) 0 in
+    fault-other r (omega arith) (λ soh. other (eq-eqb _ 1 (front ∙ (back ∙ soh))))
+
+-- no SOH among them, and not all are digits
+pub none-part : (r : List ℕ) → Nowhere (Passes (is_byte 1) (window_of r)) 0 (length (window_of r)) → list_all is_ascii_digit (window_of r) ≡ false → first_failing (length_tests r) ≡ Some Length
+none-part r nowhere part =
+    let shorter = prefix_len-part is_ascii_digit (window_of r) part in
+    let count = prefix_len-take is_ascii_digit 10 (drop 12 r) in
+    let most = length-window r in
+    let inside : count_of r < length (window_of r) = omega arith in
+    other-in-window r inside (nowhere (count_of r) (omega arith) inside)
+
+-- no SOH among them, and there are ten
+pub none-long : (r : List ℕ) → Nowhere (Passes (is_byte 1) (window_of r)) 0 (length (window_of r)) → 10 ≤ length (window_of r) → first_failing (length_tests r) ≡ Some Length
+none-long r nowhere ten =
+    elim (cases_lt (count_of r) 10) [
+      | inl few ↦ let inside : count_of r < length (window_of r) = omega arith in other-in-window r inside (nowhere (count_of r) (omega arith) inside)
+      | inr many ↦ fault-long r many
+    ]
+
+-- SOH behind something that isn't all digits
+pub some-part : (r : List ℕ) (d : ℕ) → NoneBefore (Passes (is_byte 1) (window_of r)) 0 (length (window_of r)) d → list_all is_ascii_digit (take d (window_of r)) ≡ false → first_failing (length_tests r) ≡ Some Length
+some-part r d first part =
+    let shorter = prefix_len-part is_ascii_digit (take d (window_of r)) part in
+    let inner = prefix_len-take is_ascii_digit d (window_of r) in
+    let outer = prefix_len-take is_ascii_digit 10 (drop 12 r) in
+    let most = length-window r in
+    let taken = length-take d (window_of r) in
+    let high = first.high in
+    let below : count_of r < d = omega arith in
+    other-in-window r (omega arith) (first.before (count_of r) (omega arith) below)
+
+-- SOH behind digits
+pub some-field : (r : List ℕ) (d : ℕ) → NoneBefore (Passes (is_byte 1) (window_of r)) 0 (length (window_of r)) d → Passes (is_byte 1) (window_of r) d → 0 < d → list_all is_ascii_digit (take d (window_of r)) ≡ true → IsLengthField (drop 12 r) d
+some-field r d first soh some each =
+    let most = length-window r in
+    let rest = length-drop 12 r in
+    let high = first.high in
+    let front = get_or-take 10 (drop 12 r) d 0 (omega arith) in
+    let shown = eqb-true (slice_index (window_of r) d) 1 soh in
+    let same = take-take d 10 (drop 12 r) (omega arith) in
+    record {
+      some = some;
+      few = omega arith;
+      inside = omega arith;
+      each = rw (← same) each;
+      ended = sym front ∙ shown;
+    }
+
+-- the digits of such a field are all that follow the header
+pub field-count : (r : List ℕ) (d : ℕ) → IsLengthField (drop 12 r) d → count_of r ≡ d
+field-count r d field =
+    let all = prefix_len-all is_ascii_digit (take d (drop 12 r)) field.each in
+    let front = prefix_len-take is_ascii_digit d (drop 12 r) in
+    let inside = field.inside in
+    let taken = length-take d (drop 12 r) in
+    elim (cases_lt d (count_of r)) [
+      | inl more ↦
+          let digit = prefix_len_passes is_ascii_digit (drop 12 r) d 0 more in
+          let soh = rw field.ended at digit in
+          absurd (cc)
+      | inr most ↦ omega arith
+    ]
+
+pub field-digits : (r : List ℕ) (d : ℕ) → IsLengthField (drop 12 r) d → length_digits r ≡ take d (drop 12 r)
+field-digits r d field = ap (λ n. take n (drop 12 r)) (field-count r d field)
+
+field-length : (r : List ℕ) (d : ℕ) → IsLengthField (drop 12 r) d → length (length_digits r) ≡ d
+field-length r d field = length-length_digits r ∙ field-count r d field
+
+field-more : (r : List ℕ) (d : ℕ) → IsLengthField (drop 12 r) d → ends_in_length r ≡ false
+field-more r d field =
+    let count = field-length r d field in
+    let inside = field.inside in
+    let rest = length-drop 12 r in
+    ne_eqb (length r) (12 + length (length_digits r)) (λ e. omega arith)
+
+-- the value is too great
+pub fault-great : (r : List ℕ) (d : ℕ) → IsLengthField (drop 12 r) d → 1048576 < digits_value 10 (take d (drop 12 r)) → first_failing (length_tests r) ≡ Some Length
+fault-great r d field great =
+    let value : 1048576 < body_size r = rw (field-digits r d field) great in
+    choose-bad (has_long_length r) (ends_in_length r) (has_bad_length r) (field-more r d field) (or_right _ (nat_lt 1048576 (body_size r)) (lt-ltb 1048576 (body_size r) value))
+
+-- it isn't
+pub no-fault : (r : List ℕ) (d : ℕ) → IsLengthField (drop 12 r) d → digits_value 10 (take d (drop 12 r)) ≤ 1048576 → first_failing (length_tests r) ≡ None
+no-fault r d field small =
+    let count = field-length r d field in
+    let few = field.few in
+    let some = field.some in
+    let value : body_size r ≤ 1048576 = rw (field-digits r d field) small in
+    let soh : slice_index r (12 + length (length_digits r)) ≡ 1 = rw count (sym (get_or-drop 12 r d 0) ∙ field.ended) in
+    let none = ne_eqb (length (length_digits r)) 0 (λ e. omega arith) in
+    let ended = not_from_true (slice_index r (12 + length (length_digits r)) == 1) (eq-eqb (slice_index r (12 + length (length_digits r))) 1 soh) in
+    let fits = le-ltb 1048576 (body_size r) value in
+    choose-none (has_long_length r) (ends_in_length r) (has_bad_length r) (lt-leb 10 (length (length_digits r)) (omega arith)) (field-more r d field) (or_from _ (nat_lt 1048576 (body_size r)) (or_from (length (length_digits r) == 0) _ none ended) fits)
+
+-- the places of the body and of the checksum field
+pub field-body : (r : List ℕ) (d : ℕ) → IsLengthField (drop 12 r) d → 12 + d + 1 ≡ body_place r
+field-body r d field = let count = field-length r d field in omega arith
+
+pub field-size : (r : List ℕ) (d : ℕ) → IsLengthField (drop 12 r) d → digits_value 10 (take d (drop 12 r)) ≡ body_size r
+field-size r d field = rw (field-digits r d field) refl

@@ -1,0 +1,12 @@
+pub mod BreakLemmas
+pub mod DigitLemmas
+pub mod FrameLemmas
+pub mod FramerLemmas
+pub mod LengthLemmas
+pub mod MessageLemmas
+pub mod RoomLemmas
+pub mod StayLemmas
+pub mod TestLemmas
+pub mod TrailerLemmas
+pub mod UniqueLemmas
+pub mod WritingLemmas

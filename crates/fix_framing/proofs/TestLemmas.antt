@@ -1,0 +1,165 @@
+-- The first failing test of a list of tests that is put together.
+use Rattle.std.proofs.Common.{◌≡◌, ℕ, Bool, true, false, Some, None, List, [], ◌∷◌, ◌++◌, refl, ◌∙◌, ◌⊎◌, inl, inr}
+use Rattle.fix_framing.specs.declared.frames.FrameFault.{FrameFault}
+use Rattle.fix_framing.specs.declared.frames.FrameFault.TheVariants.{Begin, Length, Truncated, Trailer, Checksum}
+use Rattle.fix_framing.specs.Frames.{begins_otherwise, ends_in_header, has_long_length, ends_in_length, has_bad_length, ends_in_body, has_bad_trailer, has_bad_sum, first_failing, header_tests, length_tests, trailer_tests, frame_fault}
+
+pub first_failing-some : (xs ys : List (Bool × FrameFault)) (e : FrameFault) → first_failing xs ≡ Some e → first_failing (xs ++ ys) ≡ Some e
+first_failing-some [] ys e h = absurd (cc)
+first_failing-some ((true, fault) ∷ xs) ys e h = h
+first_failing-some ((false, fault) ∷ xs) ys e h = first_failing-some xs ys e h
+
+pub first_failing-none : (xs ys : List (Bool × FrameFault)) → first_failing xs ≡ None → first_failing (xs ++ ys) ≡ first_failing ys
+first_failing-none [] ys h = refl
+first_failing-none ((true, fault) ∷ xs) ys h = absurd (cc)
+first_failing-none ((false, fault) ∷ xs) ys h = first_failing-none xs ys h
+
+-- the fault of a text, by its header, its length and its trailer
+pub fault-header : (r : List ℕ) (e : FrameFault) → first_failing (header_tests r) ≡ Some e → frame_fault r ≡ Some e
+unfolding frame_fault
+fault-header r e h = first_failing-some (header_tests r ++ length_tests r) (trailer_tests r) e (first_failing-some (header_tests r) (length_tests r) e h)
+
+both-none : (r : List ℕ) → first_failing (header_tests r) ≡ None → first_failing (length_tests r) ≡ None → first_failing (header_tests r ++ length_tests r) ≡ None
+both-none r h k = first_failing-none (header_tests r) (length_tests r) h ∙ k
+
+pub fault-length : (r : List ℕ) (e : FrameFault) → first_failing (header_tests r) ≡ None → first_failing (length_tests r) ≡ Some e → frame_fault r ≡ Some e
+unfolding frame_fault
+fault-length r e h k = first_failing-some (header_tests r ++ length_tests r) (trailer_tests r) e (first_failing-none (header_tests r) (length_tests r) h ∙ k)
+
+pub fault-trailer : (r : List ℕ) → first_failing (header_tests r) ≡ None → first_failing (length_tests r) ≡ None → frame_fault r ≡ first_failing (trailer_tests r)
+unfolding frame_fault
+fault-trailer r h k = first_failing-none (header_tests r ++ length_tests r) (trailer_tests r) (both-none r h k)
+
+-- the first test of a list, by its answer
+pub first-false : (b : Bool) (e : FrameFault) (xs : List (Bool × FrameFault)) → b ≡ false → first_failing ((b, e) ∷ xs) ≡ first_failing xs
+first-false false e xs h = refl
+first-false true e xs h = absurd (cc)
+
+pub first-true : (b : Bool) (e : FrameFault) (xs : List (Bool × FrameFault)) → b ≡ true → first_failing ((b, e) ∷ xs) ≡ Some e
+first-true true e xs h = refl
+first-true false e xs h = absurd (cc)
+
+first-none : (b : Bool) (e : FrameFault) (xs : List (Bool × FrameFault)) → first_failing ((b, e) ∷ xs) ≡ None → (b ≡ false) × (first_failing xs ≡ None)
+first-none false e xs h = (refl, h)
+first-none true e xs h = absurd (cc)
+
+first-some : (b : Bool) (e f : FrameFault) (xs : List (Bool × FrameFault)) → first_failing ((b, e) ∷ xs) ≡ Some f → ((b ≡ true) × (f ≡ e)) ⊎ ((b ≡ false) × (first_failing xs ≡ Some f))
+first-some true e f xs h = inl (refl, cc)
+first-some false e f xs h = inr (refl, h)
+
+-- the tests from one on
+abbrev from_eighth : List ℕ → List (Bool × FrameFault)
+from_eighth r = (has_bad_sum r, Checksum) ∷ []
+
+abbrev from_seventh : List ℕ → List (Bool × FrameFault)
+from_seventh r = (has_bad_trailer r, Trailer) ∷ from_eighth r
+
+abbrev from_sixth : List ℕ → List (Bool × FrameFault)
+from_sixth r = (ends_in_body r, Truncated) ∷ from_seventh r
+
+abbrev from_fifth : List ℕ → List (Bool × FrameFault)
+from_fifth r = (has_bad_length r, Length) ∷ from_sixth r
+
+abbrev from_fourth : List ℕ → List (Bool × FrameFault)
+from_fourth r = (ends_in_length r, Truncated) ∷ from_fifth r
+
+abbrev from_third : List ℕ → List (Bool × FrameFault)
+from_third r = (has_long_length r, Length) ∷ from_fourth r
+
+abbrev from_second : List ℕ → List (Bool × FrameFault)
+from_second r = (ends_in_header r, Truncated) ∷ from_third r
+
+-- no test fails
+pub record NoFault (r : List ℕ) : Type 0 where
+  pub begins : begins_otherwise r ≡ false
+  pub header_ends : ends_in_header r ≡ false
+  pub long : has_long_length r ≡ false
+  pub length_ends : ends_in_length r ≡ false
+  pub bad_length : has_bad_length r ≡ false
+  pub body_ends : ends_in_body r ≡ false
+  pub bad_trailer : has_bad_trailer r ≡ false
+  pub bad_sum : has_bad_sum r ≡ false
+
+pub NoFault-from_none : (r : List ℕ) → frame_fault r ≡ None → NoFault r
+unfolding frame_fault
+NoFault-from_none r none =
+    let t1 = first-none (begins_otherwise r) Begin (from_second r) none in
+    let t2 = first-none (ends_in_header r) Truncated (from_third r) t1.1 in
+    let t3 = first-none (has_long_length r) Length (from_fourth r) t2.1 in
+    let t4 = first-none (ends_in_length r) Truncated (from_fifth r) t3.1 in
+    let t5 = first-none (has_bad_length r) Length (from_sixth r) t4.1 in
+    let t6 = first-none (ends_in_body r) Truncated (from_seventh r) t5.1 in
+    let t7 = first-none (has_bad_trailer r) Trailer (from_eighth r) t6.1 in
+    let t8 = first-none (has_bad_sum r) Checksum [] t7.1 in
+    record { begins = t1.0; header_ends = t2.0; long = t3.0; length_ends = t4.0; bad_length = t5.0; body_ends = t6.0; bad_trailer = t7.0; bad_sum = t8.0 }
+
+pub none-from_NoFault : (r : List ℕ) → NoFault r → frame_fault r ≡ None
+unfolding frame_fault
+none-from_NoFault r tests =
+    first-false (begins_otherwise r) Begin (from_second r) tests.begins ∙
+    (first-false (ends_in_header r) Truncated (from_third r) tests.header_ends ∙
+    (first-false (has_long_length r) Length (from_fourth r) tests.long ∙
+    (first-false (ends_in_length r) Truncated (from_fifth r) tests.length_ends ∙
+    (first-false (has_bad_length r) Length (from_sixth r) tests.bad_length ∙
+    (first-false (ends_in_body r) Truncated (from_seventh r) tests.body_ends ∙
+    (first-false (has_bad_trailer r) Trailer (from_eighth r) tests.bad_trailer ∙
+    first-false (has_bad_sum r) Checksum [] tests.bad_sum))))))
+
+-- the first test that fails, with those before it
+pub data FaultCase (r : List ℕ) (e : FrameFault) : Type 0 where
+  first : begins_otherwise r ≡ true → e ≡ Begin → FaultCase r e
+  second : begins_otherwise r ≡ false → ends_in_header r ≡ true → e ≡ Truncated → FaultCase r e
+  third : begins_otherwise r ≡ false → ends_in_header r ≡ false → has_long_length r ≡ true → e ≡ Length → FaultCase r e
+  fourth : begins_otherwise r ≡ false → ends_in_header r ≡ false → has_long_length r ≡ false → ends_in_length r ≡ true → e ≡ Truncated → FaultCase r e
+  fifth : begins_otherwise r ≡ false → ends_in_header r ≡ false → has_long_length r ≡ false → ends_in_length r ≡ false → has_bad_length r ≡ true → e ≡ Length → FaultCase r e
+  sixth : begins_otherwise r ≡ false → ends_in_header r ≡ false → has_long_length r ≡ false → ends_in_length r ≡ false → has_bad_length r ≡ false → ends_in_body r ≡ true → e ≡ Truncated → FaultCase r e
+  seventh : begins_otherwise r ≡ false → ends_in_header r ≡ false → has_long_length r ≡ false → ends_in_length r ≡ false → has_bad_length r ≡ false → ends_in_body r ≡ false → has_bad_trailer r ≡ true → e ≡ Trailer → FaultCase r e
+  eighth : begins_otherwise r ≡ false → ends_in_header r ≡ false → has_long_length r ≡ false → ends_in_length r ≡ false → has_bad_length r ≡ false → ends_in_body r ≡ false → has_bad_trailer r ≡ false → has_bad_sum r ≡ true → e ≡ Checksum → FaultCase r e
+
+pub FaultCase-from_some : (r : List ℕ) (e : FrameFault) → frame_fault r ≡ Some e → FaultCase r e
+unfolding frame_fault
+FaultCase-from_some r e some =
+    elim (first-some (begins_otherwise r) Begin e (from_second r) some) [
+      | inl h ↦ first h.0 h.1
+      | inr h1 ↦ elim (first-some (ends_in_header r) Truncated e (from_third r) h1.1) [
+        | inl h ↦ second h1.0 h.0 h.1
+        | inr h2 ↦ elim (first-some (has_long_length r) Length e (from_fourth r) h2.1) [
+          | inl h ↦ third h1.0 h2.0 h.0 h.1
+          | inr h3 ↦ elim (first-some (ends_in_length r) Truncated e (from_fifth r) h3.1) [
+            | inl h ↦ fourth h1.0 h2.0 h3.0 h.0 h.1
+            | inr h4 ↦ elim (first-some (has_bad_length r) Length e (from_sixth r) h4.1) [
+              | inl h ↦ fifth h1.0 h2.0 h3.0 h4.0 h.0 h.1
+              | inr h5 ↦ elim (first-some (ends_in_body r) Truncated e (from_seventh r) h5.1) [
+                | inl h ↦ sixth h1.0 h2.0 h3.0 h4.0 h5.0 h.0 h.1
+                | inr h6 ↦ elim (first-some (has_bad_trailer r) Trailer e (from_eighth r) h6.1) [
+                  | inl h ↦ seventh h1.0 h2.0 h3.0 h4.0 h5.0 h6.0 h.0 h.1
+                  | inr h7 ↦ elim (first-some (has_bad_sum r) Checksum e [] h7.1) [
+                    | inl h ↦ eighth h1.0 h2.0 h3.0 h4.0 h5.0 h6.0 h7.0 h.0 h.1
+                    | inr h8 ↦ absurd (cc)
+                  ]
+                ]
+              ]
+            ]
+          ]
+        ]
+      ]
+    ]
+
+pub some-from_FaultCase : (r : List ℕ) (e : FrameFault) → FaultCase r e → frame_fault r ≡ Some e
+unfolding frame_fault
+some-from_FaultCase r e (first h1 is) =
+    rw is (first-true (begins_otherwise r) Begin (from_second r) h1)
+some-from_FaultCase r e (second h1 h2 is) =
+    rw is (first-false (begins_otherwise r) Begin (from_second r) h1 ∙ first-true (ends_in_header r) Truncated (from_third r) h2)
+some-from_FaultCase r e (third h1 h2 h3 is) =
+    rw is (first-false (begins_otherwise r) Begin (from_second r) h1 ∙ (first-false (ends_in_header r) Truncated (from_third r) h2 ∙ first-true (has_long_length r) Length (from_fourth r) h3))
+some-from_FaultCase r e (fourth h1 h2 h3 h4 is) =
+    rw is (first-false (begins_otherwise r) Begin (from_second r) h1 ∙ (first-false (ends_in_header r) Truncated (from_third r) h2 ∙ (first-false (has_long_length r) Length (from_fourth r) h3 ∙ first-true (ends_in_length r) Truncated (from_fifth r) h4)))
+some-from_FaultCase r e (fifth h1 h2 h3 h4 h5 is) =
+    rw is (first-false (begins_otherwise r) Begin (from_second r) h1 ∙ (first-false (ends_in_header r) Truncated (from_third r) h2 ∙ (first-false (has_long_length r) Length (from_fourth r) h3 ∙ (first-false (ends_in_length r) Truncated (from_fifth r) h4 ∙ first-true (has_bad_length r) Length (from_sixth r) h5))))
+some-from_FaultCase r e (sixth h1 h2 h3 h4 h5 h6 is) =
+    rw is (first-false (begins_otherwise r) Begin (from_second r) h1 ∙ (first-false (ends_in_header r) Truncated (from_third r) h2 ∙ (first-false (has_long_length r) Length (from_fourth r) h3 ∙ (first-false (ends_in_length r) Truncated (from_fifth r) h4 ∙ (first-false (has_bad_length r) Length (from_sixth r) h5 ∙ first-true (ends_in_body r) Truncated (from_seventh r) h6)))))
+some-from_FaultCase r e (seventh h1 h2 h3 h4 h5 h6 h7 is) =
+    rw is (first-false (begins_otherwise r) Begin (from_second r) h1 ∙ (first-false (ends_in_header r) Truncated (from_third r) h2 ∙ (first-false (has_long_length r) Length (from_fourth r) h3 ∙ (first-false (ends_in_length r) Truncated (from_fifth r) h4 ∙ (first-false (has_bad_length r) Length (from_sixth r) h5 ∙ (first-false (ends_in_body r) Truncated (from_seventh r) h6 ∙ first-true (has_bad_trailer r) Trailer (from_eighth r) h7))))))
+some-from_FaultCase r e (eighth h1 h2 h3 h4 h5 h6 h7 h8 is) =
+    rw is (first-false (begins_otherwise r) Begin (from_second r) h1 ∙ (first-false (ends_in_header r) Truncated (from_third r) h2 ∙ (first-false (has_long_length r) Length (from_fourth r) h3 ∙ (first-false (ends_in_length r) Truncated (from_fifth r) h4 ∙ (first-false (has_bad_length r) Length (from_sixth r) h5 ∙ (first-false (ends_in_body r) Truncated (from_seventh r) h6 ∙ (first-false (has_bad_trailer r) Trailer (from_eighth r) h7 ∙ first-true (has_bad_sum r) Checksum [] h8)))))))

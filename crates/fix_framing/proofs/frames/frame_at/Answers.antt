@@ -1,0 +1,24 @@
+use Rattle.std.proofs.Common.{arith}
+use Rattle.std.proofs.lemmas.List.{take_rest}
+use Rattle.fix_framing.proofs.MessageLemmas.{found-at, IsFrame-no_fault, IsFrame-size, IsFrame-body_size}
+use Rattle.fix_framing.proofs.frames.frame_at.Goals as goal
+
+pub returns-in_err-places-clause-only : goal.returns-in_err-places-clause-only
+returns-in_err-places-clause-only c =
+    λ text body more frame whole.
+    let none = IsFrame-no_fault text body more frame in
+    let fault = rw (take_rest c.args.bytes.now c.args.at, whole, none) at c.in_err-places.ensures.err in
+    absurd (cc)
+
+pub returns-clause-found : goal.returns-clause-found
+returns-clause-found c =
+    let places = rw (take_rest c.args.bytes.now c.args.at) at c.in_ok-places.ensures.ok in
+    found-at c.args.bytes.now c.args.at c.in_ok-places.places.body c.in_ok-places.places.trailer c.requires places.0 places.1 places.2
+
+pub returns-clause-only : goal.returns-clause-only
+returns-clause-only c =
+    λ text body more frame whole.
+    let places = rw (take_rest c.args.bytes.now c.args.at, whole) at c.in_ok-places.ensures.ok in
+    let all = IsFrame-size text body more frame in
+    let part = IsFrame-body_size text body more frame in
+    (omega arith, omega arith)

@@ -1,0 +1,8 @@
+use Rattle.fix_framing.proofs.UniqueLemmas.{no-proper-prefix, frames-unique}
+use Rattle.fix_framing.proofs.laws.frames_have_one_reading.Goals as goal
+
+pub returns : goal.returns
+returns c = record {
+  prefix = λ frame more body other. no-proper-prefix frame more body other;
+  one = λ frame other body its more rest. frames-unique frame other body its more rest;
+}

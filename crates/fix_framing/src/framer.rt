@@ -1,0 +1,143 @@
+//! The frames of a log that comes in pieces. A `Framer` is fed the pieces as they come and gives one
+//! message after the other. It keeps neither the bytes that it has framed nor the frames that it gave,
+//! so a log is framed in the memory of a piece and a message, however long it is.
+//!
+//! Framed bytes are dropped where a message isn't all there: only the bytes of that message move to
+//! the front then, and they move no second time before it is given.
+ghost use Rattle.std.specs.Prelude.{◌≡◌, ◌≢◌, ℕ, ◌+◌, ◌<◌, ◌≤◌, ◌^◌, ◌↔◌, List, [], length, drop, Some, None, IsTrue, IsOk, IfErr, OnOk, OnErr, vec_len};
+ghost use Rattle.std.specs.List.{list_all};
+ghost use Rattle.fix_framing.specs.Breaks.{is_break};
+
+use crate::breaks::skip_breaks;
+use crate::frames::{FrameFault, TRAILER, frame_at};
+use audit_base::faults::NoMemory;
+use std::alloc::Global;
+
+/// What a Framer says about the bytes fed that it has not yet framed.
+#[derive(Clone, Copy, Debug, PartialEq, Eq)]
+pub enum Step {
+    /// The next message. `start` is the offset of its first byte in all bytes fed. Its body runs from
+    /// `body` to `to` in the bytes held, and it ends at `to + 7` there. Both places are valid until the
+    /// next `feed` or `next_frame`.
+    Whole { start: u64, body: usize, to: usize },
+    /// The next message isn't all there, or there is none.
+    Wait,
+    /// At the offset `at` in all bytes fed, behind CR and LF bytes, the first test fails.
+    Fault { at: u64, fault: FrameFault },
+}
+
+/// Bytes that come in pieces, of which some are framed.
+#[derive(Drop)]
+pub struct Framer {
+    /// The bytes that are held: the last ones of all bytes fed.
+    bytes: Vec<u8>,
+    /// How many bytes were dropped before them.
+    base: u64,
+    /// How many of the bytes held are framed.
+    next: usize,
+    ghost within: { next ≤ vec_len bytes },
+    ghost countable: { base + vec_len bytes < 2 ^ 64 },
+}
+
+/// Drops the first bytes.
+fn drop_front(bytes: &mut Vec<u8>, count: usize)
+    requires { count ≤ vec_len bytes.old }
+    ensures { bytes.new.items ≡ drop count bytes.old.items }
+{
+    if count > 0 {
+        let length = bytes.len();
+        bytes.copy_within(count..length, 0);
+        bytes.truncate(length - count);
+    }
+}
+
+impl Framer {
+    ghost use Rattle.fix_framing.specs.Framing.{held, unframed, next_text, next_offset, StandsFor, IsNextOffset, HasRoom, Feeds, Holds, Keeps, IsUnfinished, IsWhole, Answers};
+    ghost use Rattle.fix_framing.specs.Frames.{frame_fault};
+    ghost use Rattle.fix_framing.specs.declared.frames.FrameFault.{FrameFault};
+
+    /// A Framer that was fed nothing.
+    pub fn new(alloc: Global) -> Framer
+        ensures stands { StandsFor result [] [] }
+        ensures empty { held result ≡ [] }
+    {
+        Framer {
+            bytes: Vec::new(alloc),
+            base: 0,
+            next: 0,
+        }
+    }
+
+    /// Takes the next piece of the bytes, which are at most 67,108,864 in all. Without memory nothing
+    /// changes.
+    pub fn feed(&mut self, piece: &[u8]) -> Result<(), NoMemory>
+        requires { HasRoom self.old piece.now }
+        ensures ok { OnOk result (Feeds self.old self.new piece.now) }
+        ensures holds { OnOk result (Holds self.old self.new piece.now) }
+        ensures err { OnErr result (Keeps self.old self.new) }
+    {
+        match self.bytes.extend_from_slice(piece) {
+            Ok(()) => Ok(()),
+            Err(_) => Err(NoMemory),
+        }
+    }
+
+    /// The next message of the bytes fed, or why there is none. It takes no memory. After `Step::Fault`
+    /// it says the same again, whatever is fed.
+    pub fn next_frame(&mut self) -> Step
+        ensures answers { Answers self.old self.new result }
+        // Each answer comes exactly where the bytes say so.
+        ensures whole { IsWhole result ↔ (frame_fault (next_text self.old) ≡ None) }
+        ensures waits { (result ≡ Step.Wait) ↔ IsUnfinished self.old }
+        ensures refuses { (at : ℕ) (fault : FrameFault) → (result ≡ Step.Fault at fault)
+            ↔ ((frame_fault (next_text self.old) ≡ Some fault) × (fault ≢ FrameFault.Truncated)
+            × (at ≡ next_offset self.old)) }
+    {
+        let at = skip_breaks(&self.bytes, self.next);
+        match frame_at(&self.bytes, at) {
+            Ok(frame) => {
+                self.next = frame.end;
+                Step::Whole {
+                    start: self.base + frame.start as u64,
+                    body: frame.body,
+                    to: frame.end - TRAILER,
+                }
+            }
+            Err(fault) => match fault {
+                FrameFault::Truncated => {
+                    drop_front(&mut self.bytes, at);
+                    self.base += at as u64;
+                    self.next = 0;
+                    Step::Wait
+                }
+                fault => Step::Fault {
+                    at: self.base + at as u64,
+                    fault,
+                },
+            },
+        }
+    }
+
+    /// Whether all bytes fed are framed, but for CR and LF bytes: else the offset of the first byte of
+    /// the unfinished message, behind these.
+    pub fn finish(&self) -> Result<(), u64>
+        ensures ok { IsOk result ↔ IsTrue (list_all is_break (unframed self.now)) }
+        ensures err { IfErr result (IsNextOffset self.now) }
+    {
+        let at = skip_breaks(&self.bytes, self.next);
+        if at < self.bytes.len() {
+            return Err(self.base + at as u64);
+        }
+        Ok(())
+    }
+
+    /// The bytes that are held, in which `Step::Whole` has its places.
+    pub fn held(&self) -> &[u8]
+        ensures { result.now ≡ held self.now }
+    {
+        &self.bytes
+    }
+}
+
+#[cfg(test)]
+mod tests;

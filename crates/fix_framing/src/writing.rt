@@ -1,0 +1,54 @@
+//! Writing a message: the frame around a body. FIX 4.4, BodyLength (9) and CheckSum (10).
+ghost use Rattle.std.specs.Prelude.{◌≡◌, ◌≤◌, ◌<◌, ◌++◌, length, IfOk, OnOk, OnErr};
+ghost use Rattle.fix_framing.specs.Frames.{IsFrame, frame_text, three_digits};
+
+use crate::frames::{HEADER, SOH, checksum};
+use audit_base::faults::NoMemory;
+use itoa::Buffer;
+use std::alloc::{AllocError, Global};
+
+/// The three digits that write a sum modulo 256.
+fn digits_of(sum: u8) -> [u8; 3]
+    ensures { result ≡ three_digits sum }
+{
+    [b'0' + sum / 100, b'0' + sum / 10 % 10, b'0' + sum % 10]
+}
+
+/// The frame of a body.
+#[tactic(auto, unfolding(crate::specs::Frames::header))]
+fn framed(alloc: Global, body: &[u8]) -> Result<Vec<u8>, AllocError>
+    ensures { IfOk result (λ text. text.items ≡ frame_text body.now) }
+{
+    let mut buffer = Buffer::new();
+    let mut text = Vec::from_slice(alloc, HEADER)?;
+    text.extend_from_slice(buffer.format(body.len()).as_bytes())?;
+    text.push(SOH)?;
+    text.extend_from_slice(body)?;
+    let sum = checksum(&text);
+    text.extend_from_slice(b"10=")?;
+    text.extend_from_slice(&digits_of(sum))?;
+    text.push(SOH)?;
+    Ok(text)
+}
+
+/// Appends the message with this body. Its length has no leading zero. Without memory `out` stays as
+/// it was.
+#[tactic(auto, using(crate::proofs::WritingLemmas::frame_text_is_frame))]
+pub fn write_frame(alloc: Global, body: &[u8], out: &mut Vec<u8>) -> Result<(), NoMemory>
+    requires { length body.now ≤ 1048576 }
+    ensures ok { OnOk result (out.new.items ≡ out.old.items ++ frame_text body.now) }
+    // What is appended is a message with this body.
+    ensures message { IsFrame (frame_text body.now) body.now }
+    ensures err { OnErr result (out.new.items ≡ out.old.items) }
+{
+    let Ok(text) = framed(alloc, body) else {
+        return Err(NoMemory);
+    };
+    if out.extend_from_slice(&text).is_err() {
+        return Err(NoMemory);
+    }
+    Ok(())
+}
+
+#[cfg(test)]
+mod tests;
