@@ -1,0 +1,15 @@
+pub mod CleanLemmas
+pub mod DraftLemmas
+pub mod FactLemmas
+pub mod FirstLemmas
+pub mod HistoryLemmas
+pub mod KeyLemmas
+pub mod MadeLemmas
+pub mod NameLemmas
+pub mod OrderLemmas
+pub mod PlaceLemmas
+pub mod PushLemmas
+pub mod RecordLemmas
+pub mod StepLemmas
+pub mod TidyLemmas
+pub mod WellFormedLemmas

@@ -1,0 +1,141 @@
+-- What the definitions say of a record of a history depends on the records up to it alone.
+use Rattle.std.proofs.Common.{◌≡◌, ◌<◌, ◌≤◌, ℕ, zero, suc, Bool, true, false, Option, None, Some, List, get_or, refl, ap, ◌∙◌, arith}
+use Rattle.std.specs.Prelude.{is_some, is_none, option_map, ◌&&◌, not, if◌then◌else◌}
+use Rattle.audit_base.specs.declared.names.Key.{Key}
+use Rattle.audit_base.specs.declared.findings.Finding.{Finding}
+use Rattle.audit_base.specs.declared.records.OrderRecord.{OrderRecord}
+use Rattle.audit_base.specs.Least.{only_if}
+use Rattle.audit_base.specs.Orders.{same_key}
+use Rattle.audit_base.specs.Histories.{key_of, time_of, target_key, is_order, ends, side_of, fits_side, is_before, any_entry, record_at, record_place, key_at, earlier_with_key, target_of, duplicate_id, time_back, unknown_target, record_finding, replaced_at, ended_before, placed_within, is_placed}
+use Rattle.audit_base.specs.declared.findings.Property.TheVariants as property
+use Rattle.audit_base.specs.declared.terms.Which.TheVariants as which
+use Rattle.audit_base.specs.Shows.{found, show_place}
+use Rattle.instruction_history.proofs.FirstLemmas.{least_with-same, least_with-some, any_below-same}
+
+abbrev pub Records : Type 0
+Records = List (ℕ × OrderRecord)
+
+-- two histories have the same first n records
+pub record SameBelow (h g : Records) (n : ℕ) : Type 0 where
+  pub at : (j : ℕ) → j < n → get_or h j any_entry ≡ get_or g j any_entry
+
+pub key_at-same : {n : ℕ} (h g : Records) → SameBelow h g n → (j : ℕ) → j < n → key_at h j ≡ key_at g j
+key_at-same h g same j lt = ap (λ (e : ℕ × OrderRecord). key_of e.1) (same.at j lt)
+
+pub record_at-same : {n : ℕ} (h g : Records) → SameBelow h g n → (j : ℕ) → j < n → record_at h j ≡ record_at g j
+record_at-same h g same j lt = ap (λ (e : ℕ × OrderRecord). e.1) (same.at j lt)
+
+pub record_place-same : {n : ℕ} (h g : Records) → SameBelow h g n → (j : ℕ) → j < n → record_place h j ≡ record_place g j
+record_place-same h g same j lt = ap (λ (e : ℕ × OrderRecord). e.0) (same.at j lt)
+
+pub earlier-same : (n : ℕ) (h g : Records) → SameBelow h g n → (k : ℕ) → k < n → earlier_with_key h k ≡ earlier_with_key g k
+earlier-same n h g same k lt =
+    least_with-same (λ j. same_key (key_at h j) (key_at h k)) (λ j. same_key (key_at g j) (key_at g k)) k
+    (λ j less. let here : j < n = omega arith in rw (key_at-same h g same j here, key_at-same h g same k lt) refl)
+
+-- a record may be the target of another
+abbrev pub may_target : ℕ × OrderRecord → ℕ × OrderRecord → Bool
+may_target e f = is_order e.1 && ends (key_of e.1) f.1 && fits_side (side_of f.1) (side_of e.1)
+
+pub target-same : (n : ℕ) (h g : Records) → SameBelow h g n → (k : ℕ) → k < n → target_of h k ≡ target_of g k
+target-same n h g same k lt =
+    least_with-same (λ j. may_target (get_or h j any_entry) (get_or h k any_entry)) (λ j. may_target (get_or g j any_entry) (get_or g k any_entry)) k
+    (λ j less. let here : j < n = omega arith in
+    ap (λ (e : ℕ × OrderRecord). may_target e (get_or h k any_entry)) (same.at j here) ∙ ap (may_target (get_or g j any_entry)) (same.at k lt))
+
+-- the target of a record is an earlier one
+pub target-before : (h : Records) (k t : ℕ) → target_of h k ≡ Some t → t < k
+target-before h k t e = (least_with-some _ k t e).within
+
+pub option_map-same : {A B : Type 0} (f g : A → B) (o : Option A) → ((a : A) → o ≡ Some a → f a ≡ g a) → option_map f o ≡ option_map g o
+option_map-same f g None same = refl
+option_map-same {B = B} f g (Some a) same = ap (λ (b : B). Some b) (same a refl)
+
+-- the finding that a record has the key of an earlier one, by their places
+abbrev pub repeats : ℕ → ℕ → Finding
+repeats place earlier = found property.DuplicateId which.Orders place (show_place which.Orders earlier) None
+
+pub duplicate-same : (n : ℕ) (h g : Records) → SameBelow h g n → (k : ℕ) → k < n → duplicate_id h k ≡ duplicate_id g k
+duplicate-same n h g same k lt =
+    let shows : option_map (λ j. repeats (record_place h k) (record_place h j)) (earlier_with_key h k) ≡ option_map (λ j. repeats (record_place g k) (record_place g j)) (earlier_with_key h k) =
+    option_map-same _ _ (earlier_with_key h k)
+    (λ j e. let first = least_with-some _ k j e in let here : j < n = omega (arith, first.within) in
+    ap (λ (p : ℕ). repeats p (record_place h j)) (record_place-same h g same k lt) ∙ ap (repeats (record_place g k)) (record_place-same h g same j here)) in
+    shows ∙ ap (option_map (λ j. repeats (record_place g k) (record_place g j))) (earlier-same n h g same k lt)
+
+-- the finding that a record is before the one at the index before it
+abbrev pub back_finding : ℕ × OrderRecord → ℕ × OrderRecord → Option Finding
+back_finding e before = only_if (is_before (time_of e.1) (time_of before.1)) (found property.TimeBack which.Orders e.0 (show_place which.Orders before.0) None)
+
+pub time_back-same : (n : ℕ) (h g : Records) → SameBelow h g n → (k : ℕ) → k < n → time_back h k ≡ time_back g k
+time_back-same n h g same zero lt = refl
+time_back-same n h g same (suc j) lt =
+    let less : j < n = omega arith in
+    ap (λ (e : ℕ × OrderRecord). back_finding e (get_or h j any_entry)) (same.at (suc j) lt) ∙ ap (back_finding (get_or g (suc j) any_entry)) (same.at j less)
+
+-- the finding that a record names no target
+abbrev pub targetless : ℕ × OrderRecord → Option ℕ → Option Finding
+targetless e target = only_if (is_some (target_key e.1) && is_none target) (found property.UnknownTarget which.Orders e.0 None None)
+
+pub unknown-same : (n : ℕ) (h g : Records) → SameBelow h g n → (k : ℕ) → k < n → unknown_target h k ≡ unknown_target g k
+unknown-same n h g same k lt =
+    ap (λ (e : ℕ × OrderRecord). targetless e (target_of h k)) (same.at k lt) ∙ ap (targetless (get_or g k any_entry)) (target-same n h g same k lt)
+
+pub record_finding-same : (n : ℕ) (h g : Records) → SameBelow h g n → (k : ℕ) → k < n → record_finding h k ≡ record_finding g k
+record_finding-same n h g same k lt =
+    let one = duplicate-same n h g same k lt in
+    let two = time_back-same n h g same k lt in
+    let three = unknown-same n h g same k lt in
+    rw (one, two, three) refl
+
+-- what a replacement replaces is an earlier record
+pub replaced-before : (h : Records) (k t : ℕ) → replaced_at h k ≡ Some t → t < k
+replaced-before h k t e = target-before h k t (chosen (is_order (record_at h k)) (target_of h k) t e)
+  where
+    chosen : (b : Bool) (o : Option ℕ) (t : ℕ) → (if b then o else None) ≡ Some t → o ≡ Some t
+    chosen true o t e = e
+    chosen false o t e = cc
+
+pub replaced-same : (n : ℕ) (h g : Records) → SameBelow h g n → (k : ℕ) → k < n → replaced_at h k ≡ replaced_at g k
+replaced-same n h g same k lt =
+    ap (λ (e : ℕ × OrderRecord). if is_order e.1 then target_of h k else None) (same.at k lt) ∙ ap (λ (o : Option ℕ). if is_order (record_at g k) then o else None) (target-same n h g same k lt)
+
+pub ended_before-same : (n : ℕ) (h g : Records) → SameBelow h g n → (k t : ℕ) → k ≤ n → t < n → ended_before h k t ≡ ended_before g k t
+ended_before-same n h g same k t lt in_t =
+    any_below-same (λ j. ends (key_at h t) (record_at h j)) (λ j. ends (key_at g t) (record_at g j)) k
+    (λ j less. let here : j < n = omega arith in
+    ap (λ (key : Key). ends key (record_at h j)) (key_at-same h g same t in_t) ∙ ap (ends (key_at g t)) (record_at-same h g same j here))
+
+pub placed-same : (n : ℕ) (h g : Records) → SameBelow h g n → (m k : ℕ) (o : Option ℕ) → k < n → ((t : ℕ) → o ≡ Some t → t < k) → placed_within m h k o ≡ placed_within m g k o
+placed-same n h g same zero k o lt back = refl
+placed-same n h g same (suc m) k None lt back = refl
+placed-same n h g same (suc m) k (Some t) lt back =
+    let less : t < k = back t refl in
+    let in_t : t < n = omega arith in
+    let ended = ended_before-same n h g same k t (omega arith) in_t in
+    let target = placed-same n h g same m t (replaced_at h t) in_t (λ u e. replaced-before h t u e) in
+    let next = replaced-same n h g same t in_t in
+    rw (ended, target, next) refl
+
+-- more steps than lead back change nothing
+pub placed-steps : (h : Records) (m n k : ℕ) (o : Option ℕ) → k < m → k < n → ((t : ℕ) → o ≡ Some t → t < k) → placed_within m h k o ≡ placed_within n h k o
+placed-steps h zero n k o in_m in_n back = absurd (omega arith)
+placed-steps h (suc m) zero k o in_m in_n back = absurd (omega arith)
+placed-steps h (suc m) (suc n) k None in_m in_n back = refl
+placed-steps h (suc m) (suc n) k (Some t) in_m in_n back =
+    let less : t < k = back t refl in
+    ap (λ (b : Bool). not (ended_before h k t) && b) (placed-steps h m n t (replaced_at h t) (omega arith) (omega arith) (λ u e. replaced-before h t u e))
+
+pub is_placed-same : (n : ℕ) (h g : Records) → SameBelow h g n → (k : ℕ) → k < n → is_placed h k ≡ is_placed g k
+is_placed-same n h g same k lt =
+    placed-same n h g same (suc k) k (replaced_at h k) lt (λ t e. replaced-before h k t e) ∙ ap (placed_within (suc k) g k) (replaced-same n h g same k lt)
+
+-- a record that replaces nothing is placed
+pub is_placed-new : (h : Records) (k : ℕ) → replaced_at h k ≡ None → is_placed h k ≡ true
+is_placed-new h k e = rw e refl
+
+-- a replacement is placed where its target is placed and no record before it ends the target
+pub is_placed-replacement : (h : Records) (k t : ℕ) → replaced_at h k ≡ Some t → is_placed h k ≡ (not (ended_before h k t) && is_placed h t)
+is_placed-replacement h k t e =
+    let less = replaced-before h k t e in
+    rw e (ap (λ (b : Bool). not (ended_before h k t) && b) (placed-steps h k (suc t) t (replaced_at h t) less (omega arith) (λ u s. replaced-before h t u s)))

@@ -1,0 +1,5 @@
+pub mod Answers
+pub mod Drafts
+pub mod Holds
+pub mod Seen
+pub mod Steps

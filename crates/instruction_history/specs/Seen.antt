@@ -1,0 +1,11 @@
+-- What the keys of a history name, as a map holds it.
+use Rattle.std.specs.Prelude.{Option}
+use Rattle.std.specs.HashMap.{get}
+use Rattle.audit_base.specs.declared.names.Key.{Key}
+use Rattle.audit_base.specs.Orders.{same_key}
+use Rattle.instruction_history.specs.declared.keys.Keys.{Keys}
+use Rattle.instruction_history.specs.declared.keys.Seen.{Seen}
+
+-- what a key names in the map, if it is there
+abbrev pub seen_in : Keys → Key → Option Seen
+seen_in keys key = get same_key keys.map key

@@ -1,0 +1,26 @@
+//! Why a history has no order list.
+ghost use Rattle.instruction_history.specs.declared.faults.HistoryFault.TheVariants.{Memory};
+ghost use Rattle.std.specs.Prelude.{◌≡◌};
+
+use audit_base::findings::Finding;
+use std::alloc::AllocError;
+use thiserror::Error;
+
+/// Why a history has no order list.
+#[derive(Clone, Copy, Debug, PartialEq, Eq, Error)]
+pub enum HistoryFault {
+    /// It is not well-formed: its first finding, of number 1, 2 or 3.
+    #[error("the history is not well-formed")]
+    Found(Finding),
+    /// There was not enough memory.
+    #[error("out of memory")]
+    Memory,
+}
+
+impl From<AllocError> for HistoryFault {
+    ghost from_gives = { λ _ e. e ≡ Memory };
+
+    fn from(_e: AllocError) -> HistoryFault {
+        HistoryFault::Memory
+    }
+}

@@ -1,0 +1,21 @@
+//! The history of one symbol: which new orders and replacements an order log holds, what each
+//! replaces, and which record ends it. A history that is not well-formed gives its first finding.
+//!
+//! A record is named by its firm and its id (FIX 4.4, tags 49 and 11). A cancel or a replacement
+//! (messages F and G) names its target by the same firm and the target's id (tag 41).
+//!
+//! One pass over the records keeps a draft: the orders so far, and for each key what it named. An
+//! order's `cancelled` so far says whether it is still there, so nothing else has to be remembered.
+//! Keys are found by their hash, in constant time on average, and the memory for the orders and the
+//! keys is taken once, after the records of the symbol have been counted.
+#![tactic(auto)]
+
+mod draft;
+pub mod faults;
+mod fields;
+mod findings;
+pub mod history;
+mod keys;
+mod reading;
+#[cfg(test)]
+mod tests;

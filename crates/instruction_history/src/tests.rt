@@ -1,0 +1,329 @@
+//! Histories by name, with the orders or the finding that they have. A record is written as kind (New,
+//! Cancel, Replace), firm, id, target, second, symbol and side (Buy, Sell).
+use super::faults::HistoryFault;
+use super::history::History;
+use audit_base::findings::{Property, Shown};
+use audit_base::names::{Key, Name, read_name};
+use audit_base::numbers::{Price, Quantity};
+use audit_base::records::OrderRecord;
+use audit_base::stamps::Stamp;
+use audit_base::terms::{Life, Side, Which};
+use std::process::Abort;
+
+fn name(rt: &impl Abort, text: &str) -> Name {
+    read_name(text.as_bytes()).expect(rt, "a name")
+}
+
+fn stamp(rt: &impl Abort, text: &str) -> Stamp {
+    let second = text.parse::<u64>().expect(rt, "a number");
+    assert!(rt; second < 100);
+    Stamp { second, nano: 0 }
+}
+
+fn record(rt: &impl Abort, text: &str) -> OrderRecord {
+    let mut words = text.split(' ');
+    let kind = words.next().expect(rt, "a kind");
+    let firm = name(rt, words.next().expect(rt, "a firm"));
+    let id = name(rt, words.next().expect(rt, "an id"));
+    let target = name(rt, words.next().expect(rt, "a target"));
+    let time = stamp(rt, words.next().expect(rt, "a second"));
+    let symbol = name(rt, words.next().expect(rt, "a symbol"));
+    let side = if words.next() == Some("B") {
+        Side::Buy
+    } else {
+        Side::Sell
+    };
+    let key = Key { firm, id };
+    let quantity = Quantity::of(5).expect(rt, "a quantity");
+    let price = Price::of(10).expect(rt, "a price");
+    match kind {
+        "N" => OrderRecord::New {
+            key,
+            time,
+            symbol,
+            side,
+            quantity,
+            price,
+            life: Life::Rests,
+        },
+        "X" => OrderRecord::Cancel {
+            key,
+            time,
+            symbol,
+            target,
+        },
+        _ => OrderRecord::Replace {
+            key,
+            time,
+            symbol,
+            target,
+            side,
+            quantity,
+            price,
+        },
+    }
+}
+
+/// The place, `cancelled` and target of an order.
+type Shape = (u32, Option<u32>, Option<usize>);
+
+/// The property of a finding, its place, and the place that shows it.
+type Broken = (Property, u32, Option<u32>);
+
+/// The history of Z.
+fn build<R: AllocGlobal + Abort>(rt: &R, lines: &[&str]) -> Result<History, HistoryFault> {
+    let mut entries = Vec::new(rt.alloc());
+    for line in lines {
+        let stored = entries.push(record(rt, *line)).is_ok();
+        assert!(rt; stored);
+    }
+    assert!(rt; entries.len() < 4_294_967_296);
+    History::build(rt.alloc(), &entries, &name(rt, "Z"))
+}
+
+/// Asserts that the history has these orders, each of which is found by its key.
+fn has_orders<R: AllocGlobal + Abort>(rt: &R, label: &str, lines: &[&str], wanted: &[Shape]) {
+    let Ok(history) = build(rt, lines) else {
+        panic!(rt; "{label}: refused");
+    };
+    let orders = history.orders();
+    assert_eq!(rt; orders.len(), wanted.len(), "{label}: orders");
+    for (i, order) in orders.iter().enumerate() {
+        assert_eq!(rt;
+            (order.place, order.cancelled, order.target),
+            wanted[i],
+            "{label}: order {i}"
+        );
+        assert_eq!(rt; history.find(&order.key), Some(i), "{label}: key {i}");
+    }
+}
+
+/// Asserts that the history has this finding.
+fn has_finding<R: AllocGlobal + Abort>(rt: &R, label: &str, lines: &[&str], wanted: Broken) {
+    let Err(HistoryFault::Found(finding)) = build(rt, lines) else {
+        panic!(rt; "{label}: no finding");
+    };
+    let (property, place, shown) = wanted;
+    let first = shown.map(|place| Shown::Place {
+        log: Which::Orders,
+        place,
+    });
+    assert_eq!(rt; finding.property, property, "{label}: property");
+    assert_eq!(rt; finding.place, place, "{label}: place");
+    assert_eq!(rt; finding.first, first, "{label}: shown");
+}
+
+#[test]
+fn each_finding_stands_at_the_first_record_that_fails(rt: HostRuntime) {
+    let duplicate = Property::DuplicateId;
+    let back = Property::TimeBack;
+    let unknown = Property::UnknownTarget;
+    let rows: [(&str, &[&str], Broken); 14] = [
+        (
+            "duplicate-id",
+            &["N A b1 - 5 Z B", "N A b1 - 5 Z B"],
+            (duplicate, 2, Some(1)),
+        ),
+        (
+            "time-back",
+            &["N A b1 - 1 Z B", "N A b2 - 0 Z B"],
+            (back, 2, Some(1)),
+        ),
+        ("unknown-target", &["X A x1 b9 5 Z B"], (unknown, 1, None)),
+        (
+            "the key of a cancel is taken",
+            &["N A b1 - 5 Z B", "X A x1 b1 5 Z B", "N A x1 - 5 Z B"],
+            (duplicate, 3, Some(2)),
+        ),
+        (
+            "a cancel is no target",
+            &["N A b1 - 5 Z B", "X A x1 b1 5 Z B", "X A x2 x1 5 Z B"],
+            (unknown, 3, None),
+        ),
+        (
+            "the time before is that of the symbol's record before",
+            &["N A b1 - 3 Z B", "N A y1 - 9 Y B", "N A b2 - 2 Z B"],
+            (back, 3, Some(1)),
+        ),
+        (
+            "a later order is no target",
+            &["X A x1 b1 5 Z B", "N A b1 - 5 Z B"],
+            (unknown, 1, None),
+        ),
+        (
+            "a replacement of another firm's order",
+            &["N B s1 - 5 Z B", "R A r1 s1 5 Z B"],
+            (unknown, 2, None),
+        ),
+        (
+            "a replacement of an order of the other side",
+            &["N A b1 - 5 Z B", "R A r1 b1 5 Z S"],
+            (unknown, 2, None),
+        ),
+        (
+            "an order of another symbol is no target",
+            &["N A b1 - 5 Y B", "X A x1 b1 5 Z B"],
+            (unknown, 2, None),
+        ),
+        (
+            "a record is not its own target",
+            &["R A r1 r1 5 Z B"],
+            (unknown, 1, None),
+        ),
+        (
+            "the key comes before the time",
+            &["N A b1 - 1 Z B", "N A b1 - 0 Z B"],
+            (duplicate, 2, Some(1)),
+        ),
+        (
+            "the time comes before the target",
+            &["N A b1 - 1 Z B", "X A x1 b9 0 Z B"],
+            (back, 2, Some(1)),
+        ),
+        (
+            "the least place comes first",
+            &["N A b1 - 1 Z B", "X A x1 b9 1 Z B", "N A b1 - 0 Z B"],
+            (unknown, 2, None),
+        ),
+    ];
+    for (label, lines, wanted) in rows {
+        has_finding(&rt, label, lines, wanted);
+    }
+}
+
+#[test]
+fn each_order_has_its_target_and_its_end(rt: HostRuntime) {
+    let rows: [(&str, &[&str], &[Shape]); 17] = [
+        ("no records", &[], &[]),
+        (
+            "one id of two firms",
+            &["N A b1 - 5 Z B", "N B b1 - 5 Z B"],
+            &[(1, None, None), (2, None, None)],
+        ),
+        (
+            "equal times",
+            &["N A b1 - 7 Z B", "N A b2 - 7 Z B"],
+            &[(1, None, None), (2, None, None)],
+        ),
+        (
+            "another symbol's key, time and place between",
+            &["N A b1 - 5 Z B", "N A b1 - 1 Y B", "N A b2 - 5 Z B"],
+            &[(1, None, None), (3, None, None)],
+        ),
+        (
+            "cancels of both sides",
+            &[
+                "N A b1 - 5 Z B",
+                "N A s1 - 5 Z S",
+                "X A x1 s1 5 Z B",
+                "X A x2 b1 5 Z B",
+            ],
+            &[(1, Some(4), None), (2, Some(3), None)],
+        ),
+        (
+            "a second cancel",
+            &["N A b1 - 5 Z B", "X A x1 b1 5 Z B", "X A x2 b1 5 Z B"],
+            &[(1, Some(2), None)],
+        ),
+        (
+            "a replacement of a new order",
+            &["N A b1 - 5 Z B", "R A r1 b1 5 Z B"],
+            &[(1, Some(2), None), (2, None, Some(0))],
+        ),
+        (
+            "a replacement of a replacement",
+            &["N A b1 - 5 Z B", "R A r1 b1 5 Z B", "R A r2 r1 5 Z B"],
+            &[
+                (1, Some(2), None),
+                (2, Some(3), Some(0)),
+                (3, None, Some(1)),
+            ],
+        ),
+        (
+            "a replacement of a replaced order: two of one target",
+            &["N A b1 - 5 Z B", "R A r1 b1 5 Z B", "R A r2 b1 5 Z B"],
+            &[
+                (1, Some(2), None),
+                (2, None, Some(0)),
+                (3, Some(3), Some(0)),
+            ],
+        ),
+        (
+            "a replacement of a cancelled order",
+            &["N A b1 - 5 Z B", "X A x1 b1 5 Z B", "R A r1 b1 5 Z B"],
+            &[(1, Some(2), None), (3, Some(3), Some(0))],
+        ),
+        (
+            "a replacement of one that was never placed",
+            &[
+                "N A b1 - 5 Z B",
+                "X A x1 b1 5 Z B",
+                "R A r1 b1 5 Z B",
+                "R A r2 r1 5 Z B",
+            ],
+            &[
+                (1, Some(2), None),
+                (3, Some(3), Some(0)),
+                (4, Some(4), Some(1)),
+            ],
+        ),
+        (
+            "a cancel of a replacement",
+            &["N A b1 - 5 Z B", "R A r1 b1 5 Z B", "X A x1 r1 5 Z B"],
+            &[(1, Some(2), None), (2, Some(3), Some(0))],
+        ),
+        (
+            "a cancel of a replacement that was never placed",
+            &[
+                "N A b1 - 5 Z B",
+                "X A x1 b1 5 Z B",
+                "R A r1 b1 5 Z B",
+                "X A x2 r1 5 Z B",
+            ],
+            &[(1, Some(2), None), (3, Some(3), Some(0))],
+        ),
+        (
+            "a cancel of a replaced order",
+            &["N A b1 - 5 Z B", "R A r1 b1 5 Z B", "X A x1 b1 5 Z B"],
+            &[(1, Some(2), None), (2, None, Some(0))],
+        ),
+        (
+            "a replacement on the sell side",
+            &["N A b1 - 5 Z B", "N B s1 - 5 Z S", "R B r1 s1 5 Z S"],
+            &[(1, None, None), (2, Some(3), None), (3, None, Some(1))],
+        ),
+        (
+            "a target behind a cancel and another symbol",
+            &[
+                "N A b1 - 5 Z B",
+                "X A x1 b1 5 Z B",
+                "N A y1 - 5 Y B",
+                "N A b2 - 5 Z B",
+                "R A r1 b2 5 Z B",
+            ],
+            &[(1, Some(2), None), (4, Some(5), None), (5, None, Some(1))],
+        ),
+        (
+            "the chosen symbol alone",
+            &["N A b1 - 5 Y B", "R A r1 b1 5 Y B"],
+            &[],
+        ),
+    ];
+    for (label, lines, wanted) in rows {
+        has_orders(&rt, label, lines, wanted);
+    }
+}
+
+#[test]
+fn a_key_that_names_no_order_is_not_found(rt: HostRuntime) {
+    let Ok(history) = build(&rt, &["N A b1 - 5 Z B", "X A x1 b1 5 Z B"]) else {
+        panic!(rt; "refused");
+    };
+    for (firm, id, wanted) in [("A", "b1", Some(0)), ("A", "x1", None), ("B", "b1", None)] {
+        let key = Key {
+            firm: name(&rt, firm),
+            id: name(&rt, id),
+        };
+        assert_eq!(rt; history.find(&key), wanted, "{firm} {id}");
+    }
+}
