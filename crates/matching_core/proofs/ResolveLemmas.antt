@@ -1,0 +1,279 @@
+-- Trades of a symbol, with one more at their end: their findings, their ids and their deals.
+use Rattle.std.proofs.Common.{◌≡◌, ◌<◌, ◌≤◌, ◌+◌, ℕ, zero, suc, Bool, true, false, Option, None, Some, List, [], ◌∷◌, ◌++◌, length, get_or, map, take, drop, refl, sym, ap, ◌∙◌, arith, subst, length-append, take-append-drop}
+use Rattle.std.specs.Prelude.{◌&&◌, filter, option_map, option_and_then, slice_get, if◌then◌else◌}
+use Rattle.std.specs.List.{enumerate_from}
+use Rattle.std.specs.Option.{option_or}
+use Rattle.std.proofs.lemmas.List.{get_or_append_left, get_or_at, take_more, length-take-le, take_all}
+use Rattle.std.proofs.lemmas.List.Elements.{filter-append}
+use Rattle.std.proofs.lemmas.Map.Entries.{option_filter}
+use Rattle.audit_base.specs.declared.names.Key.{Key}
+use Rattle.audit_base.specs.declared.terms.Side.{Side}
+use Rattle.audit_base.specs.declared.records.TradeRecord.{TradeRecord}
+use Rattle.audit_base.specs.declared.orders.Order.{Order}
+use Rattle.audit_base.specs.declared.orders.Deal.{Deal}
+use Rattle.audit_base.specs.declared.findings.Finding.{Finding}
+use Rattle.audit_base.specs.Deals.{AreDeals}
+use Rattle.audit_base.specs.Least.{least_answer, least_with, only_if}
+use Rattle.audit_base.specs.Orders.{same_name, same_key, same_side, order_at, side_at, any_order, with_key, on_side_with_key}
+use Rattle.audit_base.specs.Trades.{trades_of, any_trade, trade_at, trade_place, duplicate_trade, unknown_order, unsound_trade, deal_of, deals_of}
+use Rattle.instruction_history.proofs.FirstLemmas.{least_answer-same, least_with-same, least_answer-stays, least_with-some, least_with-both, option_or-none, option_or-nothing}
+use Rattle.instruction_history.proofs.KeyLemmas.{same_name-is, same_key-is, same_key-itself}
+use Rattle.instruction_history.specs.Holds.{HasDistinctKeys}
+use Rattle.matching_core.specs.declared.resolving.Resolved.{Resolved}
+use Rattle.matching_core.specs.Resolving.{first_in, of_side, duplicate_of, unknown_in, finding_in, first_with, IsResolved, entry_of}
+
+abbrev pub Listed : Type 0
+Listed = List (ℕ × TradeRecord)
+
+length-push : {A : Type 0} (xs : List A) (x : A) → length (xs ++ x ∷ []) ≡ suc (length xs)
+length-push [] x = refl
+length-push (y ∷ xs) x = ap suc (length-push xs x)
+
+map-push : {A B : Type 0} (f : A → B) (xs : List A) (x : A) → map f (xs ++ x ∷ []) ≡ map f xs ++ f x ∷ []
+map-push f [] x = refl
+map-push {B = B} f (y ∷ xs) x = ap (λ (ys : List B). f y ∷ ys) (map-push f xs x)
+
+option_map-same : {A B : Type 0} (f g : A → B) (o : Option A) → ((a : A) → o ≡ Some a → f a ≡ g a) → option_map f o ≡ option_map g o
+option_map-same f g None same = refl
+option_map-same {B = B} f g (Some a) same = ap (λ (b : B). Some b) (same a refl)
+
+-- two lists have the same first n trades
+pub record SameBelow (h g : Listed) (n : ℕ) : Type 0 where
+  pub at : (j : ℕ) → j < n → get_or h j any_trade ≡ get_or g j any_trade
+
+-- 5 and 6 of a trade, by the trade itself and those before it
+duplicate-same : (n : ℕ) (h g : Listed) → SameBelow h g n → (k : ℕ) → k < n → duplicate_trade h k ≡ duplicate_trade g k
+unfolding duplicate_trade
+duplicate-same n h g same k lt =
+    let here : get_or h k any_trade ≡ get_or g k any_trade = same.at k lt in
+    let tests : least_with (λ j. same_name (trade_at h j).trade (trade_at h k).trade) k ≡ least_with (λ j. same_name (trade_at g j).trade (trade_at g k).trade) k =
+    least_with-same (λ j. same_name (trade_at h j).trade (trade_at h k).trade) (λ j. same_name (trade_at g j).trade (trade_at g k).trade) k
+    (λ j less. ap (λ (e : ℕ × TradeRecord). same_name e.1.trade (trade_at h k).trade) (same.at j (omega arith)) ∙ ap (λ (e : ℕ × TradeRecord). same_name (trade_at g j).trade e.1.trade) here) in
+    option_map-same (λ j. duplicate_of (trade_place h k) (trade_place h j)) (λ j. duplicate_of (trade_place g k) (trade_place g j))
+    (least_with (λ j. same_name (trade_at h j).trade (trade_at h k).trade) k)
+    (λ j e. let first = least_with-some _ k j e in
+    ap (λ (x : ℕ × TradeRecord). duplicate_of x.0 (trade_place h j)) here ∙ ap (λ (x : ℕ × TradeRecord). duplicate_of (trade_place g k) x.0) (same.at j (omega (arith, first.within))))
+    ∙ ap (option_map (λ j. duplicate_of (trade_place g k) (trade_place g j))) tests
+
+unknown-at : (orders : List Order) (h : Listed) (k : ℕ) → unknown_order orders h k ≡ unknown_in orders (get_or h k any_trade)
+unfolding unknown_order
+unknown-at orders h k = refl
+
+abbrev fault_at : List Order → Listed → ℕ → Option Finding
+fault_at orders h k = option_or (duplicate_trade h k) (unknown_order orders h k)
+
+fault-same : (orders : List Order) (n : ℕ) (h g : Listed) → SameBelow h g n → (k : ℕ) → k < n → fault_at orders h k ≡ fault_at orders g k
+fault-same orders n h g same k lt =
+    let five : duplicate_trade h k ≡ duplicate_trade g k = duplicate-same n h g same k lt in
+    let six : unknown_order orders h k ≡ unknown_order orders g k = unknown-at orders h k ∙ ap (unknown_in orders) (same.at k lt) ∙ sym (unknown-at orders g k) in
+    rw (five, six) refl
+
+pushed-same : (h : Listed) (e : ℕ × TradeRecord) → SameBelow (h ++ e ∷ []) h (length h)
+pushed-same h e = record { at = λ j lt. get_or_append_left h (e ∷ []) any_trade j lt }
+
+pushed-at : (h : Listed) (e : ℕ × TradeRecord) → get_or (h ++ e ∷ []) (length h) any_trade ≡ e
+pushed-at h e = get_or_at h e [] any_trade (length h) refl
+
+-- the first finding is that of the trades before, or else that of the last one
+finding_in-push : (orders : List Order) (h : Listed) (e : ℕ × TradeRecord) → finding_in orders (h ++ e ∷ []) ≡ option_or (finding_in orders h) (fault_at orders (h ++ e ∷ []) (length h))
+finding_in-push orders h e =
+    let before : least_answer (fault_at orders (h ++ e ∷ [])) (length h) ≡ finding_in orders h =
+    least_answer-same (fault_at orders (h ++ e ∷ [])) (fault_at orders h) (length h) (λ k lt. fault-same orders (length h) (h ++ e ∷ []) h (pushed-same h e) k lt) in
+    ap (least_answer (fault_at orders (h ++ e ∷ []))) (length-push h e) ∙ ap (λ (o : Option Finding). option_or o (fault_at orders (h ++ e ∷ []) (length h))) before
+
+-- 5 of the last one
+duplicate-push : (h : Listed) (e : ℕ × TradeRecord) → duplicate_trade (h ++ e ∷ []) (length h) ≡ option_map (duplicate_of e.0) (first_with h e.1.trade)
+unfolding duplicate_trade
+duplicate-push h e =
+    let longer : Listed = h ++ e ∷ [] in
+    let same = pushed-same h e in
+    let last = pushed-at h e in
+    let tests : least_with (λ j. same_name (trade_at longer j).trade (trade_at longer (length h)).trade) (length h) ≡ least_with (λ j. same_name (trade_at h j).trade e.1.trade) (length h) =
+    least_with-same _ _ (length h)
+    (λ j lt. ap (λ (x : ℕ × TradeRecord). same_name x.1.trade (trade_at longer (length h)).trade) (same.at j lt) ∙ ap (λ (x : ℕ × TradeRecord). same_name (trade_at h j).trade x.1.trade) last) in
+    ap (option_map (λ j. duplicate_of (trade_place longer (length h)) (trade_place longer j))) tests
+    ∙ option_map-same (λ j. duplicate_of (trade_place longer (length h)) (trade_place longer j)) (λ j. duplicate_of e.0 (trade_place h j))
+    (least_with (λ j. same_name (trade_at h j).trade e.1.trade) (length h))
+    (λ j is. let first = least_with-some _ (length h) j is in
+    ap (λ (x : ℕ × TradeRecord). duplicate_of x.0 (trade_place longer j)) last ∙ ap (λ (x : ℕ × TradeRecord). duplicate_of e.0 x.0) (same.at j first.within))
+    ∙ mapped-twice (least_with (λ j. same_name (trade_at h j).trade e.1.trade) (length h))
+  where
+    mapped-twice : (o : Option ℕ) → option_map (λ j. duplicate_of e.0 (trade_place h j)) o ≡ option_map (duplicate_of e.0) (option_map (trade_place h) o)
+    mapped-twice None = refl
+    mapped-twice (Some j) = refl
+
+-- the finding of the last one
+fault-push : (orders : List Order) (h : Listed) (e : ℕ × TradeRecord) → fault_at orders (h ++ e ∷ []) (length h) ≡ option_or (option_map (duplicate_of e.0) (first_with h e.1.trade)) (unknown_in orders e)
+fault-push orders h e =
+    let five = duplicate-push h e in
+    let six : unknown_order orders (h ++ e ∷ []) (length h) ≡ unknown_in orders e = unknown-at orders (h ++ e ∷ []) (length h) ∙ ap (unknown_in orders) (pushed-at h e) in
+    ap (λ (o : Option Finding). option_or o (unknown_order orders (h ++ e ∷ []) (length h))) five ∙ ap (option_or (option_map (duplicate_of e.0) (first_with h e.1.trade))) six
+
+finding-next : (orders : List Order) (h : Listed) (e : ℕ × TradeRecord) → finding_in orders h ≡ None → finding_in orders (h ++ e ∷ []) ≡ option_or (option_map (duplicate_of e.0) (first_with h e.1.trade)) (unknown_in orders e)
+finding-next orders h e clean = finding_in-push orders h e ∙ option_or-none (finding_in orders h) (fault_at orders (h ++ e ∷ []) (length h)) clean ∙ fault-push orders h e
+
+-- an id's first trade is the one before, or else the last one
+mapped-or : (f g : ℕ → ℕ) (o : Option ℕ) (b : Bool) (n a : ℕ) → ((j : ℕ) → o ≡ Some j → f j ≡ g j) → f n ≡ a → option_map f (option_or o (if b then Some n else None)) ≡ option_or (option_map g o) (only_if b a)
+mapped-or f g (Some j) b n a same here = ap (λ (x : ℕ). Some x) (same j refl)
+mapped-or f g None true n a same here = ap (λ (x : ℕ). Some x) here
+mapped-or f g None false n a same here = refl
+
+first_with-push : (h : Listed) (e : ℕ × TradeRecord) (id : List ℕ) → first_with (h ++ e ∷ []) id ≡ option_or (first_with h id) (only_if (same_name e.1.trade id) e.0)
+first_with-push h e id =
+    let longer : Listed = h ++ e ∷ [] in
+    let same = pushed-same h e in
+    let last = pushed-at h e in
+    let before : least_with (λ j. same_name (trade_at longer j).trade id) (length h) ≡ least_with (λ j. same_name (trade_at h j).trade id) (length h) =
+    least_with-same _ _ (length h) (λ j lt. ap (λ (x : ℕ × TradeRecord). same_name x.1.trade id) (same.at j lt)) in
+    let here : same_name (trade_at longer (length h)).trade id ≡ same_name e.1.trade id = ap (λ (x : ℕ × TradeRecord). same_name x.1.trade id) last in
+    ap (λ (n : ℕ). option_map (trade_place longer) (least_with (λ j. same_name (trade_at longer j).trade id) n)) (length-push h e)
+    ∙ ap (λ (o : Option ℕ). option_map (trade_place longer) (option_or o (if same_name (trade_at longer (length h)).trade id then Some (length h) else None))) before
+    ∙ ap (λ (b : Bool). option_map (trade_place longer) (option_or (least_with (λ j. same_name (trade_at h j).trade id) (length h)) (if b then Some (length h) else None))) here
+    ∙ mapped-or (trade_place longer) (trade_place h) (least_with (λ j. same_name (trade_at h j).trade id) (length h)) (same_name e.1.trade id) (length h) e.0
+    (λ j is. ap (λ (x : ℕ × TradeRecord). x.0) (same.at j (least_with-some _ (length h) j is).within)) (ap (λ (x : ℕ × TradeRecord). x.0) last)
+
+-- what is kept, with one trade more
+
+pub duplicate-found : (orders : List Order) (h : Listed) (r : Resolved) (place first : ℕ) (t : TradeRecord) → IsResolved orders h r → first_in r.ids t.trade ≡ Some first → finding_in orders (h ++ (place, t) ∷ []) ≡ Some (duplicate_of place first)
+duplicate-found orders h r place first t is seen =
+    let earlier : first_with h t.trade ≡ Some first = sym (is.ids t.trade) ∙ seen in
+    finding-next orders h (place, t) is.clean ∙ ap (λ (o : Option ℕ). option_or (option_map (duplicate_of place) o) (unknown_in orders (place, t))) earlier
+
+new-finding : (orders : List Order) (h : Listed) (r : Resolved) (place : ℕ) (t : TradeRecord) → IsResolved orders h r → first_in r.ids t.trade ≡ None → finding_in orders (h ++ (place, t) ∷ []) ≡ unknown_in orders (place, t)
+new-finding orders h r place t is unseen =
+    let earlier : first_with h t.trade ≡ None = sym (is.ids t.trade) ∙ unseen in
+    finding-next orders h (place, t) is.clean ∙ ap (λ (o : Option ℕ). option_or (option_map (duplicate_of place) o) (unknown_in orders (place, t))) earlier
+
+pub unknown-found : (orders : List Order) (h : Listed) (r : Resolved) (place : ℕ) (t : TradeRecord) (f : Finding) → IsResolved orders h r → first_in r.ids t.trade ≡ None → unknown_in orders (place, t) ≡ Some f → finding_in orders (h ++ (place, t) ∷ []) ≡ Some f
+unknown-found orders h r place t f is unseen unknown = new-finding orders h r place t is unseen ∙ unknown
+
+-- what is kept after a trade without a finding
+pub record Takes (r new : Resolved) (id : List ℕ) (deal : Deal) : Type 0 where
+  pub deals : new.deals.items ≡ r.deals.items ++ deal ∷ []
+  pub numbers : AreDeals r.deals.items → AreDeals new.deals.items
+  pub ids : (q : List ℕ) → first_in new.ids q ≡ (if same_name id q then Some deal.place else first_in r.ids q)
+
+pub trade-taken : (orders : List Order) (h : Listed) (r new : Resolved) (place : ℕ) (t : TradeRecord) (deal : Deal) → IsResolved orders h r → first_in r.ids t.trade ≡ None → unknown_in orders (place, t) ≡ None
+    → deal ≡ deal_of orders (place, t) → Takes r new t.trade deal → IsResolved orders (h ++ (place, t) ∷ []) new
+trade-taken orders h r new place t deal is unseen known made takes = record {
+  clean = new-finding orders h r place t is unseen ∙ known;
+  deals = takes.deals ∙ ap (λ (ds : List Deal). ds ++ deal ∷ []) is.deals ∙ ap (λ (d : Deal). map (deal_of orders) h ++ d ∷ []) made ∙ sym (map-push (deal_of orders) h (place, t));
+  numbers = takes.numbers is.numbers;
+  ids = λ id. takes.ids id ∙ go id (same_name t.trade id) refl ∙ sym (first_with-push h (place, t) id);
+}
+  where
+    go : (id : List ℕ) (b : Bool) → same_name t.trade id ≡ b → (if b then Some deal.place else first_in r.ids id) ≡ option_or (first_with h id) (only_if b place)
+    go id true e =
+        let own : t.trade ≡ id = same_name-is t.trade id e in
+        let none : first_with h id ≡ None = sym (is.ids id) ∙ ap (first_in r.ids) (sym own) ∙ unseen in
+        ap (λ (d : Deal). Some d.place) made ∙ sym (option_or-none (first_with h id) (Some place) none)
+    go id false e = is.ids id ∙ sym (option_or-nothing (first_with h id))
+
+-- the key's order of a side, where no two orders have one key
+
+side-filter : (orders : List Order) (side : Side) (o : Option ℕ) → ((i : ℕ) → o ≡ Some i → i < length orders) → option_and_then (of_side orders side) o ≡ option_filter (λ i. same_side side (side_at orders i)) o
+side-filter orders side None inside = refl
+side-filter orders side (Some i) inside = at orders i (inside i refl)
+  where
+    at : (orders : List Order) (i : ℕ) → i < length orders → of_side orders side i ≡ option_filter (λ i. same_side side (side_at orders i)) (Some i)
+    at orders i lt = ap (option_and_then (λ (o : Order). only_if (same_side side o.side) i)) (got orders i lt)
+      where
+        got : (orders : List Order) (i : ℕ) → i < length orders → slice_get orders i ≡ Some (order_at orders i)
+        got [] i lt = absurd (omega arith)
+        got (o ∷ orders) zero lt = refl
+        got (o ∷ orders) (suc i) lt = got orders i (omega arith)
+
+and-swap : (a b : Bool) → (a && b) ≡ (b && a)
+and-swap true true = refl
+and-swap true false = refl
+and-swap false true = refl
+and-swap false false = refl
+
+pub side-of_key : (orders : List Order) (side : Side) (key : Key) → HasDistinctKeys orders → option_and_then (of_side orders side) (with_key orders key) ≡ on_side_with_key orders side key
+side-of_key orders side key distinct =
+    let first = least_with (λ i. same_key (order_at orders i).key key) (length orders) in
+    side-filter orders side first (λ i e. (least_with-some _ (length orders) i e).within)
+    ∙ sym (least_with-both (λ i. same_key (order_at orders i).key key) (λ i. same_side side (side_at orders i)) (length orders) apart)
+    ∙ least_with-same _ _ (length orders) (λ i lt. and-swap (same_key (order_at orders i).key key) (same_side side (side_at orders i)))
+  where
+    apart : (i j : ℕ) → i < j → j < length orders → same_key (order_at orders i).key key ≡ true → same_key (order_at orders j).key key ≡ true → ⊥
+    apart i j less lt one two =
+        let keys : (order_at orders i).key ≡ (order_at orders j).key = same_key-is _ _ one ∙ sym (same_key-is _ _ two) in
+        let differ : same_key (order_at orders i).key (order_at orders j).key ≡ false = distinct i j any_order less lt in
+        let itself : same_key (order_at orders j).key (order_at orders j).key ≡ true = same_key-itself (order_at orders j).key in
+        let other : same_key (order_at orders j).key (order_at orders j).key ≡ false = ap (λ (k : Key). same_key k (order_at orders j).key) (sym keys) ∙ differ in cc
+
+-- the trades of the first records, and one record more
+
+enumerate_from-append : {X : Type 0} (b : ℕ) (xs ys : List X) → enumerate_from b (xs ++ ys) ≡ enumerate_from b xs ++ enumerate_from (b + length xs) ys
+enumerate_from-append b [] ys = let number : b ≡ b + 0 = omega arith in ap (λ (n : ℕ). enumerate_from n ys) number
+enumerate_from-append b (x ∷ xs) ys =
+    let rest : enumerate_from (b + 1) (xs ++ ys) ≡ enumerate_from (b + 1) xs ++ enumerate_from (b + 1 + length xs) ys = enumerate_from-append (b + 1) xs ys in
+    let number : b + 1 + length xs ≡ b + suc (length xs) = omega arith in
+    rw (rest, number) refl
+
+abbrev of_symbol : List ℕ → ℕ × TradeRecord → Bool
+of_symbol symbol e = same_name e.1.symbol symbol
+
+trades_of-append : (symbol : List ℕ) (xs ys : List TradeRecord) → trades_of symbol (xs ++ ys) ≡ trades_of symbol xs ++ filter (of_symbol symbol) (enumerate_from (1 + length xs) ys)
+unfolding trades_of
+trades_of-append symbol xs ys = ap (filter (of_symbol symbol)) (enumerate_from-append 1 xs ys) ∙ filter-append (of_symbol symbol) (enumerate_from 1 xs) (enumerate_from (1 + length xs) ys)
+
+trades_of-push : (symbol : List ℕ) (xs : List TradeRecord) (x : TradeRecord) → trades_of symbol (xs ++ x ∷ []) ≡ trades_of symbol xs ++ entry_of symbol (length xs + 1) x
+trades_of-push symbol xs x =
+    let number : 1 + length xs ≡ length xs + 1 = omega arith in
+    trades_of-append symbol xs (x ∷ []) ∙ ap (λ (n : ℕ). trades_of symbol xs ++ entry_of symbol n x) number
+
+trades_of-more : (symbol : List ℕ) (trades : List TradeRecord) (i : ℕ) (d : TradeRecord) → i < length trades → trades_of symbol (take (i + 1) trades) ≡ trades_of symbol (take i trades) ++ entry_of symbol (i + 1) (get_or trades i d)
+trades_of-more symbol trades i d lt =
+    let size : length (take i trades) ≡ i = length-take-le i trades (omega arith) in
+    ap (trades_of symbol) (take_more trades i d lt) ∙ trades_of-push symbol (take i trades) (get_or trades i d)
+    ∙ ap (λ (n : ℕ). trades_of symbol (take i trades) ++ entry_of symbol (n + 1) (get_or trades i d)) size
+
+-- a finding of the first trades is that of all
+finding_in-append : (orders : List Order) (h r : Listed) (f : Finding) → finding_in orders h ≡ Some f → finding_in orders (h ++ r) ≡ Some f
+finding_in-append orders h r f is =
+    let same : SameBelow (h ++ r) h (length h) = record { at = λ j lt. get_or_append_left h r any_trade j lt } in
+    let early : least_answer (fault_at orders (h ++ r)) (length h) ≡ Some f =
+    least_answer-same (fault_at orders (h ++ r)) (fault_at orders h) (length h) (λ k lt. fault-same orders (length h) (h ++ r) h same k lt) ∙ is in
+    least_answer-stays (fault_at orders (h ++ r)) (length h) (length (h ++ r)) f early (omega (arith, length-append h r))
+
+unsound-is : (orders : List Order) (symbol : List ℕ) (trades : List TradeRecord) → unsound_trade orders symbol trades ≡ finding_in orders (trades_of symbol trades)
+unfolding unsound_trade
+unsound-is orders symbol trades = refl
+
+found-stays : (orders : List Order) (symbol : List ℕ) (trades : List TradeRecord) (n : ℕ) (f : Finding) → finding_in orders (trades_of symbol (take n trades)) ≡ Some f → unsound_trade orders symbol trades ≡ Some f
+found-stays orders symbol trades n f is =
+    unsound-is orders symbol trades
+    ∙ ap (λ (xs : List TradeRecord). finding_in orders (trades_of symbol xs)) (sym (take-append-drop n trades))
+    ∙ ap (finding_in orders) (trades_of-append symbol (take n trades) (drop n trades))
+    ∙ finding_in-append orders (trades_of symbol (take n trades)) (filter (of_symbol symbol) (enumerate_from (1 + length (take n trades)) (drop n trades))) f is
+
+pub resolved-more : (orders : List Order) (symbol : List ℕ) (trades : List TradeRecord) (i : ℕ) (x : TradeRecord) (old new : Resolved) → i < length trades → x ≡ get_or trades i x → IsResolved orders (trades_of symbol (take i trades)) old →
+    ((h : Listed) → IsResolved orders h old → IsResolved orders (h ++ entry_of symbol (i + 1) x) new) → IsResolved orders (trades_of symbol (take (i + 1) trades)) new
+resolved-more orders symbol trades i x old new lt is so_far next =
+    let more : trades_of symbol (take (i + 1) trades) ≡ trades_of symbol (take i trades) ++ entry_of symbol (i + 1) x =
+    trades_of-more symbol trades i x lt ∙ ap (λ (y : TradeRecord). trades_of symbol (take i trades) ++ entry_of symbol (i + 1) y) (sym is) in
+    subst (λ (h : Listed). IsResolved orders h new) (sym more) (next (trades_of symbol (take i trades)) so_far)
+
+pub found-more : (orders : List Order) (symbol : List ℕ) (trades : List TradeRecord) (i : ℕ) (x : TradeRecord) (old : Resolved) (f : Finding) → i < length trades → x ≡ get_or trades i x → IsResolved orders (trades_of symbol (take i trades)) old →
+    ((h : Listed) → IsResolved orders h old → finding_in orders (h ++ entry_of symbol (i + 1) x) ≡ Some f) → unsound_trade orders symbol trades ≡ Some f
+found-more orders symbol trades i x old f lt is so_far found =
+    let more : trades_of symbol (take (i + 1) trades) ≡ trades_of symbol (take i trades) ++ entry_of symbol (i + 1) x =
+    trades_of-more symbol trades i x lt ∙ ap (λ (y : TradeRecord). trades_of symbol (take i trades) ++ entry_of symbol (i + 1) y) (sym is) in
+    found-stays orders symbol trades (i + 1) f (ap (finding_in orders) more ∙ found (trades_of symbol (take i trades)) so_far)
+
+-- what is kept of no trades
+pub resolved-start : (orders : List Order) (symbol : List ℕ) (trades : List TradeRecord) (r : Resolved) → IsResolved orders [] r → IsResolved orders (trades_of symbol (take 0 trades)) r
+unfolding trades_of
+resolved-start orders symbol trades r is = is
+
+-- what is kept of all
+pub resolved-sound : (orders : List Order) (symbol : List ℕ) (trades : List TradeRecord) (n : ℕ) (r : Resolved) → length trades ≤ n → IsResolved orders (trades_of symbol (take n trades)) r
+    → (unsound_trade orders symbol trades ≡ None) × (r.deals.items ≡ deals_of orders symbol trades)
+unfolding deals_of
+resolved-sound orders symbol trades n r le is =
+    let whole : take n trades ≡ trades = take_all n trades le in (
+      unsound-is orders symbol trades ∙ ap (λ (xs : List TradeRecord). finding_in orders (trades_of symbol xs)) (sym whole) ∙ is.clean,
+      is.deals ∙ ap (λ (xs : List TradeRecord). map (deal_of orders) (trades_of symbol xs)) whole,
+    )

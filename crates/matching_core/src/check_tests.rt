@@ -1,0 +1,119 @@
+//! Deals between one bid of 100 at 12 and one ask of 80 at 8, with their totals or the finding that they
+//! have. A deal is written as its quantity and its price.
+use super::checking::check_matching;
+use super::outcomes::CheckFault;
+use super::resolving::resolve;
+use super::totals::Totals;
+use audit_base::findings::{Property, Shown};
+use audit_base::names::{Key, Name, read_name};
+use audit_base::numbers::{Price, Quantity};
+use audit_base::records::{OrderRecord, TradeRecord};
+use audit_base::stamps::Stamp;
+use audit_base::terms::{Life, Side, Which};
+use instruction_history::history::History;
+use std::process::Abort;
+
+fn name(rt: &impl Abort, text: &str) -> Name {
+    read_name(text.as_bytes()).expect(rt, "a name")
+}
+
+fn key(rt: &impl Abort, id: &str) -> Key {
+    Key {
+        firm: name(rt, "A"),
+        id: name(rt, id),
+    }
+}
+
+fn order(rt: &impl Abort, id: &str, side: Side, quantity: u64, limit: u64) -> OrderRecord {
+    OrderRecord::New {
+        key: key(rt, id),
+        time: Stamp { second: 5, nano: 0 },
+        symbol: name(rt, "Z"),
+        side,
+        quantity: Quantity::of(quantity).expect(rt, "a quantity"),
+        price: Price::of(limit).expect(rt, "a price"),
+        life: Life::Rests,
+    }
+}
+
+fn trade(rt: &impl Abort, id: &str, quantity: u64, price: u64) -> TradeRecord {
+    TradeRecord {
+        trade: name(rt, id),
+        time: Stamp { second: 5, nano: 0 },
+        symbol: name(rt, "Z"),
+        buy: key(rt, "b1"),
+        sell: key(rt, "s1"),
+        quantity: Quantity::of(quantity).expect(rt, "a quantity"),
+        price: Price::of(price).expect(rt, "a price"),
+    }
+}
+
+fn history<R: AllocGlobal + Abort>(rt: &R) -> History {
+    let entries = [
+        order(rt, "b1", Side::Buy, 100, 12),
+        order(rt, "s1", Side::Sell, 80, 8),
+    ];
+    let Ok(history) = History::build(rt.alloc(), &entries, &name(rt, "Z")) else {
+        panic!(rt; "no history");
+    };
+    history
+}
+
+/// What two deals come to.
+fn checked<R: AllocGlobal + Abort>(
+    rt: &R,
+    first: (u64, u64),
+    second: (u64, u64),
+    uniform: bool,
+) -> Result<Totals, CheckFault> {
+    let history = history(rt);
+    let trades = [
+        trade(rt, "T1", first.0, first.1),
+        trade(rt, "T2", second.0, second.1),
+    ];
+    match resolve(rt.alloc(), &history, &trades, &name(rt, "Z")) {
+        Ok(deals) => check_matching(rt.alloc(), history.orders(), &deals, uniform),
+        Err(fault) => Err(fault),
+    }
+}
+
+#[test]
+fn a_matching_has_its_totals(rt: HostRuntime) {
+    let Ok(totals) = checked(&rt, (50, 9), (30, 12), false) else {
+        panic!(rt; "refused");
+    };
+    assert_eq!(rt; totals.as_slice(), [80, 80].as_slice());
+    assert_eq!(rt; totals.volume(), 80);
+}
+
+#[test]
+fn the_finding_is_the_first_of_the_least_deal(rt: HostRuntime) {
+    let cases = [
+        ((50, 13), (50, 7), true, Property::Limit, 1),
+        ((50, 9), (50, 7), true, Property::Limit, 2),
+        ((50, 9), (51, 10), true, Property::UniformPrice, 2),
+        ((50, 9), (51, 9), true, Property::BuyQuantity, 2),
+        ((50, 9), (50, 10), false, Property::SellQuantity, 2),
+    ];
+    for (first, second, uniform, property, place) in cases {
+        let Err(CheckFault::Found(finding)) = checked(&rt, first, second, uniform) else {
+            panic!(rt; "accepted");
+        };
+        assert!(rt; finding.property == property, "{property:?}");
+        assert_eq!(rt; finding.place, place, "{property:?}");
+    }
+}
+
+// One price is broken against the first deal, which is shown.
+#[test]
+fn another_price_shows_the_first_trade(rt: HostRuntime) {
+    let Err(CheckFault::Found(finding)) = checked(&rt, (50, 9), (30, 10), true) else {
+        panic!(rt; "accepted");
+    };
+    let shown = Shown::Place {
+        log: Which::Trades,
+        place: 1,
+    };
+    assert!(rt; finding.first == Some(shown));
+    assert!(rt; finding.second.is_none());
+}

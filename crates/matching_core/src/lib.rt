@@ -1,0 +1,12 @@
+//! Deals, their totals, and whether they are a matching: the first part of every rule of a call.
+#![tactic(auto)]
+
+#[cfg(test)]
+mod check_tests;
+pub mod checking;
+pub mod outcomes;
+#[cfg(test)]
+mod resolve_tests;
+pub mod resolving;
+pub mod totals;
+mod trade_ids;

@@ -1,0 +1,32 @@
+//! What an audit of a rule answers.
+use super::totals::Totals;
+use audit_base::findings::Finding;
+use audit_base::orders::Cut;
+use thiserror::Error;
+
+/// Why deals are not taken.
+#[derive(Clone, Copy, Debug, PartialEq, Eq, Error)]
+pub enum CheckFault {
+    /// The first finding.
+    #[error("the trades break the rule")]
+    Found(Finding),
+    #[error("out of memory")]
+    Memory,
+}
+
+/// What conforming deals come to.
+#[derive(Debug, Drop)]
+pub struct Reached {
+    pub traded: Totals,
+    pub volume: u128,
+    /// The price that shows that the volume is the greatest, for the rules that ask for that.
+    pub bound: Option<Cut>,
+}
+
+/// Whether the deals conform to a rule.
+#[derive(Debug, Drop)]
+pub enum Outcome {
+    Conforms(Reached),
+    /// They do not, and this is the first offence.
+    Broken(Finding),
+}
