@@ -1,0 +1,4 @@
+pub mod AnswerLemmas
+pub mod RunLemmas
+pub mod Completeness
+pub mod JudgeLemmas

@@ -1,0 +1,6 @@
+pub mod Answers
+pub mod Judgements
+pub mod Readings
+pub mod Runs
+pub mod Tellings
+pub mod Words

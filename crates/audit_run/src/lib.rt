@@ -1,0 +1,14 @@
+//! The auditor: from the words of a command line and two logs to the report and the status.
+//!
+//! `run::run` is the top call. It reads the words, hands each log piece by piece to its feed, judges
+//! what was read, and writes the whole report or one line. Its contract is the claim of the project,
+//! composed from the contracts of the crates below.
+#![tactic(auto)]
+
+mod judging;
+pub mod paths;
+mod reading;
+pub mod requests;
+pub mod running;
+#[cfg(test)]
+mod tests;
