@@ -1,9 +1,11 @@
 //! What a broken rule gives: the property, the record at which it broke, and what shows it.
 ghost use Rattle.std.specs.Prelude.{◌≡◌};
+ghost use Rattle.audit_base.specs.Shows as shows;
 ghost use Rattle.audit_base.specs.Words.{property_word};
 
 use super::names::Key;
 use super::numbers::{Price, Quantity};
+use super::orders::{Deal, Order};
 use super::terms::{Side, Which};
 
 /// An order with what it has traded.
@@ -15,6 +17,22 @@ pub struct OrderLine {
     pub quantity: Quantity,
     pub limit: Price,
     pub traded: u128,
+}
+
+impl OrderLine {
+    /// The line of an order that has traded this much.
+    pub fn of(order: &Order, traded: u128) -> OrderLine
+        ensures { result ≡ shows.order_line order.now traded }
+    {
+        OrderLine {
+            place: order.place,
+            side: order.side,
+            key: order.key,
+            quantity: order.quantity,
+            limit: order.limit,
+            traded,
+        }
+    }
 }
 
 /// Something that shows a finding.
@@ -109,6 +127,27 @@ pub struct Finding {
     pub first: Option<Shown>,
     pub second: Option<Shown>,
     pub short: Option<Short>,
+}
+
+impl Finding {
+    /// The finding at a trade, by its deal, with what shows it. It has no volumes.
+    pub fn at_deal(
+        property: Property,
+        deal: &Deal,
+        first: Option<Shown>,
+        second: Option<Shown>,
+    ) -> Finding
+        ensures { result ≡ shows.at_deal property deal.now first second }
+    {
+        Finding {
+            property,
+            log: Which::Trades,
+            place: deal.place,
+            first,
+            second,
+            short: None,
+        }
+    }
 }
 
 #[cfg(test)]

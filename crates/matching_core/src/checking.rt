@@ -18,34 +18,6 @@ use audit_base::orders::{Deal, Order};
 use audit_base::terms::Which;
 use std::alloc::Global;
 
-/// An order with what it trades.
-fn line_of(order: &Order, traded: u128) -> OrderLine
-    ensures { result ≡ order_line order.now traded }
-{
-    OrderLine {
-        place: order.place,
-        side: order.side,
-        key: order.key,
-        quantity: order.quantity,
-        limit: order.limit,
-        traded,
-    }
-}
-
-/// A finding at a trade.
-fn at_deal(property: Property, deal: &Deal, first: Option<Shown>, second: Option<Shown>) -> Finding
-    ensures { result ≡ at_deal property deal.now first second }
-{
-    Finding {
-        property,
-        log: Which::Trades,
-        place: deal.place,
-        first,
-        second,
-        short: None,
-    }
-}
-
 /// The bid, or else the ask, is one that some record cancels.
 fn inactive_at(
     deal: &Deal,
@@ -57,7 +29,7 @@ fn inactive_at(
     ensures { result ≡ fault.inactive_at deal.now bid.now ask.now bid_line.now ask_line.now }
 {
     if bid.cancelled.is_some() {
-        return Some(at_deal(
+        return Some(Finding::at_deal(
             Property::Inactive,
             deal,
             Some(Shown::Order(*bid_line)),
@@ -65,7 +37,7 @@ fn inactive_at(
         ));
     }
     if ask.cancelled.is_some() {
-        return Some(at_deal(
+        return Some(Finding::at_deal(
             Property::Inactive,
             deal,
             Some(Shown::Order(*ask_line)),
@@ -83,7 +55,7 @@ fn off_limit_at(deal: &Deal, bid_line: &OrderLine, ask_line: &OrderLine) -> Opti
         None
     } else {
         let bid = Some(Shown::Order(*bid_line));
-        Some(at_deal(Property::Limit, deal, bid, Some(Shown::Order(*ask_line))))
+        Some(Finding::at_deal(Property::Limit, deal, bid, Some(Shown::Order(*ask_line))))
     }
 }
 
@@ -96,7 +68,7 @@ fn other_price_at(uniform: bool, deal: &Deal, first: &Deal) -> Option<Finding>
             log: Which::Trades,
             place: first.place,
         };
-        Some(at_deal(Property::UniformPrice, deal, Some(see), None))
+        Some(Finding::at_deal(Property::UniformPrice, deal, Some(see), None))
     } else {
         None
     }
@@ -107,7 +79,7 @@ fn bid_overfilled_at(deal: &Deal, line: &OrderLine) -> Option<Finding>
     ensures { result ≡ fault.bid_overfilled_at deal.now line.now }
 {
     if (line.quantity.value() as u128) < line.traded {
-        Some(at_deal(Property::BuyQuantity, deal, Some(Shown::Order(*line)), None))
+        Some(Finding::at_deal(Property::BuyQuantity, deal, Some(Shown::Order(*line)), None))
     } else {
         None
     }
@@ -118,7 +90,7 @@ fn ask_overfilled_at(deal: &Deal, line: &OrderLine) -> Option<Finding>
     ensures { result ≡ fault.ask_overfilled_at deal.now line.now }
 {
     if (line.quantity.value() as u128) < line.traded {
-        Some(at_deal(
+        Some(Finding::at_deal(
             Property::SellQuantity,
             deal,
             Some(Shown::Order(*line)),
@@ -141,8 +113,8 @@ fn fault_at(
 ) -> Option<Finding>
     ensures { result ≡ fault.fault_at uniform deal.now first.now bid.now ask.now bid_traded ask_traded }
 {
-    let bid_line = line_of(bid, bid_traded);
-    let ask_line = line_of(ask, ask_traded);
+    let bid_line = OrderLine::of(bid, bid_traded);
+    let ask_line = OrderLine::of(ask, ask_traded);
     if let Some(finding) = inactive_at(deal, bid, ask, &bid_line, &ask_line) {
         return Some(finding);
     }
