@@ -1,0 +1,12 @@
+pub mod AheadLemmas
+pub mod CallLemmas
+pub mod ConformLemmas
+pub mod FairLemmas
+pub mod MaximumLemmas
+pub mod OptimumLemmas
+pub mod PairedLemmas
+pub mod RankedLemmas
+pub mod ShortLemmas
+pub mod SufficeLemmas
+pub mod UniformLemmas
+pub mod UnitLemmas
