@@ -1,0 +1,40 @@
+-- The ranks that the code sorts in place of the orders of a side.
+use Rattle.std.specs.Prelude.{◌≡◌, ◌<◌, ◌-◌, ◌^◌, ℕ, List, [], ◌∷◌, All, AllPairs, Contains, if◌then◌else◌}
+use Rattle.audit_base.specs.declared.terms.Side.{Side}
+use Rattle.audit_base.specs.declared.terms.Side.TheVariants.{Buy, Sell}
+use Rattle.audit_base.specs.declared.orders.Order.{Order}
+use Rattle.audit_base.specs.Orders.{order_at, limit_at, stands_on, Stands}
+use Rattle.rank_order.specs.declared.ranks.Rank.{Rank}
+
+-- what a limit weighs, the less the better: for a bid what it is below 10^18, for an ask the limit itself
+abbrev pub weight_of : Side → ℕ → ℕ
+weight_of Buy limit = 10 ^ 18 - limit
+weight_of Sell limit = limit
+
+abbrev pub weight : Order → ℕ
+weight o = weight_of o.side o.limit
+
+-- the rank of an order at an index
+abbrev pub rank_of : ℕ → Order → Rank
+rank_of i o = record { weight = weight o; place = o.place; index = i }
+
+-- its rank alone where it stands on the side, else no rank
+abbrev pub rank_if : Side → ℕ → Order → List Rank
+rank_if side i o = if stands_on side o then rank_of i o ∷ [] else []
+
+-- the index of a rank
+abbrev pub index_of : Rank → ℕ
+index_of r = r.index
+
+-- the rank is that of an order of the side that no record cancels, whose limit is a price
+pub record IsRankOf (orders : List Order) (side : Side) (r : Rank) : Type 0 where
+  pub stands : Stands orders side r.index
+  pub is : r ≡ rank_of r.index (order_at orders r.index)
+  pub priced : limit_at orders r.index < 10 ^ 18
+
+-- these are the ranks of the first n orders, by rising index
+pub record AreRanks (orders : List Order) (side : Side) (n : ℕ) (ranks : List Rank) : Type 0 where
+  pub only : All (IsRankOf orders side) ranks
+  pub each : (i : ℕ) → i < n → Stands orders side i → Contains ranks (rank_of i (order_at orders i))
+  pub within : All (λ r. r.index < n) ranks
+  pub rising : AllPairs (λ r s. r.index < s.index) ranks

@@ -1,0 +1,4 @@
+//! Short orders: those that trade less than they ask for.
+#![tactic(auto)]
+
+pub mod searching;
