@@ -1,0 +1,49 @@
+use Rattle.std.proofs.Common.{◌≡◌, ◌∙◌, sym, refl, subst, ℕ, None, Some, length, add-one, arith, inl, inr}
+use Rattle.audit_base.specs.declared.terms.Side.TheVariants.{Buy, Sell}
+use Rattle.audit_base.specs.Least.{least_answer}
+use Rattle.audit_base.proofs.LeastLemmas.{cases_Option, least-at, least-none_more}
+use Rattle.audit_base.proofs.OffenceLemmas.{no_offence-fair}
+use Rattle.fairness.proofs.PassingLemmas.{best-stands, unfair, unfair-is, unfair-breaks}
+use Rattle.fairness.proofs.checking.check_fair.Goals as goal
+
+pub unfair_at-requires-clause-short_bid : goal.unfair_at-requires-clause-short_bid
+unfair_at-requires-clause-short_bid c = best-stands c.args.orders.now c.args.deals.now Buy c.best_short-short_bid.result
+    (c.best_short-short_bid.ensures.best Buy c.args.deals.now c.requires.order_list c.requires.bids c.requires.totals)
+
+pub unfair_at-requires-clause-short_ask : goal.unfair_at-requires-clause-short_ask
+unfair_at-requires-clause-short_ask c = best-stands c.args.orders.now c.args.deals.now Sell c.best_short-short_ask.result
+    (c.best_short-short_ask.ensures.best Sell c.args.deals.now c.requires.order_list c.requires.asks c.requires.totals)
+
+pub returns-in-Some-clause-offence : goal.returns-in-Some-clause-offence
+returns-in-Some-clause-offence c =
+    let bid = c.best_short-short_bid.ensures.best Buy c.args.deals.now c.requires.order_list c.requires.bids c.requires.totals in
+    let ask = c.best_short-short_ask.ensures.best Sell c.args.deals.now c.requires.order_list c.requires.asks c.requires.totals in
+    let is = unfair-is c.args.orders.now c.args.deals.now c.args.traded.now c.requires.order_list c.requires.totals c.best_short-short_bid.result c.best_short-short_ask.result bid ask c.requires.matching c.loop-deal.deal-index c.loop-deal-test.true c.deal-item.result c.deal-item.is in
+    let found : unfair c.args.orders.now c.args.deals.now c.loop-deal.deal-index ≡ Some c.in-Some.finding = sym is ∙ sym c.unfair_at.ensures.finding ∙ c.in-Some.is in
+    sym (least-at (unfair c.args.orders.now c.args.deals.now) (length c.args.deals.now) c.loop-deal.deal-index c.in-Some.finding c.loop-deal-test.true c.loop-deal.invariant found)
+
+pub returns-in-Some-clause-fair : goal.returns-in-Some-clause-fair
+returns-in-Some-clause-fair c = (
+  λ e. cc,
+  λ fair.
+      let bid = c.best_short-short_bid.ensures.best Buy c.args.deals.now c.requires.order_list c.requires.bids c.requires.totals in
+      let ask = c.best_short-short_ask.ensures.best Sell c.args.deals.now c.requires.order_list c.requires.asks c.requires.totals in
+      absurd (unfair-breaks c.args.orders.now c.args.deals.now c.args.traded.now c.requires.order_list c.requires.totals c.best_short-short_bid.result c.best_short-short_ask.result bid ask c.requires.matching c.loop-deal.deal-index c.loop-deal-test.true c.deal-item.result c.deal-item.is c.in-Some.finding (sym c.unfair_at.ensures.finding ∙ c.in-Some.is) c.unfair_at.ensures.positive fair),
+)
+
+pub loop-deal-preserved : goal.loop-deal-preserved
+loop-deal-preserved c =
+    let bid = c.best_short-short_bid.ensures.best Buy c.args.deals.now c.requires.order_list c.requires.bids c.requires.totals in
+    let ask = c.best_short-short_ask.ensures.best Sell c.args.deals.now c.requires.order_list c.requires.asks c.requires.totals in
+    let is = unfair-is c.args.orders.now c.args.deals.now c.args.traded.now c.requires.order_list c.requires.totals c.best_short-short_bid.result c.best_short-short_ask.result bid ask c.requires.matching c.loop-deal.deal-index c.loop-deal-test.true c.deal-item.result c.deal-item.is in
+    let none : unfair c.args.orders.now c.args.deals.now c.loop-deal.deal-index ≡ None =
+    sym is ∙ sym c.unfair_at.ensures.finding ∙ elim (cases_Option c.unfair_at.result) [ inl e ↦ e | inr some ↦ absurd (c.in_default.not-Some some.0 some.1) ] in
+    rw add-one (least-none_more (unfair c.args.orders.now c.args.deals.now) c.loop-deal.deal-index c.loop-deal.invariant none)
+
+pub returns-clause-fair : goal.returns-clause-fair
+returns-clause-fair c = (
+  λ e.
+      let all : c.loop-deal.deal-index ≡ length c.args.deals.now = omega (arith, c.loop-deal.auto.deal-index-end) in
+      no_offence-fair c.args.orders.now c.args.deals.now c.requires.matching (subst (λ (n : ℕ). least_answer (unfair c.args.orders.now c.args.deals.now) n ≡ None) all c.loop-deal.invariant),
+  λ fair. refl,
+)

@@ -1,0 +1,8 @@
+//! Fairness: an order that trades is not outranked by an order of its side that is short.
+#![tactic(auto)]
+
+pub mod checking;
+#[cfg(test)]
+mod checking_tests;
+pub mod laws;
+mod passing;
