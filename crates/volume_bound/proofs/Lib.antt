@@ -1,0 +1,3 @@
+pub mod ExtremeLemmas
+pub mod LevelLemmas
+pub mod StandingLemmas

@@ -1,0 +1,73 @@
+//! Demand and supply at one price, by one walk over the orders.
+ghost use Rattle.std.specs.Prelude.{◌≡◌, ◌<◌, ◌^◌, length};
+ghost use Rattle.audit_base.specs.Bounds.{wanted, offered, offered_below, demand, supply, supply_below};
+
+use super::standing::stands_on;
+use audit_base::orders::Order;
+use audit_base::terms::Side;
+
+/// What an order asks for at a price, if it is a bid that no record cancels.
+fn wanted(order: &Order, price: u64) -> u64
+    ensures { result ≡ wanted price order.now }
+{
+    if stands_on(order, Side::Buy) && price <= order.limit.units() {
+        order.quantity.value()
+    } else {
+        0
+    }
+}
+
+/// What an order offers at a price, if it is an ask that no record cancels.
+fn offered(order: &Order, price: u64) -> u64
+    ensures { result ≡ offered price order.now }
+{
+    if stands_on(order, Side::Sell) && order.limit.units() <= price {
+        order.quantity.value()
+    } else {
+        0
+    }
+}
+
+/// The same below the price.
+fn offered_below(order: &Order, price: u64) -> u64
+    ensures { result ≡ offered_below price order.now }
+{
+    if stands_on(order, Side::Sell) && order.limit.units() < price {
+        order.quantity.value()
+    } else {
+        0
+    }
+}
+
+/// The quantity of the bids with limit at least the price.
+pub fn demand_at(orders: &[Order], price: u64) -> u128
+    requires few { length orders.now < 2 ^ 32 }
+    ensures { result ≡ demand orders.now price }
+{
+    orders
+        .iter()
+        .map(|order| u128::from(wanted(order, price)))
+        .sum()
+}
+
+/// The quantity of the asks with limit at most the price.
+pub fn supply_upto(orders: &[Order], price: u64) -> u128
+    requires few { length orders.now < 2 ^ 32 }
+    ensures { result ≡ supply orders.now price }
+{
+    orders
+        .iter()
+        .map(|order| u128::from(offered(order, price)))
+        .sum()
+}
+
+/// The quantity of the asks with limit below the price.
+pub fn supply_below(orders: &[Order], price: u64) -> u128
+    requires few { length orders.now < 2 ^ 32 }
+    ensures { result ≡ supply_below orders.now price }
+{
+    orders
+        .iter()
+        .map(|order| u128::from(offered_below(order, price)))
+        .sum()
+}

@@ -1,0 +1,23 @@
+//! How great a volume can be. At each price from 0 to 10^18 units there are the demand (what the bids
+//! with limit at least that price ask for), the supply (what the asks with limit at most it offer) and
+//! the cut (the demand, and what the asks with limit below it offer). Orders that a record cancels do
+//! not count.
+//!
+//! No matching has a volume above a cut, and none of one price has one above the lesser of demand and
+//! supply at that price. So the least cut bounds every matching, and the greatest of these lessers
+//! every matching of one price.
+//!
+//! `direct` adds up the orders for one price, in one walk and with no memory. `sums` sorts both sides
+//! once and then answers for any price by a binary search. `extremes` finds the least cut and the
+//! greatest lesser over all prices: they are reached at the limits of one side, so it asks there alone.
+//! `laws` says what holds of every order list.
+#![tactic(auto)]
+
+pub mod direct;
+pub mod extremes;
+pub mod laws;
+mod levels;
+mod standing;
+pub mod sums;
+#[cfg(test)]
+mod tests;

@@ -1,0 +1,149 @@
+//! Order lists with their extremes, and one with its sums at each price. An order is written as its
+//! side (B, S), its quantity and its limit in units, and as a word more where a record cancels it.
+use super::direct;
+use super::extremes::{best_uniform, least_cut};
+use super::sums::Sums;
+use audit_base::names::{Key, read_name};
+use audit_base::numbers::{Price, Quantity};
+use audit_base::orders::{Cut, Order};
+use audit_base::stamps::Stamp;
+use audit_base::terms::{Life, Side};
+use std::process::Abort;
+
+fn number(rt: &impl Abort, word: Option<&str>) -> u64 {
+    word.expect(rt, "a word")
+        .parse::<u64>()
+        .expect(rt, "a number")
+}
+
+fn order(rt: &impl Abort, line: &str) -> Order {
+    let mut words = line.split(' ');
+    let side = if words.next() == Some("B") {
+        Side::Buy
+    } else {
+        Side::Sell
+    };
+    let name = read_name(b"x").expect(rt, "a name");
+    let quantity = number(rt, words.next());
+    let limit = number(rt, words.next());
+    Order {
+        place: 1,
+        key: Key {
+            firm: name,
+            id: name,
+        },
+        time: Stamp { second: 5, nano: 0 },
+        side,
+        quantity: Quantity::of(quantity).expect(rt, "a quantity"),
+        limit: Price::of(limit).expect(rt, "a price"),
+        cancelled: words.next().map(|_| 9),
+        target: None,
+        life: Life::Rests,
+    }
+}
+
+fn orders<R: AllocGlobal + Abort>(rt: &R, lines: &[&str]) -> Vec<Order> {
+    let mut orders = Vec::new(rt.alloc());
+    for line in lines {
+        let stored = orders.push(order(rt, *line)).is_ok();
+        assert!(rt; stored);
+    }
+    orders
+}
+
+fn cut(price: u64, volume: u128) -> Cut {
+    Cut { price, volume }
+}
+
+#[test]
+fn each_extreme_stands_at_the_least_price_that_reaches_it(rt: HostRuntime) {
+    let rows: [(&str, &[&str], Cut, Cut); 6] = [
+        ("no orders", &[], cut(0, 0), cut(0, 0)),
+        (
+            "three bids and three asks at 1, 2 and 3",
+            &["B 1 1", "B 1 2", "B 1 3", "S 1 1", "S 1 2", "S 1 3"],
+            cut(0, 3),
+            cut(2, 2),
+        ),
+        (
+            "a bid of the greatest quantity at the highest limit",
+            &["B 1000000000000 999999999999999999"],
+            cut(1_000_000_000_000_000_000, 0),
+            cut(0, 0),
+        ),
+        (
+            "a bid below an ask",
+            &["B 1 5", "S 1 10"],
+            cut(6, 0),
+            cut(0, 0),
+        ),
+        (
+            "a cancelled bid",
+            &["B 7 5", "B 4 9 cancelled", "S 3 5"],
+            cut(6, 3),
+            cut(5, 3),
+        ),
+        (
+            "all orders at one price",
+            &["B 7 5", "S 3 5", "B 2 5", "S 1 5"],
+            cut(6, 4),
+            cut(5, 4),
+        ),
+    ];
+    for (label, lines, least, uniform) in rows {
+        let orders = orders(&rt, lines);
+        assert!(rt; orders.len() < 4_294_967_296);
+        assert!(rt;
+            least_cut(rt.alloc(), &orders) == Ok(least),
+            "{label}: least cut"
+        );
+        assert!(rt;
+            best_uniform(rt.alloc(), &orders) == Ok(uniform),
+            "{label}: best uniform"
+        );
+    }
+}
+
+#[test]
+fn sums_at_a_price_are_those_of_the_orders(rt: HostRuntime) {
+    let lines = [
+        "B 4 10",
+        "S 8 13",
+        "B 5 12",
+        "S 3 10",
+        "B 9 11 cancelled",
+        "B 6 10",
+        "S 7 9 cancelled",
+        "S 2 10",
+    ];
+    let rows = [
+        (0, 15, 0, 0),
+        (9, 15, 0, 0),
+        (10, 15, 5, 0),
+        (11, 5, 5, 5),
+        (12, 5, 5, 5),
+        (13, 0, 13, 5),
+        (14, 0, 13, 13),
+        (u64::MAX, 0, 13, 13),
+    ];
+    let orders = orders(&rt, &lines);
+    assert!(rt; orders.len() < 4_294_967_296);
+    let Ok(sums) = Sums::build(rt.alloc(), &orders) else {
+        panic!(rt; "no sums");
+    };
+    for (price, demand, supply, below) in rows {
+        let wanted = (demand, supply, below);
+        let walked = (
+            direct::demand_at(&orders, price),
+            direct::supply_upto(&orders, price),
+            direct::supply_below(&orders, price),
+        );
+        let searched = (
+            sums.demand_at(price),
+            sums.supply_upto(price),
+            sums.supply_below(price),
+        );
+        assert_eq!(rt; walked, wanted, "walked at {price}");
+        assert_eq!(rt; searched, wanted, "searched at {price}");
+    }
+}
