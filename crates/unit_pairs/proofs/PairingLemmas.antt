@@ -1,0 +1,107 @@
+-- The lots of both sides of a call, and the Expected trades that their pairs are.
+use Rattle.std.proofs.Common.{◌≡◌, ◌<◌, ◌+◌, ◌-◌, ℕ, List, length, reverse, ap, sym, ◌∙◌, arith, All, subst}
+use Rattle.std.specs.Prelude.{min, max}
+use Rattle.std.proofs.lemmas.List.{get_or_default, length-reverse}
+use Rattle.audit_base.specs.declared.terms.Side.TheVariants.{Buy, Sell}
+use Rattle.audit_base.specs.declared.orders.Order.{Order}
+use Rattle.audit_base.specs.declared.orders.Deal.{Deal}
+use Rattle.audit_base.specs.Orders.{quantity_at, IsOrderList}
+use Rattle.audit_base.specs.Priority.{IsRanked}
+use Rattle.audit_base.specs.Deals.{IsDealList}
+use Rattle.audit_base.specs.Units.{ahead, uniform_units, maximum_units}
+use Rattle.audit_base.specs.Expected.{uniform_deals, maximum_deals}
+use Rattle.call_laws.proofs.UnitLemmas.{uniform-overlap, maximum-overlap}
+use Rattle.unit_pairs.specs.declared.lots.Lot.{Lot}
+use Rattle.unit_pairs.specs.declared.numbering.DealPrice.TheVariants.{Same, AskLimit}
+use Rattle.unit_pairs.specs.Lots.{any_lot, lots_total, AreLotsOf}
+use Rattle.unit_pairs.specs.Meeting.{AreSides}
+use Rattle.unit_pairs.specs.Numbering.{AreLotDeals}
+use Rattle.unit_pairs.proofs.UnitLemmas.{Follow, lots-apart, lots-follow, total-reversed, lots-reversed, follow-reversed, ranks-fit}
+use Rattle.unit_pairs.proofs.DealLemmas.{deals-expected, deals-listed}
+
+up-to : (v x y : ℕ) → min v (min x y) ≡ min x (min v y)
+up-to v x y = omega arith
+
+down-from : (v x : ℕ) → v - x ≡ v - min v x
+down-from v x = omega arith
+
+mirrored : (v a q b r : ℕ) → min v (min (v - a) (b + r)) - max (v - (a + q)) b ≡ min (v - a) (min v (b + r)) - max (v - min v (a + q)) b
+mirrored v a q b r = rw (up-to v (v - a) (b + r)) (ap (λ (n : ℕ). min (v - a) (min v (b + r)) - max n b) (down-from v (a + q)))
+
+-- what is known of the lots of both sides
+pub record AreBothLots (orders : List Order) (bids asks : List ℕ) (volume : ℕ) (bid_lots ask_lots : List Lot) : Type 0 where
+  pub order_list : IsOrderList orders
+  pub bids_ranked : IsRanked orders Buy bids
+  pub asks_ranked : IsRanked orders Sell asks
+  pub of_bids : AreLotsOf orders bids volume bid_lots
+  pub of_asks : AreLotsOf orders asks volume ask_lots
+  pub bids_whole : lots_total bid_lots ≡ volume
+  pub asks_whole : lots_total ask_lots ≡ volume
+
+module _ (orders : List Order) (bids asks : List ℕ) (volume : ℕ) (bid_lots ask_lots : List Lot) (h : AreBothLots orders bids asks volume bid_lots ask_lots) where
+  bids-follow : Follow orders Buy (ahead orders Buy) (λ i. min volume (ahead orders Buy i + quantity_at orders i)) bid_lots
+  bids-follow = lots-follow orders h.order_list Buy bids h.bids_ranked volume bid_lots h.of_bids h.bids_whole
+
+  asks-follow : Follow orders Sell (ahead orders Sell) (λ i. min volume (ahead orders Sell i + quantity_at orders i)) ask_lots
+  asks-follow = lots-follow orders h.order_list Sell asks h.asks_ranked volume ask_lots h.of_asks h.asks_whole
+
+  -- the asks are orders
+  pub asks-inside : All (λ l. l.order < length orders) ask_lots
+  asks-inside k d lt = subst (λ (l : Lot). l.order < length orders) (sym (get_or_default ask_lots k d any_lot lt)) (asks-follow.stands k lt).inside
+
+  -- there are at most as many lots as orders
+  pub both-sides : AreSides bid_lots ask_lots
+  both-sides = record {
+    bids_are = lots-apart orders h.order_list Buy bids h.bids_ranked volume bid_lots h.of_bids;
+    asks_are = lots-apart orders h.order_list Sell asks h.asks_ranked volume ask_lots h.of_asks;
+    same_volume = h.bids_whole ∙ sym h.asks_whole;
+    few = omega (arith, ranks-fit orders h.order_list bids asks h.bids_ranked h.asks_ranked, h.of_bids.few, h.of_asks.few, h.order_list.few);
+  }
+
+  module _ (price : ℕ) (deals : List Deal) (made : AreLotDeals orders (Same price) bid_lots ask_lots deals) where
+    uniform-is : (bid ask : ℕ) → uniform_units orders volume bid ask
+        ≡ min (min volume (ahead orders Buy bid + quantity_at orders bid)) (min volume (ahead orders Sell ask + quantity_at orders ask)) - max (ahead orders Buy bid) (ahead orders Sell ask)
+    uniform-is bid ask = omega (arith, uniform-overlap orders volume bid ask)
+
+    pub uniform-expected : deals ≡ uniform_deals orders volume price
+    uniform-expected = deals-expected orders (uniform_units orders volume) (Same price) bid_lots ask_lots
+        (ahead orders Buy) (λ i. min volume (ahead orders Buy i + quantity_at orders i)) (ahead orders Sell) (λ i. min volume (ahead orders Sell i + quantity_at orders i))
+        uniform-is bids-follow asks-follow made.pairs made.are made.in_order deals made.numbered
+
+    pub uniform-listed : IsDealList orders deals
+    uniform-listed =
+        let count : length deals ≡ length made.pairs = made.numbered.count in
+        deals-listed orders (uniform_units orders volume) (Same price) bid_lots ask_lots
+        (ahead orders Buy) (λ i. min volume (ahead orders Buy i + quantity_at orders i)) (ahead orders Sell) (λ i. min volume (ahead orders Sell i + quantity_at orders i))
+        uniform-is bids-follow asks-follow made.pairs made.are made.in_order deals made.numbered (omega (arith, made.few, both-sides.few))
+
+  -- The same with the lots of the bids from the last to the first.
+  module _ (turned : List Lot) (is : turned ≡ reverse bid_lots) where
+    pub turned-sides : AreSides turned ask_lots
+    turned-sides = subst (λ (lots : List Lot). AreSides lots ask_lots) (sym is) (record {
+      bids_are = lots-reversed bid_lots both-sides.bids_are;
+      asks_are = both-sides.asks_are;
+      same_volume = total-reversed bid_lots ∙ both-sides.same_volume;
+      few = omega (arith, both-sides.few, length-reverse bid_lots);
+    })
+
+    turned-follow : Follow orders Buy (λ i. volume - min volume (ahead orders Buy i + quantity_at orders i)) (λ i. volume - ahead orders Buy i) turned
+    turned-follow = subst (Follow orders Buy (λ i. volume - min volume (ahead orders Buy i + quantity_at orders i)) (λ i. volume - ahead orders Buy i)) (sym is)
+        (follow-reversed orders Buy (ahead orders Buy) (λ i. min volume (ahead orders Buy i + quantity_at orders i)) volume bid_lots h.bids_whole bids-follow)
+
+    module _ (deals : List Deal) (made : AreLotDeals orders AskLimit turned ask_lots deals) where
+      maximum-is : (bid ask : ℕ) → maximum_units orders volume bid ask
+          ≡ min (volume - ahead orders Buy bid) (min volume (ahead orders Sell ask + quantity_at orders ask)) - max (volume - min volume (ahead orders Buy bid + quantity_at orders bid)) (ahead orders Sell ask)
+      maximum-is bid ask = maximum-overlap orders volume bid ask ∙ mirrored volume (ahead orders Buy bid) (quantity_at orders bid) (ahead orders Sell ask) (quantity_at orders ask)
+
+      pub maximum-expected : deals ≡ maximum_deals orders volume
+      maximum-expected = deals-expected orders (maximum_units orders volume) AskLimit turned ask_lots
+          (λ i. volume - min volume (ahead orders Buy i + quantity_at orders i)) (λ i. volume - ahead orders Buy i) (ahead orders Sell) (λ i. min volume (ahead orders Sell i + quantity_at orders i))
+          maximum-is turned-follow asks-follow made.pairs made.are made.in_order deals made.numbered
+
+      pub maximum-listed : IsDealList orders deals
+      maximum-listed =
+          let count : length deals ≡ length made.pairs = made.numbered.count in
+          deals-listed orders (maximum_units orders volume) AskLimit turned ask_lots
+          (λ i. volume - min volume (ahead orders Buy i + quantity_at orders i)) (λ i. volume - ahead orders Buy i) (ahead orders Sell) (λ i. min volume (ahead orders Sell i + quantity_at orders i))
+          maximum-is turned-follow asks-follow made.pairs made.are made.in_order deals made.numbered (omega (arith, made.few, turned-sides.few))

@@ -1,0 +1,3 @@
+pub mod Lots
+pub mod Meeting
+pub mod Numbering

@@ -1,0 +1,62 @@
+//! Lots: the volume filled along the orders of a side in rank order (price-time priority).
+ghost use Rattle.std.specs.Prelude.{◌≡◌, ◌<◌, ◌≤◌, ◌^◌, IfOk, All, length, min, sum_by};
+ghost use Rattle.audit_base.specs.Orders.{quantity_at};
+ghost use Rattle.unit_pairs.specs.Lots.{AreLotsOf, lots_total};
+
+use audit_base::faults::NoMemory;
+use audit_base::orders::Order;
+use std::alloc::Global;
+
+/// What an order trades of a volume.
+#[derive(Clone, Copy, Debug, PartialEq, Eq)]
+pub struct Lot {
+    /// The index of the order.
+    pub order: usize,
+    /// From 1 to 1,000,000,000,000.
+    pub quantity: u64,
+}
+
+/// The order's quantity, or what is left of the volume if that is less.
+fn quantity_within(order: &Order, left: u128) -> u64
+    requires { 0 < left }
+    ensures lesser { result ≡ min order.now.quantity left }
+    ensures some { 0 < result }
+    ensures most { result ≤ 10 ^ 12 }
+{
+    let quantity = order.quantity.value();
+    if (quantity as u128) < left {
+        quantity
+    } else {
+        left as u64
+    }
+}
+
+/// The lots of the first of these orders, best first, which together are the volume: each is the
+/// order's whole quantity, but for the last, which may be a part of it. Err only for want of memory.
+pub fn lots_of(
+    alloc: Global,
+    orders: &[Order],
+    ranks: &[usize],
+    volume: u128,
+) -> Result<Vec<Lot>, NoMemory>
+    requires inside { All (λ i. i < length orders.now) ranks.now }
+    requires enough { volume ≤ sum_by (quantity_at orders.now) ranks.now }
+    ensures lots { IfOk result (λ lots. AreLotsOf orders.now ranks.now volume lots.items) }
+    ensures whole { IfOk result (λ lots. lots_total lots.items ≡ volume) }
+{
+    let mut lots = Vec::with_capacity(alloc, ranks.len()).map_err(|_| NoMemory)?;
+    let mut left = volume;
+    for rank in ranks {
+        if left == 0 {
+            break;
+        }
+        let quantity = quantity_within(&orders[*rank], left);
+        let lot = Lot {
+            order: *rank,
+            quantity,
+        };
+        lots.push(lot).map_err(|_| NoMemory)?;
+        left -= quantity as u128;
+    }
+    Ok(lots)
+}

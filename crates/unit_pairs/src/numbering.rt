@@ -1,0 +1,66 @@
+//! The deals of pairs, numbered in their order.
+ghost use Rattle.std.specs.Prelude.{◌≡◌, ◌<◌, ◌≤◌, ◌^◌, IfOk, All, length};
+ghost use Rattle.unit_pairs.specs.Numbering.{AreNumbered, IsDealt, price_of};
+
+use super::meeting::Pair;
+use audit_base::faults::NoMemory;
+use audit_base::numbers::{Price, Quantity};
+use audit_base::orders::{Deal, Order};
+use std::alloc::Global;
+
+/// What the deals of a call are made at.
+#[derive(Clone, Copy, Debug, PartialEq, Eq)]
+pub enum DealPrice {
+    /// All at this price.
+    Same(Price),
+    /// Each at the limit of its ask.
+    AskLimit,
+}
+
+/// What an ask trades at.
+fn price_at(orders: &[Order], price: &DealPrice, ask: usize) -> Price
+    requires { ask < length orders.now }
+    ensures { result ≡ price_of orders.now price.now ask }
+{
+    match price {
+        DealPrice::Same(price) => *price,
+        DealPrice::AskLimit => orders[ask].limit,
+    }
+}
+
+/// The quantity of a pair.
+fn quantity_of(pair: &Pair) -> Quantity
+    requires some { 0 < pair.now.quantity }
+    requires most { pair.now.quantity ≤ 10 ^ 12 }
+    ensures { result ≡ pair.now.quantity }
+{
+    match Quantity::of(pair.quantity) {
+        Some(quantity) => quantity,
+        None => unreachable!(),
+    }
+}
+
+/// One deal for each pair, numbered from 1 in their order. Err only for want of memory.
+pub fn number_pairs(
+    alloc: Global,
+    orders: &[Order],
+    pairs: &[Pair],
+    price: &DealPrice,
+) -> Result<Vec<Deal>, NoMemory>
+    requires few { length pairs.now < 2 ^ 32 }
+    requires pairs { All (IsDealt orders.now) pairs.now }
+    ensures { IfOk result (λ deals. AreNumbered orders.now price.now pairs.now deals.items) }
+{
+    let mut deals = Vec::with_capacity(alloc, pairs.len()).map_err(|_| NoMemory)?;
+    for (i, pair) in pairs.iter().enumerate() {
+        let deal = Deal {
+            place: i as u32 + 1,
+            bid: pair.bid,
+            ask: pair.ask,
+            quantity: quantity_of(pair),
+            price: price_at(orders, price, pair.ask),
+        };
+        deals.push(deal).map_err(|_| NoMemory)?;
+    }
+    Ok(deals)
+}
