@@ -1,0 +1,4 @@
+pub mod Audits
+pub mod Dues
+pub mod FairMatchings
+pub mod Outcomes

@@ -1,0 +1,46 @@
+//! Whether deals conform to the rule `uniform`.
+ghost use Rattle.std.specs.Prelude.{◌<◌, ◌-◌, ◌^◌, IfOk};
+ghost use Rattle.audit_base.specs.declared.terms.Rule.TheVariants.{Uniform};
+ghost use Rattle.audit_base.specs.Orders.{IsOrderList};
+ghost use Rattle.audit_base.specs.Deals.{IsDealList};
+ghost use Rattle.call_auction.specs.Audits.{IsGreatestOf, IsAudited};
+
+use audit_base::faults::NoMemory;
+use audit_base::orders::{Cut, Deal, Order};
+use audit_base::terms::Rule;
+use call_auction::auditing::audit_call;
+use call_laws::optimum::uniform_optimum;
+use matching_core::outcomes::Outcome;
+use std::alloc::Global;
+use volume_bound::extremes::best_uniform;
+
+/// The greatest volume of a matching of one price, and the least price at which the lesser of demand
+/// and supply is this volume.
+fn greatest_of(alloc: Global, orders: &[Order]) -> Result<Cut, NoMemory>
+    requires { IsOrderList orders.now }
+    ensures { IfOk result (IsGreatestOf Uniform orders.now) }
+{
+    // A law that the answer rests on. It computes nothing.
+    uniform_optimum();
+    best_uniform(alloc, orders)
+}
+
+/// The audit of the rule `uniform` over the deals of a log of `count` trades. Conforms exactly where
+/// they are a fair matching of one price and no matching of one price has a greater volume, want of
+/// memory aside: with what each order traded, the only quantities that conform, the volume, and the
+/// least price at which the lesser of demand and supply is the volume. Else Broken has the first
+/// offence, of the properties 7 to 14.
+pub fn audit_uniform(
+    alloc: Global,
+    orders: &[Order],
+    deals: &[Deal],
+    count: u32,
+) -> Result<Outcome, NoMemory>
+    requires order_list { IsOrderList orders.now }
+    requires deal_list { IsDealList orders.now deals.now }
+    requires few { count < 2 ^ 32 - 1 }
+    ensures { IfOk result (IsAudited Uniform orders.now deals.now count) }
+{
+    let most = greatest_of(alloc, orders)?;
+    audit_call(alloc, Rule::Uniform, orders, deals, count, most)
+}

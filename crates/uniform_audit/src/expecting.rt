@@ -1,0 +1,55 @@
+//! The Expected trades of the rule `uniform`.
+ghost use Rattle.std.specs.Prelude.{◌≡◌, IfOk};
+ghost use Rattle.audit_base.specs.Orders.{IsOrderList, AreOrders};
+ghost use Rattle.audit_base.specs.Bounds.{IsBestUniform};
+ghost use Rattle.audit_base.specs.Deals.{IsDealList};
+ghost use Rattle.audit_base.specs.Calls.{ConformsUniform};
+ghost use Rattle.audit_base.specs.Expected.{IsExpectedUniform};
+
+use audit_base::faults::NoMemory;
+use audit_base::numbers::Price;
+use audit_base::orders::{Cut, Deal, Order};
+use audit_base::terms::Side;
+use call_laws::optimum::{uniform_optimum, uniform_trades_are_expected, units_suffice};
+use rank_order::ranking::ranked;
+use std::alloc::Global;
+use unit_pairs::pairing::uniform_pairs;
+use volume_bound::extremes::best_uniform;
+
+/// The price of a bound. It is below 10^18 units, since at that price nobody bids.
+fn price_of(orders: &[Order], most: Cut) -> Price
+    requires numbers { AreOrders orders.now }
+    requires best { IsBestUniform orders.now most }
+    ensures { result ≡ most.price }
+{
+    units_suffice();
+    match Price::of(most.price) {
+        Some(price) => price,
+        None => unreachable!(),
+    }
+}
+
+/// The Expected trades of `uniform`: unit j of the bids meets unit j of the asks, both in rank order, up
+/// to the greatest volume of a matching of one price, at the rule's bound. They conform to the rule. Err
+/// only for want of memory.
+pub fn expected_uniform(alloc: Global, orders: &[Order]) -> Result<Vec<Deal>, NoMemory>
+    requires { IsOrderList orders.now }
+    ensures expected { IfOk result (λ deals. IsExpectedUniform orders.now deals.items) }
+    ensures conforms { IfOk result (λ deals. ConformsUniform orders.now deals.items) }
+    ensures deal_list { IfOk result (λ deals. IsDealList orders.now deals.items) }
+{
+    uniform_optimum();
+    uniform_trades_are_expected();
+    units_suffice();
+    let most = best_uniform(alloc, orders)?;
+    let bids = ranked(alloc, orders, Side::Buy)?;
+    let asks = ranked(alloc, orders, Side::Sell)?;
+    uniform_pairs(
+        alloc,
+        orders,
+        &bids,
+        &asks,
+        most.volume,
+        price_of(orders, most),
+    )
+}
