@@ -1,19 +1,16 @@
 -- How what is known of one log goes over to the whole reading.
-use Rattle.std.proofs.Common.{◌≡◌, ◌∙◌, ◌⊎◌, inl, inr, sym, ap, refl, subst, ℕ, Bool, true, List, Option, Some, None, Result, Ok, Err, IsOk}
-use Rattle.std.specs.Global.{Vec}
-use Rattle.std.specs.Io.KnownBytes.{IsAtEnd}
+use Rattle.std.proofs.Common.{◌≡◌, ◌∙◌, inl, inr, sym, refl, ℕ, Bool, List, Option, Result, Ok, Err, IsOk}
 use Rattle.audit_base.specs.declared.terms.Which.{Which}
 use Rattle.audit_base.specs.declared.terms.Which.TheVariants.{Orders, Trades}
-use Rattle.audit_base.specs.declared.terms.Rule.{Rule}
 use Rattle.audit_base.specs.declared.records.OrderRecord.{OrderRecord}
 use Rattle.audit_report.specs.declared.verdicts.Verdict.{Verdict}
 use Rattle.csv_logs.specs.Logs.{order_log}
-use Rattle.log_source.specs.Sources.{Slot, Rose, longest_log}
+use Rattle.log_source.specs.Sources.{Slot}
 use Rattle.audit_run.specs.declared.running.Stop.{Stop}
 use Rattle.audit_run.specs.declared.running.Stop.TheVariants as stop
 use Rattle.audit_run.specs.declared.requests.Request.{Request}
-use Rattle.audit_run.specs.Readings.{Reading, reading, IsRead, IsReadAs, IsReadFault, IsTooLong, BeginsWithin, EndsWithin}
-use Rattle.audit_run.specs.Answers.{rule_of, symbol_of, name_of, IsAfterOrders, IsOrdersVerdict, IsVerdictOn, IsTradesStop, DecidesTrades, Decides, StopsAtFault, StopsAtLength, IsAfterGoodOrders}
+use Rattle.audit_run.specs.Readings.{reading, IsReadAs, IsReadFault, IsTooLong}
+use Rattle.audit_run.specs.Answers.{name_of, IsOrdersVerdict, DecidesTrades, Decides}
 
 module _ (tells : Bool) (log_of : Which → List ℕ → Option (List ℕ)) (old mid new : Which → Slot) where
   -- the order log stays read while the trade log is
@@ -55,7 +52,7 @@ module _ (tells : Bool) (log_of : Which → List ℕ → Option (List ℕ)) (old
     -- what is decided after the order log is decided of both
     pub decides_after : (request : Request) (entries : List OrderRecord) (result : Result Verdict Stop) → tells' ≡ tells → ((w : Which) (n : List ℕ) → log_of' w n ≡ log_of w n) → mid Trades ≡ old Trades → new Orders ≡ mid Orders
         → IsReadAs (reading tells log_of old mid) Orders (name_of request Orders) (λ bytes. order_log bytes ≡ Ok entries)
-        → DecidesTrades (reading tells' log_of' mid new) (rule_of request) (symbol_of request) (name_of request Trades) entries result
+        → DecidesTrades (reading tells' log_of' mid new) request entries result
         → Decides (reading tells log_of old new) request result
     decides_after request entries (Ok verdict) same logs before after orders trades =
         stays_read (name_of request Orders) (λ bytes. order_log bytes ≡ Ok entries) (λ bytes. IsOrdersVerdict (reading tells log_of old new) request (order_log bytes) verdict) after (λ bytes is. rw is (read_after (name_of request Trades) _ same logs trades)) orders

@@ -1,5 +1,5 @@
 -- Where shelf and sink tell, the logs are held and no fault rises, the answer is the verdict's, or memory was wanted.
-use Rattle.std.proofs.Common.{◌≡◌, ◌∙◌, ◌⊎◌, inl, inr, sym, refl, ⊎_elim, ℕ, ◌<◌, ◌≤◌, List, length, Option, Some, None, IsOk, true, arith, subst}
+use Rattle.std.proofs.Common.{◌≡◌, ◌∙◌, sym, ⊎_elim, ℕ, ◌<◌, ◌≤◌, List, length, Option, Some, None, IsOk, arith}
 use Rattle.std.specs.Prelude.{IsSomeAnd}
 use Rattle.audit_base.specs.declared.terms.Which.{Which}
 use Rattle.audit_base.specs.declared.terms.Which.TheVariants.{Orders, Trades}
@@ -9,9 +9,9 @@ use Rattle.csv_logs.specs.Logs.{order_log}
 use Rattle.log_source.specs.Sinks.{Held}
 use Rattle.log_source.specs.Sources.{longest_log}
 use Rattle.audit_run.specs.declared.requests.Request.{Request}
-use Rattle.audit_run.specs.Readings.{Reading, IsReadFault, IsTooLong}
+use Rattle.audit_run.specs.Readings.{Reading}
 use Rattle.audit_run.specs.Answers.{name_of, StopsAtFault, StopsAtLength, IsAfterGoodOrders}
-use Rattle.audit_run.specs.Runs.{IsReady, HoldsLogs, IsHeldWithin, RunsOn, IsVerdictOrMemory, TellsFault, TellsLength}
+use Rattle.audit_run.specs.Runs.{IsReady, IsHeldWithin, RunsOn, IsVerdictOrMemory}
 
 -- a held log isn't missing
 held_there : (log : Option (List ℕ)) (bytes : List ℕ) → log ≡ Some bytes → log ≡ None → ⊥

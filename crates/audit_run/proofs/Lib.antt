@@ -1,4 +1,5 @@
+mod TableLemmas
 pub mod AnswerLemmas
-pub mod RunLemmas
 pub mod Completeness
 pub mod JudgeLemmas
+pub mod RunLemmas

@@ -1,5 +1,5 @@
 -- What is told of a verdict or of a stop is what the call answers and writes.
-use Rattle.std.proofs.Common.{◌≡◌, ◌⊎◌, inl, inr, refl, ⊎_elim, List, ℕ, Result, Ok, Err}
+use Rattle.std.proofs.Common.{◌≡◌, ◌⊎◌, inl, inr, refl, ⊎_elim, List, ℕ, Ok, Err}
 use Rattle.audit_report.specs.declared.verdicts.Verdict.{Verdict}
 use Rattle.audit_report.specs.declared.verdicts.Verdict.TheVariants.{Accepted, Rejected, Malformed}
 use Rattle.audit_report.specs.declared.statuses.Status.{Status}

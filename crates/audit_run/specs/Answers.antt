@@ -1,5 +1,5 @@
 -- The verdict on two logs, and why there may be none.
-use Rattle.std.specs.Prelude.{◌≡◌, ◌⊎◌, ℕ, List, Result, Ok, Err, IsOk, MatchResult}
+use Rattle.std.specs.Prelude.{◌≡◌, ◌⊎◌, ℕ, Bool, List, Result, Ok, Err, IsOk, MatchResult}
 use Rattle.audit_base.specs.declared.terms.Which.{Which}
 use Rattle.audit_base.specs.declared.terms.Which.TheVariants.{Orders, Trades}
 use Rattle.audit_base.specs.declared.terms.Rule.{Rule}
@@ -16,7 +16,7 @@ use Rattle.audit_run.specs.declared.reading.Unread.TheVariants as unread
 use Rattle.audit_run.specs.declared.requests.Request.{Request}
 use Rattle.audit_run.specs.declared.requests.Request.TheVariants.{Audit}
 use Rattle.audit_run.specs.Readings.{Reading, IsReadAs, IsUntouched, IsReadFault, IsTooLong, BeginsWithin, EndsWithin}
-use Rattle.audit_run.specs.Judgements.{IsJudged}
+use Rattle.audit_run.specs.Judgements.{is_call, IsJudged}
 
 abbrev pub rule_of : Request → Rule
 rule_of (Audit rule symbol orders trades orders_form trades_form table) = rule
@@ -24,25 +24,33 @@ rule_of (Audit rule symbol orders trades orders_form trades_form table) = rule
 abbrev pub symbol_of : Request → List ℕ
 symbol_of (Audit rule symbol orders trades orders_form trades_form table) = symbol
 
+abbrev pub table_of : Request → Bool
+table_of (Audit rule symbol orders trades orders_form trades_form table) = table
+
+-- the rule is one of a call
+abbrev pub asks_for_call : Request → Bool
+asks_for_call request = is_call (rule_of request)
+
 -- the word that names a log
 abbrev pub name_of : Request → Which → List ℕ
 name_of (Audit rule symbol orders trades orders_form trades_form table) Orders = orders
 name_of (Audit rule symbol orders trades orders_form trades_form table) Trades = trades
 
 -- a trade log out of its grammar has its first bad place as the verdict; else what was read is judged
-abbrev pub IsTradesVerdict : Rule → List ℕ → List OrderRecord → Result (List TradeRecord) BadPlace → Verdict → Type 0
-IsTradesVerdict rule symbol entries (Err bad) verdict = verdict ≡ Malformed Trades bad
-IsTradesVerdict rule symbol entries (Ok trades) verdict = IsJudged rule symbol entries trades verdict
+abbrev pub IsTradesVerdict : Request → List OrderRecord → Result (List TradeRecord) BadPlace → Verdict → Type 0
+IsTradesVerdict request entries (Err bad) verdict = verdict ≡ Malformed Trades bad
+IsTradesVerdict request entries (Ok trades) verdict =
+    IsJudged (rule_of request) (symbol_of request) (table_of request) entries (Ok trades) verdict
 
 -- the trade log was read to its end, and the verdict is that of its bytes
-abbrev pub IsAfterOrders : Reading → Rule → List ℕ → List ℕ → List OrderRecord → Verdict → Type 0
-IsAfterOrders r rule symbol name entries verdict =
-    IsReadAs r Trades name (λ bytes. IsTradesVerdict rule symbol entries (trade_log bytes) verdict)
+abbrev pub IsAfterOrders : Reading → Request → List OrderRecord → Verdict → Type 0
+IsAfterOrders r request entries verdict =
+    IsReadAs r Trades (name_of request Trades) (λ bytes. IsTradesVerdict request entries (trade_log bytes) verdict)
 
 -- an order log out of its grammar has its first bad place as the verdict, and the trade log isn't looked at
 abbrev pub IsOrdersVerdict : Reading → Request → Result (List OrderRecord) BadPlace → Verdict → Type 0
 IsOrdersVerdict r request (Err bad) verdict = (verdict ≡ Malformed Orders bad) × IsUntouched r Trades
-IsOrdersVerdict r request (Ok entries) verdict = IsAfterOrders r (rule_of request) (symbol_of request) (name_of request Trades) entries verdict
+IsOrdersVerdict r request (Ok entries) verdict = IsAfterOrders r request entries verdict
 
 -- Verdict: the order log was read to its end, and the verdict is that of its bytes and of the trade log's
 abbrev pub IsVerdictOn : Reading → Request → Verdict → Type 0
@@ -89,14 +97,13 @@ IsLengthStop (Err (stop.TooLong log)) = Unit {0}
 IsLengthStop (Err stop.Memory) = ⊥
 
 -- the verdict of the trade log, or why there is none
-abbrev pub IsTradesStop : Reading → List ℕ → Stop → Type 0
-IsTradesStop r name (stop.ReadFault log) = (log ≡ Trades) × IsReadFault r Trades name
-IsTradesStop r name (stop.TooLong log) = (log ≡ Trades) × IsTooLong r Trades name
-IsTradesStop r name stop.Memory = Unit {0}
+abbrev pub IsTradesStop : Reading → Request → Stop → Type 0
+IsTradesStop r request (stop.ReadFault log) = (log ≡ Trades) × IsReadFault r Trades (name_of request Trades)
+IsTradesStop r request (stop.TooLong log) = (log ≡ Trades) × IsTooLong r Trades (name_of request Trades)
+IsTradesStop r request stop.Memory = Unit {0}
 
-abbrev pub DecidesTrades : Reading → Rule → List ℕ → List ℕ → List OrderRecord → Result Verdict Stop → Type 0
-DecidesTrades r rule symbol name entries result =
-    MatchResult result (IsAfterOrders r rule symbol name entries) (IsTradesStop r name)
+abbrev pub DecidesTrades : Reading → Request → List OrderRecord → Result Verdict Stop → Type 0
+DecidesTrades r request entries result = MatchResult result (IsAfterOrders r request entries) (IsTradesStop r request)
 
 -- the verdict, or why there is none
 abbrev pub Decides : Reading → Request → Result Verdict Stop → Type 0

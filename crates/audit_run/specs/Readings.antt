@@ -8,8 +8,6 @@ use Rattle.audit_base.specs.declared.faults.BadPlace.{BadPlace}
 use Rattle.log_source.specs.Sources.{Slot, Rose, longest_log}
 use Rattle.log_source.specs.declared.take.TakeFault.{TakeFault}
 use Rattle.log_source.specs.declared.take.TakeFault.TheVariants as take
-use Rattle.audit_base.specs.declared.faults.LogFault.{LogFault}
-use Rattle.audit_base.specs.declared.faults.LogFault.TheVariants as fault
 use Rattle.audit_run.specs.declared.reading.Unread.{Unread}
 use Rattle.audit_run.specs.declared.reading.Unread.TheVariants as unread
 

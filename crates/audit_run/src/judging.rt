@@ -1,25 +1,25 @@
 //! Judging logs that have been read: the phases of the verdict, each handed to the crate that decides
 //! it.
-ghost use Rattle.std.specs.Prelude.{◌≡◌, ◌<◌, ◌≤◌, ◌-◌, ◌^◌, None, Some, List, length, IfOk};
-ghost use Rattle.audit_base.specs.declared.terms.Rule.TheVariants.{Matching};
-ghost use Rattle.audit_base.specs.declared.terms.Which.TheVariants as which;
-ghost use Rattle.audit_base.specs.Histories.{WellFormed, order_list, instant_order};
-ghost use Rattle.audit_base.specs.Orders.{IsOrderList, is_rests};
-ghost use Rattle.audit_base.specs.Deals.{IsDealList};
-ghost use Rattle.audit_base.specs.Trades.{Sound, deals_of};
-ghost use Rattle.audit_run.specs.Judgements.{IsJudged, IsJudgedDeals, IsJudgedHistory, accepted_matching};
+ghost use Rattle.std.specs.Prelude.{◌≡◌, ◌<◌, ◌-◌, ◌^◌, length, IfOk, IsTrue};
+ghost use Rattle.audit_base.specs.Histories.{instant_order};
+ghost use Rattle.audit_base.specs.Orders.{is_rests, order_at};
+ghost use Rattle.audit_base.specs.Verdicts.{paired_trades};
+ghost use Rattle.audit_report.specs.Texts.{IsVerdictInRange};
+ghost use Rattle.fix_messages.specs.Pairings.{pairing_of};
+ghost use Rattle.audit_run.specs.Judgements.{is_call, IsJudged, IsJudgedRecords, IsJudgedHistory, IsJudgedTrades};
 
+use super::ranges::number_paired;
+use super::rules::judge_deals;
 use audit_base::faults::NoMemory;
 use audit_base::findings::{Finding, Property};
 use audit_base::names::Name;
-use audit_base::orders::{Deal, Order};
+use audit_base::orders::Order;
 use audit_base::records::{OrderRecord, TradeRecord};
 use audit_base::terms::{Life, Rule, Which};
-use audit_report::tables::Table;
-use audit_report::verdicts::{Accepted, Verdict};
+use audit_report::verdicts::Verdict;
+use fix_messages::pairing::Paired;
 use instruction_history::faults::HistoryFault;
 use instruction_history::history::History;
-use matching_core::checking::check_matching;
 use matching_core::outcomes::CheckFault;
 use matching_core::resolving::resolve;
 use std::alloc::Global;
@@ -53,77 +53,103 @@ fn first_instant(orders: &[Order]) -> Option<Finding>
     None
 }
 
-/// The totals of a log whose trades are a matching.
-fn accepted(alloc: Global, symbol: &Name, orders: &[Order], deals: &[Deal], volume: u128) -> Verdict
-    requires orders { length orders.now < 2 ^ 32 }
-    requires deals { length deals.now < 2 ^ 32 }
-    ensures { result ≡ accepted_matching symbol.now (length orders.now) (length deals.now) volume }
-{
-    Verdict::Accepted(Accepted {
-        rule: Rule::Matching,
-        symbol: *symbol,
-        orders: orders.len() as u32,
-        trades: deals.len() as u32,
-        volume,
-        bound: None,
-        table: Table::of(Vec::new(alloc)),
-    })
-}
-
-/// The verdict where the trades are sound: whether they are a matching.
-fn judge_deals(
+/// The verdict of a rule of a call where the history is well-formed and has no finding.
+fn judge_trades(
     alloc: Global,
+    rule: Rule,
     symbol: &Name,
-    orders: &[Order],
-    deals: &[Deal],
-) -> Result<Verdict, NoMemory>
-    requires order_list { IsOrderList orders.now }
-    requires deal_list { IsDealList orders.now deals.now }
-    ensures { IfOk result (IsJudgedDeals symbol.now orders.now deals.now) }
-{
-    match check_matching(alloc, orders, deals, false) {
-        Ok(totals) => Ok(accepted(alloc, symbol, orders, deals, totals.volume())),
-        Err(CheckFault::Found(finding)) => Ok(Verdict::Rejected(finding)),
-        Err(CheckFault::Memory) => Err(NoMemory),
-    }
-}
-
-/// The verdict where the history is well-formed.
-fn judge_history(
-    alloc: Global,
-    symbol: &Name,
+    table: bool,
     history: &History,
     trades: &[TradeRecord],
 ) -> Result<Verdict, NoMemory>
-    requires { length trades.now < 2 ^ 32 - 1 }
-    ensures { IfOk result (IsJudgedHistory symbol.now history.now trades.now) }
+    requires call { IsTrue (is_call rule) }
+    requires few { length trades.now < 2 ^ 32 - 1 }
+    ensures { IfOk result (IsJudgedTrades rule symbol.now table history.now trades.now) }
+{
+    match resolve(alloc, history, trades, symbol) {
+        Ok(deals) => judge_deals(
+            alloc,
+            rule,
+            symbol,
+            table,
+            history.orders(),
+            &deals,
+            trades.len() as u32,
+        ),
+        Err(fault) => match fault {
+            CheckFault::Found(finding) => Ok(Verdict::Rejected(finding)),
+            CheckFault::Memory => Err(NoMemory),
+        },
+    }
+}
+
+/// The verdict of a rule of a call where the history is well-formed.
+fn judge_history(
+    alloc: Global,
+    rule: Rule,
+    symbol: &Name,
+    table: bool,
+    history: &History,
+    trades: &Paired,
+) -> Result<Verdict, NoMemory>
+    requires call { IsTrue (is_call rule) }
+    requires few { length (paired_trades (pairing_of trades.now)) < 2 ^ 32 - 1 }
+    ensures { IfOk result (IsJudgedHistory rule symbol.now table history.now (pairing_of trades.now)) }
 {
     if let Some(finding) = first_instant(history.orders()) {
         return Ok(Verdict::Rejected(finding));
     }
-    match resolve(alloc, history, trades, symbol) {
-        Ok(deals) => judge_deals(alloc, symbol, history.orders(), &deals),
-        Err(CheckFault::Found(finding)) => Ok(Verdict::Rejected(finding)),
-        Err(CheckFault::Memory) => Err(NoMemory),
+    match trades {
+        Paired::Trades(list) => judge_trades(alloc, rule, symbol, table, history, list.as_slice()),
+        Paired::Alone(finding) => Ok(Verdict::Rejected(*finding)),
     }
 }
 
-/// The verdict of the rule `matching` on the records of two logs. It is never `Malformed`.
-pub fn judge_matching(
+/// The verdict of a rule of a call on the records of two logs.
+fn judge_records(
     alloc: Global,
+    rule: Rule,
     symbol: &Name,
+    table: bool,
     entries: &[OrderRecord],
-    trades: &[TradeRecord],
+    trades: &Paired,
 ) -> Result<Verdict, NoMemory>
+    requires call { IsTrue (is_call rule) }
     requires few_entries { length entries.now < 2 ^ 32 - 1 }
-    requires few_trades { length trades.now < 2 ^ 32 - 1 }
-    ensures { IfOk result (IsJudged Matching symbol.now entries.now trades.now) }
+    requires few_trades { length (paired_trades (pairing_of trades.now)) < 2 ^ 32 - 1 }
+    ensures judged { IfOk result (IsJudgedRecords rule symbol.now table entries.now (pairing_of trades.now)) }
+    ensures in_range { IfOk result IsVerdictInRange }
 {
     match History::build(alloc, entries, symbol) {
-        Ok(history) => judge_history(alloc, symbol, &history, trades),
+        Ok(history) => judge_history(alloc, rule, symbol, table, &history, trades),
         Err(fault) => match fault {
             HistoryFault::Found(finding) => Ok(Verdict::Rejected(finding)),
             HistoryFault::Memory => Err(NoMemory),
         },
     }
+}
+
+/// The verdict of a rule of a call on the records of two logs: the first phase with a finding decides,
+/// and where there is none the log is accepted, with the bound of `uniform` and `maximum`, and with the
+/// line of each order where a table is asked for. The verdict is never `Malformed`.
+///
+/// The phases are the history (a key twice, a time that goes back, an unknown target; then an order
+/// that does not rest), a report without its partner, the trades (an id twice, an unknown order), and
+/// the rule.
+pub fn judge(
+    alloc: Global,
+    rule: Rule,
+    symbol: &Name,
+    table: bool,
+    entries: &[OrderRecord],
+    trades: &Paired,
+) -> Result<Verdict, NoMemory>
+    requires call { IsTrue (is_call rule) }
+    requires few_entries { length entries.now < 2 ^ 32 - 1 }
+    requires few_trades { length (paired_trades (pairing_of trades.now)) < 2 ^ 32 - 1 }
+    ensures judged { IfOk result (IsJudged rule symbol.now table entries.now (pairing_of trades.now)) }
+    ensures in_range { IfOk result IsVerdictInRange }
+{
+    number_paired(trades);
+    judge_records(alloc, rule, symbol, table, entries, trades)
 }

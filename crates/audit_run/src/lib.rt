@@ -5,10 +5,17 @@
 //! composed from the contracts of the crates below.
 #![tactic(auto)]
 
-mod judging;
+#[cfg(test)]
+mod call_tests;
+#[cfg(test)]
+mod expected_tests;
+pub mod judging;
 pub mod paths;
+mod ranges;
 mod reading;
 pub mod requests;
+mod rules;
 pub mod running;
+mod tables;
 #[cfg(test)]
 mod tests;

@@ -1,28 +1,27 @@
 //! The top call: from the words of a command line to the report and the status.
-ghost use Rattle.std.specs.Prelude.{◌≡◌, ◌≤◌, ◌<◌, ◌-◌, ◌^◌, ◌⊎◌, ℕ, List, Some, map, length, IfOk, IfErr, IfSome};
+ghost use Rattle.std.specs.Prelude.{◌≡◌, ◌≤◌, ◌<◌, ◌-◌, ◌^◌, ◌⊎◌, ℕ, List, Ok, map, length, IfOk, IfErr, IsTrue};
 ghost use Rattle.std.specs.String.{string_bytes};
 ghost use Rattle.audit_base.specs.declared.terms.Which.{Which};
-ghost use Rattle.audit_base.specs.declared.terms.Rule.TheVariants as rule;
 ghost use Rattle.log_source.specs.Sources.{longest_log};
 ghost use Rattle.audit_run.specs.Words.{plain_request};
 ghost use Rattle.audit_run.specs.Readings.{reading, BeginsWithin, EndsWithin};
 ghost use Rattle.audit_run.specs.Judgements.{IsJudged};
-ghost use Rattle.audit_run.specs.Answers.{Decides, StaysWithin, DecidesTrades, IsLengthStop, without_log, rule_of};
+ghost use Rattle.audit_run.specs.Answers.{Decides, StaysWithin, DecidesTrades, IsLengthStop, without_log, rule_of, symbol_of, table_of, asks_for_call};
 ghost use Rattle.audit_report.specs.Texts.{verdict_text, IsVerdictInRange};
 ghost use Rattle.audit_report.specs.Statuses.{verdict_status};
 ghost use Rattle.audit_run.specs.Tellings.{Tells, TellsOrWants, TellsStop};
 ghost use Rattle.audit_run.specs.Runs.{Runs, RunsOn, TellsLengthOutside, IsReadyFor, IsVerdictOrMemory};
 
-use super::judging::judge_matching;
+use super::judging::judge;
 use super::reading::{Unread, read_records};
 use super::requests::{Request, WordsFault, read_words};
 use audit_base::faults::NoMemory;
-use audit_base::names::Name;
 use audit_base::records::{OrderRecord, TradeRecord};
 use audit_base::terms::Which;
 use audit_report::reports::{read_fault_text, report_text, too_long_text, usage_text};
 use audit_report::statuses::Status;
 use audit_report::verdicts::{Verdict, status_of};
+use fix_messages::pairing::{Paired, TradeList};
 use log_source::put::put_all;
 use log_source::shelf::Shelf;
 use log_source::sink::Sink;
@@ -54,17 +53,27 @@ fn answer_without(log: Which, unread: Unread) -> Result<Verdict, Stop>
 /// The verdict on logs that have been read.
 fn judged(
     alloc: Global,
-    symbol: &Name,
+    request: &Request,
     entries: &[OrderRecord],
-    trades: &[TradeRecord],
+    trades: Vec<TradeRecord>,
 ) -> Result<Verdict, Stop>
+    requires call { IsTrue (asks_for_call request.now) }
     requires few_entries { length entries.now < 2 ^ 32 - 1 }
-    requires few_trades { length trades.now < 2 ^ 32 - 1 }
-    ensures verdict { IfOk result (IsJudged rule.Matching symbol.now entries.now trades.now) }
+    requires few_trades { length trades.items < 2 ^ 32 - 1 }
+    ensures verdict { IfOk result (IsJudged (rule_of request.now) (symbol_of request.now) (table_of request.now) entries.now (Ok trades.items)) }
     ensures memory { IfErr result (λ stop. stop ≡ Stop.Memory) }
     ensures in_range { IfOk result IsVerdictInRange }
 {
-    match judge_matching(alloc, symbol, entries, trades) {
+    let trades = Paired::Trades(TradeList::of(trades));
+    let rule = request.rule();
+    match judge(
+        alloc,
+        rule,
+        request.symbol(),
+        request.table(),
+        entries,
+        &trades,
+    ) {
         Ok(verdict) => Ok(verdict),
         Err(NoMemory) => Err(Stop::Memory),
     }
@@ -74,20 +83,25 @@ fn judged(
 fn verdict_after_orders<F: Shelf>(
     alloc: Global,
     shelf: &mut F,
-    symbol: &Name,
-    name: &str,
+    request: &Request,
     entries: &[OrderRecord],
 ) -> Result<Verdict, Stop>
+    requires call { IsTrue (asks_for_call request.now) }
     requires few { length entries.now < 2 ^ 32 - 1 }
     ensures tells { F.tells shelf.new ≡ F.tells shelf.old }
     ensures logs { (w : Which) (n : List ℕ) → F.log_of shelf.new w n ≡ F.log_of shelf.old w n }
     ensures other { F.slot shelf.new Which.Orders ≡ F.slot shelf.old Which.Orders }
-    ensures decides { DecidesTrades (reading (F.tells shelf.old) (F.log_of shelf.old) (F.slot shelf.old) (F.slot shelf.new)) rule.Matching symbol.now name.now entries.now result }
+    ensures decides { DecidesTrades (reading (F.tells shelf.old) (F.log_of shelf.old) (F.slot shelf.old) (F.slot shelf.new)) request.now entries.now result }
     ensures in_range { IfOk result IsVerdictInRange }
     ensures within { IsLengthStop result ⊎ ((F.slot shelf.new Which.Trades).taken ≤ longest_log) }
 {
-    match read_records::<F, TradeRecord>(alloc, shelf, Which::Trades, name) {
-        Ok(trades) => judged(alloc, symbol, entries, &trades),
+    match read_records::<F, TradeRecord>(
+        alloc,
+        shelf,
+        Which::Trades,
+        request.name_of(Which::Trades),
+    ) {
+        Ok(trades) => judged(alloc, request, entries, trades),
         Err(unread) => answer_without(Which::Trades, unread),
     }
 }
@@ -98,7 +112,7 @@ pub(crate) fn verdict_on<F: Shelf>(
     shelf: &mut F,
     request: &Request,
 ) -> Result<Verdict, Stop>
-    requires { rule_of request.now ≡ rule.Matching }
+    requires { IsTrue (asks_for_call request.now) }
     ensures decides { Decides (reading (F.tells shelf.old) (F.log_of shelf.old) (F.slot shelf.old) (F.slot shelf.new)) request.now result }
     ensures in_range { IfOk result IsVerdictInRange }
     ensures within { StaysWithin (reading (F.tells shelf.old) (F.log_of shelf.old) (F.slot shelf.old) (F.slot shelf.new)) result }
@@ -109,13 +123,7 @@ pub(crate) fn verdict_on<F: Shelf>(
         Which::Orders,
         request.name_of(Which::Orders),
     ) {
-        Ok(entries) => verdict_after_orders(
-            alloc,
-            shelf,
-            request.symbol(),
-            request.name_of(Which::Trades),
-            &entries,
-        ),
+        Ok(entries) => verdict_after_orders(alloc, shelf, request, &entries),
         Err(unread) => answer_without(Which::Orders, unread),
     }
 }
@@ -159,7 +167,7 @@ fn answered<F: Shelf, K: Sink>(
     out: &mut K,
     request: &Request,
 ) -> Status
-    requires { rule_of request.now ≡ rule.Matching }
+    requires { IsTrue (asks_for_call request.now) }
     ensures runs { RunsOn (reading (F.tells shelf.old) (F.log_of shelf.old) (F.slot shelf.old) (F.slot shelf.new)) request.now (K.held out.old) (K.held out.new) result }
     ensures within { TellsLengthOutside (reading (F.tells shelf.old) (F.log_of shelf.old) (F.slot shelf.old) (F.slot shelf.new)) result }
 {

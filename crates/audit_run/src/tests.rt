@@ -10,9 +10,10 @@ use log_source::shelf::Shelf;
 use std::alloc::Global;
 use std::test::Fail;
 
-const ORDER_HEADER: &str = "kind,firm,id,time,symbol,side,quantity,price,target\n";
+pub(crate) const ORDER_HEADER: &str = "kind,firm,id,time,symbol,side,quantity,price,target\n";
 
-const TRADE_HEADER: &str = "trade,time,symbol,buy_firm,buy_id,sell_firm,sell_id,quantity,price\n";
+pub(crate) const TRADE_HEADER: &str =
+    "trade,time,symbol,buy_firm,buy_id,sell_firm,sell_id,quantity,price\n";
 
 const ORDERS: &str = "N,A,b1,20240102-09:00:00,Z,B,100,10,\nN,B,s1,20240102-09:00:00,Z,S,100,9,\n";
 
@@ -24,7 +25,7 @@ const ACCEPTED: &str = "accepted,matching,Z\ntotals,2,1,100\n";
 const SMALL_BID: &str = "N,A,b1,20240102-09:00:00,Z,B,10,10,\nN,B,s1,20240102-09:00:00,Z,S,20,9,\n";
 
 /// The words of a command line.
-fn words_of(alloc: Global, words: &[&str]) -> Result<Vec<String>, Fail> {
+pub(crate) fn words_of(alloc: Global, words: &[&str]) -> Result<Vec<String>, Fail> {
     let mut made = Vec::new(alloc);
     for word in words {
         made.push(String::from_str(alloc, word)?)?;
@@ -33,7 +34,7 @@ fn words_of(alloc: Global, words: &[&str]) -> Result<Vec<String>, Fail> {
 }
 
 /// The bytes of a log with this header and these lines.
-fn log_of(alloc: Global, header: &str, lines: &str) -> Result<Vec<u8>, Fail> {
+pub(crate) fn log_of(alloc: Global, header: &str, lines: &str) -> Result<Vec<u8>, Fail> {
     let mut log = Vec::from_slice(alloc, header.as_bytes())?;
     log.extend_from_slice(lines.as_bytes())?;
     Ok(log)
@@ -217,7 +218,7 @@ fn mark_and_crlf_in_every_piece_size(rt: HostRuntime) -> Result<(), Fail> {
 
 #[test]
 fn words_that_are_not_plain(rt: HostRuntime) -> Result<(), Fail> {
-    let lines: [&[&str]; 8] = [
+    let lines: [&[&str]; 13] = [
         &[],
         &["audit", "best", "Z", "orders", "trades"],
         &["audit", "matching", "Z"],
@@ -225,6 +226,13 @@ fn words_that_are_not_plain(rt: HostRuntime) -> Result<(), Fail> {
         &["audit", "matching", "-Z", "orders", "trades"],
         &["audit", "matching", "Z", "", "trades"],
         &["audit", "matching", "Z", "orders", "--table"],
+        &["audit", "matching", "Z", "orders", "trades", "--table"],
+        &["audit", "fair", "Z", "orders", "trades", "--table"],
+        &["audit", "maximum", "Z", "orders", "trades", "--tables"],
+        &[
+            "audit", "uniform", "Z", "orders", "trades", "--table", "--table",
+        ],
+        &["audit", "continuous", "Z", "orders", "trades"],
         &["--help"],
     ];
     for words in lines {

@@ -1,5 +1,4 @@
 use Rattle.std.proofs.Common.{◌≡◌, ◌∙◌, false, sym}
-use Rattle.std.proofs.lemmas.Bool.{not-true}
 use Rattle.audit_base.specs.Orders.{order_at, any_order, is_rests}
 use Rattle.audit_base.proofs.OffenceLemmas.{get_or-default}
 use Rattle.audit_run.proofs.JudgeLemmas.{instant_at}

@@ -1,0 +1,138 @@
+//! Small order lists with the Expected trades of `uniform` and `maximum`, which their audits accept.
+use audit_base::names::{Key, Name, read_name};
+use audit_base::numbers::{Price, Quantity};
+use audit_base::orders::Deal;
+use audit_base::records::OrderRecord;
+use audit_base::stamps::Stamp;
+use audit_base::terms::{Life, Side};
+use instruction_history::history::History;
+use matching_core::outcomes::Outcome;
+use maximum_audit::auditing::audit_maximum;
+use maximum_audit::expecting::greatest_matching;
+use std::process::Abort;
+use uniform_audit::auditing::audit_uniform;
+use uniform_audit::expecting::expected_uniform;
+
+/// An order as its side, its quantity and its limit.
+type Row = (Side, u64, u64);
+
+/// A trade as the indices of its bid and its ask, its quantity and its price.
+type Trade = (usize, usize, u64, u64);
+
+fn name(rt: &impl Abort, text: &[u8]) -> Name {
+    read_name(text).expect(rt, "a name")
+}
+
+/// The order with this digit as its id.
+fn order(rt: &impl Abort, id: u8, row: Row) -> OrderRecord {
+    let (side, quantity, limit) = row;
+    OrderRecord::New {
+        key: Key {
+            firm: name(rt, b"A"),
+            id: name(rt, &[id]),
+        },
+        time: Stamp { second: 5, nano: 0 },
+        symbol: name(rt, b"Z"),
+        side,
+        quantity: Quantity::of(quantity).expect(rt, "a quantity"),
+        price: Price::of(limit).expect(rt, "a price"),
+        life: Life::Rests,
+    }
+}
+
+fn history<R: AllocGlobal + Abort>(rt: &R, rows: &[Row]) -> History {
+    let mut entries = Vec::new(rt.alloc());
+    for (row, id) in rows.iter().zip(b'1'..b'9') {
+        let stored = entries.push(order(rt, id, *row)).is_ok();
+        assert!(rt; stored);
+    }
+    assert!(rt; entries.len() < 4_294_967_296);
+    let Ok(history) = History::build(rt.alloc(), &entries, &name(rt, b"Z")) else {
+        panic!(rt; "no history");
+    };
+    history
+}
+
+fn assert_trades(rt: &impl Abort, deals: &[Deal], trades: &[Trade]) {
+    assert_eq!(rt; deals.len(), trades.len());
+    for (deal, trade) in deals.iter().zip(trades) {
+        let (bid, ask, quantity, price) = *trade;
+        assert_eq!(rt; (deal.bid, deal.ask), (bid, ask));
+        assert_eq!(rt; deal.quantity.value(), quantity);
+        assert_eq!(rt; deal.price.units(), price);
+    }
+}
+
+const LADDER: [Row; 6] = [
+    (Side::Buy, 1, 1),
+    (Side::Buy, 1, 2),
+    (Side::Buy, 1, 3),
+    (Side::Sell, 1, 1),
+    (Side::Sell, 1, 2),
+    (Side::Sell, 1, 3),
+];
+
+const CROSSED: [Row; 4] = [
+    (Side::Buy, 1, 10),
+    (Side::Buy, 1, 6),
+    (Side::Sell, 1, 5),
+    (Side::Sell, 1, 9),
+];
+
+/// The volume and the bound with which the audit of the Expected trades accepts them, once they are the
+/// trades of the case.
+fn accepted<R: AllocGlobal + Abort>(
+    rt: &R,
+    uniform: bool,
+    rows: &[Row],
+    trades: &[Trade],
+) -> (u128, u64) {
+    let history = history(rt, rows);
+    let orders = history.orders();
+    let made = if uniform {
+        expected_uniform(rt.alloc(), orders)
+    } else {
+        greatest_matching(rt.alloc(), orders)
+    };
+    let Ok(deals) = made else {
+        panic!(rt; "no memory");
+    };
+    assert_trades(rt, &deals, trades);
+    let audited = if uniform {
+        audit_uniform(rt.alloc(), orders, &deals, 9)
+    } else {
+        audit_maximum(rt.alloc(), orders, &deals, 9)
+    };
+    let Ok(Outcome::Conforms(reached)) = audited else {
+        panic!(rt; "an offence");
+    };
+    let Some(bound) = reached.bound else {
+        panic!(rt; "no bound");
+    };
+    assert_eq!(rt; bound.volume, reached.volume);
+    (bound.volume, bound.price)
+}
+
+/// A case: whether the rule is `uniform`, the orders, their Expected trades, the volume and its bound.
+type Case = (bool, &'static [Row], &'static [Trade], u128, u64);
+
+#[test]
+fn the_expected_trades_are_accepted(rt: HostRuntime) {
+    let cases: [Case; 6] = [
+        (true, &[], &[], 0, 0),
+        (true, &LADDER, &[(1, 4, 1, 2), (2, 3, 1, 2)], 2, 2),
+        (true, &CROSSED, &[(0, 2, 1, 5)], 1, 5),
+        (false, &[], &[], 0, 0),
+        (
+            false,
+            &LADDER,
+            &[(0, 3, 1, 1), (1, 4, 1, 2), (2, 5, 1, 3)],
+            3,
+            0,
+        ),
+        (false, &CROSSED, &[(0, 3, 1, 9), (1, 2, 1, 5)], 2, 0),
+    ];
+    for (uniform, rows, trades, volume, bound) in cases {
+        assert_eq!(rt; accepted(&rt, uniform, rows, trades), (volume, bound));
+    }
+}

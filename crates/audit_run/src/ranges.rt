@@ -1,0 +1,35 @@
+//! The ranges of the numbers of trades, as facts. Nothing is computed here: the types keep the ranges, and
+//! reading a number tells the proof so.
+ghost use Rattle.audit_base.specs.Trades.{IsTrade, AreTrades};
+ghost use Rattle.audit_base.specs.Verdicts.{paired_trades};
+ghost use Rattle.fix_messages.specs.Pairings.{pairing_of};
+
+use audit_base::records::TradeRecord;
+use fix_messages::pairing::Paired;
+
+/// The numbers of a trade are in their ranges.
+fn number(trade: &TradeRecord)
+    ensures { IsTrade trade.now }
+{
+    let _quantity = trade.quantity.value();
+    let _price = trade.price.units();
+}
+
+/// The numbers of all trades are in their ranges, as their types say.
+fn number_all(trades: &[TradeRecord])
+    ensures { AreTrades trades.now }
+{
+    for trade in trades {
+        number(trade);
+    }
+}
+
+/// The same of the trades of a log.
+pub(crate) fn number_paired(trades: &Paired)
+    ensures { AreTrades (paired_trades (pairing_of trades.now)) }
+{
+    match trades {
+        Paired::Trades(list) => number_all(list.as_slice()),
+        Paired::Alone(_) => {}
+    }
+}
