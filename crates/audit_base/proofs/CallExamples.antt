@@ -20,13 +20,13 @@ use Rattle.audit_base.specs.declared.findings.Shown.{Shown}
 use Rattle.audit_base.proofs.VolumeLemmas.{cut-greatest, line-greatest, demand-falls, supply-under}
 use Rattle.audit_base.proofs.DealLemmas.{bids-volume, asks-volume, keeps-names}
 use Rattle.audit_base.specs.Calls.{Matching, Fair, Greatest}
-use Rattle.audit_base.specs.Bounds.{demand, cut, supply_below, uniform_most, IsBound}
+use Rattle.audit_base.specs.Bounds.{demand, cut, supply_below, executable_volume, IsBound}
 use Rattle.audit_base.specs.Shows.{found}
 use Rattle.audit_base.specs.Expected.{uniform_deals, maximum_deals}
 use Rattle.audit_base.specs.Rules.{Conforms}
 use Rattle.audit_base.specs.Verdicts.{IsVerdict}
 use Rattle.audit_base.proofs.OffenceLemmas.{no_offence-matching, no_offence-one_price, no_offence-fair}
-use Rattle.audit_base.proofs.ExampleLogs.{all_definitions, all_named, symbol, key, at, new_order, immediate_order, cancel, replace, trade, orders_in, deals_in, line, whole, half_over}
+use Rattle.audit_base.proofs.ExampleLogs.{all_definitions, all_named, all_in_range, symbol, key, at, new_order, immediate_order, cancel, replace, trade, orders_in, deals_in, line, whole, half_over}
 
 -- one-trade: the logs are accepted under `matching`
 abbrev one_trade_orders : List OrderRecord
@@ -212,7 +212,7 @@ staircase_uniform-bound = record {
   none_below = λ k lt h.
       let offered_below_two : supply_below staircase (whole 2) ≡ 1 = refl in
       let fewer = supply-under staircase k (whole 2) lt in
-      let both : uniform_most staircase k ≡ 2 = h.1 in
+      let both : executable_volume staircase k ≡ 2 = h.1 in
       absurd (omega arith);
 }
 
@@ -231,7 +231,7 @@ staircase_three-conforms =
 
 staircase-volume : (deals : List Deal) → Conforms rule.Maximum staircase deals → 3 ≤ volume deals
 unfolding all_definitions
-staircase-volume deals c = c.greatest (deals_in staircase_orders staircase_three) staircase_three-conforms.matching
+staircase-volume deals c = c.greatest (deals_in staircase_orders staircase_three) (all_in_range (deals_in staircase_orders staircase_three) refl) staircase_three-conforms.matching
 
 staircase-bid : (deals : List Deal) → Conforms rule.Maximum staircase deals → traded deals 0 ≡ 1
 unfolding all_definitions
@@ -274,19 +274,19 @@ staircase_maximum =
       ask = 5;
       bid_due = 1;
       ask_due = 1;
-      greatest = record { deals = three; matching = c.matching; greatest = c.greatest; reached = refl };
+      greatest = record { deals = three; ranges = all_in_range three refl; matching = c.matching; greatest = c.greatest; reached = refl };
       below = omega arith;
       short_bid = refl;
       short_ask = refl;
-      only_bid = record { some = three; conforms = c; each = staircase-bid };
-      only_ask = record { some = three; conforms = c; each = staircase-ask };
+      only_bid = record { some = three; ranges = all_in_range three refl; conforms = c; each = λ deals r d. staircase-bid deals d };
+      only_ask = record { some = three; ranges = all_in_range three refl; conforms = c; each = λ deals r d. staircase-ask deals d };
       shows = refl;
     }
 
 -- the two trades are not the most that could trade
 pub staircase_maximum-not_greatest : Greatest staircase (deals_in staircase_orders staircase_trades) → ⊥
 unfolding all_definitions
-staircase_maximum-not_greatest g = let le : 3 ≤ 2 = g (deals_in staircase_orders staircase_three) staircase_three-conforms.matching in absurd (omega arith)
+staircase_maximum-not_greatest g = let le : 3 ≤ 2 = g (deals_in staircase_orders staircase_three) (all_in_range (deals_in staircase_orders staircase_three) refl) staircase_three-conforms.matching in absurd (omega arith)
 
 -- two-pairings: either pairing of the same quantities is fair, of one price, and reaches what can trade at 8
 abbrev pairing_orders : List OrderRecord
@@ -315,7 +315,7 @@ two_pairings-second =
     let m : Matching pairing deals = no_offence-matching true pairing deals (all_named pairing deals refl) refl in
     record { matching = m; fair = no_offence-fair pairing deals m refl; one_price = no_offence-one_price true pairing deals refl refl; greatest = line-greatest pairing deals 0 (omega arith) (omega arith) }
 
-pub two_pairings-shown : uniform_most pairing (whole 8) ≡ 20
+pub two_pairings-shown : executable_volume pairing (whole 8) ≡ 20
 unfolding all_definitions
 two_pairings-shown = refl
 
@@ -385,12 +385,12 @@ untraded_maximum =
       ask = 1;
       bid_due = 100;
       ask_due = 100;
-      greatest = record { deals = pair_deal; matching = c.matching; greatest = c.greatest; reached = refl };
+      greatest = record { deals = pair_deal; ranges = all_in_range pair_deal refl; matching = c.matching; greatest = c.greatest; reached = refl };
       below = omega arith;
       short_bid = refl;
       short_ask = refl;
-      only_bid = record { some = pair_deal; conforms = c; each = λ deals d. whole_bid deals d.matching (d.greatest pair_deal c.matching) };
-      only_ask = record { some = pair_deal; conforms = c; each = λ deals d. whole_ask deals d.matching (d.greatest pair_deal c.matching) };
+      only_bid = record { some = pair_deal; ranges = all_in_range pair_deal refl; conforms = c; each = λ deals r d. whole_bid deals d.matching (d.greatest pair_deal (all_in_range pair_deal refl) c.matching) };
+      only_ask = record { some = pair_deal; ranges = all_in_range pair_deal refl; conforms = c; each = λ deals r d. whole_ask deals d.matching (d.greatest pair_deal (all_in_range pair_deal refl) c.matching) };
       shows = refl;
     }
 
@@ -404,19 +404,19 @@ untraded_uniform =
       ask = 1;
       bid_due = 100;
       ask_due = 100;
-      greatest = record { deals = pair_deal; matching = c.matching; one_price = c.one_price; greatest = c.greatest; reached = refl };
+      greatest = record { deals = pair_deal; ranges = all_in_range pair_deal refl; matching = c.matching; one_price = c.one_price; greatest = c.greatest; reached = refl };
       below = omega arith;
       short_bid = refl;
       short_ask = refl;
-      only_bid = record { some = pair_deal; conforms = c; each = λ deals d. whole_bid deals d.matching (d.greatest pair_deal c.matching c.one_price) };
-      only_ask = record { some = pair_deal; conforms = c; each = λ deals d. whole_ask deals d.matching (d.greatest pair_deal c.matching c.one_price) };
+      only_bid = record { some = pair_deal; ranges = all_in_range pair_deal refl; conforms = c; each = λ deals r d. whole_bid deals d.matching (d.greatest pair_deal (all_in_range pair_deal refl) c.matching c.one_price) };
+      only_ask = record { some = pair_deal; ranges = all_in_range pair_deal refl; conforms = c; each = λ deals r d. whole_ask deals d.matching (d.greatest pair_deal (all_in_range pair_deal refl) c.matching c.one_price) };
       shows = refl;
     }
 
 -- accepting no trades there is refuted
 pub untraded_maximum-not_accepted : IsVerdict rule.Maximum symbol one_trade_orders (Ok []) None → ⊥
 unfolding all_definitions
-untraded_maximum-not_accepted c = let le : 100 ≤ 0 = c.greatest pair_deal one_trade-maximum.matching in absurd (omega arith)
+untraded_maximum-not_accepted c = let le : 100 ≤ 0 = c.greatest pair_deal (all_in_range pair_deal refl) one_trade-maximum.matching in absurd (omega arith)
 
 -- cancelled-sell-maximum: the ask that a later record cancels takes no part in the call
 abbrev cancelled_orders : List OrderRecord

@@ -13,11 +13,11 @@ use Rattle.audit_base.specs.declared.findings.Property.TheVariants as property
 use Rattle.audit_base.specs.Least.{least_answer, any_below, first_of}
 use Rattle.audit_base.specs.Orders.{order_at, place_at, side_at, limit_at, same_side, is_rests}
 use Rattle.audit_base.specs.Priority.{better, Better}
-use Rattle.audit_base.specs.Deals.{any_deal, deal_at, names, NamesOrders, IsDeal}
+use Rattle.audit_base.specs.Deals.{missing_deal, deal_at, names, NamesOrders, IsDeal}
 use Rattle.audit_base.specs.CallOffences.{keeps_limits}
 use Rattle.audit_base.specs.Continuous.{cause, resting, incoming, traded_before, traded_at, entered, size, size_if, left, rests, active, uncancelled_before}
 use Rattle.audit_base.specs.ContinuousRules.{KeepsLimits, Conservation, Spread, ConformsAt, ConformsContinuous}
-use Rattle.audit_base.specs.ContinuousOffences.{traded_upto, not_active, over_limit, over_size, conservation_fault, passed_over, priority_fault, active_on, active_meet, spread_fault, fault_at, IsContinuousOffence}
+use Rattle.audit_base.specs.ContinuousOffences.{traded_upto, continuous_inactive, continuous_off_limit, over_size, conservation_finding, waits_ahead, priority_finding, active_on, active_meet, spread_finding, finding_at_place, IsContinuousOffence}
 use Rattle.audit_base.proofs.OrderLemmas.{is-same_side, same_side-is}
 use Rattle.audit_base.proofs.SumLemmas.{sum_by-add, sum_by-same, sum_by-none}
 use Rattle.audit_base.proofs.LeastLemmas.{none_some, option_or-parts, none-below, least-none, none-any, any-found}
@@ -56,7 +56,7 @@ part_at orders i k d = cond (names k d && (cause orders d == i)) d.quantity 0
 traded_at-take : (orders : List Order) (deals : List Deal) (i k n : ℕ) → n < length deals
     → traded_at orders (take (n + 1) deals) i k ≡ traded_at orders (take n deals) i k + part_at orders i k (deal_at deals n)
 unfolding traded_at
-traded_at-take orders deals i k n lt = sum_by_more (part_at orders i k) deals n any_deal lt
+traded_at-take orders deals i k n lt = sum_by_more (part_at orders i k) deals n missing_deal lt
 
 traded_at-nothing : (orders : List Order) (i k : ℕ) → traded_at orders [] i k ≡ 0
 unfolding traded_at
@@ -75,10 +75,10 @@ pub record IsFaultlessAt (orders : List Order) (deals : List Deal) (i k : ℕ) :
   pub ask_within : traded_upto orders deals i k (deal_at deals k).ask ≤ size orders (traded_before orders deals) (deal_at deals k).ask
 
 fault-none_here : (orders : List Order) (deals : List Deal) (i k : ℕ)
-    → first_of (not_active orders deals i k ∷ over_limit orders deals i k
+    → first_of (continuous_inactive orders deals i k ∷ continuous_off_limit orders deals i k
     ∷ over_size property.BuyQuantity orders deals i k (deal_at deals k).bid ∷ over_size property.SellQuantity orders deals i k (deal_at deals k).ask ∷ []) ≡ None
     → IsFaultlessAt orders deals i k
-unfolding not_active over_limit over_size
+unfolding continuous_inactive continuous_off_limit over_size
 fault-none_here orders deals i k e =
     let a = option_or-parts _ _ e in
     let b = option_or-parts _ _ a.1 in
@@ -94,7 +94,7 @@ fault-none_here orders deals i k e =
       ask_within = ltb-false _ _ (only-none _ _ d.0);
     }
 
-pub conservation-none : (orders : List Order) (deals : List Deal) (i k : ℕ) → conservation_fault orders deals i k ≡ None → cause orders (deal_at deals k) ≡ i → IsFaultlessAt orders deals i k
+pub conservation-none : (orders : List Order) (deals : List Deal) (i k : ℕ) → conservation_finding orders deals i k ≡ None → cause orders (deal_at deals k) ≡ i → IsFaultlessAt orders deals i k
 conservation-none orders deals i k e at = fault-none_here orders deals i k (sym (cond-true (cause orders (deal_at deals k) == i) _ None (eq-eqb _ _ at)) ∙ e)
 
 module _ (orders : List Order) (deals : List Deal) (i : ℕ) (calm : (j : ℕ) → j < i → ConformsAt orders deals j) where
@@ -144,22 +144,22 @@ module _ (orders : List Order) (deals : List Deal) (i : ℕ) (calm : (j : ℕ) �
           omega (arith, traded-more orders deals i x, all);
     }
 
-  none_over : (d : Deal) → ((cause orders d == i) && any_below (passed_over orders deals i (resting orders d)) (length orders)) ≡ false → cause orders d ≡ i
+  none_over : (d : Deal) → ((cause orders d == i) && any_below (waits_ahead orders deals i (resting orders d)) (length orders)) ≡ false → cause orders d ≡ i
       → (x : ℕ) → x < length orders → rests orders (traded_before orders deals) i x ≡ true → Better orders x (resting orders d) → left orders (traded_before orders deals) (suc i) x ≡ 0
   none_over d none at x lt rest b =
-      let quiet : any_below (passed_over orders deals i (resting orders d)) (length orders) ≡ false = sym (rw (eq-eqb _ _ at) refl) ∙ none in
+      let quiet : any_below (waits_ahead orders deals i (resting orders d)) (length orders) ≡ false = sym (rw (eq-eqb _ _ at) refl) ∙ none in
       elim (cases_lt 0 (left orders (traded_before orders deals) (suc i) x)) [
         | inr zero' ↦ omega arith
-        | inl some ↦ absurd (both_ways _ (none-any (passed_over orders deals i (resting orders d)) (length orders) quiet x lt)
+        | inl some ↦ absurd (both_ways _ (none-any (waits_ahead orders deals i (resting orders d)) (length orders) quiet x lt)
             (and_from _ _ (and_from _ _ rest (lt-ltb _ _ some)) b))
       ]
 
-  ranked-none : (k : ℕ) → priority_fault orders deals i k ≡ None → ((cause orders (deal_at deals k) == i) && any_below (passed_over orders deals i (resting orders (deal_at deals k))) (length orders)) ≡ false
-  unfolding priority_fault
+  ranked-none : (k : ℕ) → priority_finding orders deals i k ≡ None → ((cause orders (deal_at deals k) == i) && any_below (waits_ahead orders deals i (resting orders (deal_at deals k))) (length orders)) ≡ false
+  unfolding priority_finding
   ranked-none k e = only-none _ _ e
 
-  spread-none : spread_fault orders deals i ≡ None → Spread orders deals i
-  unfolding spread_fault active_meet
+  spread-none : spread_finding orders deals i ≡ None → Spread orders deals i
+  unfolding spread_finding active_meet
   spread-none e b a hb ha buys sells active_b active_a =
       let none = only-none _ _ e in
       let row = none-any (λ b. any_below (λ a. active_on orders deals i Buy b && active_on orders deals i Sell a && nat_le (limit_at orders a) (limit_at orders b)) (length orders)) (length orders) none b hb in
@@ -172,23 +172,23 @@ module _ (orders : List Order) (deals : List Deal) (i : ℕ) (calm : (j : ℕ) �
       ]
 
   -- the rule holds before i, and there is no fault at i: it holds at i
-  pub no_fault-conforms : fault_at orders deals i ≡ None → ConformsAt orders deals i
+  pub no_fault-conforms : finding_at_place orders deals i ≡ None → ConformsAt orders deals i
   no_fault-conforms e =
       let a = option_or-parts _ _ e in
       let b = option_or-parts _ _ a.1 in
       let c = option_or-parts _ _ b.1 in
       record {
-        conservation = conserved (λ k lt at. conservation-none orders deals i k (none-below (conservation_fault orders deals i) (length deals) a.0 k lt) at);
+        conservation = conserved (λ k lt at. conservation-none orders deals i k (none-below (conservation_finding orders deals i) (length deals) a.0 k lt) at);
         priority = All-deals (λ d. cause orders d ≡ i → (x : ℕ) → x < length orders → rests orders (traded_before orders deals) i x ≡ true
-            → Better orders x (resting orders d) → left orders (traded_before orders deals) (suc i) x ≡ 0) deals (λ k lt. none_over (deal_at deals k) (ranked-none k (none-below (priority_fault orders deals i) (length deals) b.0 k lt)));
+            → Better orders x (resting orders d) → left orders (traded_before orders deals) (suc i) x ≡ 0) deals (λ k lt. none_over (deal_at deals k) (ranked-none k (none-below (priority_finding orders deals i) (length deals) b.0 k lt)));
         spread = spread-none c.0;
       }
 
 -- no fault below n: the rule holds below n
-pub no_faults-conform : (orders : List Order) (deals : List Deal) (n : ℕ) → least_answer (fault_at orders deals) n ≡ None → (i : ℕ) → i < n → ConformsAt orders deals i
+pub no_faults-conform : (orders : List Order) (deals : List Deal) (n : ℕ) → least_answer (finding_at_place orders deals) n ≡ None → (i : ℕ) → i < n → ConformsAt orders deals i
 no_faults-conform orders deals zero e i lt = absurd (omega arith)
 no_faults-conform orders deals (suc n) e i lt =
-    let parts = option_or-parts (least_answer (fault_at orders deals) n) (fault_at orders deals n) e in
+    let parts = option_or-parts (least_answer (finding_at_place orders deals) n) (finding_at_place orders deals n) e in
     let earlier = no_faults-conform orders deals n parts.0 in
     elim (cases_eq i n) [
       | inl same ↦ subst (λ j. ConformsAt orders deals j) (sym same) (no_fault-conforms orders deals n earlier parts.1)
@@ -265,7 +265,7 @@ late-conforms orders deals last named top h (suc more) =
     subst (λ i. ConformsAt orders deals i) same (quiet-conforms orders deals (last + more) no_order no_deal before)
 
 -- no fault up to the last place: the rule holds
-pub no_faults-conforms : (orders : List Order) (deals : List Deal) (last : ℕ) → All (NamesOrders orders) deals → IsLast orders last → least_answer (fault_at orders deals) (suc last) ≡ None
+pub no_faults-conforms : (orders : List Order) (deals : List Deal) (last : ℕ) → All (NamesOrders orders) deals → IsLast orders last → least_answer (finding_at_place orders deals) (suc last) ≡ None
     → ConformsContinuous orders deals
 no_faults-conforms orders deals last named top e =
     let first = no_faults-conform orders deals (suc last) e in
@@ -292,7 +292,7 @@ traded-least orders deals i k x lt at named =
     let d = deal_at deals k in
     let f = λ (d : Deal). cond (names x d && nat_lt (cause orders d) (suc i)) d.quantity 0 in
     let whole : f d ≡ d.quantity = cond-true (names x d && nat_lt (cause orders d) (suc i)) d.quantity 0 (and_from _ _ named (lt-ltb (cause orders d) (suc i) (omega arith))) in
-    omega (arith, sum_by_more_le f deals k any_deal lt, whole)
+    omega (arith, sum_by_more_le f deals k missing_deal lt, whole)
 
 upto-most : (orders : List Order) (deals : List Deal) (i k x : ℕ) → traded_upto orders deals i k x ≤ traded_before orders deals (suc i) x
 upto-most orders deals i k x =
@@ -311,24 +311,24 @@ module _ (orders : List Order) (deals : List Deal) (named : All (NamesOrders ord
   kept-here k lt at =
       let d = deal_at deals k in
       let past = traded_before orders deals in
-      let n = named k any_deal lt in
-      let some = (ranges k any_deal lt).some in
-      let limits = c.conservation.limits k any_deal lt at in
+      let n = named k missing_deal lt in
+      let some = (ranges k missing_deal lt).some in
+      let limits = c.conservation.limits k missing_deal lt at in
       let bid_in = c.conservation.within d.bid n.bid_inside in
       let ask_in = c.conservation.within d.ask n.ask_inside in
       let inside : incoming orders d < length orders = cond_both (nat_lt (place_at orders d.bid) (place_at orders d.ask)) d.ask d.bid (λ x. x < length orders) (λ t. n.ask_inside) (λ t. n.bid_inside) in
       let least = traded-least orders deals i k (incoming orders d) lt at (names_incoming orders d) in
       let most = c.conservation.within (incoming orders d) inside in
       record {
-        rested = c.conservation.resting k any_deal lt at;
+        rested = c.conservation.resting k missing_deal lt at;
         arrived = size-entered orders past (incoming orders d) (omega arith);
         limits = and_from _ _ (le-leb _ _ limits.least) (le-leb _ _ limits.most);
         bid_within = omega (arith, upto-most orders deals i k d.bid, bid_in);
         ask_within = omega (arith, upto-most orders deals i k d.ask, ask_in);
       }
 
-  none-conservation : (k : ℕ) → k < length deals → conservation_fault orders deals i k ≡ None
-  unfolding not_active over_limit over_size
+  none-conservation : (k : ℕ) → k < length deals → conservation_finding orders deals i k ≡ None
+  unfolding continuous_inactive continuous_off_limit over_size
   none-conservation k lt = cond_both (cause orders (deal_at deals k) == i) _ None (λ o. o ≡ None)
       (λ t.
       let h = kept-here k lt (eqb-true _ _ t) in
@@ -337,21 +337,21 @@ module _ (orders : List Order) (deals : List Deal) (named : All (NamesOrders ord
       (option_or-none_both _ _ (none-only _ _ (le-ltb _ _ h.bid_within)) (option_or-none_both _ _ (none-only _ _ (le-ltb _ _ h.ask_within)) refl))))
       (λ t. refl)
 
-  none-priority : (k : ℕ) → k < length deals → priority_fault orders deals i k ≡ None
-  unfolding priority_fault
+  none-priority : (k : ℕ) → k < length deals → priority_finding orders deals i k ≡ None
+  unfolding priority_finding
   none-priority k lt = none-only _ _ (false_from_ne_true _ (λ both.
       let d = deal_at deals k in
-      let parts = and_parts (cause orders d == i) (any_below (passed_over orders deals i (resting orders d)) (length orders)) both in
-      let found = any-found (passed_over orders deals i (resting orders d)) (length orders) parts.1 in
+      let parts = and_parts (cause orders d == i) (any_below (waits_ahead orders deals i (resting orders d)) (length orders)) both in
+      let found = any-found (waits_ahead orders deals i (resting orders d)) (length orders) parts.1 in
       let x = found.0 in
       let outer = and_parts (rests orders (traded_before orders deals) i x && nat_lt 0 (left orders (traded_before orders deals) (suc i) x)) (better (order_at orders x) (order_at orders (resting orders d))) found.2 in
       let inner = and_parts (rests orders (traded_before orders deals) i x) (nat_lt 0 (left orders (traded_before orders deals) (suc i) x)) outer.0 in
-      let nothing = c.priority k any_deal lt (eqb-true _ _ parts.0) x found.1 inner.0 outer.1 in
+      let nothing = c.priority k missing_deal lt (eqb-true _ _ parts.0) x found.1 inner.0 outer.1 in
       let some = ltb-true 0 (left orders (traded_before orders deals) (suc i) x) inner.1 in
       omega arith))
 
-  none-spread : spread_fault orders deals i ≡ None
-  unfolding spread_fault active_meet
+  none-spread : spread_finding orders deals i ≡ None
+  unfolding spread_finding active_meet
   none-spread = none-only _ _ (false_from_ne_true _ (λ meet.
       let row = any-found (λ b. any_below (λ a. active_on orders deals i Buy b && active_on orders deals i Sell a && nat_le (limit_at orders a) (limit_at orders b)) (length orders)) (length orders) meet in
       let b = row.0 in
@@ -365,10 +365,10 @@ module _ (orders : List Order) (deals : List Deal) (named : All (NamesOrders ord
       let meets = leb-true (limit_at orders a) (limit_at orders b) outer.1 in
       omega arith))
 
-  pub conforms-no_fault : fault_at orders deals i ≡ None
-  conforms-no_fault = option_or-none_both _ _ (least-none (conservation_fault orders deals i) (length deals) none-conservation)
-      (option_or-none_both _ _ (least-none (priority_fault orders deals i) (length deals) none-priority) (option_or-none_both _ _ none-spread refl))
+  pub conforms-no_fault : finding_at_place orders deals i ≡ None
+  conforms-no_fault = option_or-none_both _ _ (least-none (conservation_finding orders deals i) (length deals) none-conservation)
+      (option_or-none_both _ _ (least-none (priority_finding orders deals i) (length deals) none-priority) (option_or-none_both _ _ none-spread refl))
 
 -- so where First offence (continuous) is something, the rule fails
 pub offence-fails : (orders : List Order) (deals : List Deal) (finding : Finding) → All (NamesOrders orders) deals → All IsDeal deals → IsContinuousOffence orders deals finding → ConformsContinuous orders deals → ⊥
-offence-fails orders deals finding named ranges o c = none_some (fault_at orders deals o.place) finding (conforms-no_fault orders deals named ranges o.place (c.each o.place)) o.here
+offence-fails orders deals finding named ranges o c = none_some (finding_at_place orders deals o.place) finding (conforms-no_fault orders deals named ranges o.place (c.each o.place)) o.here

@@ -112,10 +112,10 @@ module _ (ds es : List Deal) (same : IsPermutation ds es) where
   OnePrice-permutation o = record { price = o.price; each = All-permutation (λ d. d.price ≡ o.price) ds es same o.each }
 
   pub Greatest-permutation : (orders : List Order) → Greatest orders ds → Greatest orders es
-  Greatest-permutation orders g = λ others m. let le = g others m in let e = volume-permutation in omega arith
+  Greatest-permutation orders g = λ others ranges m. let le = g others ranges m in let e = volume-permutation in omega arith
 
   pub GreatestUniform-permutation : (orders : List Order) → GreatestUniform orders ds → GreatestUniform orders es
-  GreatestUniform-permutation orders g = λ others m o. let le = g others m o in let e = volume-permutation in omega arith
+  GreatestUniform-permutation orders g = λ others ranges m o. let le = g others ranges m o in let e = volume-permutation in omega arith
 
   pub ConformsFair-permutation : (orders : List Order) → ConformsFair orders ds → ConformsFair orders es
   ConformsFair-permutation orders c = record { matching = Matching-permutation orders c.matching; fair = Fair-permutation orders c.fair }

@@ -16,14 +16,14 @@ use Rattle.audit_base.specs.declared.orders.Order.{Order}
 use Rattle.audit_base.specs.declared.orders.Deal.{Deal}
 use Rattle.audit_base.specs.declared.findings.OrderLine.{OrderLine}
 use Rattle.audit_base.specs.Numbers.{market_price}
-use Rattle.audit_base.specs.Orders.{side_at, same_side, on_side_with_key}
+use Rattle.audit_base.specs.Orders.{side_at, same_side}
 use Rattle.audit_base.specs.Priority.{best}
-use Rattle.audit_base.specs.Deals.{NamesOrders}
-use Rattle.audit_base.specs.Histories.{history, earlier_with_key, target_of, duplicate_id, time_back, unknown_target, ended_before, is_placed, cancelled_of, order_index, order_list, instant_order}
+use Rattle.audit_base.specs.Deals.{NamesOrders, IsDeal, AreDeals}
+use Rattle.audit_base.specs.Histories.{order_list}
 use Rattle.audit_base.specs.Trades.{trades_of, duplicate_trade, unknown_order, unsound_trade, deals_of}
-use Rattle.audit_base.specs.CallOffences.{inactive, off_limit, other_price, bid_overfilled, ask_overfilled, best_short, is_passed_over, bid_passed_over, ask_passed_over}
+use Rattle.audit_base.specs.CallOffences.{call_inactive, call_off_limit, other_price, bid_overfilled, ask_overfilled, best_short, is_outranked_by_short, bid_passed_over, ask_passed_over}
 use Rattle.audit_base.specs.Continuous.{traded_before, traded_at, chain, before, entered, size, rests, active}
-use Rattle.audit_base.specs.ContinuousOffences.{not_active, over_limit, over_size, priority_fault, active_meet, spread_fault}
+use Rattle.audit_base.specs.ContinuousOffences.{continuous_inactive, continuous_off_limit, over_size, priority_finding, active_meet, spread_finding}
 use Rattle.audit_base.specs.Expected.{pair_deals, available, pair_share}
 use Rattle.audit_base.proofs.OrderLemmas.{same_side-is}
 use Rattle.audit_base.proofs.ContinuousOffenceLemmas.{IsLast}
@@ -80,7 +80,7 @@ line place side id quantity price traded = record { place = place; side = side; 
 
 -- what an example computes with: to unfold this is to unfold all that its line names
 unfoldable pub all_definitions : ℕ
-unfolding trades_of duplicate_trade unknown_order unsound_trade deals_of best inactive off_limit other_price bid_overfilled ask_overfilled best_short is_passed_over bid_passed_over ask_passed_over traded_before traded_at chain before entered size rests active not_active over_limit over_size priority_fault active_meet spread_fault pair_deals available pair_share
+unfolding trades_of duplicate_trade unknown_order unsound_trade deals_of best call_inactive call_off_limit other_price bid_overfilled ask_overfilled best_short is_outranked_by_short bid_passed_over ask_passed_over traded_before traded_at chain before entered size rests active continuous_inactive continuous_off_limit over_size priority_finding active_meet spread_finding pair_deals available pair_share
 all_definitions = 0
 
 -- whether each deal names a bid and an ask, as a test
@@ -99,6 +99,22 @@ all_named orders [] t = All-nil (NamesOrders orders)
 all_named orders (d ∷ ds) t =
     let parts = and_parts (named_test orders d) (list_all (named_test orders) ds) t in
     All-cons (NamesOrders orders) d ds (test-named orders d parts.0) (all_named orders ds parts.1)
+
+-- whether the numbers of a deal are in range, as a test
+abbrev pub range_test : Deal → Bool
+range_test d = nat_lt 0 d.quantity && nat_le d.quantity (10 ^ 12) && nat_lt d.price (10 ^ 18)
+
+test-range : (d : Deal) → range_test d ≡ true → IsDeal d
+test-range d t =
+    let parts = and_parts (nat_lt 0 d.quantity && nat_le d.quantity (10 ^ 12)) (nat_lt d.price (10 ^ 18)) t in
+    let quantity = and_parts (nat_lt 0 d.quantity) (nat_le d.quantity (10 ^ 12)) parts.0 in
+    record { some = ltb-true _ _ quantity.0; most = leb-true _ _ quantity.1; priced = ltb-true _ _ parts.1 }
+
+pub all_in_range : (deals : List Deal) → list_all range_test deals ≡ true → AreDeals deals
+all_in_range [] t = All-nil IsDeal
+all_in_range (d ∷ ds) t =
+    let parts = and_parts (range_test d) (list_all range_test ds) t in
+    All-cons IsDeal d ds (test-range d parts.0) (all_in_range ds parts.1)
 
 -- whether each place is at most the last, as a test
 abbrev pub last_test : ℕ → Order → Bool

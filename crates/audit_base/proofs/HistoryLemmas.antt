@@ -14,8 +14,8 @@ use Rattle.audit_base.specs.declared.records.OrderRecord.{OrderRecord}
 use Rattle.audit_base.specs.declared.records.OrderRecord.TheVariants.{New, Cancel, Replace}
 use Rattle.audit_base.specs.declared.orders.Order.{Order}
 use Rattle.audit_base.specs.Least.{least_with}
-use Rattle.audit_base.specs.Orders.{same_name, same_key, order_at, place_at, side_at, any_order, IsOrderList, HaveOwnKeys}
-use Rattle.audit_base.specs.Histories.{key_of, symbol_of, target_key, is_order, ends, side_of, fits_side, history, any_entry, record_at, record_place, key_at, earlier_with_key, target_of, duplicate_id, time_back, unknown_target, record_finding, WellFormed, replaced_at, is_placed, cancelled_of, order_index, order_of, order_list, Regular}
+use Rattle.audit_base.specs.Orders.{same_name, same_key, order_at, place_at, side_at, missing_order, IsOrderList, HaveOwnKeys}
+use Rattle.audit_base.specs.Histories.{key_of, symbol_of, target_key, is_order, ends, side_of, fits_side, history, missing_entry, record_at, record_place, key_at, earlier_with_key, target_of, duplicate_id, time_back, unknown_target, record_finding, WellFormed, replaced_at, is_placed, cancelled_of, order_index, order_of_record, order_list, Regular}
 use Rattle.audit_base.proofs.SumLemmas.{AllPairs-cons}
 use Rattle.audit_base.proofs.OrderLemmas.{same_side-is}
 use Rattle.audit_base.proofs.LeastLemmas.{cases_Option, none_some, option_or-parts, none-below, none-with, with-found, with-exists}
@@ -48,7 +48,7 @@ enumerated-places (x ∷ xs) test n =
 
 pub place-rises : (symbol : List ℕ) (entries : List OrderRecord) (j k : ℕ) → j < k → k < length (history symbol entries)
     → record_place (history symbol entries) j < record_place (history symbol entries) k
-place-rises symbol entries j k lt below = (enumerated-places entries (λ e. same_name (symbol_of e.1) symbol) 1).1 j k any_entry lt below
+place-rises symbol entries j k lt below = (enumerated-places entries (λ e. same_name (symbol_of e.1) symbol) 1).1 j k missing_entry lt below
 
 -- The order list by the indices of the history.
 
@@ -131,7 +131,7 @@ module _ {E O : Type 0} (f : ℕ → E → Option O) (test : E → Bool) (tells 
 
 -- What an order says of its record.
 
-order-tells : (h : List (ℕ × OrderRecord)) (k : ℕ) (e : ℕ × OrderRecord) → is_some (order_of h (k, e.0, e.1)) ≡ is_order e.1
+order-tells : (h : List (ℕ × OrderRecord)) (k : ℕ) (e : ℕ × OrderRecord) → is_some (order_of_record h (k, e.0, e.1)) ≡ is_order e.1
 order-tells h k (place, New key time symbol side quantity price life) = refl
 order-tells h k (place, Cancel key time symbol target) = refl
 order-tells h k (place, Replace key time symbol target side quantity price) = refl
@@ -147,7 +147,7 @@ pub record IsOrderOf (h : List (ℕ × OrderRecord)) (k : ℕ) (e : ℕ × Order
 some-same : {A : Type 0} (x y : A) → Some x ≡ Some y → x ≡ y
 some-same x y e = cc
 
-order-fields : (h : List (ℕ × OrderRecord)) (k : ℕ) (e : ℕ × OrderRecord) (o : Order) → order_of h (k, e.0, e.1) ≡ Some o → IsOrderOf h k e o
+order-fields : (h : List (ℕ × OrderRecord)) (k : ℕ) (e : ℕ × OrderRecord) (o : Order) → order_of_record h (k, e.0, e.1) ≡ Some o → IsOrderOf h k e o
 order-fields h k (place, New key time symbol side quantity price life) o e =
     let same = some-same _ _ e in
     record { place = sym (ap (λ (x : Order). x.place) same); key = sym (ap (λ (x : Order). x.key) same); cancelled = sym (ap (λ (x : Order). x.cancelled) same); side = ap (λ (x : Order). Some x.side) same; target = inl (sym (ap (λ (x : Order). x.target) same)) }
@@ -160,7 +160,7 @@ map-some : (f : ℕ → ℕ) (o : Option ℕ) (t : ℕ) → option_map f o ≡ S
 map-some f None t e = cc
 map-some f (Some j) t e = (j, refl, some-same _ _ e)
 
-replaced-parts : (h : List (ℕ × OrderRecord)) (k j : ℕ) → replaced_at h k ≡ Some j → target_of h k ≡ Some j
+pub replaced-parts : (h : List (ℕ × OrderRecord)) (k j : ℕ) → replaced_at h k ≡ Some j → target_of h k ≡ Some j
 replaced-parts h k j e = elim (cases_Bool (is_order (record_at h k))) [
   | inl t ↦ sym (cond-true (is_order (record_at h k)) (target_of h k) None t) ∙ e
   | inr f ↦ none_some (cond (is_order (record_at h k)) (target_of h k) None) j (cond-false (is_order (record_at h k)) (target_of h k) None f) e
@@ -176,7 +176,7 @@ pub record IsTarget (h : List (ℕ × OrderRecord)) (k t : ℕ) : Type 0 where
 abbrev names_target : List (ℕ × OrderRecord) → ℕ → ℕ → Bool
 names_target h k j = is_order (record_at h j) && ends (key_at h j) (record_at h k) && fits_side (side_of (record_at h k)) (side_of (record_at h j))
 
-target-is : (h : List (ℕ × OrderRecord)) (k t : ℕ) → target_of h k ≡ Some t → IsTarget h k t
+pub target-is : (h : List (ℕ × OrderRecord)) (k t : ℕ) → target_of h k ≡ Some t → IsTarget h k t
 target-is h k t e =
     let r = with-found (names_target h k) k t e in
     let outer = and_parts (is_order (record_at h t) && ends (key_at h t) (record_at h k)) (fits_side (side_of (record_at h k)) (side_of (record_at h t))) r.1 in
@@ -311,19 +311,19 @@ module _ (symbol : List ℕ) (entries : List OrderRecord) (formed : WellFormed s
     pub at : ℕ
     pub inside : at < length records
     pub index : order_index records at ≡ i
-    pub fields : IsOrderOf records at (get_or records at any_entry) o
+    pub fields : IsOrderOf records at (get_or records at missing_entry) o
 
   pub order-from : (i : ℕ) → i < length orders → IsFrom (order_at orders i) i
   order-from i lt =
-      let r = kept-from (λ (k : ℕ) (e : ℕ × OrderRecord). order_of records (k, e.0, e.1)) (λ e. is_order e.1) (order-tells records) any_entry any_order records 0 i lt in
+      let r = kept-from (λ (k : ℕ) (e : ℕ × OrderRecord). order_of_record records (k, e.0, e.1)) (λ e. is_order e.1) (order-tells records) missing_entry missing_order records 0 i lt in
       let same : 0 + r.at ≡ r.at = omega arith in
-      record { at = r.at; inside = r.inside; index = r.index; fields = order-fields records r.at (get_or records r.at any_entry) _ (rw same at r.gives) }
+      record { at = r.at; inside = r.inside; index = r.index; fields = order-fields records r.at (get_or records r.at missing_entry) _ (rw same at r.gives) }
 
-  pub order-to : (k : ℕ) → k < length records → is_order (record_at records k) ≡ true → (order_index records k < length orders) × IsOrderOf records k (get_or records k any_entry) (order_at orders (order_index records k))
+  pub order-to : (k : ℕ) → k < length records → is_order (record_at records k) ≡ true → (order_index records k < length orders) × IsOrderOf records k (get_or records k missing_entry) (order_at orders (order_index records k))
   order-to k lt t =
-      let r = kept-at (λ (k : ℕ) (e : ℕ × OrderRecord). order_of records (k, e.0, e.1)) (λ e. is_order e.1) (order-tells records) any_entry any_order records 0 k lt t in
+      let r = kept-at (λ (k : ℕ) (e : ℕ × OrderRecord). order_of_record records (k, e.0, e.1)) (λ e. is_order e.1) (order-tells records) missing_entry missing_order records 0 k lt t in
       let same : 0 + k ≡ k = omega arith in
-      (r.0, order-fields records k (get_or records k any_entry) _ (rw same at r.1))
+      (r.0, order-fields records k (get_or records k missing_entry) _ (rw same at r.1))
 
   -- earlier records have lesser indices
   index-most : (j k : ℕ) → j ≤ k → k ≤ length records → order_index records j ≤ order_index records k
@@ -331,11 +331,11 @@ module _ (symbol : List ℕ) (entries : List OrderRecord) (formed : WellFormed s
 
   index-less : (j k : ℕ) → j < k → k ≤ length records → is_order (record_at records j) ≡ true → order_index records j < order_index records k
   index-less j k lt below t =
-      let one = count_by_more_yes (λ (e : ℕ × OrderRecord). is_order e.1) records j any_entry (omega arith) t in
+      let one = count_by_more_yes (λ (e : ℕ × OrderRecord). is_order e.1) records j missing_entry (omega arith) t in
       let rest = count-take (λ (e : ℕ × OrderRecord). is_order e.1) records (j + 1) k (omega arith) in
       omega arith
 
-  target-record : (k : ℕ) (o : Order) (t : ℕ) → IsOrderOf records k (get_or records k any_entry) o → o.target ≡ Some t
+  target-record : (k : ℕ) (o : Order) (t : ℕ) → IsOrderOf records k (get_or records k missing_entry) o → o.target ≡ Some t
       → (j : ℕ) × (target_of records k ≡ Some j) × (order_index records j ≡ t)
   target-record k o t f e = elim f.target [
     | inl none ↦ none_some o.target t none e
@@ -392,14 +392,14 @@ module _ (symbol : List ℕ) (entries : List OrderRecord) (formed : WellFormed s
         let inside = from.inside in
         let to = order-to found.0 (omega arith) is.ordered in
         let upto = cancelled-upto found.0 k is.earlier from.inside is.named in
-        let g : IsOrderOf records found.0 (get_or records found.0 any_entry) (order_at orders t) = subst (λ x. IsOrderOf records found.0 (get_or records found.0 any_entry) (order_at orders x)) found.2 to.1 in
+        let g : IsOrderOf records found.0 (get_or records found.0 missing_entry) (order_at orders t) = subst (λ x. IsOrderOf records found.0 (get_or records found.0 missing_entry) (order_at orders x)) found.2 to.1 in
         let least = upto.2 in
         (upto.0, g.cancelled ∙ upto.1, omega arith);
   }
 
   orders-few : length orders ≤ length entries
   orders-few =
-      let a = kept-length (λ (k : ℕ) (e : ℕ × OrderRecord). order_of records (k, e.0, e.1)) records 0 in
+      let a = kept-length (λ (k : ℕ) (e : ℕ × OrderRecord). order_of_record records (k, e.0, e.1)) records 0 in
       let test : ℕ × OrderRecord → Bool = λ e. same_name (symbol_of e.1) symbol in
       let b : length records ≤ length (enumerate_from 1 entries) = rw (length-filter test (enumerate_from 1 entries)) (count_by-le-length test (enumerate_from 1 entries)) in
       let c = length-enumerate_from 1 entries in
@@ -420,8 +420,8 @@ module _ (symbol : List ℕ) (entries : List OrderRecord) (formed : WellFormed s
         let p = places from.at to.at k_lt to.inside in
         let place_i = f.place in
         let place_j = g.place in
-        let first : get_or orders i d ≡ order_at orders i = get_or-default orders i d any_order (omega arith) in
-        let second : get_or orders j d ≡ order_at orders j = get_or-default orders j d any_order below in
+        let first : get_or orders i d ≡ order_at orders i = get_or-default orders i d missing_order (omega arith) in
+        let second : get_or orders j d ≡ order_at orders j = get_or-default orders j d missing_order below in
         let rise : place_at orders i < place_at orders j = omega arith in
         rw (first, second) rise;
     few = let le = orders-few in omega arith;
@@ -436,7 +436,7 @@ module _ (symbol : List ℕ) (entries : List OrderRecord) (formed : WellFormed s
         let inside = from.inside in
         let same = found.2 in
         let to = order-to found.0 (omega arith) is.ordered in
-        let g : IsOrderOf records found.0 (get_or records found.0 any_entry) (order_at orders t) = subst (λ x. IsOrderOf records found.0 (get_or records found.0 any_entry) (order_at orders x)) found.2 to.1 in
+        let g : IsOrderOf records found.0 (get_or records found.0 missing_entry) (order_at orders t) = subst (λ x. IsOrderOf records found.0 (get_or records found.0 missing_entry) (order_at orders x)) found.2 to.1 in
         let less = index-less found.0 k is.earlier (omega arith) is.ordered in
         (omega arith, fits-same (side_at orders i) (side_at orders t) (side_of (record_at records k)) (side_of (record_at records found.0)) f.side g.side is.sided);
   }
@@ -448,8 +448,8 @@ module _ (symbol : List ℕ) (entries : List OrderRecord) (formed : WellFormed s
       let to = order-from j below in
       let index_i = from.index in
       let index_j = to.index in
-      let first : get_or orders i d ≡ order_at orders i = get_or-default orders i d any_order (omega arith) in
-      let second : get_or orders j d ≡ order_at orders j = get_or-default orders j d any_order below in
+      let first : get_or orders i d ≡ order_at orders i = get_or-default orders i d missing_order (omega arith) in
+      let second : get_or orders j d ≡ order_at orders j = get_or-default orders j d missing_order below in
       let one : key_at records from.at ≡ key_at records to.at = sym from.fields.key ∙ ap (λ (o : Order). o.key) (sym first) ∙ same ∙ ap (λ (o : Order). o.key) second ∙ to.fields.key in
       let e = ap (order_index records) (distinct-keys from.at to.at from.inside to.inside one) in
       omega arith

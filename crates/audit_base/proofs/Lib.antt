@@ -12,12 +12,13 @@ pub mod NumberLemmas
 pub mod OffenceLemmas
 pub mod OrderLemmas
 pub mod PairDealLemmas
-pub mod PlainLemmas
+pub mod PlacedLemmas
 pub mod PriorityLemmas
 pub mod RankLemmas
 pub mod StampLemmas
 pub mod SumLemmas
 pub mod TradeLemmas
+pub mod UnquotedLemmas
 pub mod VerdictLemmas
 pub mod VolumeLemmas
 pub mod WrittenDigits

@@ -5,7 +5,7 @@ use Rattle.std.proofs.lemmas.Bool.{cases_lt, cases_order, and_parts, and_from}
 use Rattle.audit_base.specs.declared.terms.Side.{Side}
 use Rattle.audit_base.specs.declared.terms.Side.TheVariants.{Buy, Sell}
 use Rattle.audit_base.specs.declared.orders.Order.{Order}
-use Rattle.audit_base.specs.Orders.{order_at, place_at, any_order, same_side, other_side, stands_on, Stands, IsOrderList}
+use Rattle.audit_base.specs.Orders.{order_at, place_at, missing_order, same_side, other_side, stands_on, Stands, IsOrderList}
 
 pub not_both_sides : Buy ≡ Sell → ⊥
 not_both_sides e = cc
@@ -66,7 +66,7 @@ standing orders i = elim (cases_lt i (length orders)) [
 
 -- places rise with the index, so that two orders of one place are one
 pub place-rises : (orders : List Order) → IsOrderList orders → (i j : ℕ) → i < j → j < length orders → place_at orders i < place_at orders j
-place-rises orders list i j lt below = list.rising i j any_order lt below
+place-rises orders list i j lt below = list.rising i j missing_order lt below
 
 pub same_place : (orders : List Order) → IsOrderList orders → (i j : ℕ) → i < length orders → j < length orders → place_at orders i ≡ place_at orders j → i ≡ j
 same_place orders list i j hi hj e = elim (cases_order i j) [

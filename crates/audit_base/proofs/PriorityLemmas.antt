@@ -11,7 +11,7 @@ use Rattle.audit_base.specs.Priority.{outranks, better, Better, best}
 use Rattle.audit_base.proofs.OrderLemmas.{same_side-is, is-same_side, same_place}
 use Rattle.audit_base.proofs.LeastLemmas.{any-none, none-any, with-found, with-exists}
 
--- on plain limits and places
+-- on limits and places alone
 
 strict : (a s : ℕ) → (nat_lt a a || ((a == a) && nat_lt s s)) ≡ false
 strict a s = grind arith

@@ -16,7 +16,7 @@ use Rattle.audit_base.specs.declared.orders.Order.{Order}
 use Rattle.audit_base.specs.declared.orders.Deal.{Deal}
 use Rattle.audit_base.specs.Orders.{order_at, side_at, same_name, same_side, same_key, on_side_with_key}
 use Rattle.audit_base.specs.Deals.{NamesOrders, IsDealList, IsDeal, AreDeals}
-use Rattle.audit_base.specs.Trades.{trades_of, any_trade, trade_at, IsTrade, AreTrades, duplicate_trade, unknown_order, unsound_trade, Sound, deal_of, deals_of}
+use Rattle.audit_base.specs.Trades.{trades_of, missing_trade, trade_at, IsTrade, AreTrades, duplicate_trade, unknown_order, unsound_trade, Sound, deal_of, deals_of}
 use Rattle.audit_base.proofs.OrderLemmas.{same_side-is}
 use Rattle.audit_base.proofs.LeastLemmas.{cases_Option, option_or-parts, none-below, with-found}
 use Rattle.audit_base.proofs.OffenceLemmas.{only-none}
@@ -51,8 +51,8 @@ unfolding unknown_order
 known-order orders listed k e = let parts = option_or-parts _ _ e in (only-none _ _ parts.0, only-none _ _ parts.1)
 
 module _ (orders : List Order) (symbol : List ℕ) (trades : List TradeRecord) where
-  deal-at : (k : ℕ) (d : Deal) → k < length (trades_of symbol trades) → get_or (map (deal_of orders) (trades_of symbol trades)) k d ≡ deal_of orders (get_or (trades_of symbol trades) k any_trade)
-  deal-at k d lt = get_or-map (deal_of orders) (trades_of symbol trades) k any_trade d lt
+  deal-at : (k : ℕ) (d : Deal) → k < length (trades_of symbol trades) → get_or (map (deal_of orders) (trades_of symbol trades)) k d ≡ deal_of orders (get_or (trades_of symbol trades) k missing_trade)
+  deal-at k d lt = get_or-map (deal_of orders) (trades_of symbol trades) k missing_trade d lt
 
   deals-length : length (deals_of orders symbol trades) ≡ length (trades_of symbol trades)
   unfolding deals_of
@@ -76,7 +76,7 @@ module _ (orders : List Order) (symbol : List ℕ) (trades : List TradeRecord) w
   deals-ranges ranges k d lt =
       let listed = trades_of symbol trades in
       let inside : k < length listed = rw (← length-map listed (deal_of orders)) lt in
-      let t = numbered-All IsTrade trades (λ e. same_name e.1.symbol symbol) 1 ranges k any_trade inside in
+      let t = numbered-All IsTrade trades (λ e. same_name e.1.symbol symbol) 1 ranges k missing_trade inside in
       subst IsDeal (sym (deal-at k d inside)) (record { some = t.some; most = t.most; priced = t.priced })
 
   deals-rising : AllPairs (λ d e. d.place < e.place) (deals_of orders symbol trades)
@@ -84,7 +84,7 @@ module _ (orders : List Order) (symbol : List ℕ) (trades : List TradeRecord) w
   deals-rising j k d lt below =
       let listed = trades_of symbol trades in
       let inside : k < length listed = rw (← length-map listed (deal_of orders)) below in
-      let rise = (enumerated-places trades (λ e. same_name e.1.symbol symbol) 1).1 j k any_trade lt inside in
+      let rise = (enumerated-places trades (λ e. same_name e.1.symbol symbol) 1).1 j k missing_trade lt inside in
       rw (deal-at j d (omega arith), deal-at k d inside) rise
 
   -- they are a list of deals over the orders

@@ -12,7 +12,7 @@ use Rattle.audit_base.specs.declared.findings.Finding.{Finding}
 use Rattle.audit_base.specs.Deals.{NamesOrders, AreDeals}
 use Rattle.audit_base.specs.Rules.{Conforms, Only}
 use Rattle.audit_base.specs.CallOffences.{early_offence, IsGreatestUnder, IsVolumeOffence, IsCallOffence}
-use Rattle.audit_base.specs.ContinuousOffences.{fault_at, IsContinuousOffence}
+use Rattle.audit_base.specs.ContinuousOffences.{finding_at_place, IsContinuousOffence}
 use Rattle.audit_base.specs.Least.{first_of}
 use Rattle.audit_base.specs.Histories.{history_finding, order_list}
 use Rattle.audit_base.specs.Trades.{AreTrades, unsound_trade, deals_of}
@@ -31,7 +31,7 @@ match-none o P Q e h = subst (λ p. MatchOption p P Q) e h
 
 -- each order has one due
 pub one-due : (r : Rule) (orders : List Order) (i m n : ℕ) → Only r orders i m → Only r orders i n → m ≡ n
-one-due r orders i m n a b = sym (a.each b.some b.conforms) ∙ b.each b.some b.conforms
+one-due r orders i m n a b = sym (a.each b.some b.ranges b.conforms) ∙ b.each b.some b.ranges b.conforms
 
 -- there is one greatest volume
 pub one-greatest : (r : Rule) (orders : List Order) (u v : ℕ) → IsGreatestUnder r orders u → IsGreatestUnder r orders v → u ≡ v
@@ -39,14 +39,14 @@ one-greatest rule.Matching orders u v a b = absurd a
 one-greatest rule.Fair orders u v a b = absurd a
 one-greatest rule.Continuous orders u v a b = absurd a
 one-greatest rule.Uniform orders u v a b =
-    let le = a.greatest b.deals b.matching b.one_price in
-    let ge = b.greatest a.deals a.matching a.one_price in
+    let le = a.greatest b.deals b.ranges b.matching b.one_price in
+    let ge = b.greatest a.deals a.ranges a.matching a.one_price in
     let x = a.reached in
     let y = b.reached in
     omega arith
 one-greatest rule.Maximum orders u v a b =
-    let le = a.greatest b.deals b.matching in
-    let ge = b.greatest a.deals a.matching in
+    let le = a.greatest b.deals b.ranges b.matching in
+    let ge = b.greatest a.deals a.ranges a.matching in
     let x = a.reached in
     let y = b.reached in
     omega arith
@@ -91,9 +91,9 @@ conforms-no_volume_offence rule.Matching orders deals count f c o = o.greatest
 conforms-no_volume_offence rule.Fair orders deals count f c o = o.greatest
 conforms-no_volume_offence rule.Continuous orders deals count f c o = o.greatest
 conforms-no_volume_offence rule.Uniform orders deals count f c o =
-    let g = o.greatest in let le = c.greatest g.deals g.matching g.one_price in let e = g.reached in let lt = o.below in absurd (omega arith)
+    let g = o.greatest in let le = c.greatest g.deals g.ranges g.matching g.one_price in let e = g.reached in let lt = o.below in absurd (omega arith)
 conforms-no_volume_offence rule.Maximum orders deals count f c o =
-    let g = o.greatest in let le = c.greatest g.deals g.matching in let e = g.reached in let lt = o.below in absurd (omega arith)
+    let g = o.greatest in let le = c.greatest g.deals g.ranges g.matching in let e = g.reached in let lt = o.below in absurd (omega arith)
 
 pub call_offence-fails : (r : Rule) (orders : List Order) (deals : List Deal) (count : ℕ) (f : Finding) → (r ≡ rule.Continuous → ⊥) → AreDeals deals
     → IsCallOffence r orders deals count f → Conforms r orders deals → ⊥
@@ -104,10 +104,10 @@ call_offence-fails r orders deals count f call ranges o c =
 pub one-continuous_offence : (orders : List Order) (deals : List Deal) (f g : Finding) → All (NamesOrders orders) deals → AreDeals deals
     → IsContinuousOffence orders deals f → IsContinuousOffence orders deals g → f ≡ g
 one-continuous_offence orders deals f g named ranges a b = elim (cases_order a.place b.place) [
-  | inl same ↦ some-one _ f g (subst (λ i. fault_at orders deals i ≡ Some f) same a.here) b.here
+  | inl same ↦ some-one _ f g (subst (λ i. finding_at_place orders deals i ≡ Some f) same a.here) b.here
   | inr ne ↦ elim ne [
-    | inl less ↦ none_some (fault_at orders deals a.place) f (conforms-no_fault orders deals named ranges a.place (b.before a.place less)) a.here
-    | inr more ↦ none_some (fault_at orders deals b.place) g (conforms-no_fault orders deals named ranges b.place (a.before b.place more)) b.here
+    | inl less ↦ none_some (finding_at_place orders deals a.place) f (conforms-no_fault orders deals named ranges a.place (b.before a.place less)) a.here
+    | inr more ↦ none_some (finding_at_place orders deals b.place) g (conforms-no_fault orders deals named ranges b.place (a.before b.place more)) b.here
   ]
 ]
 
@@ -136,10 +136,11 @@ one-rule_verdict r orders deals count None (Some g) named ranges a b = absurd (f
 one-rule_verdict r orders deals count (Some f) None named ranges a b = absurd (first_offence-fails r orders deals count f named ranges a b)
 one-rule_verdict r orders deals count (Some f) (Some g) named ranges a b = ap (λ (x : Finding). Some x) (one-offence r orders deals count f g named ranges a b)
 
--- and one verdict on two logs that have been read
-pub one-verdict : (r : Rule) (symbol : List ℕ) (entries : List OrderRecord) (trades : Result (List TradeRecord) Finding) (v w : Option Finding) → AreTrades (paired_trades trades)
+-- and one verdict on two logs that have been read, where the deals of sound trades are in range
+pub one-verdict-of_deals : (r : Rule) (symbol : List ℕ) (entries : List OrderRecord) (trades : Result (List TradeRecord) Finding) (v w : Option Finding)
+    → (unsound_trade (order_list symbol entries) symbol (paired_trades trades) ≡ None → AreDeals (deals_of (order_list symbol entries) symbol (paired_trades trades)))
     → IsVerdict r symbol entries trades v → IsVerdict r symbol entries trades w → v ≡ w
-one-verdict r symbol entries trades v w ranges a b = elim (cases_Option (log_finding r symbol entries trades)) [
+one-verdict-of_deals r symbol entries trades v w ranges a b = elim (cases_Option (log_finding r symbol entries trades)) [
   | inr (f, some) ↦ match-some _ _ _ f some a ∙ sym (match-some _ _ _ f some b)
   | inl none ↦
       let orders = order_list symbol entries in
@@ -148,6 +149,11 @@ one-verdict r symbol entries trades v w ranges a b = elim (cases_Option (log_fin
       let last = option_or-parts (pairing_finding trades) (first_of (unsound_trade orders symbol (paired_trades trades) ∷ [])) latest.1 in
       let sound = (option_or-parts (unsound_trade orders symbol (paired_trades trades)) None last.1).0 in
       one-rule_verdict r orders (deals_of orders symbol (paired_trades trades)) (length (paired_trades trades)) v w
-      (sound-names orders symbol (paired_trades trades) sound) (deals-ranges orders symbol (paired_trades trades) ranges)
+      (sound-names orders symbol (paired_trades trades) sound) (ranges sound)
       (match-none _ _ _ none a) (match-none _ _ _ none b)
 ]
+
+pub one-verdict : (r : Rule) (symbol : List ℕ) (entries : List OrderRecord) (trades : Result (List TradeRecord) Finding) (v w : Option Finding) → AreTrades (paired_trades trades)
+    → IsVerdict r symbol entries trades v → IsVerdict r symbol entries trades w → v ≡ w
+one-verdict r symbol entries trades v w ranges a b =
+    one-verdict-of_deals r symbol entries trades v w (λ _. deals-ranges (order_list symbol entries) symbol (paired_trades trades) ranges) a b

@@ -9,7 +9,7 @@ use Rattle.audit_base.specs.declared.terms.Side.TheVariants.{Buy, Sell}
 use Rattle.audit_base.specs.declared.orders.Order.{Order}
 use Rattle.audit_base.specs.declared.orders.Deal.{Deal}
 use Rattle.audit_base.specs.Sums.{sum_below}
-use Rattle.audit_base.specs.Orders.{any_order, order_at, quantity_at, limit_at, stands_on}
+use Rattle.audit_base.specs.Orders.{missing_order, order_at, quantity_at, limit_at, stands_on}
 use Rattle.audit_base.specs.Deals.{part_of, traded, volume}
 use Rattle.audit_base.specs.Calls.{Keeps, Matching, Greatest, GreatestUniform}
 use Rattle.audit_base.specs.Bounds.{wanted, offered, offered_below, demand, supply, supply_below, cut}
@@ -19,7 +19,7 @@ use Rattle.audit_base.proofs.DealLemmas.{keeps-names, part-bid, part-ask, part-o
 
 -- a sum over the orders is one over their indices
 indexed : (f : Order → ℕ) (orders : List Order) → sum_below (λ i. f (order_at orders i)) (length orders) ≡ sum_by f orders
-indexed f orders = below-list f orders any_order (length orders) (omega arith) ∙ ap (sum_by f) (take_all (length orders) orders (omega arith))
+indexed f orders = below-list f orders missing_order (length orders) (omega arith) ∙ ap (sum_by f) (take_all (length orders) orders (omega arith))
 
 zero-if : (b : Bool) (x : ℕ) → x ≡ 0 → cond b x 0 ≡ 0
 zero-if true x e = e
@@ -110,7 +110,7 @@ volume-le-supply orders deals m p one =
 
 -- so a volume that is a cut is the greatest
 pub cut-greatest : (orders : List Order) (deals : List Deal) (p : ℕ) → volume deals ≡ cut orders p → Greatest orders deals
-cut-greatest orders deals p e others m = let le = volume-le-cut orders others m p in omega arith
+cut-greatest orders deals p e others ranges m = let le = volume-le-cut orders others m p in omega arith
 
 weighted-le : (a b c : Bool) (x : ℕ) → (b ≡ true → c ≡ true) → cond (a && b) x 0 ≤ cond (a && c) x 0
 weighted-le false b c x h = omega arith
@@ -127,7 +127,7 @@ supply-under orders p q lt = sum_by-le-sum_by (offered p) (offered_below q) orde
 
 -- and a volume that is at least the demand at a price and the supply below it is the greatest at one price
 pub line-greatest : (orders : List Order) (deals : List Deal) (q : ℕ) → demand orders q ≤ volume deals → supply_below orders q ≤ volume deals → GreatestUniform orders deals
-line-greatest orders deals q d s others m one = elim (cases_lt one.price q) [
+line-greatest orders deals q d s others ranges m one = elim (cases_lt one.price q) [
   | inl lt ↦ omega (arith, volume-le-supply orders others m one.price one.each, supply-under orders one.price q lt, s)
   | inr ge ↦ omega (arith, volume-le-demand orders others m one.price one.each, demand-falls orders q one.price ge, d)
 ]

@@ -62,7 +62,7 @@ pub fixed_digits_form : (width most number : ℕ) → 1 ≤ width → width ≤ 
 fixed_digits_form width most number some few below =
     let text = fixed_digits width number in
     let size : length text ≡ width = length-fixed_digits width number in
-    let all : is_digits most text ≡ true =
+    let all : is_digits 1 most text ≡ true =
     and_from _ _ (and_from _ _ (le-leb 1 (length text) (omega arith)) (le-leb (length text) most (omega arith))) (fixed_digits_are width number) in
     cond-true _ _ _ all ∙ ap Some (fixed_digits_value width number below)
 
@@ -82,6 +82,6 @@ pub decimal_form : (most number : ℕ) → 1 ≤ most → number < 10 ^ most →
 decimal_form most number some room below =
     let numeral = decimal_is_IsNumeral_wide number below in
     let few : length (decimal number) ≤ most = length-decimal-le_wide most number some room below in
-    let all : is_digits most (decimal number) ≡ true =
+    let all : is_digits 1 most (decimal number) ≡ true =
     and_from _ _ (and_from _ _ (le-leb 1 (length (decimal number)) (omega (arith, numeral.0.0))) (le-leb (length (decimal number)) most few)) (decimal_digits number below) in
     cond-true _ _ _ all ∙ ap Some numeral.1

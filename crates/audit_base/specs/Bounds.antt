@@ -16,7 +16,7 @@ wanted p o = if stands_on Buy o && nat_le p o.limit then o.quantity else 0
 abbrev pub offered : ℕ → Order → ℕ
 offered p o = if stands_on Sell o && nat_le o.limit p then o.quantity else 0
 
--- the same below it
+-- what an order offers below a price, if it is an ask that no record cancels
 abbrev pub offered_below : ℕ → Order → ℕ
 offered_below p o = if stands_on Sell o && nat_lt o.limit p then o.quantity else 0
 
@@ -36,24 +36,26 @@ supply_below orders p = sum_by (offered_below p) orders
 abbrev pub cut : List Order → ℕ → ℕ
 cut orders p = demand orders p + supply_below orders p
 
--- the lesser of demand and supply: what can trade at one price
-abbrev pub uniform_most : List Order → ℕ → ℕ
-uniform_most orders p = min (demand orders p) (supply orders p)
+-- executable volume: the lesser of demand and supply, which is what can trade at this one price
+abbrev pub executable_volume : List Order → ℕ → ℕ
+executable_volume orders p = min (demand orders p) (supply orders p)
 
 -- the least cut over all prices from 0 to 10^18, and the least price that reaches it
 pub record IsLeastCut (orders : List Order) (c : Cut) : Type 0 where
   pub reached : IsLeast (λ q. (q ≤ 10 ^ 18) × (cut orders q ≡ c.volume)) c.price
   pub least : (q : ℕ) → q ≤ 10 ^ 18 → c.volume ≤ cut orders q
 
--- the greatest lesser of demand and supply over these prices, and the least price that reaches it
+-- the greatest executable volume over these prices, and the least price that reaches it
 pub record IsBestUniform (orders : List Order) (c : Cut) : Type 0 where
-  pub reached : IsLeast (λ q. (q ≤ 10 ^ 18) × (uniform_most orders q ≡ c.volume)) c.price
-  pub greatest : (q : ℕ) → q ≤ 10 ^ 18 → uniform_most orders q ≤ c.volume
+  pub reached : IsLeast (λ q. (q ≤ 10 ^ 18) × (executable_volume orders q ≡ c.volume)) c.price
+  pub greatest : (q : ℕ) → q ≤ 10 ^ 18 → executable_volume orders q ≤ c.volume
 
--- Bound: the least price from 0 to 10^18 at which the cut (under `uniform`, the lesser of demand and supply) is the volume
+-- Bound: the least price from 0 to 10^18 at which the cut (under `uniform`, the executable volume)
+-- is the volume
 abbrev pub IsBound : Rule → List Order → ℕ → ℕ → Type 0
 IsBound rule.Maximum orders volume p = IsLeast (λ q. (q ≤ 10 ^ 18) × (cut orders q ≡ volume)) p
-IsBound rule.Uniform orders volume p = IsLeast (λ q. (q ≤ 10 ^ 18) × (uniform_most orders q ≡ volume)) p
+IsBound rule.Uniform orders volume p =
+    IsLeast (λ q. (q ≤ 10 ^ 18) × (executable_volume orders q ≡ volume)) p
 IsBound rule.Matching orders volume p = ⊥
 IsBound rule.Fair orders volume p = ⊥
 IsBound rule.Continuous orders volume p = ⊥

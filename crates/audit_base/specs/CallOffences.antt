@@ -8,38 +8,48 @@ use Rattle.audit_base.specs.declared.terms.Rule.{Rule}
 use Rattle.audit_base.specs.declared.terms.Rule.TheVariants as rule
 use Rattle.audit_base.specs.declared.orders.Order.{Order}
 use Rattle.audit_base.specs.declared.orders.Deal.{Deal}
+use Rattle.audit_base.specs.declared.findings.Property.{Property}
 use Rattle.audit_base.specs.declared.findings.Property.TheVariants as property
 use Rattle.audit_base.specs.declared.findings.Finding.{Finding}
 use Rattle.audit_base.specs.declared.findings.Shown.TheVariants as shown
 use Rattle.audit_base.specs.Least.{least_answer, any_below, first_of, only_if}
-use Rattle.audit_base.specs.Orders.{order_at, quantity_at, limit_at, stands_on}
+use Rattle.audit_base.specs.Orders.{order_at, quantity_at, stands_on}
 use Rattle.audit_base.specs.Priority.{better, best}
 use Rattle.audit_base.specs.Deals.{deal_at, traded, volume}
 use Rattle.audit_base.specs.Calls.{IsGreatestVolume, IsGreatestUniformVolume}
 use Rattle.audit_base.specs.Rules.{Only}
-use Rattle.audit_base.specs.Shows.{at_deal, order_line, show_order, show_found, show_place}
+use Rattle.audit_base.specs.Shows.{at_deal, with_traded, show_order, show_found, show_place}
 
--- First part: the least deal up to which the deals aren't a matching (or, under `uniform`, haven't one price).
+-- First part: the least deal up to which the deals aren't a matching (or, under `uniform`, haven't
+-- one price).
 
 -- some record cancels the order
 abbrev pub is_cancelled : List Order → ℕ → Bool
 is_cancelled orders i = is_some (order_at orders i).cancelled
 
--- the price is from the ask's limit to the bid's
+-- the price is from the limit of this ask to that of this bid
+abbrev pub is_within : Order → Order → Deal → Bool
+is_within bid ask d = nat_le ask.limit d.price && nat_le d.price bid.limit
+
+-- the price is within the limits of the deal's own orders
 abbrev pub keeps_limits : List Order → Deal → Bool
-keeps_limits orders d = nat_le (limit_at orders d.ask) d.price && nat_le d.price (limit_at orders d.bid)
+keeps_limits orders d = is_within (order_at orders d.bid) (order_at orders d.ask) d
 
 -- The findings 7 to 11 at the deal at k. Orders are shown with what they trade up to this deal.
 
 -- 7: the bid, or else the ask, is one that some record cancels
-unfoldable pub inactive : List Order → List Deal → ℕ → Option Finding
-inactive orders deals k = let d = deal_at deals k in let so_far = traded (take (k + 1) deals) in
-    first_of (only_if (is_cancelled orders d.bid) (at_deal property.Inactive d (show_order orders so_far d.bid) None)
-    ∷ only_if (is_cancelled orders d.ask) (at_deal property.Inactive d (show_order orders so_far d.ask) None) ∷ [])
+unfoldable pub call_inactive : List Order → List Deal → ℕ → Option Finding
+call_inactive orders deals k =
+    let d = deal_at deals k in let so_far = traded (take (k + 1) deals) in
+    first_of (only_if (is_cancelled orders d.bid)
+    (at_deal property.Inactive d (show_order orders so_far d.bid) None)
+    ∷ only_if (is_cancelled orders d.ask)
+    (at_deal property.Inactive d (show_order orders so_far d.ask) None) ∷ [])
 
 -- 8: the price is outside a limit
-unfoldable pub off_limit : List Order → List Deal → ℕ → Option Finding
-off_limit orders deals k = let d = deal_at deals k in let so_far = traded (take (k + 1) deals) in
+unfoldable pub call_off_limit : List Order → List Deal → ℕ → Option Finding
+call_off_limit orders deals k =
+    let d = deal_at deals k in let so_far = traded (take (k + 1) deals) in
     only_if (not (keeps_limits orders d))
     (at_deal property.Limit d (show_order orders so_far d.bid) (show_order orders so_far d.ask))
 
@@ -49,56 +59,74 @@ other_price uniform deals k = let d = deal_at deals k in
     only_if (uniform && not (d.price == (deal_at deals 0).price))
     (at_deal property.UniformPrice d (show_place which.Trades (deal_at deals 0).place) None)
 
--- 10: up to this deal the bid trades more than its quantity
-unfoldable pub bid_overfilled : List Order → List Deal → ℕ → Option Finding
-bid_overfilled orders deals k = let d = deal_at deals k in let so_far = traded (take (k + 1) deals) in
-    only_if (nat_lt (quantity_at orders d.bid) (so_far d.bid)) (at_deal property.BuyQuantity d (show_order orders so_far d.bid) None)
+-- 10 and 11: up to the deal at k the order at i, which it names, trades more than its quantity
+abbrev pub overfilled : Property → List Order → List Deal → ℕ → ℕ → Option Finding
+overfilled property orders deals k i = let so_far = traded (take (k + 1) deals) in
+    only_if (nat_lt (quantity_at orders i) (so_far i))
+    (at_deal property (deal_at deals k) (show_order orders so_far i) None)
 
--- 11: up to this deal the ask trades more than its quantity
+-- 10, of the deal's bid
+unfoldable pub bid_overfilled : List Order → List Deal → ℕ → Option Finding
+bid_overfilled orders deals k = overfilled property.BuyQuantity orders deals k (deal_at deals k).bid
+
+-- 11, of the deal's ask
 unfoldable pub ask_overfilled : List Order → List Deal → ℕ → Option Finding
-ask_overfilled orders deals k = let d = deal_at deals k in let so_far = traded (take (k + 1) deals) in
-    only_if (nat_lt (quantity_at orders d.ask) (so_far d.ask)) (at_deal property.SellQuantity d (show_order orders so_far d.ask) None)
+ask_overfilled orders deals k = overfilled property.SellQuantity orders deals k (deal_at deals k).ask
 
 -- the first of these at the deal at k
-abbrev pub matching_fault : Bool → List Order → List Deal → ℕ → Option Finding
-matching_fault uniform orders deals k = first_of (inactive orders deals k ∷ off_limit orders deals k ∷ other_price uniform deals k
-    ∷ bid_overfilled orders deals k ∷ ask_overfilled orders deals k ∷ [])
+abbrev pub matching_finding : Bool → List Order → List Deal → ℕ → Option Finding
+matching_finding uniform orders deals k =
+    first_of (call_inactive orders deals k ∷ call_off_limit orders deals k
+    ∷ other_price uniform deals k ∷ bid_overfilled orders deals k ∷ ask_overfilled orders deals k
+    ∷ [])
 
 -- the offence of the first part, if there is one
 abbrev pub matching_offence : Bool → List Order → List Deal → Option Finding
-matching_offence uniform orders deals = least_answer (matching_fault uniform orders deals) (length deals)
+matching_offence uniform orders deals =
+    least_answer (matching_finding uniform orders deals) (length deals)
 
 -- Second part: the least deal whose bid or ask is outranked by a short order.
 
--- short: no record cancels the order, and its Traded in the whole log is below its quantity
+-- short, that is not fully traded (LeavesQty, FIX tag 151, above 0): no record cancels the order, and its
+-- Traded in the whole log is below its quantity
 abbrev pub is_short : List Order → List Deal → Side → ℕ → Bool
-is_short orders deals side i = stands_on side (order_at orders i) && nat_lt (traded deals i) (quantity_at orders i)
+is_short orders deals side i =
+    stands_on side (order_at orders i) && nat_lt (traded deals i) (quantity_at orders i)
 
 -- the best short order of a side
 unfoldable pub best_short : List Order → List Deal → Side → Option ℕ
 best_short orders deals side = best orders (is_short orders deals side)
 
 -- a short order is better than the order at i
-unfoldable pub is_passed_over : List Order → List Deal → Side → ℕ → Bool
-is_passed_over orders deals side i =
-    any_below (λ j. is_short orders deals side j && better (order_at orders j) (order_at orders i)) (length orders)
+unfoldable pub is_outranked_by_short : List Order → List Deal → Side → ℕ → Bool
+is_outranked_by_short orders deals side i =
+    any_below (λ j. is_short orders deals side j && better (order_at orders j) (order_at orders i))
+    (length orders)
 
--- 12: the best short bid is shown, and the deal's bid, with what they trade in the whole log
+-- 12 and 13: the order at i, which the deal at k names, is outranked by a short order of its side. The
+-- best of these is shown, and the order, with what they trade in the whole log
+abbrev pub outranked : Property → Side → List Order → List Deal → ℕ → ℕ → Option Finding
+outranked property side orders deals k i =
+    only_if (is_outranked_by_short orders deals side i)
+    (at_deal property (deal_at deals k)
+    (show_found orders (traded deals) (best_short orders deals side))
+    (show_order orders (traded deals) i))
+
+-- 12, of the deal's bid
 unfoldable pub bid_passed_over : List Order → List Deal → ℕ → Option Finding
-bid_passed_over orders deals k = let d = deal_at deals k in
-    only_if (is_passed_over orders deals Buy d.bid)
-    (at_deal property.BuyPriority d (show_found orders (traded deals) (best_short orders deals Buy)) (show_order orders (traded deals) d.bid))
+bid_passed_over orders deals k =
+    outranked property.BuyPriority Buy orders deals k (deal_at deals k).bid
 
--- 13: the same of the asks
+-- 13, of the deal's ask
 unfoldable pub ask_passed_over : List Order → List Deal → ℕ → Option Finding
-ask_passed_over orders deals k = let d = deal_at deals k in
-    only_if (is_passed_over orders deals Sell d.ask)
-    (at_deal property.SellPriority d (show_found orders (traded deals) (best_short orders deals Sell)) (show_order orders (traded deals) d.ask))
+ask_passed_over orders deals k =
+    outranked property.SellPriority Sell orders deals k (deal_at deals k).ask
 
 -- the offence of the second part, if there is one
 abbrev pub fair_offence : List Order → List Deal → Option Finding
 fair_offence orders deals =
-    least_answer (λ k. option_or (bid_passed_over orders deals k) (ask_passed_over orders deals k)) (length deals)
+    least_answer (λ k. option_or (bid_passed_over orders deals k) (ask_passed_over orders deals k))
+    (length deals)
 
 -- Third part: the volume isn't the greatest that the rule allows.
 
@@ -110,9 +138,11 @@ IsGreatestUnder rule.Matching orders v = ⊥
 IsGreatestUnder rule.Fair orders v = ⊥
 IsGreatestUnder rule.Continuous orders v = ⊥
 
--- 14: the volume is below the greatest. It stands at one more than the number of trades of the whole log, and shows the best
--- short bid and the best short ask, with what they trade in the whole log and their dues
-pub record IsVolumeOffence (the_rule : Rule) (orders : List Order) (deals : List Deal) (count : ℕ) (finding : Finding) : Type 0 where
+-- 14: the volume is below the greatest. The finding stands at one more than the number of trades of
+-- the whole log, and shows the best short bid and the best short ask, with what they trade in the
+-- whole log and their dues
+pub record IsVolumeOffence (the_rule : Rule) (orders : List Order) (deals : List Deal)
+    (count : ℕ) (finding : Finding) : Type 0 where
   pub most : ℕ
   pub bid : ℕ
   pub ask : ℕ
@@ -128,20 +158,24 @@ pub record IsVolumeOffence (the_rule : Rule) (orders : List Order) (deals : List
     property = property.Volume;
     log = which.Trades;
     place = count + 1;
-    first = Some (shown.Due (order_line (order_at orders bid) (traded deals bid)) bid_due);
-    second = Some (shown.Due (order_line (order_at orders ask) (traded deals ask)) ask_due);
+    first = Some (shown.Due (with_traded (order_at orders bid) (traded deals bid)) bid_due);
+    second = Some (shown.Due (with_traded (order_at orders ask) (traded deals ask)) ask_due);
     short = Some (record { reached = volume deals; greatest = most });
   }
 
 -- what the parts before the volume find under each rule of a call
 abbrev pub early_offence : Rule → List Order → List Deal → Option Finding
 early_offence rule.Matching orders deals = matching_offence false orders deals
-early_offence rule.Fair orders deals = option_or (matching_offence false orders deals) (fair_offence orders deals)
-early_offence rule.Uniform orders deals = option_or (matching_offence true orders deals) (fair_offence orders deals)
-early_offence rule.Maximum orders deals = option_or (matching_offence false orders deals) (fair_offence orders deals)
+early_offence rule.Fair orders deals =
+    option_or (matching_offence false orders deals) (fair_offence orders deals)
+early_offence rule.Uniform orders deals =
+    option_or (matching_offence true orders deals) (fair_offence orders deals)
+early_offence rule.Maximum orders deals =
+    option_or (matching_offence false orders deals) (fair_offence orders deals)
 early_offence rule.Continuous orders deals = None
 
 -- First offence (call): the first of the three parts
 abbrev pub IsCallOffence : Rule → List Order → List Deal → ℕ → Finding → Type 0
 IsCallOffence the_rule orders deals count finding =
-    MatchOption (early_offence the_rule orders deals) (IsVolumeOffence the_rule orders deals count finding) (λ f. finding ≡ f)
+    MatchOption (early_offence the_rule orders deals)
+    (IsVolumeOffence the_rule orders deals count finding) (λ f. finding ≡ f)

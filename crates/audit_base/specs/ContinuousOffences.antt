@@ -21,22 +21,28 @@ use Rattle.audit_base.specs.Shows.{found, at_deal, show_order, show_found}
 
 -- what an order trades in deals of lesser causes, and in those of cause i up to the deal at k
 abbrev pub traded_upto : List Order → List Deal → ℕ → ℕ → ℕ → ℕ
-traded_upto orders deals i k x = traded_before orders deals i x + traded_at orders (take (k + 1) deals) i x
+traded_upto orders deals i k x =
+    traded_before orders deals i x + traded_at orders (take (k + 1) deals) i x
 
 -- the number shown with an order in the first part: this, and Before added
 abbrev pub shown_upto : List Order → List Deal → ℕ → ℕ → ℕ → ℕ
 shown_upto orders deals i k x = traded_upto orders deals i k x + before_of orders deals x
 
 -- 7: the resting order doesn't rest before i, or else the incoming order never entered
-unfoldable pub not_active : List Order → List Deal → ℕ → ℕ → Option Finding
-not_active orders deals i k = let d = deal_at deals k in let shown = shown_upto orders deals i k in
-    first_of (only_if (not (rests_before orders deals i (resting orders d))) (at_deal property.Inactive d (show_order orders shown (resting orders d)) None)
-    ∷ only_if (not (entered_of orders deals (incoming orders d))) (at_deal property.Inactive d (show_order orders shown (incoming orders d)) None) ∷ [])
+unfoldable pub continuous_inactive : List Order → List Deal → ℕ → ℕ → Option Finding
+continuous_inactive orders deals i k =
+    let d = deal_at deals k in let shown = shown_upto orders deals i k in
+    first_of (only_if (not (rests_before orders deals i (resting orders d)))
+    (at_deal property.Inactive d (show_order orders shown (resting orders d)) None)
+    ∷ only_if (not (entered_of orders deals (incoming orders d)))
+    (at_deal property.Inactive d (show_order orders shown (incoming orders d)) None) ∷ [])
 
 -- 8: the price is outside a limit
-unfoldable pub over_limit : List Order → List Deal → ℕ → ℕ → Option Finding
-over_limit orders deals i k = let d = deal_at deals k in let shown = shown_upto orders deals i k in
-    only_if (not (keeps_limits orders d)) (at_deal property.Limit d (show_order orders shown d.bid) (show_order orders shown d.ask))
+unfoldable pub continuous_off_limit : List Order → List Deal → ℕ → ℕ → Option Finding
+continuous_off_limit orders deals i k =
+    let d = deal_at deals k in let shown = shown_upto orders deals i k in
+    only_if (not (keeps_limits orders d))
+    (at_deal property.Limit d (show_order orders shown d.bid) (show_order orders shown d.ask))
 
 -- 10 and 11: the order at x, which the deal names, trades more than its Size
 unfoldable pub over_size : Property → List Order → List Deal → ℕ → ℕ → ℕ → Option Finding
@@ -45,22 +51,24 @@ over_size property orders deals i k x =
     (at_deal property (deal_at deals k) (show_order orders (shown_upto orders deals i k) x) None)
 
 -- the first of these at the deal at k, where its cause is i
-abbrev pub conservation_fault : List Order → List Deal → ℕ → ℕ → Option Finding
-conservation_fault orders deals i k = if cause orders (deal_at deals k) == i
-    then first_of (not_active orders deals i k ∷ over_limit orders deals i k
+abbrev pub conservation_finding : List Order → List Deal → ℕ → ℕ → Option Finding
+conservation_finding orders deals i k = if cause orders (deal_at deals k) == i
+    then first_of (continuous_inactive orders deals i k ∷ continuous_off_limit orders deals i k
     ∷ over_size property.BuyQuantity orders deals i k (deal_at deals k).bid
     ∷ over_size property.SellQuantity orders deals i k (deal_at deals k).ask ∷ [])
     else None
 
--- Second part: the least deal of cause i whose resting order is outranked by an order that rests before i and has something left.
+-- Second part: the least deal of cause i whose resting order is outranked by an order that rests
+-- before i and has something left after i.
 
--- the number shown with an order in the second and the third part: what it trades in causes up to i, and Before added
+-- the number shown with an order in the second and the third part: what it trades in causes up to i,
+-- and Before added
 abbrev pub shown_after : List Order → List Deal → ℕ → ℕ → ℕ
 shown_after orders deals i x = traded_after orders deals i x + before_of orders deals x
 
 -- the order at x rests before i, has something left after i, and is better than the order at r
-abbrev pub passed_over : List Order → List Deal → ℕ → ℕ → ℕ → Bool
-passed_over orders deals i r x = rests_before orders deals i x
+abbrev pub waits_ahead : List Order → List Deal → ℕ → ℕ → ℕ → Bool
+waits_ahead orders deals i r x = rests_before orders deals i x
     && nat_lt 0 (left_after orders deals i x) && better (order_at orders x) (order_at orders r)
 
 -- the priority finding of a side
@@ -68,11 +76,15 @@ abbrev pub priority_of : Side → Property
 priority_of Buy = property.BuyPriority
 priority_of Sell = property.SellPriority
 
--- 12 or 13 at the deal at k: the best order that is passed over is shown, and the deal's resting order
-unfoldable pub priority_fault : List Order → List Deal → ℕ → ℕ → Option Finding
-priority_fault orders deals i k = let d = deal_at deals k in let r = resting orders d in let shown = shown_after orders deals i in
-    only_if ((cause orders d == i) && any_below (passed_over orders deals i r) (length orders))
-    (at_deal (priority_of (side_at orders r)) d (show_found orders shown (best orders (passed_over orders deals i r))) (show_order orders shown r))
+-- 12 or 13 at the deal at k: the best order that waits ahead is shown, and the deal's resting order
+unfoldable pub priority_finding : List Order → List Deal → ℕ → ℕ → Option Finding
+priority_finding orders deals i k =
+    let d = deal_at deals k in let r = resting orders d in
+    let shown = shown_after orders deals i in
+    only_if ((cause orders d == i) && any_below (waits_ahead orders deals i r) (length orders))
+    (at_deal (priority_of (side_at orders r)) d
+    (show_found orders shown (best orders (waits_ahead orders deals i r)))
+    (show_order orders shown r))
 
 -- Third part: an active bid and an active ask meet.
 
@@ -82,22 +94,28 @@ active_on orders deals i side x = same_side side (side_at orders x) && active_af
 
 -- some active bid has a limit of at least that of some active ask
 unfoldable pub active_meet : List Order → List Deal → ℕ → Bool
-active_meet orders deals i = any_below (λ b. any_below (λ a. active_on orders deals i Buy b && active_on orders deals i Sell a
+active_meet orders deals i =
+    any_below (λ b. any_below (λ a.
+    active_on orders deals i Buy b && active_on orders deals i Sell a
     && nat_le (limit_at orders a) (limit_at orders b)) (length orders)) (length orders)
 
 -- 15, at order record i: the best active bid and the best active ask
-unfoldable pub spread_fault : List Order → List Deal → ℕ → Option Finding
-spread_fault orders deals i = only_if (active_meet orders deals i) (found property.Spread which.Orders i
+unfoldable pub spread_finding : List Order → List Deal → ℕ → Option Finding
+spread_finding orders deals i =
+    only_if (active_meet orders deals i) (found property.Spread which.Orders i
     (show_found orders (shown_after orders deals i) (best orders (active_on orders deals i Buy)))
     (show_found orders (shown_after orders deals i) (best orders (active_on orders deals i Sell))))
 
 -- the first of the three parts at place i
-abbrev pub fault_at : List Order → List Deal → ℕ → Option Finding
-fault_at orders deals i = first_of (least_answer (conservation_fault orders deals i) (length deals)
-    ∷ least_answer (priority_fault orders deals i) (length deals) ∷ spread_fault orders deals i ∷ [])
+abbrev pub finding_at_place : List Order → List Deal → ℕ → Option Finding
+finding_at_place orders deals i =
+    first_of (least_answer (conservation_finding orders deals i) (length deals)
+    ∷ least_answer (priority_finding orders deals i) (length deals)
+    ∷ spread_finding orders deals i ∷ [])
 
 -- First offence (continuous): at the least place at which the rule fails, the first of the three parts
-pub record IsContinuousOffence (orders : List Order) (deals : List Deal) (finding : Finding) : Type 0 where
+pub record IsContinuousOffence (orders : List Order) (deals : List Deal) (finding : Finding)
+    : Type 0 where
   pub place : ℕ
   pub before : (j : ℕ) → j < place → ConformsAt orders deals j
-  pub here : fault_at orders deals place ≡ Some finding
+  pub here : finding_at_place orders deals place ≡ Some finding

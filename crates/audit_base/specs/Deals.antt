@@ -26,11 +26,11 @@ abbrev pub volume : List Deal → ℕ
 volume deals = sum_by (λ d. d.quantity) deals
 
 -- what stands for a deal past the end of a list, and the deal at an index
-abbrev pub any_deal : Deal
-any_deal = record { place = 0; bid = 0; ask = 0; quantity = 0; price = 0 }
+abbrev pub missing_deal : Deal
+missing_deal = record { place = 0; bid = 0; ask = 0; quantity = 0; price = 0 }
 
 abbrev pub deal_at : List Deal → ℕ → Deal
-deal_at deals k = slice_index_or deals k any_deal
+deal_at deals k = slice_index_or deals k missing_deal
 
 -- the deal names a bid and an ask of the order list
 pub record NamesOrders (orders : List Order) (d : Deal) : Type 0 where
@@ -39,7 +39,8 @@ pub record NamesOrders (orders : List Order) (d : Deal) : Type 0 where
   pub buys : side_at orders d.bid ≡ Buy
   pub sells : side_at orders d.ask ≡ Sell
 
--- a list of deals over an order list: each names a bid and an ask, places rise strictly, and there are fewer than 2^32
+-- a list of deals over an order list: each names a bid and an ask, places rise strictly, and there are
+-- fewer than 2^32
 pub record IsDealList (orders : List Order) (deals : List Deal) : Type 0 where
   pub named : All (NamesOrders orders) deals
   pub rising : AllPairs (λ d e. d.place < e.place) deals

@@ -1,4 +1,5 @@
--- Expected trades: the one list of trades that the product writes for a history, under `uniform`, `maximum` and `continuous`.
+-- Expected trades: the one list of trades that the product writes for a history, under `uniform`,
+-- `maximum` and `continuous`.
 use Rattle.std.specs.Prelude.{◌≡◌, ℕ, ◌-◌, min, Bool, ◌&&◌, nat_lt, nat_le, List, ◌∷◌, Option, map, filter_map, flat_map, length, if◌then◌else◌, decimal}
 use Rattle.std.specs.List.{enumerate_from, range_with_len}
 use Rattle.audit_base.specs.declared.terms.Side.{Side}
@@ -22,14 +23,17 @@ abbrev pub pair_deal : (ℕ → ℕ → ℕ) → (ℕ → ℕ → ℕ) → ℕ �
 pair_deal quantity price bid ask = only_if (nat_lt 0 (quantity bid ask))
     (record { place = 0; bid = bid; ask = ask; quantity = quantity bid ask; price = price bid ask })
 
--- one deal for each pair of a quantity above 0, in order of the bid and then of the ask, with the places 1, 2 and so on
+-- one deal for each pair of a quantity above 0, in order of the bid and then of the ask, with the
+-- places 1, 2 and so on
 unfoldable pub pair_deals : List Order → (ℕ → ℕ → ℕ) → (ℕ → ℕ → ℕ) → List Deal
 pair_deals orders quantity price = let indices = range_with_len 0 (length orders) in
-    map (λ e. record e.1 { place = e.0 }) (enumerate_from 1 (flat_map (λ bid. filter_map (pair_deal quantity price bid) indices) indices))
+    map (λ e. record e.1 { place = e.0 }) (enumerate_from 1
+    (flat_map (λ bid. filter_map (pair_deal quantity price bid) indices) indices))
 
 -- `uniform`: with the greatest volume and its bound, the pairs of units at the price of the bound
 abbrev pub uniform_deals : List Order → ℕ → ℕ → List Deal
-uniform_deals orders v bound = pair_deals orders (of_standing orders (uniform_units orders v)) (λ bid ask. bound)
+uniform_deals orders v bound =
+    pair_deals orders (of_standing orders (uniform_units orders v)) (λ bid ask. bound)
 
 -- they are the Expected trades
 pub record IsExpectedUniform (orders : List Order) (deals : List Deal) : Type 0 where
@@ -41,7 +45,8 @@ pub record IsExpectedUniform (orders : List Order) (deals : List Deal) : Type 0 
 
 -- `maximum`: with the greatest volume, the pairs of units at the ask's limit
 abbrev pub maximum_deals : List Order → ℕ → List Deal
-maximum_deals orders v = pair_deals orders (of_standing orders (maximum_units orders v)) (λ bid ask. limit_at orders ask)
+maximum_deals orders v =
+    pair_deals orders (of_standing orders (maximum_units orders v)) (λ bid ask. limit_at orders ask)
 
 -- they are the Expected trades
 pub record IsExpectedMaximum (orders : List Order) (deals : List Deal) : Type 0 where
@@ -58,33 +63,43 @@ limits_meet Sell a b = nat_le a b
 abbrev pub meets : Order → Order → Bool
 meets o r = same_side (other_side o.side) r.side && limits_meet o.side o.limit r.limit
 
--- what the order at n finds of the one at r: its Left, where it is of the other side, meets n and rests before the record of n
+-- what the order at n finds of the one at r: its Left, where it is of the other side, meets n and rests
+-- before the record of n
 unfoldable pub available : List Order → (ℕ → ℕ → ℕ) → ℕ → ℕ → ℕ
-available orders past n r = if meets (order_at orders n) (order_at orders r) && rests orders past (place_at orders n) r
+available orders past n r =
+    if meets (order_at orders n) (order_at orders r) && rests orders past (place_at orders n) r
     then left orders past (place_at orders n) r else 0
 
 -- what it finds of all orders that are better than the one at r
 abbrev pub available_ahead : List Order → (ℕ → ℕ → ℕ) → ℕ → ℕ → ℕ
 available_ahead orders past n r =
-    sum_below (λ k. if better (order_at orders k) (order_at orders r) then available orders past n k else 0) (length orders)
+    sum_below (λ k. if better (order_at orders k) (order_at orders r)
+    then available orders past n k else 0) (length orders)
 
--- what the two trade: the lesser of what n finds of r, and what the better ones leave of the Size of n
+-- what the two trade: the lesser of what n finds of r, and what the better ones leave of the Size of
+-- n
 abbrev pub share : List Order → (ℕ → ℕ → ℕ) → ℕ → ℕ → ℕ
-share orders past n r = min (available orders past n r) (size orders past n - available_ahead orders past n r)
+share orders past n r =
+    min (available orders past n r) (size orders past n - available_ahead orders past n r)
 
 -- the same of a bid and an ask, of which the later is the incoming one
 unfoldable pub pair_share : List Order → (ℕ → ℕ → ℕ) → ℕ → ℕ → ℕ
-pair_share orders past bid ask = if same_side (side_at orders bid) Buy && same_side (side_at orders ask) Sell
-    then (if nat_lt (place_at orders bid) (place_at orders ask) then share orders past ask bid else share orders past bid ask) else 0
+pair_share orders past bid ask =
+    if same_side (side_at orders bid) Buy && same_side (side_at orders ask) Sell
+    then (if nat_lt (place_at orders bid) (place_at orders ask)
+    then share orders past ask bid else share orders past bid ask) else 0
 
 -- the limit of the earlier of the two
 abbrev pub resting_limit : List Order → ℕ → ℕ → ℕ
-resting_limit orders bid ask = if nat_lt (place_at orders bid) (place_at orders ask) then limit_at orders bid else limit_at orders ask
+resting_limit orders bid ask =
+    if nat_lt (place_at orders bid) (place_at orders ask)
+    then limit_at orders bid else limit_at orders ask
 
--- `continuous`: each pair trades its share under these same deals, of which a share takes those of lesser causes alone, at the
--- limit of the resting order
+-- `continuous`: each pair trades its share under these same deals, of which a share takes those of
+-- lesser causes alone, at the limit of the resting order
 abbrev pub IsExpectedContinuous : List Order → List Deal → Type 0
-IsExpectedContinuous orders deals = deals ≡ pair_deals orders (pair_share orders (traded_before orders deals)) (resting_limit orders)
+IsExpectedContinuous orders deals = deals ≡
+    pair_deals orders (pair_share orders (traded_before orders deals)) (resting_limit orders)
 
 -- Expected trades of the rule
 abbrev pub IsExpected : Rule → List Order → List Deal → Type 0
@@ -94,7 +109,8 @@ IsExpected rule.Continuous orders deals = IsExpectedContinuous orders deals
 IsExpected rule.Matching orders deals = ⊥
 IsExpected rule.Fair orders deals = ⊥
 
--- the trade record of a deal: the id is T and its number from 1, the time that of the later of its two orders
+-- the trade record of a deal: the id is T and its number from 1, the time that of the later of its two
+-- orders
 abbrev pub trade_of_deal : List Order → List ℕ → ℕ → Deal → TradeRecord
 trade_of_deal orders symbol number d = record {
   trade = 84 ∷ decimal number;
@@ -108,4 +124,5 @@ trade_of_deal orders symbol number d = record {
 
 -- one record for each deal, in their order
 abbrev pub trades_of_deals : List Order → List ℕ → List Deal → List TradeRecord
-trades_of_deals orders symbol deals = map (λ e. trade_of_deal orders symbol e.0 e.1) (enumerate_from 1 deals)
+trades_of_deals orders symbol deals =
+    map (λ e. trade_of_deal orders symbol e.0 e.1) (enumerate_from 1 deals)

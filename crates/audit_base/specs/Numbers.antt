@@ -17,12 +17,14 @@ whole_price (Some whole) = Some (whole * 10 ^ 8)
 abbrev pub price_with_fraction : Option ℕ → ℕ → Option ℕ → Option ℕ
 price_with_fraction None places fraction = None
 price_with_fraction (Some whole) places None = None
-price_with_fraction (Some whole) places (Some fraction) = Some (whole * 10 ^ 8 + fraction * 10 ^ (8 - places))
+price_with_fraction (Some whole) places (Some fraction) =
+    Some (whole * 10 ^ 8 + fraction * 10 ^ (8 - places))
 
 abbrev pub price_around : List ℕ → Option ℕ → Option ℕ
 price_around text None = whole_price (digits_form 10 text)
 price_around text (Some point) =
-    price_with_fraction (digits_form 10 (take point text)) (length (drop (point + 1) text)) (digits_form 8 (drop (point + 1) text))
+    price_with_fraction (digits_form 10 (take point text)) (length (drop (point + 1) text))
+    (digits_form 8 (drop (point + 1) text))
 
 -- a price in units of 10^-8: 1 to 10 digits, then optionally a point and 1 to 8 digits
 abbrev pub price_form : List ℕ → Option ℕ
@@ -51,7 +53,8 @@ in_quantity (Some value) = if is_quantity value then Some value else None
 abbrev pub quantity_around : List ℕ → Option ℕ → Option ℕ
 quantity_around text None = in_quantity (digits_form 13 text)
 quantity_around text (Some point) =
-    if is_zeros (drop (point + 1) text) then in_quantity (digits_form 13 (take point text)) else None
+    if is_zeros (drop (point + 1) text)
+    then in_quantity (digits_form 13 (take point text)) else None
 
 -- a quantity: 1 to 13 digits, then optionally a point and zeros, with a whole part from 1 to 10^12
 abbrev pub quantity_form : List ℕ → Option ℕ
@@ -64,4 +67,5 @@ after_point (digit ∷ digits) = 46 ∷ digit ∷ digits
 
 -- the canonical text of a price: its whole part, and its fraction without zeros at its end
 abbrev pub price_text : ℕ → List ℕ
-price_text units = decimal (units / 10 ^ 8) ++ after_point (fraction_digits 8 (units % 10 ^ 8))
+price_text units =
+    decimal (units / 10 ^ 8) ++ after_point (fraction_digits 8 (units % 10 ^ 8))

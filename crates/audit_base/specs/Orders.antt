@@ -1,5 +1,5 @@
 -- Orders and order lists. An order is named by its index in the order list, from 0.
-use Rattle.std.specs.Prelude.{◌≡◌, ◌≢◌, ◌<◌, ◌≤◌, ◌^◌, ◌-◌, ℕ, Bool, true, false, ◌&&◌, List, [], Option, None, Some, is_none, AllPairs, All, length, slice_index_or, bytes_eq}
+use Rattle.std.specs.Prelude.{◌≡◌, ◌≢◌, ◌<◌, ◌≤◌, ◌^◌, ℕ, Bool, true, false, ◌&&◌, List, [], Option, None, Some, is_none, AllPairs, All, length, slice_index_or, bytes_eq}
 use Rattle.audit_base.specs.declared.names.Key.{Key}
 use Rattle.audit_base.specs.declared.terms.Side.{Side}
 use Rattle.audit_base.specs.declared.terms.Side.TheVariants.{Buy, Sell}
@@ -36,8 +36,8 @@ is_rests Immediate = false
 is_rests Market = false
 
 -- what stands for an order past the end of a list: it has quantity 0 and waits for nobody
-abbrev pub any_order : Order
-any_order = record {
+abbrev pub missing_order : Order
+missing_order = record {
   place = 0;
   key = record { firm = []; id = [] };
   time = record { second = 0; nano = 0 };
@@ -51,7 +51,7 @@ any_order = record {
 
 -- the order at an index
 abbrev pub order_at : List Order → ℕ → Order
-order_at orders i = slice_index_or orders i any_order
+order_at orders i = slice_index_or orders i missing_order
 
 -- its place, its side, its quantity and its limit
 abbrev pub place_at : List Order → ℕ → ℕ
@@ -66,11 +66,13 @@ quantity_at orders i = (order_at orders i).quantity
 abbrev pub limit_at : List Order → ℕ → ℕ
 limit_at orders i = (order_at orders i).limit
 
--- an order list: places rise strictly, there are fewer than 2^32 orders, and each target is a lower index of the same side
+-- an order list: places rise strictly, there are fewer than 2^32 orders, and each target is a lower
+-- index of the same side
 pub record IsOrderList (orders : List Order) : Type 0 where
   pub rising : AllPairs (λ o p. o.place < p.place) orders
   pub few : length orders < 2 ^ 32
-  pub targets : (i t : ℕ) → i < length orders → (order_at orders i).target ≡ Some t → (t < i) × (side_at orders t ≡ side_at orders i)
+  pub targets : (i t : ℕ) → i < length orders → (order_at orders i).target ≡ Some t
+      → (t < i) × (side_at orders t ≡ side_at orders i)
 
 -- an order of a side that no record cancels
 pub record Stands (orders : List Order) (side : Side) (i : ℕ) : Type 0 where
@@ -91,7 +93,9 @@ abbrev pub with_key : List Order → Key → Option ℕ
 with_key orders key = least_with (λ i. same_key (order_at orders i).key key) (length orders)
 
 abbrev pub on_side_with_key : List Order → Side → Key → Option ℕ
-on_side_with_key orders side key = least_with (λ i. same_side side (side_at orders i) && same_key (order_at orders i).key key) (length orders)
+on_side_with_key orders side key =
+    least_with (λ i. same_side side (side_at orders i) && same_key (order_at orders i).key key)
+    (length orders)
 
 -- an order, or the record of one, of life Market has this price
 abbrev pub IsMarketPriced : Life → Side → ℕ → Type 0

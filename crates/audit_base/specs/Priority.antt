@@ -13,7 +13,8 @@ better_limit Sell a b = nat_lt a b
 
 -- of two orders of this side, the first has the better limit, or the same limit and the smaller place
 abbrev pub outranks : Side → Order → Order → Bool
-outranks side o p = better_limit side o.limit p.limit || ((o.limit == p.limit) && nat_lt o.place p.place)
+outranks side o p =
+    better_limit side o.limit p.limit || ((o.limit == p.limit) && nat_lt o.place p.place)
 
 -- Better (source: price-time priority): both are of one side, and the first outranks the second
 abbrev pub better : Order → Order → Bool
@@ -32,4 +33,5 @@ pub record IsRanked (orders : List Order) (side : Side) (ranks : List ℕ) : Typ
 -- the best of the orders that pass a test of their index: it passes, and none that passes is better
 unfoldable pub best : List Order → (ℕ → Bool) → Option ℕ
 best orders test = least_with (λ i. test i
-    && not (any_below (λ j. test j && better (order_at orders j) (order_at orders i)) (length orders))) (length orders)
+    && not (any_below (λ j. test j && better (order_at orders j) (order_at orders i))
+    (length orders))) (length orders)

@@ -11,21 +11,36 @@ use Rattle.audit_base.specs.declared.findings.Shown.{Shown}
 use Rattle.audit_base.specs.declared.findings.Shown.TheVariants as shown
 use Rattle.audit_base.specs.Orders.{order_at}
 
--- a finding without volumes: a property, the place of the offending record in its log, and what shows it
+-- a finding without volumes: a property, the place of the offending record in its log, and what shows
+-- it
 abbrev pub found : Property → Which → ℕ → Option Shown → Option Shown → Finding
-found property log place first second = record { property = property; log = log; place = place; first = first; second = second; short = None }
+found property log place first second = record {
+  property = property;
+  log = log;
+  place = place;
+  first = first;
+  second = second;
+  short = None;
+}
 
 -- such a finding at a trade, by its deal
 abbrev pub at_deal : Property → Deal → Option Shown → Option Shown → Finding
 at_deal property d first second = found property which.Trades d.place first second
 
 -- an order with a traded number
-abbrev pub order_line : Order → ℕ → OrderLine
-order_line o traded = record { place = o.place; side = o.side; key = o.key; quantity = o.quantity; limit = o.limit; traded = traded }
+abbrev pub with_traded : Order → ℕ → OrderLine
+with_traded o traded = record {
+  place = o.place;
+  side = o.side;
+  key = o.key;
+  quantity = o.quantity;
+  limit = o.limit;
+  traded = traded;
+}
 
 -- the order at an index, with its traded number
 abbrev pub show_order : List Order → (ℕ → ℕ) → ℕ → Option Shown
-show_order orders traded i = Some (shown.Order (order_line (order_at orders i) (traded i)))
+show_order orders traded i = Some (shown.Order (with_traded (order_at orders i) (traded i)))
 
 -- the same of an order that was looked for, if it was found
 abbrev pub show_found : List Order → (ℕ → ℕ) → Option ℕ → Option Shown

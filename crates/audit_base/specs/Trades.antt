@@ -1,4 +1,5 @@
--- Sound trades: those of the symbol have ids of their own, and each names a bid and an ask of the history.
+-- Sound trades: those of the symbol have ids of their own, and each names a bid and an ask of the
+-- history.
 use Rattle.std.specs.Prelude.{◌≡◌, ◌<◌, ◌≤◌, ◌^◌, ℕ, All, List, [], Option, None, Some, is_none, option_map, filter, map, length, slice_index_or, unwrap_or}
 use Rattle.std.specs.Option.{option_or}
 use Rattle.std.specs.List.{enumerate_from}
@@ -11,7 +12,7 @@ use Rattle.audit_base.specs.declared.findings.Property.TheVariants as property
 use Rattle.audit_base.specs.declared.findings.Finding.{Finding}
 use Rattle.audit_base.specs.declared.findings.Shown.TheVariants as shown
 use Rattle.audit_base.specs.Least.{least_answer, least_with, only_if}
-use Rattle.audit_base.specs.Orders.{same_name, any_order, on_side_with_key}
+use Rattle.audit_base.specs.Orders.{same_name, missing_order, on_side_with_key}
 use Rattle.audit_base.specs.Shows.{found, show_place}
 
 -- the trades of a symbol, each with its place among the trades of the whole log, from 1
@@ -19,14 +20,25 @@ unfoldable pub trades_of : List ℕ → List TradeRecord → List (ℕ × TradeR
 trades_of symbol trades = filter (λ e. same_name e.1.symbol symbol) (enumerate_from 1 trades)
 
 -- the trade at an index of such a list, and its place
-abbrev pub any_trade : ℕ × TradeRecord
-any_trade = (0, record { trade = []; time = any_order.time; symbol = []; buy = any_order.key; sell = any_order.key; quantity = 0; price = 0 })
+abbrev pub missing_trade : ℕ × TradeRecord
+missing_trade = (
+  0,
+  record {
+    trade = [];
+    time = missing_order.time;
+    symbol = [];
+    buy = missing_order.key;
+    sell = missing_order.key;
+    quantity = 0;
+    price = 0;
+  },
+)
 
 abbrev pub trade_at : List (ℕ × TradeRecord) → ℕ → TradeRecord
-trade_at listed k = (slice_index_or listed k any_trade).1
+trade_at listed k = (slice_index_or listed k missing_trade).1
 
 abbrev pub trade_place : List (ℕ × TradeRecord) → ℕ → ℕ
-trade_place listed k = (slice_index_or listed k any_trade).0
+trade_place listed k = (slice_index_or listed k missing_trade).0
 
 -- what the numbers of a trade may be: a quantity from 1 to 10^12, and a price from 0 to 10^18 - 1
 pub record IsTrade (t : TradeRecord) : Type 0 where
@@ -40,7 +52,8 @@ AreTrades trades = All IsTrade trades
 
 -- 5: the trade id is that of an earlier trade of the symbol
 unfoldable pub duplicate_trade : List (ℕ × TradeRecord) → ℕ → Option Finding
-duplicate_trade listed k = option_map (λ j. found property.DuplicateTrade which.Trades (trade_place listed k)
+duplicate_trade listed k =
+    option_map (λ j. found property.DuplicateTrade which.Trades (trade_place listed k)
     (show_place which.Trades (trade_place listed j)) None)
     (least_with (λ j. same_name (trade_at listed j).trade (trade_at listed k).trade) k)
 
@@ -48,14 +61,17 @@ duplicate_trade listed k = option_map (λ j. found property.DuplicateTrade which
 unfoldable pub unknown_order : List Order → List (ℕ × TradeRecord) → ℕ → Option Finding
 unknown_order orders listed k = let t = trade_at listed k in
     option_or (only_if (is_none (on_side_with_key orders Buy t.buy))
-    (found property.UnknownOrder which.Trades (trade_place listed k) (Some (shown.Unknown Buy t.buy)) None))
+    (found property.UnknownOrder which.Trades (trade_place listed k)
+    (Some (shown.Unknown Buy t.buy)) None))
     (only_if (is_none (on_side_with_key orders Sell t.sell))
-    (found property.UnknownOrder which.Trades (trade_place listed k) (Some (shown.Unknown Sell t.sell)) None))
+    (found property.UnknownOrder which.Trades (trade_place listed k)
+    (Some (shown.Unknown Sell t.sell)) None))
 
 -- the finding at the least trade of the symbol that fails 5 or 6, and at it 5 before 6
 unfoldable pub unsound_trade : List Order → List ℕ → List TradeRecord → Option Finding
 unsound_trade orders symbol trades = let listed = trades_of symbol trades in
-    least_answer (λ k. option_or (duplicate_trade listed k) (unknown_order orders listed k)) (length listed)
+    least_answer (λ k. option_or (duplicate_trade listed k) (unknown_order orders listed k))
+    (length listed)
 
 -- Sound trades: no trade of the symbol fails
 abbrev pub Sound : List Order → List ℕ → List TradeRecord → Type 0

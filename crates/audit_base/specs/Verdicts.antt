@@ -22,7 +22,8 @@ call_finding rule.Fair orders = instant_order orders
 call_finding rule.Uniform orders = instant_order orders
 call_finding rule.Maximum orders = instant_order orders
 
--- finding 4: a trade log that has been read is its trades, or this finding where its reports don't pair
+-- finding 4: a trade log that has been read is its trades, or this finding where its reports don't
+-- pair
 abbrev pub pairing_finding : Result (List TradeRecord) Finding → Option Finding
 pairing_finding (Ok trades) = None
 pairing_finding (Err finding) = Some finding
@@ -33,27 +34,33 @@ paired_trades (Ok trades) = trades
 paired_trades (Err finding) = []
 
 -- the findings before those of the rule, in the order of the phases: 1 to 3, 16, 4, 5 and 6
-abbrev pub log_finding : Rule → List ℕ → List OrderRecord → Result (List TradeRecord) Finding → Option Finding
+abbrev pub log_finding : Rule → List ℕ → List OrderRecord → Result (List TradeRecord) Finding
+    → Option Finding
 log_finding the_rule symbol entries trades =
-    first_of (history_finding symbol entries ∷ call_finding the_rule (order_list symbol entries) ∷ pairing_finding trades
+    first_of (history_finding symbol entries ∷ call_finding the_rule (order_list symbol entries)
+    ∷ pairing_finding trades
     ∷ unsound_trade (order_list symbol entries) symbol (paired_trades trades) ∷ [])
 
 -- First offence of a rule; `count` is the number of trades of the whole log
 abbrev pub IsFirstOffence : Rule → List Order → List Deal → ℕ → Finding → Type 0
-IsFirstOffence rule.Continuous orders deals count finding = IsContinuousOffence orders deals finding
-IsFirstOffence rule.Matching orders deals count finding = IsCallOffence rule.Matching orders deals count finding
-IsFirstOffence rule.Fair orders deals count finding = IsCallOffence rule.Fair orders deals count finding
-IsFirstOffence rule.Uniform orders deals count finding = IsCallOffence rule.Uniform orders deals count finding
-IsFirstOffence rule.Maximum orders deals count finding = IsCallOffence rule.Maximum orders deals count finding
+IsFirstOffence rule.Continuous orders deals count f = IsContinuousOffence orders deals f
+IsFirstOffence rule.Matching orders deals count f = IsCallOffence rule.Matching orders deals count f
+IsFirstOffence rule.Fair orders deals count f = IsCallOffence rule.Fair orders deals count f
+IsFirstOffence rule.Uniform orders deals count f = IsCallOffence rule.Uniform orders deals count f
+IsFirstOffence rule.Maximum orders deals count f = IsCallOffence rule.Maximum orders deals count f
 
 -- what the rule says: nothing where the deals conform, else the first offence
 abbrev pub IsRuleVerdict : Rule → List Order → List Deal → ℕ → Option Finding → Type 0
-IsRuleVerdict the_rule orders deals count verdict = MatchOption verdict (Conforms the_rule orders deals) (IsFirstOffence the_rule orders deals count)
+IsRuleVerdict the_rule orders deals count verdict =
+    MatchOption verdict (Conforms the_rule orders deals)
+    (IsFirstOffence the_rule orders deals count)
 
 -- Verdict, after both logs have been read: nothing (the logs are accepted), or the one finding
-abbrev pub IsVerdict : Rule → List ℕ → List OrderRecord → Result (List TradeRecord) Finding → Option Finding → Type 0
+abbrev pub IsVerdict : Rule → List ℕ → List OrderRecord → Result (List TradeRecord) Finding
+    → Option Finding → Type 0
 IsVerdict the_rule symbol entries trades verdict =
     let orders = order_list symbol entries in
     MatchOption (log_finding the_rule symbol entries trades)
-    (IsRuleVerdict the_rule orders (deals_of orders symbol (paired_trades trades)) (length (paired_trades trades)) verdict)
+    (IsRuleVerdict the_rule orders (deals_of orders symbol (paired_trades trades))
+    (length (paired_trades trades)) verdict)
     (λ finding. verdict ≡ Some finding)

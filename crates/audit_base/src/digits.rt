@@ -7,14 +7,22 @@ ghost use Rattle.std.specs.Str.Parse.{digits_value};
 ghost use Rattle.audit_base.specs.Digits as form;
 
 /// Whether each byte is a decimal digit.
-fn all_digits(text: &[u8]) -> bool
+pub fn are_digits(text: &[u8]) -> bool
     ensures { result ≡ list_all is_ascii_digit text.now }
 {
     text.iter().all(|byte| byte.is_ascii_digit())
 }
 
-/// The number that the digits write.
-fn value_of(text: &[u8]) -> u64
+/// Whether the text is from `least` to `most` decimal digits, and nothing else.
+pub fn is_digits(text: &[u8], least: usize, most: usize) -> bool
+    ensures { result ≡ form.is_digits least most text.now }
+{
+    least <= text.len() && text.len() <= most && are_digits(text)
+}
+
+/// The number that at most 19 decimal digits write; 0 where there are none. It is below 10^n, where
+/// n is how many they are.
+pub fn value_of(text: &[u8]) -> u64
     requires digits { IsTrue (list_all is_ascii_digit text.now) }
     requires short { length text.now ≤ 19 }
     ensures value { result ≡ digits_value 10 text.now }
@@ -27,26 +35,29 @@ fn value_of(text: &[u8]) -> u64
     value
 }
 
-/// The number that 1 to `most` digits write.
+/// The number that 1 to `most` digits write, below 10^n, where n is how many they are. None exactly
+/// where the text is anything else.
 pub fn read_digits(text: &[u8], most: usize) -> Option<u64>
     requires { most ≤ 19 }
     ensures value { result ≡ form.digits_form most text.now }
-    ensures in_range { IfSome result (λ v. (1 ≤ length text.now) × (length text.now ≤ most) × (v < 10 ^ length text.now)) }
+    ensures some { IfSome result (λ _. (1 ≤ length text.now) × (length text.now ≤ most)) }
+    ensures in_range { IfSome result (λ value. value < 10 ^ length text.now) }
 {
-    if 1 <= text.len() && text.len() <= most && all_digits(text) {
+    if is_digits(text, 1, most) {
         Some(value_of(text))
     } else {
         None
     }
 }
 
-/// The number from `low` to `high` that exactly `width` digits write.
+/// The number from `low` to `high` that exactly `width` digits write. None exactly where the text is
+/// anything else.
 pub fn read_digits_between(text: &[u8], width: usize, low: u64, high: u64) -> Option<u64>
     requires { width ≤ 19 }
     ensures value { result ≡ form.digits_between width low high text.now }
     ensures in_range { IfSome result (λ v. (low ≤ v) × (v ≤ high)) }
 {
-    if text.len() != width || !all_digits(text) {
+    if text.len() != width || !are_digits(text) {
         return None;
     }
     let value = value_of(text);
@@ -67,8 +78,8 @@ pub fn scaled(fraction: u64, places: usize, most: usize) -> u64
     fraction * 10u64.pow((most - places) as u32)
 }
 
-/// Appends the last `width` digits of the number, zeros in front where it is shorter. Needs no memory
-/// where there is room.
+/// Appends the last `width` digits of the number, zeros in front where it is shorter. Asks for no
+/// memory, since there is room.
 pub fn append_digits(out: &mut Vec<u8>, width: usize, number: u64)
     requires { vec_len out.old + width ≤ vec_capacity out.old }
     ensures appended { out.new.items ≡ out.old.items ++ form.fixed_digits width number }
@@ -81,8 +92,8 @@ pub fn append_digits(out: &mut Vec<u8>, width: usize, number: u64)
     }
 }
 
-/// Appends the digits of a fraction of this many places, without zeros at its end. Needs no memory
-/// where there is room.
+/// Appends the digits of a fraction of this many places, without zeros at its end. Asks for no memory,
+/// since there is room.
 pub fn append_fraction_digits(out: &mut Vec<u8>, places: usize, number: u64)
     requires { vec_len out.old + places ≤ vec_capacity out.old }
     ensures appended { out.new.items ≡ out.old.items ++ form.fraction_digits places number }

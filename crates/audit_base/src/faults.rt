@@ -1,10 +1,29 @@
-//! Why a log cannot be read, and want of memory.
+//! Why a log cannot be read, and out of memory.
+ghost use Rattle.std.specs.Prelude.{◌≡◌};
+
+use std::alloc::{AllocError, AllocFailed};
 use thiserror::Error;
 
 /// There was not enough memory for the call.
 #[derive(Clone, Copy, Debug, PartialEq, Eq, Error)]
 #[error("out of memory")]
 pub struct NoMemory;
+
+impl From<AllocError> for NoMemory {
+    ghost from_gives = { λ _ fault. fault ≡ record {} };
+
+    fn from(_failed: AllocError) -> NoMemory {
+        NoMemory
+    }
+}
+
+impl<T: Drop> From<AllocFailed<T>> for NoMemory {
+    ghost from_gives = { λ _ fault. fault ≡ record {} };
+
+    fn from(_failed: AllocFailed<T>) -> NoMemory {
+        NoMemory
+    }
+}
 
 /// The first test that a malformed log fails.
 #[derive(Clone, Copy, Debug, PartialEq, Eq, Hash)]
@@ -58,4 +77,14 @@ pub enum LogFault {
     Bad(BadPlace),
     #[error("out of memory")]
     Memory,
+}
+
+impl From<NoMemory> for LogFault {
+    ghost use Rattle.audit_base.specs.declared.faults.LogFault.TheVariants.{Memory};
+
+    ghost from_gives = { λ _ fault. fault ≡ Memory };
+
+    fn from(_fault: NoMemory) -> LogFault {
+        LogFault::Memory
+    }
 }

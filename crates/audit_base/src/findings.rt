@@ -22,7 +22,7 @@ pub struct OrderLine {
 impl OrderLine {
     /// The line of an order that has traded this much.
     pub fn of(order: &Order, traded: u128) -> OrderLine
-        ensures { result ≡ shows.order_line order.now traded }
+        ensures { result ≡ shows.with_traded order.now traded }
     {
         OrderLine {
             place: order.place,

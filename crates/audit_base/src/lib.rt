@@ -3,13 +3,15 @@
 //! definitions of the auction rules stand in this crate's `specs/`.
 #![tactic(auto)]
 
-mod digits;
+pub mod columns;
+pub mod digits;
 pub mod faults;
 pub mod findings;
 pub mod names;
 pub mod numbers;
 pub mod orders;
 pub mod records;
+pub mod sizes;
 pub mod stamps;
 pub mod terms;
 pub mod texts;

@@ -20,7 +20,7 @@ impl Model for Name {
 
     ghost Value = { List ℕ };
 
-    ghost use Rattle.audit_base.specs.Names.{shown, packed, IsPacked, packed-shown};
+    ghost use Rattle.audit_base.specs.NameBlocks.{shown, packed, IsPacked, packed-shown};
 
     ghost view = { shown };
 
@@ -101,16 +101,16 @@ impl Ord for Name {
 }
 
 impl Hash for Name {
-    ghost use Rattle.std.specs.Hash as fed;
+    ghost use Rattle.std.specs.Prelude.{[], ◌∷◌};
     ghost use Rattle.std.specs.Cmp.Rules.{hashing};
     ghost use Rattle.std.proofs.Common.{rules};
 
-    ghost hash_input = { fed.slice fed.u8 };
+    ghost hash_input = { λ bytes. bytes ∷ [] };
 
     ghost respects_eq = { Prim.search (hashing, rules) };
 
     fn hash<H: Hasher>(&self, state: &mut H) {
-        self.bytes().hash(state);
+        state.write(self.bytes());
     }
 }
 
@@ -137,7 +137,7 @@ fn all_name_bytes(text: &[u8]) -> bool
 }
 
 /// Whether the text is a name.
-fn is_name(text: &[u8]) -> bool
+pub fn is_name(text: &[u8]) -> bool
     ensures { result ≡ form.is_name text.now }
 {
     1 <= text.len() && text.len() <= 64 && all_name_bytes(text)

@@ -1,4 +1,8 @@
 //! What one record of a log says.
+ghost use Rattle.std.specs.Prelude.{◌≡◌, ℕ, List, Some};
+ghost use Rattle.audit_base.specs.Histories as history;
+ghost use Rattle.audit_base.specs.Orders.{same_name};
+
 use super::names::{Key, Name};
 use super::numbers::{Price, Quantity};
 use super::stamps::Stamp;
@@ -38,6 +42,82 @@ pub enum OrderRecord {
     },
 }
 
+impl OrderRecord {
+    /// The key of the record itself.
+    pub fn key(&self) -> Key
+        ensures { result ≡ history.key_of self.now }
+    {
+        match *self {
+            OrderRecord::New { key, .. } => key,
+            OrderRecord::Cancel { key, .. } => key,
+            OrderRecord::Replace { key, .. } => key,
+        }
+    }
+
+    /// When the exchange accepted it.
+    pub fn time(&self) -> Stamp
+        ensures { result ≡ history.time_of self.now }
+    {
+        match *self {
+            OrderRecord::New { time, .. } => time,
+            OrderRecord::Cancel { time, .. } => time,
+            OrderRecord::Replace { time, .. } => time,
+        }
+    }
+
+    /// The side of a new order or a replacement; None of a cancel.
+    pub fn side(&self) -> Option<Side>
+        ensures { result ≡ history.side_of self.now }
+    {
+        match *self {
+            OrderRecord::New { side, .. } => Some(side),
+            OrderRecord::Cancel { .. } => None,
+            OrderRecord::Replace { side, .. } => Some(side),
+        }
+    }
+
+    /// The key that a cancel or a replacement names: its own firm, and the target's id. None of a new
+    /// order.
+    pub fn target_key(&self) -> Option<Key>
+        ensures { result ≡ history.target_key self.now }
+    {
+        match *self {
+            OrderRecord::New { .. } => None,
+            OrderRecord::Cancel { key, target, .. } => Some(Key {
+                firm: key.firm,
+                id: target,
+            }),
+            OrderRecord::Replace { key, target, .. } => Some(Key {
+                firm: key.firm,
+                id: target,
+            }),
+        }
+    }
+
+    /// Whether it is a new order or a replacement.
+    pub fn is_order(&self) -> bool
+        ensures { result ≡ history.is_order self.now }
+    {
+        match self {
+            OrderRecord::New { .. } => true,
+            OrderRecord::Cancel { .. } => false,
+            OrderRecord::Replace { .. } => true,
+        }
+    }
+
+    /// Whether an order of this side may be its target: a cancel ends an order of either side, a
+    /// replacement one of its own.
+    pub fn fits_side(&self, side: Side) -> bool
+        ensures { result ≡ history.fits_side (history.side_of self.now) (Some side) }
+    {
+        match *self {
+            OrderRecord::New { side: own, .. } => own == side,
+            OrderRecord::Cancel { .. } => true,
+            OrderRecord::Replace { side: own, .. } => own == side,
+        }
+    }
+}
+
 /// A record of a trade log: a bid and an ask that traded.
 #[derive(Clone, Copy, Debug, PartialEq, Eq)]
 pub struct TradeRecord {
@@ -48,4 +128,40 @@ pub struct TradeRecord {
     pub sell: Key,
     pub quantity: Quantity,
     pub price: Price,
+}
+
+/// A record of a log, which is of one symbol.
+pub trait Traded: Copy + Drop {
+    ghost symbol_of: { Self → List ℕ };
+
+    /// The symbol that it trades.
+    fn symbol(&self) -> Name
+        ensures { result ≡ symbol_of self.now };
+}
+
+impl Traded for OrderRecord {
+    ghost symbol_of = { history.symbol_of };
+
+    fn symbol(&self) -> Name {
+        match *self {
+            OrderRecord::New { symbol, .. } => symbol,
+            OrderRecord::Cancel { symbol, .. } => symbol,
+            OrderRecord::Replace { symbol, .. } => symbol,
+        }
+    }
+}
+
+impl Traded for TradeRecord {
+    ghost symbol_of = { λ trade. trade.symbol };
+
+    fn symbol(&self) -> Name {
+        self.symbol
+    }
+}
+
+/// Whether the record is one of this symbol.
+pub fn is_of<R: Traded>(entry: &R, symbol: &Name) -> bool
+    ensures { result ≡ same_name (R.symbol_of entry.now) symbol.now }
+{
+    entry.symbol() == *symbol
 }

@@ -1,5 +1,6 @@
 //! Points in time, as logs write them.
 ghost use Rattle.std.specs.Prelude.{◌≡◌, ◌<◌, ◌≤◌, ◌^◌, IfSome, length};
+ghost use Rattle.audit_base.specs.Histories.{is_before};
 ghost use Rattle.audit_base.specs.Stamps as form;
 
 use super::digits::{read_digits, read_digits_between, scaled};
@@ -26,6 +27,15 @@ impl Model for Stamp {
     ghost invariant = { λ s. (s.second < 326764800000) × (s.nano < 10 ^ 9) };
 
     ghost inverse = { λ m. record { second = m.second; nano = m.nano } };
+}
+
+impl Stamp {
+    /// Whether it is earlier than the other.
+    pub fn is_before(self, other: Stamp) -> bool
+        ensures { result ≡ is_before self other }
+    {
+        self.second < other.second || (self.second == other.second && self.nano < other.nano)
+    }
 }
 
 /// Days, counted as if each month had 31.

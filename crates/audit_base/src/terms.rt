@@ -1,5 +1,6 @@
 //! The few words that everything else is said in: sides, logs, forms, rules and lives.
 ghost use Rattle.std.specs.Prelude.{◌≡◌};
+ghost use Rattle.audit_base.specs.Orders as orders;
 ghost use Rattle.audit_base.specs.Words.{rule_word};
 
 /// The side of an order: a bid buys, an ask sells (FIX tag 54, values 1 and 2).
@@ -7,6 +8,18 @@ ghost use Rattle.audit_base.specs.Words.{rule_word};
 pub enum Side {
     Buy,
     Sell,
+}
+
+impl Side {
+    /// The side that it trades with.
+    pub fn other(self) -> Side
+        ensures { result ≡ orders.other_side self }
+    {
+        match self {
+            Side::Buy => Side::Sell,
+            Side::Sell => Side::Buy,
+        }
+    }
 }
 
 /// One of the two logs of an exchange.
@@ -62,6 +75,18 @@ pub enum Life {
     Immediate,
     /// It trades at any price and then lapses (FIX tag 40, value 1).
     Market,
+}
+
+impl Life {
+    /// Whether what is left of an order after its own record may wait for others.
+    pub fn rests(self) -> bool
+        ensures { result ≡ orders.is_rests self }
+    {
+        match self {
+            Life::Rests => true,
+            Life::Immediate | Life::Market => false,
+        }
+    }
 }
 
 #[cfg(test)]

@@ -17,36 +17,33 @@ use super::stamps::Stamp;
 use itoa::Buffer;
 use std::alloc::Global;
 
-/// Appends the number in decimal, without leading zeros. After want of memory `out` is unchanged.
+/// Appends the number in decimal, without leading zeros. Out of memory, it leaves `out` as it was.
 pub fn write_number(_alloc: Global, number: u128, out: &mut Vec<u8>) -> Result<(), NoMemory>
     ensures appended { OnOk result (out.new.items ≡ out.old.items ++ decimal number) }
     ensures unchanged { OnErr result (out.new.items ≡ out.old.items) }
-    ensures read_again { IsTrue (is_quantity number) → quantity_form (decimal number) ≡ Some number }
-    ensures plain { IsTrue (list_all is_name_byte (decimal number)) }
+    ensures read_again { IsTrue (is_quantity number)
+        → quantity_form (decimal number) ≡ Some number }
+    ensures unquoted { IsTrue (list_all is_name_byte (decimal number)) }
 {
     let mut buffer = Buffer::new();
-    match out.extend_from_slice(buffer.format(number).as_bytes()) {
-        Ok(()) => Ok(()),
-        Err(_) => Err(NoMemory),
-    }
+    out.extend_from_slice(buffer.format(number).as_bytes())?;
+    Ok(())
 }
 
 /// Appends the canonical text of a price of this many units of 10^-8: its whole part without leading
 /// zeros, then, where there is a fraction, `.` and its digits without zeros at the end. `units` is at
-/// most 10^18, whose text `10000000000` is the one that is not read again. After want of memory `out`
-/// is unchanged.
+/// most 10^18, whose text `10000000000` is the one that is not read again. Out of memory, it leaves
+/// `out` as it was.
 pub fn write_price(_alloc: Global, units: u64, out: &mut Vec<u8>) -> Result<(), NoMemory>
     requires { units ≤ 10 ^ 18 }
     ensures appended { OnOk result (out.new.items ≡ out.old.items ++ price_text units) }
     ensures unchanged { OnErr result (out.new.items ≡ out.old.items) }
     ensures read_again { units < 10 ^ 18 → price_form (price_text units) ≡ Some units }
-    ensures plain { IsTrue (list_all is_name_byte (price_text units)) }
+    ensures unquoted { IsTrue (list_all is_name_byte (price_text units)) }
 {
     let mut buffer = Buffer::new();
     let whole = buffer.format(units / 100_000_000).as_bytes();
-    if out.reserve(whole.len() + 9).is_err() {
-        return Err(NoMemory);
-    }
+    out.reserve(whole.len() + 9)?;
     let _ = out.extend_from_slice(whole);
     append_fraction(out, units % 100_000_000);
     Ok(())
@@ -109,18 +106,16 @@ fn append_nano(out: &mut Vec<u8>, nano: u64)
 }
 
 /// Appends the canonical text of a point in time: `YYYYMMDD-HH:MM:SS`, then no fraction where it is
-/// zero, else `.` and the fewest digits of three, six and nine that lose nothing. After want of memory
-/// `out` is unchanged.
+/// zero, else `.` and the fewest digits of three, six and nine that lose nothing. Out of
+/// memory, it leaves `out` as it was.
 pub fn write_stamp(_alloc: Global, stamp: Stamp, out: &mut Vec<u8>) -> Result<(), NoMemory>
     ensures appended { OnOk result (out.new.items ≡ out.old.items ++ stamp_text stamp) }
     ensures unchanged { OnErr result (out.new.items ≡ out.old.items) }
     ensures read_again { stamp_form (stamp_text stamp) ≡ Some stamp }
-    ensures plain { IsTrue (list_all is_name_byte (stamp_text stamp)) }
+    ensures unquoted { IsTrue (list_all is_name_byte (stamp_text stamp)) }
 {
     let Stamp { second, nano } = stamp;
-    if out.reserve(27).is_err() {
-        return Err(NoMemory);
-    }
+    out.reserve(27)?;
     append_date(out, second / (24 * 60 * 61));
     append_byte(out, b'-');
     append_clock(out, second % (24 * 60 * 61));

@@ -1,17 +1,17 @@
 use Rattle.std.proofs.Common.{ap, arith}
-use Rattle.audit_base.proofs.PlainLemmas.{stamp_is_plain}
+use Rattle.audit_base.proofs.UnquotedLemmas.{stamp_is_unquoted}
 use Rattle.audit_base.proofs.StampLemmas.{stamp_again}
 use Rattle.audit_base.proofs.texts.write_stamp.Goals as goal
-use Rattle.audit_base.proofs.texts.write_stamp.Goals.{Then-is_err, After-append_nano}
+use Rattle.audit_base.proofs.texts.write_stamp.Goals.{In_err-reserve, After-append_nano}
 
-pub returns-then-is_err-clause-read_again : goal.returns-then-is_err-clause-read_again
-returns-then-is_err-clause-read_again c =
+pub returns-in_err-reserve-clause-read_again : goal.returns-in_err-reserve-clause-read_again
+returns-in_err-reserve-clause-read_again c =
     let s = ap (λ m. m.second) c.stamp.view_is in
     let n = ap (λ m. m.nano) c.stamp.view_is in
     stamp_again c.args.stamp (omega arith) (omega arith)
 
-pub returns-then-is_err-clause-plain : goal.returns-then-is_err-clause-plain
-returns-then-is_err-clause-plain c = stamp_is_plain c.args.stamp
+pub returns-in_err-reserve-clause-unquoted : goal.returns-in_err-reserve-clause-unquoted
+returns-in_err-reserve-clause-unquoted c = stamp_is_unquoted c.args.stamp
 
 pub returns-clause-read_again : goal.returns-clause-read_again
 returns-clause-read_again c =
@@ -19,5 +19,5 @@ returns-clause-read_again c =
     let n = ap (λ m. m.nano) c.stamp.view_is in
     stamp_again c.args.stamp (omega arith) (omega arith)
 
-pub returns-clause-plain : goal.returns-clause-plain
-returns-clause-plain c = stamp_is_plain c.args.stamp
+pub returns-clause-unquoted : goal.returns-clause-unquoted
+returns-clause-unquoted c = stamp_is_unquoted c.args.stamp
