@@ -1,25 +1,24 @@
 -- Pairs of units that fill both sides in rank order give a fair matching of their volume.
 use Rattle.std.proofs.Common.{◌≡◌, ◌≤◌, ◌<◌, ◌+◌, ◌-◌, ℕ, List, length, get_or, refl, sym, ap, ◌∙◌, arith, sum_by, All, inl, inr, Bool, true, false, cond, subst}
-use Rattle.std.specs.Prelude.{◌&&◌, ◌^◌, min, max}
+use Rattle.std.specs.Prelude.{◌&&◌, min, max}
 use Rattle.std.proofs.lemmas.Bool.{cases_Bool, cases_lt, and_parts, and_left, and_right, cond-true, cond-false}
 use Rattle.audit_base.specs.declared.terms.Side.{Side}
 use Rattle.audit_base.specs.declared.terms.Side.TheVariants.{Buy, Sell}
 use Rattle.audit_base.specs.declared.orders.Order.{Order}
 use Rattle.audit_base.specs.declared.orders.Deal.{Deal}
 use Rattle.audit_base.specs.Sums.{sum_below}
-use Rattle.audit_base.specs.Orders.{any_order, order_at, side_at, quantity_at, limit_at, stands_on, Stands, IsOrderList, AreOrders}
-use Rattle.audit_base.specs.Deals.{traded, volume, NamesOrders, AreDeals, IsDealList}
+use Rattle.audit_base.specs.Orders.{missing_order, order_at, side_at, quantity_at, limit_at, stands_on, Stands, IsOrderList, AreOrders}
+use Rattle.audit_base.specs.Deals.{traded, volume, AreDeals}
 use Rattle.audit_base.specs.Calls.{Keeps, Matching, Fair}
 use Rattle.audit_base.specs.Units.{ahead, of_standing}
 use Rattle.audit_base.specs.Expected.{pair_deals}
 use Rattle.audit_base.proofs.SumLemmas.{below-same, below-none, sum_by-same}
 use Rattle.audit_base.proofs.OrderLemmas.{stands-test, test-stands, not_both_sides}
-use Rattle.audit_base.proofs.DealLemmas.{keeps-names}
 use Rattle.audit_base.proofs.PairDealLemmas.{pair_deals-are}
 use Rattle.call_laws.proofs.RankedLemmas.{ranked, ranked-sum_indices}
 use Rattle.call_laws.proofs.AheadLemmas.{ranks-overlap, ahead-better}
 use Rattle.call_laws.proofs.FairLemmas.{trades-stands}
-use Rattle.call_laws.proofs.PairedLemmas.{pairs-bid, pairs-ask, pairs-volume, pairs-rising}
+use Rattle.call_laws.proofs.PairedLemmas.{pairs-bid, pairs-ask, pairs-volume}
 
 -- what the order at i has of the first units of its side
 abbrev pub taken : List Order → Side → ℕ → ℕ → ℕ
@@ -34,14 +33,12 @@ pub record FillsBoth (orders : List Order) (units price : ℕ → ℕ → ℕ) (
   pub meet : (i k : ℕ) → Stands orders Buy i → Stands orders Sell k → 0 < units i k → (limit_at orders k ≤ price i k) × (price i k ≤ limit_at orders i)
   pub enough : total ≤ sum_by (quantity_at orders) (ranked orders Buy)
 
--- deals that reach a volume: they are a fair matching, their quantities and prices are in range where those of the orders are, and
--- they are a list of deals where they are few enough to be numbered
+-- deals that reach a volume: they are a fair matching, and their quantities and prices are in range where those of the orders are
 pub record Reaches (orders : List Order) (deals : List Deal) (total : ℕ) : Type 0 where
   pub matching : Matching orders deals
   pub fair : Fair orders deals
   pub reached : volume deals ≡ total
   pub ranges : AreOrders orders → AreDeals deals
-  pub listed : length deals < 2 ^ 32 → IsDealList orders deals
 
 cond-and : (a b : Bool) (x : ℕ) → cond (a && b) x 0 ≡ cond a (cond b x 0) 0
 cond-and true b x = refl
@@ -163,13 +160,10 @@ module _ (orders : List Order) (list : IsOrderList orders) (units price : ℕ �
       sum_by-same (taken orders Buy total) (λ k. min total (ahead orders Buy k + quantity_at orders k) - max 0 (ahead orders Buy k)) (ranked orders Buy) (λ n e lt. omega arith) in
       omega (arith, rows, same, ranks-overlap orders Buy list 0 total, f.enough)
 
-  pairs-named : All (NamesOrders orders) deals
-  pairs-named = λ n e lt. keeps-names orders (get_or deals n e) (met n e lt).keeps
-
   pairs-ranges : AreOrders orders → AreDeals deals
   pairs-ranges ranges = λ n e lt.
       let m = met n e lt in
-      let o = ranges (get_or deals n e).bid any_order m.keeps.bid_stands.inside in
+      let o = ranges (get_or deals n e).bid missing_order m.keeps.bid_stands.inside in
       record { some = m.some; most = omega (arith, m.most, o.most); priced = omega (arith, m.keeps.most, o.priced) }
 
   pub fills-reach : Reaches orders deals total
@@ -178,5 +172,4 @@ module _ (orders : List Order) (list : IsOrderList orders) (units price : ℕ �
     fair = pairs-fair;
     reached = pairs-total;
     ranges = pairs-ranges;
-    listed = λ few. record { named = pairs-named; rising = pairs-rising orders quantity price; few = few };
   }

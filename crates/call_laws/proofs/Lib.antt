@@ -1,6 +1,8 @@
 pub mod AheadLemmas
 pub mod CallLemmas
 pub mod ConformLemmas
+pub mod ExistenceLemmas
+pub mod ExtremeLemmas
 pub mod FairLemmas
 pub mod MaximumLemmas
 pub mod OptimumLemmas

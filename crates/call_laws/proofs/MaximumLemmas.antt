@@ -5,7 +5,7 @@ use Rattle.std.proofs.lemmas.List.Sums.{sum_by-le-sum_by}
 use Rattle.std.proofs.lemmas.Bool.{cases_lt, cond-false, and_right, lt-leb, le-ltb}
 use Rattle.audit_base.specs.declared.terms.Side.TheVariants.{Buy, Sell}
 use Rattle.audit_base.specs.declared.orders.Order.{Order}
-use Rattle.audit_base.specs.Orders.{any_order, quantity_at, limit_at, stands_on, IsOrderList, AreOrders}
+use Rattle.audit_base.specs.Orders.{missing_order, quantity_at, limit_at, stands_on, IsOrderList, AreOrders}
 use Rattle.audit_base.specs.Bounds.{wanted, offered_below, demand, supply_below, cut}
 use Rattle.audit_base.specs.Units.{ahead, maximum_units}
 use Rattle.audit_base.proofs.SumLemmas.{sum_by-same, sum_by-none}
@@ -56,7 +56,7 @@ maximum-fills orders list ranges total cuts =
           let high : limit_at orders k ≤ limit_at orders i = elim (cases_lt (limit_at orders i) (limit_at orders k)) [
             | inl lt ↦
                 let above = limit_at orders i + 1 in
-                let under : limit_at orders k < 10 ^ 18 = (ranges k any_order sk.inside).priced in
+                let under : limit_at orders k < 10 ^ 18 = (ranges k missing_order sk.inside).priced in
                 absurd (omega (arith, cuts above (omega arith), ahead-demand orders i above (omega arith), ahead-below orders k above (omega arith)))
             | inr le ↦ le
           ] in

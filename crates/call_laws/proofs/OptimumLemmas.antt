@@ -1,15 +1,15 @@
--- The Expected trades of a call reach the greatest volume: under `uniform` the greatest lesser of demand and supply, under
--- `maximum` the least cut.
-use Rattle.std.proofs.Common.{◌≡◌, ◌≤◌, ◌<◌, ℕ, List, [], ◌∷◌, length, refl, sym, ◌∙◌, arith, All}
+-- The Expected trades of a call reach the greatest volume: under `uniform` the greatest executable volume, under `maximum` the
+-- least cut.
+use Rattle.std.proofs.Common.{◌≡◌, ◌≤◌, ◌<◌, ℕ, List, [], ◌∷◌, refl, sym, ◌∙◌, arith, All}
 use Rattle.std.specs.Prelude.{◌^◌}
 use Rattle.std.proofs.lemmas.List.Elements.{All-head}
 use Rattle.audit_base.specs.declared.orders.Order.{Order}
 use Rattle.audit_base.specs.declared.orders.Deal.{Deal}
 use Rattle.audit_base.specs.declared.orders.Cut.{Cut}
-use Rattle.audit_base.specs.Orders.{any_order, limit_at, IsOrderList, AreOrders}
-use Rattle.audit_base.specs.Deals.{volume, AreDeals, IsDealList}
+use Rattle.audit_base.specs.Orders.{missing_order, limit_at, IsOrderList, AreOrders}
+use Rattle.audit_base.specs.Deals.{volume, AreDeals}
 use Rattle.audit_base.specs.Calls.{Keeps, Matching, OnePrice, ConformsUniform, ConformsMaximum, IsGreatestVolume, IsGreatestUniformVolume}
-use Rattle.audit_base.specs.Bounds.{uniform_most, IsLeastCut, IsBestUniform}
+use Rattle.audit_base.specs.Bounds.{executable_volume, IsLeastCut, IsBestUniform}
 use Rattle.audit_base.specs.Units.{uniform_units, maximum_units, of_standing}
 use Rattle.audit_base.specs.Expected.{uniform_deals, IsExpectedUniform, maximum_deals, IsExpectedMaximum}
 use Rattle.audit_base.proofs.PairDealLemmas.{pair_deals-are}
@@ -18,8 +18,8 @@ use Rattle.call_laws.proofs.CallLemmas.{Reaches, fills-reach}
 use Rattle.call_laws.proofs.UniformLemmas.{uniform-fills}
 use Rattle.call_laws.proofs.MaximumLemmas.{maximum-fills}
 
--- the volume of a matching of one price is at most the lesser of demand and supply there
-pub volume-le-uniform : (orders : List Order) (deals : List Deal) (p : ℕ) → Matching orders deals → All (λ d. d.price ≡ p) deals → volume deals ≤ uniform_most orders p
+-- the volume of a matching of one price is at most the executable volume there
+pub volume-le-uniform : (orders : List Order) (deals : List Deal) (p : ℕ) → Matching orders deals → All (λ d. d.price ≡ p) deals → volume deals ≤ executable_volume orders p
 volume-le-uniform orders deals p m one = omega (arith, volume-le-demand orders deals m p one, volume-le-supply orders deals m p one)
 
 module _ (orders : List Order) (c : Cut) (list : IsOrderList orders) (ranges : AreOrders orders) where
@@ -29,7 +29,7 @@ module _ (orders : List Order) (c : Cut) (list : IsOrderList orders) (ranges : A
 
     pub uniform-reaches : Reaches orders uniform c.volume
     uniform-reaches =
-        let at : uniform_most orders c.price ≡ c.volume = best.reached.holds.1 in
+        let at : executable_volume orders c.price ≡ c.volume = best.reached.holds.1 in
         fills-reach orders list (uniform_units orders c.volume) (λ bid ask. c.price) c.volume (uniform-fills orders list c.price c.volume (omega arith) (omega arith))
 
     -- a price at which a matching of one price has a deal is below 10^18
@@ -38,7 +38,7 @@ module _ (orders : List Order) (c : Cut) (list : IsOrderList orders) (ranges : A
     one_price-most (d ∷ ds) m one =
         let k = All-head (Keeps orders) d ds m.kept in
         let price : d.price ≡ one.price = All-head (λ e. e.price ≡ one.price) d ds one.each in
-        let under : limit_at orders d.bid < 10 ^ 18 = (ranges d.bid any_order k.bid_stands.inside).priced in
+        let under : limit_at orders d.bid < 10 ^ 18 = (ranges d.bid missing_order k.bid_stands.inside).priced in
         omega (arith, volume-le-uniform orders (d ∷ ds) one.price m one.each, best.greatest one.price (omega (arith, k.most)))
 
     pub uniform-conforms : ConformsUniform orders uniform
@@ -46,21 +46,17 @@ module _ (orders : List Order) (c : Cut) (list : IsOrderList orders) (ranges : A
       matching = uniform-reaches.matching;
       fair = uniform-reaches.fair;
       one_price = record { price = c.price; each = λ n e lt. ((pair_deals-are orders (of_standing orders (uniform_units orders c.volume)) (λ bid ask. c.price)).each n e lt).at };
-      greatest = λ others m one. omega (arith, uniform-reaches.reached, one_price-most others m one);
+      greatest = λ others r m one. omega (arith, uniform-reaches.reached, one_price-most others m one);
     }
 
     pub uniform-greatest : IsGreatestUniformVolume orders c.volume
-    uniform-greatest = let u = uniform-conforms in record { deals = uniform; matching = u.matching; one_price = u.one_price; greatest = u.greatest; reached = uniform-reaches.reached }
+    uniform-greatest = let u = uniform-conforms in record { deals = uniform; ranges = uniform-reaches.ranges ranges; matching = u.matching; one_price = u.one_price; greatest = u.greatest; reached = uniform-reaches.reached }
 
     pub uniform-expected : IsExpectedUniform orders uniform
     uniform-expected = record { most = c.volume; bound = c.price; greatest = uniform-greatest; is_bound = best.reached; pairs = refl }
 
-    -- the Expected trades are a list of deals, with quantities and prices in range
     pub uniform-ranges : AreDeals uniform
     uniform-ranges = uniform-reaches.ranges ranges
-
-    pub uniform-list : length uniform < 2 ^ 32 → IsDealList orders uniform
-    uniform-list = uniform-reaches.listed
 
   module _ (least : IsLeastCut orders c) where
     abbrev maximum : List Deal
@@ -77,13 +73,10 @@ module _ (orders : List Order) (c : Cut) (list : IsOrderList orders) (ranges : A
     }
 
     pub maximum-greatest : IsGreatestVolume orders c.volume
-    maximum-greatest = let m = maximum-conforms in record { deals = maximum; matching = m.matching; greatest = m.greatest; reached = maximum-reaches.reached }
+    maximum-greatest = let m = maximum-conforms in record { deals = maximum; ranges = maximum-reaches.ranges ranges; matching = m.matching; greatest = m.greatest; reached = maximum-reaches.reached }
 
     pub maximum-expected : IsExpectedMaximum orders maximum
     maximum-expected = record { most = c.volume; greatest = maximum-greatest; pairs = refl }
 
     pub maximum-ranges : AreDeals maximum
     maximum-ranges = maximum-reaches.ranges ranges
-
-    pub maximum-list : length maximum < 2 ^ 32 → IsDealList orders maximum
-    maximum-list = maximum-reaches.listed

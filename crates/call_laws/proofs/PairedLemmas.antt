@@ -1,5 +1,5 @@
 -- What the orders trade in the deals of the pairs, and what else is known of these deals.
-use Rattle.std.proofs.Common.{◌≡◌, ◌≢◌, ◌<◌, ℕ, List, length, AllPairs, refl, ap, ◌∙◌, arith, inl, inr, Bool, cond}
+use Rattle.std.proofs.Common.{◌≡◌, ◌≢◌, ◌<◌, ℕ, List, length, refl, ap, ◌∙◌, arith, inl, inr, Bool, cond}
 use Rattle.std.specs.Prelude.{◌||◌, ◌==◌, nat_lt}
 use Rattle.std.proofs.lemmas.Bool.{cases_eq, or_from, or_left, or_right, ne_eqb, eq-eqb, cond-true, cond-false}
 use Rattle.audit_base.specs.declared.orders.Order.{Order}
@@ -7,7 +7,7 @@ use Rattle.audit_base.specs.Sums.{sum_below}
 use Rattle.audit_base.specs.Deals.{part_of, traded, volume}
 use Rattle.audit_base.specs.Expected.{pair_deals}
 use Rattle.audit_base.proofs.SumLemmas.{below-same, below-none, below-single}
-use Rattle.audit_base.proofs.PairDealLemmas.{pair_deals-are, pair_deals-sum}
+use Rattle.audit_base.proofs.PairDealLemmas.{pair_deals-sum}
 
 -- a quantity that is left out where it is 0 adds the same
 counted : (q : ℕ) (b : Bool) → cond (nat_lt 0 q) (cond b q 0) 0 ≡ cond b q 0
@@ -65,11 +65,3 @@ module _ (orders : List Order) (quantity price : ℕ → ℕ → ℕ) where
         | inr ne ↦ part-away i bid ask ne away
       ])
       ∙ part-ask i bid)
-
-  -- the places of the deals rise strictly
-  pub pairs-rising : AllPairs (λ d e. d.place < e.place) (pair_deals orders quantity price)
-  pairs-rising = λ i j d lt below.
-      let are = pair_deals-are orders quantity price in
-      let first = are.numbered i d (omega arith) in
-      let second = are.numbered j d below in
-      omega arith

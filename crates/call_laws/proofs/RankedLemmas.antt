@@ -8,7 +8,7 @@ use Rattle.std.proofs.lemmas.Bool.{cases_eq, cases_Bool, cond-true, cond-false, 
 use Rattle.audit_base.specs.declared.terms.Side.{Side}
 use Rattle.audit_base.specs.declared.orders.Order.{Order}
 use Rattle.audit_base.specs.Sums.{sum_below}
-use Rattle.audit_base.specs.Orders.{any_order, order_at, stands_on, Stands, IsOrderList}
+use Rattle.audit_base.specs.Orders.{missing_order, order_at, stands_on, Stands, IsOrderList}
 use Rattle.audit_base.specs.Priority.{better, Better, IsRanked}
 use Rattle.audit_base.proofs.SumLemmas.{AllPairs-head, AllPairs-tail, AllPairs-cons, Contains-cases, Contains-front, Contains-behind, below-list}
 use Rattle.audit_base.proofs.OrderLemmas.{test-stands, stands-test}
@@ -148,7 +148,7 @@ ranked-sum_indices orders side f = ranked-sum_below orders side f (length orders
 
 -- a sum over the orders is one over their indices
 pub indexed : (orders : List Order) (f : Order → ℕ) → sum_below (λ i. f (order_at orders i)) (length orders) ≡ sum_by f orders
-indexed orders f = below-list f orders any_order (length orders) (omega arith) ∙ ap (sum_by f) (take_all (length orders) orders (omega arith))
+indexed orders f = below-list f orders missing_order (length orders) (omega arith) ∙ ap (sum_by f) (take_all (length orders) orders (omega arith))
 
 -- so it is one over the standing orders
 pub ranked-sum : (orders : List Order) (side : Side) (g : Order → ℕ)

@@ -1,6 +1,6 @@
 -- Short orders: they don't meet where the volume is the greatest, and where it is not, each side has one.
 use Rattle.std.proofs.Common.{◌≡◌, ◌≤◌, ◌<◌, ◌+◌, ℕ, zero, suc, List, [], ◌∷◌, ◌++◌, map, length, get_or, Bool, true, false, Some, refl, ap, ◌∙◌, arith, sum_by, All, inl, inr, cond, eqb, ltb, subst}
-use Rattle.std.specs.Prelude.{◌||◌}
+use Rattle.std.specs.Prelude.{◌||◌, ◌^◌}
 use Rattle.std.proofs.lemmas.List.Folds.{fold-map}
 use Rattle.std.proofs.lemmas.List.Sums.{sum_by_push, get_or-le-sum_by}
 use Rattle.std.proofs.lemmas.List.Elements.{All-push, All-map}
@@ -12,9 +12,9 @@ use Rattle.audit_base.specs.declared.terms.Rule.TheVariants as rule
 use Rattle.audit_base.specs.declared.orders.Order.{Order}
 use Rattle.audit_base.specs.declared.orders.Deal.{Deal}
 use Rattle.audit_base.specs.Sums.{sum_below}
-use Rattle.audit_base.specs.Orders.{order_at, side_at, quantity_at, limit_at, same_side, stands_on, Stands}
+use Rattle.audit_base.specs.Orders.{missing_order, order_at, side_at, quantity_at, limit_at, same_side, stands_on, Stands, AreOrders}
 use Rattle.audit_base.specs.Priority.{Better}
-use Rattle.audit_base.specs.Deals.{part_of, traded, volume, AreDeals}
+use Rattle.audit_base.specs.Deals.{part_of, traded, volume, IsDeal, AreDeals}
 use Rattle.audit_base.specs.Calls.{Keeps, Matching, Fair, OnePrice, Greatest, GreatestUniform}
 use Rattle.audit_base.specs.Rules.{Conforms}
 use Rattle.audit_base.specs.CallOffences.{is_short, best_short}
@@ -59,7 +59,7 @@ cond-most true x = omega arith
 cond-most false x = omega arith
 
 -- Where a short bid meets a short ask, one more unit can trade, with all deals at the limit of this ask.
-module _ (orders : List Order) (deals : List Deal) (m : Matching orders deals) (fair : Fair orders deals) (ranges : AreDeals deals)
+module _ (orders : List Order) (deals : List Deal) (m : Matching orders deals) (fair : Fair orders deals) (orders_range : AreOrders orders) (ranges : AreDeals deals)
     (i k : ℕ) (bid : IsShort orders deals Buy i) (ask : IsShort orders deals Sell k) (meet : limit_at orders k ≤ limit_at orders i) where
   abbrev one_more : Deal
   one_more = record { place = length deals + 1; bid = i; ask = k; quantity = 1; price = limit_at orders k }
@@ -120,15 +120,22 @@ module _ (orders : List Order) (deals : List Deal) (m : Matching orders deals) (
   more-volume : volume more ≡ volume deals + 1
   more-volume = sum_by_push (λ d. d.quantity) same_price one_more ∙ ap (λ x. x + 1) (sum_by-map (λ d. d.quantity) (at_price (limit_at orders k)) deals)
 
+  more-ranges : AreDeals more
+  more-ranges =
+      let priced : limit_at orders k < 10 ^ 18 = (orders_range k missing_order ask.stands.inside).priced in
+      All-push IsDeal same_price one_more
+      (All-map IsDeal (at_price (limit_at orders k)) deals (λ n e lt. let r = ranges n e lt in record { some = r.some; most = r.most; priced = priced }))
+      (record { some = omega arith; most = omega arith; priced = priced })
+
   not-greatest : Greatest orders deals → ⊥
-  not-greatest g = absurd (omega (arith, g more more-matching, more-volume))
+  not-greatest g = absurd (omega (arith, g more more-ranges more-matching, more-volume))
 
   not-greatest_uniform : GreatestUniform orders deals → ⊥
-  not-greatest_uniform g = absurd (omega (arith, g more more-matching more-one_price, more-volume))
+  not-greatest_uniform g = absurd (omega (arith, g more more-ranges more-matching more-one_price, more-volume))
 
 -- where the volume is the greatest, short orders don't meet
 pub short-apart : ShortOrdersDoNotMeet
-short-apart r orders deals asks ranges c i k b a = elim (cases_lt (limit_at orders i) (limit_at orders k)) [
+short-apart r orders deals asks orders_range ranges c i k b a = elim (cases_lt (limit_at orders i) (limit_at orders k)) [
   | inl lt ↦ lt
   | inr meet ↦ absurd (meeting r asks c (short-is orders deals Buy i b) (short-is orders deals Sell k a) meet)
 ]
@@ -136,8 +143,8 @@ short-apart r orders deals asks ranges c i k b a = elim (cases_lt (limit_at orde
     meeting : (r : Rule) → asks_for_greatest r ≡ true → Conforms r orders deals → IsShort orders deals Buy i → IsShort orders deals Sell k → limit_at orders k ≤ limit_at orders i → ⊥
     meeting rule.Matching asks c bid ask meet = absurd (cc)
     meeting rule.Fair asks c bid ask meet = absurd (cc)
-    meeting rule.Uniform asks c bid ask meet = not-greatest_uniform orders deals c.matching c.fair ranges i k bid ask meet c.greatest
-    meeting rule.Maximum asks c bid ask meet = not-greatest orders deals c.matching c.fair ranges i k bid ask meet c.greatest
+    meeting rule.Uniform asks c bid ask meet = not-greatest_uniform orders deals c.matching c.fair orders_range ranges i k bid ask meet c.greatest
+    meeting rule.Maximum asks c bid ask meet = not-greatest orders deals c.matching c.fair orders_range ranges i k bid ask meet c.greatest
     meeting rule.Continuous asks c bid ask meet = absurd (cc)
 
 -- of two sums, the greater has a greater term

@@ -7,7 +7,7 @@ use Rattle.audit_base.specs.declared.terms.Side.TheVariants.{Sell}
 use Rattle.audit_base.specs.declared.orders.Order.{Order}
 use Rattle.audit_base.specs.declared.orders.Cut.{Cut}
 use Rattle.audit_base.specs.Orders.{stands_on, AreOrders}
-use Rattle.audit_base.specs.Bounds.{demand, supply, supply_below, offered, offered_below, uniform_most, IsLeastCut, IsBestUniform}
+use Rattle.audit_base.specs.Bounds.{demand, supply, supply_below, offered, offered_below, executable_volume, IsLeastCut, IsBestUniform}
 use Rattle.audit_base.proofs.VolumeLemmas.{demand-falls, supply-under}
 use Rattle.call_laws.proofs.MaximumLemmas.{none-below, none-wanted}
 
@@ -27,23 +27,23 @@ below-offered p o = elim (cases_Bool (stands_on Sell o && nat_lt o.limit p)) [
 supply_below-supply : (orders : List Order) (p : ℕ) → supply_below orders p ≤ supply orders p
 supply_below-supply orders p = sum_by-le-sum_by (offered_below p) (offered p) orders (below-offered p)
 
--- at 10^18 nobody bids, so where a volume is the greatest lesser of demand and supply the least price that reaches it is below
+-- at 10^18 nobody bids, so where a volume is the greatest executable volume the least price that reaches it is below
 uniform-priced : (orders : List Order) (c : Cut) → AreOrders orders → IsBestUniform orders c → c.price < 10 ^ 18
 uniform-priced orders c ranges best = elim (cases_lt c.price (10 ^ 18)) [
   | inl lt ↦ lt
   | inr ge ↦
-      let at : uniform_most orders c.price ≡ c.volume = best.reached.holds.1 in
+      let at : executable_volume orders c.price ≡ c.volume = best.reached.holds.1 in
       let falls = demand-falls orders (10 ^ 18) c.price ge in
       let none = none-wanted orders ranges in
       let zero = best.greatest 0 (omega arith) in
-      let same : uniform_most orders 0 ≡ c.volume = omega arith in
+      let same : executable_volume orders 0 ≡ c.volume = omega arith in
       absurd (best.reached.none_below 0 (omega arith) (omega arith, same))
 ]
 
 pub uniform-suffice : (orders : List Order) (c : Cut) → AreOrders orders → IsBestUniform orders c
     → (c.volume ≤ demand orders 0) × (c.volume ≤ supply orders (10 ^ 18)) × (c.price < 10 ^ 18)
 uniform-suffice orders c ranges best =
-    let at : uniform_most orders c.price ≡ c.volume = best.reached.holds.1 in
+    let at : executable_volume orders c.price ≡ c.volume = best.reached.holds.1 in
     let priced = uniform-priced orders c ranges best in
     let falls = demand-falls orders 0 c.price (omega arith) in
     let rises = supply-under orders c.price (10 ^ 18) priced in

@@ -5,35 +5,48 @@ use Rattle.audit_base.specs.declared.orders.Deal.{Deal}
 use Rattle.audit_base.specs.declared.orders.Cut.{Cut}
 use Rattle.audit_base.specs.declared.terms.Rule.TheVariants as rule
 use Rattle.audit_base.specs.Orders.{IsOrderList, AreOrders}
-use Rattle.audit_base.specs.Deals.{volume}
+use Rattle.audit_base.specs.Deals.{volume, AreDeals}
 use Rattle.audit_base.specs.Calls.{Matching, ConformsUniform, ConformsMaximum, IsGreatestVolume, IsGreatestUniformVolume}
-use Rattle.audit_base.specs.Bounds.{demand, supply, uniform_most, IsLeastCut, IsBestUniform, IsBound}
+use Rattle.audit_base.specs.Bounds.{demand, supply, executable_volume, IsLeastCut, IsBestUniform, IsBound}
 use Rattle.audit_base.specs.Expected.{uniform_deals, IsExpectedUniform, maximum_deals, IsExpectedMaximum}
 
--- a matching whose deals all have the price p has a volume of at most the lesser of demand and supply at p
+-- a matching whose deals all have the price p has at most the executable volume at p
 abbrev pub OnePriceIsBounded : Type 0
-OnePriceIsBounded = (orders : List Order) (deals : List Deal) (p : ℕ) → Matching orders deals → All (λ d. d.price ≡ p) deals
-    → volume deals ≤ uniform_most orders p
+OnePriceIsBounded = (orders : List Order) (deals : List Deal) (p : ℕ)
+    → Matching orders deals → All (λ d. d.price ≡ p) deals
+    → volume deals ≤ executable_volume orders p
 
--- where the lesser of demand and supply is greatest, the pairs of units conform to `uniform` and reach it
+-- where the executable volume is greatest, the pairs of units conform to `uniform` and reach it
 abbrev pub UniformOptimum : Type 0
-UniformOptimum = (orders : List Order) (c : Cut) → IsOrderList orders → AreOrders orders → IsBestUniform orders c
-    → ConformsUniform orders (uniform_deals orders c.volume c.price) × (volume (uniform_deals orders c.volume c.price) ≡ c.volume)
+UniformOptimum = (orders : List Order) (c : Cut)
+    → IsOrderList orders → AreOrders orders → IsBestUniform orders c
+    → ConformsUniform orders (uniform_deals orders c.volume c.price)
+    × (volume (uniform_deals orders c.volume c.price) ≡ c.volume)
+    × AreDeals (uniform_deals orders c.volume c.price)
 
--- so these pairs are the Expected trades, this volume is the greatest of a matching of one price, and the price its bound
+-- so these pairs are the Expected trades, this volume is the greatest of a matching of one price, and
+-- the price its bound
 abbrev pub UniformTradesAreExpected : Type 0
-UniformTradesAreExpected = (orders : List Order) (c : Cut) → IsOrderList orders → AreOrders orders → IsBestUniform orders c
-    → IsExpectedUniform orders (uniform_deals orders c.volume c.price) × IsGreatestUniformVolume orders c.volume × IsBound rule.Uniform orders c.volume c.price
+UniformTradesAreExpected = (orders : List Order) (c : Cut)
+    → IsOrderList orders → AreOrders orders → IsBestUniform orders c
+    → IsExpectedUniform orders (uniform_deals orders c.volume c.price)
+    × IsGreatestUniformVolume orders c.volume × IsBound rule.Uniform orders c.volume c.price
 
 -- the pairs of units conform to `maximum` and reach the least cut
 abbrev pub MaximumReachesLeastCut : Type 0
-MaximumReachesLeastCut = (orders : List Order) (c : Cut) → IsOrderList orders → AreOrders orders → IsLeastCut orders c
-    → ConformsMaximum orders (maximum_deals orders c.volume) × (volume (maximum_deals orders c.volume) ≡ c.volume)
+MaximumReachesLeastCut = (orders : List Order) (c : Cut)
+    → IsOrderList orders → AreOrders orders → IsLeastCut orders c
+    → ConformsMaximum orders (maximum_deals orders c.volume)
+    × (volume (maximum_deals orders c.volume) ≡ c.volume)
+    × AreDeals (maximum_deals orders c.volume)
 
--- so these pairs are the Expected trades, this volume is the greatest of a matching, and the price its bound
+-- so these pairs are the Expected trades, this volume is the greatest of a matching, and the price its
+-- bound
 abbrev pub MaximumTradesAreExpected : Type 0
-MaximumTradesAreExpected = (orders : List Order) (c : Cut) → IsOrderList orders → AreOrders orders → IsLeastCut orders c
-    → IsExpectedMaximum orders (maximum_deals orders c.volume) × IsGreatestVolume orders c.volume × IsBound rule.Maximum orders c.volume c.price
+MaximumTradesAreExpected = (orders : List Order) (c : Cut)
+    → IsOrderList orders → AreOrders orders → IsLeastCut orders c
+    → IsExpectedMaximum orders (maximum_deals orders c.volume)
+    × IsGreatestVolume orders c.volume × IsBound rule.Maximum orders c.volume c.price
 
 -- under `uniform` both sides have units enough for the greatest volume, and its bound is below 10^18
 abbrev pub UniformUnitsSuffice : Type 0

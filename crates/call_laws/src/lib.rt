@@ -5,5 +5,6 @@
 //! proves it, and a caller has it by a call that costs nothing.
 #![tactic(auto)]
 
+pub mod existence;
 pub mod laws;
 pub mod optimum;
