@@ -1,6 +1,7 @@
 -- What a feed stands for once a byte more has come.
 use Rattle.std.proofs.Common.{◌≡◌, ℕ, zero, suc, Bool, true, false, not, ◌==◌, ◌<◌, ◌+◌, ◌≤◌, List, [], ◌∷◌, ◌++◌, length, drop, refl, sym, ap, subst, ◌∙◌, inl, inr, Some, None, Ok, Err, Option, Result, append_assoc, length-append, add_assoc, arith}
-use Rattle.std.specs.Prelude.{filter, is_some}
+use Rattle.std.specs.Prelude.{All, IfErr, IfOk, OnOk, filter, is_some}
+use Rattle.std.specs.Global.{Vec}
 use Rattle.std.specs.List.{list_all, list_any}
 use Rattle.std.specs.Option.{option_to_list}
 use Rattle.std.proofs.lemmas.Bool.{both_ways, cases_Bool, or_parts, or_from}
@@ -8,16 +9,34 @@ use Rattle.std.proofs.lemmas.List.{append-nil, drop_all}
 use Rattle.audit_base.specs.declared.faults.Reason.{Reason}
 use Rattle.audit_base.specs.declared.faults.Reason.TheVariants as reason
 use Rattle.audit_base.specs.declared.faults.BadPlace.{BadPlace}
+use Rattle.audit_base.specs.declared.faults.LogFault.{LogFault}
+use Rattle.log_source.specs.Collectors.{HasFew, HasPlace}
 use Rattle.log_source.specs.Feeds.{HasRoom}
+use Rattle.log_source.specs.Handing.{Adds}
 use Rattle.log_source.specs.Sources.{longest_log}
 use Rattle.csv_logs.specs.Lines.{Line, is_full, full_lines, cut_lines, placed, without_cr}
-use Rattle.csv_logs.specs.Steps.{Goes, HasLine, TakesLine, fields_say, is_plain_byte, line_at, line_says}
+use Rattle.csv_logs.specs.Steps.{EndsLine, Goes, HasLine, Moves, TakesFields, fields_say, line_at, line_says}
 use Rattle.csv_logs.specs.Logs.{is_header, line_entry, read_lines, read_log}
-use Rattle.csv_logs.specs.Feeds.{IsPassed, IsOpen, IsShut, StandsAt, is_lf, is_whole}
-use Rattle.csv_logs.specs.Columns.{line_fields}
-use Rattle.csv_logs.proofs.PlainLemmas.{plain-unbroken}
+use Rattle.csv_logs.specs.Feeds.{IsHandedAs, IsPassed, IsOpen, IsReadAs, HasRead, IsShut, StandsAt, StandsFor, StandsWith, is_lf, is_whole}
+use Rattle.csv_logs.specs.declared.feeds.CsvFeed.{CsvFeed}
+use Rattle.csv_logs.specs.Columns.{line_fields, is_unquoted_byte}
+use Rattle.csv_logs.proofs.UnquotedLemmas.{unquoted-unbroken}
 use Rattle.csv_logs.proofs.LineLemmas.{mark_size-le, whole-line, no-lf-drop, after-some, full-count, full_lines-line, full_lines-last}
-use Rattle.csv_logs.proofs.LogLemmas.{passed-line, passed-bad, passed-log, passed-count, read_lines-cases}
+use Rattle.csv_logs.proofs.LogLemmas.{passed-line, passed-bad, passed-log, passed-count, read_lines-cases, read_log-count}
+
+-- A line of `size` bytes that starts at `start` was taken: a good one adds what it says, a bad one leaves its place.
+abbrev pub TakesLine : {R : Type 0} → Result (Option R) Reason → ℕ → ℕ → (List R → Type 0) → ℕ → (List R → Type 0) → ℕ → Bool → Option BadPlace → Type 0
+TakesLine (Ok new) start size before offset after offset' header bad =
+    Adds before after (option_to_list new) × (offset' ≡ offset + size) × (header ≡ true) × (bad ≡ None)
+TakesLine (Err why) start size before offset after offset' header bad =
+    (entries : List _) → before entries → after entries × (bad ≡ Some (record { place = length entries + 1; offset = start; reason = why }))
+
+-- the same of the records themselves
+abbrev TakesRecords : {R : Type 0} → Result (Option R) Reason → ℕ → ℕ → List R → ℕ → List R → ℕ → Bool → Option BadPlace → Type 0
+TakesRecords (Ok new) start size entries offset entries' offset' header bad =
+    (entries' ≡ entries ++ option_to_list new) × (offset' ≡ offset + size) × (header ≡ true) × (bad ≡ None)
+TakesRecords (Err why) start size entries offset entries' offset' header bad =
+    bad ≡ Some (record { place = length entries + 1; offset = start; reason = why })
 
 later-line : (start : ℕ) (line : List ℕ) → 0 < start → line_at start line ≡ record { start = start; text = without_cr line }
 later-line zero line h = absurd (omega (arith, h))
@@ -276,44 +295,99 @@ module _ {R : Type 0} (names : List (List ℕ)) (entry : List (List ℕ) → Res
       omega (arith, passed-count names entry header entries (full_lines is.lines) is.good, full-count is.lines, is.size)
 
   -- what is left after a line that was empty
-  pub after-empty : (entries : List R) (line : List ℕ) (offset : ℕ) (header : Bool) (bad : Option BadPlace) (log : List ℕ) → bad ≡ None
+  empty-records : (entries : List R) (line : List ℕ) (offset : ℕ) (header : Bool) (bad : Option BadPlace) (log : List ℕ) → bad ≡ None
       → is_full (line_at offset line) ≡ false → IsOpen names entry entries line offset header log
       → StandsAt names entry entries [] (offset + (length line + 1)) header bad (log ++ 10 ∷ [])
-  after-empty entries line offset header bad log none empty is =
+  empty-records entries line offset header bad log none empty is =
       subst (λ (b : Option BadPlace). StandsAt names entry entries [] (offset + (length line + 1)) header b (log ++ 10 ∷ [])) (sym none)
       (subst (λ (n : ℕ). IsOpen names entry entries [] n header (log ++ 10 ∷ [])) (add_assoc offset (length line) 1) (open-empty entries line offset header log is empty))
 
+  pub after-empty : (before : List R → Type 0) (line : List ℕ) (offset : ℕ) (header : Bool) (bad : Option BadPlace) → bad ≡ None
+      → is_full (line_at offset line) ≡ false → EndsLine names entry before line offset header before [] (offset + (length line + 1)) header bad
+  after-empty before line offset header bad none empty entries log has is =
+      record { entries = entries; has = has; stands = empty-records entries line offset header bad log none empty is }
+
+  -- a collector has a place for what ends a line
+  pub line-place : {K : Type 0} (has_taken : K → List R → Type 0) (collector : K) (line : List ℕ) (offset : ℕ) (header : Bool) → HasLine names entry (has_taken collector) line offset header
+      → HasPlace has_taken collector
+  line-place has_taken collector line offset header is = record {
+    entries = is.entries;
+    has = is.has;
+    few = omega (arith, open-count is.entries line offset header is.log is.stands, open-size is.entries line offset header is.log is.stands, is.room);
+  }
+
+  pub stands-new : (has_taken : List R → Type 0) → has_taken [] → StandsWith has_taken names entry [] 0 false None []
+  stands-new has_taken has = record { entries = []; has = has; stands = open-new }
+
   -- what is left after a line that was taken
-  pub after-taken : (says : Result (Option R) Reason) (start size : ℕ) (entries : List R) (offset : ℕ) (entries' : List R) (offset' : ℕ) (header' : Bool) (bad' : Option BadPlace)
-      → TakesLine says start size entries offset entries' offset' header' bad'
+  taken-records : (says : Result (Option R) Reason) (start size : ℕ) (entries : List R) (offset : ℕ) (entries' : List R) (offset' : ℕ) (header' : Bool) (bad' : Option BadPlace)
+      → TakesRecords says start size entries offset entries' offset' header' bad'
       → (header : Bool) (line log : List ℕ) → start ≡ (line_at offset line).start → size ≡ length line + 1
       → says ≡ line_says names entry header (line_at offset line).text → is_full (line_at offset line) ≡ true
       → IsOpen names entry entries line offset header log → StandsAt names entry entries' [] offset' header' bad' (log ++ 10 ∷ [])
-  after-taken (Ok new) start size entries offset entries' offset' header' bad' taken header line log at long says full is =
+  taken-records (Ok new) start size entries offset entries' offset' header' bad' taken header line log at long says full is =
       let good = open-good entries line offset header log new is full (sym says) in
       let moved : offset + length line + 1 ≡ offset' = omega (arith, taken.1, long) in
       rw (taken.0, ← moved, taken.2, taken.3) good
-  after-taken (Err why) start size entries offset entries' offset' header' bad' taken header line log at long says full is =
+  taken-records (Err why) start size entries offset entries' offset' header' bad' taken header line log at long says full is =
       rw (taken, at) (shut-line entries line offset header log why is full (sym says))
 
+  -- what is left after a line that was taken
+  pub after-taken : (says : Result (Option R) Reason) (start size : ℕ) (before : List R → Type 0) (offset : ℕ) (after : List R → Type 0) (offset' : ℕ) (header' : Bool) (bad' : Option BadPlace)
+      → TakesLine says start size before offset after offset' header' bad'
+      → (header : Bool) (line : List ℕ) → start ≡ (line_at offset line).start → size ≡ length line + 1
+      → says ≡ line_says names entry header (line_at offset line).text → is_full (line_at offset line) ≡ true
+      → EndsLine names entry before line offset header after [] offset' header' bad'
+  after-taken (Ok new) start size before offset after offset' header' bad' taken header line at long says full entries log has is =
+      record {
+        entries = entries ++ option_to_list new;
+        has = taken.0 entries has;
+        stands = taken-records (Ok new) start size entries offset (entries ++ option_to_list new) offset' header' bad' (refl, taken.1, taken.2, taken.3) header line log at long says full is;
+      }
+  after-taken (Err why) start size before offset after offset' header' bad' taken header line at long says full entries log has is =
+      let t = taken entries has in
+      record {
+        entries = entries;
+        has = t.0;
+        stands = taken-records (Err why) start size entries offset entries offset' header' bad' t.1 header line log at long says full is;
+      }
+
   -- what a line without quotes says, by its fields
-  plain-says : (header : Bool) (text : List ℕ) → list_all is_plain_byte text ≡ true → line_says names entry header text ≡ fields_say names entry header (line_fields text)
+  unquoted-says : (header : Bool) (text : List ℕ) → list_all is_unquoted_byte text ≡ true → line_says names entry header text ≡ fields_say names entry header (line_fields text)
   unfolding is_header line_entry
-  plain-says true text plain = rw (plain-unbroken text plain) refl
-  plain-says false text plain = rw (plain-unbroken text plain) refl
+  unquoted-says true text unquoted = rw (unquoted-unbroken text unquoted) refl
+  unquoted-says false text unquoted = rw (unquoted-unbroken text unquoted) refl
 
   -- what is left after a line that was read by its fields
-  pub after-read : (says : Result (Option R) Reason) (start size : ℕ) (entries : List R) (offset : ℕ) (entries' : List R) (offset' : ℕ) (header' : Bool) (bad' : Option BadPlace)
-      → TakesLine says start size entries offset entries' offset' header' bad'
-      → (header : Bool) (line log : List ℕ) → 0 < offset → start ≡ offset → size ≡ length line + 1 → list_all is_plain_byte (without_cr line) ≡ true
+  pub after-read : (says : Result (Option R) Reason) (start size : ℕ) (before : List R → Type 0) (offset : ℕ) (after : List R → Type 0) (offset' : ℕ) (header' : Bool) (bad' : Option BadPlace)
+      → TakesLine says start size before offset after offset' header' bad'
+      → (header : Bool) (line : List ℕ) → 0 < offset → start ≡ offset → size ≡ length line + 1 → list_all is_unquoted_byte (without_cr line) ≡ true
       → (length (without_cr line) == 0) ≡ false → says ≡ fields_say names entry header (line_fields (without_cr line))
-      → IsOpen names entry entries line offset header log → StandsAt names entry entries' [] offset' header' bad' (log ++ 10 ∷ [])
-  after-read says start size entries offset entries' offset' header' bad' taken header line log later at long plain full is_said is =
+      → EndsLine names entry before line offset header after [] offset' header' bad'
+  after-read says start size before offset after offset' header' bad' taken header line later at long unquoted full is_said =
       let stands : line_at offset line ≡ record { start = offset; text = without_cr line } = later-line offset line later in
       let text : (line_at offset line).text ≡ without_cr line = ap (λ (l : Line). l.text) stands in
-      after-taken says start size entries offset entries' offset' header' bad' taken header line log (at ∙ sym (ap (λ (l : Line). l.start) stands)) long
-      (is_said ∙ sym (plain-says header (without_cr line) plain) ∙ ap (line_says names entry header) (sym text))
-      (ap is_full stands ∙ ap not full) is
+      after-taken says start size before offset after offset' header' bad' taken header line (at ∙ sym (ap (λ (l : Line). l.start) stands)) long
+      (is_said ∙ sym (unquoted-says header (without_cr line) unquoted) ∙ ap (line_says names entry header) (sym text))
+      (ap is_full stands ∙ ap not full)
+
+-- a line was taken and then gone behind
+pub takes-fields : {R : Type 0} (says : Result (Option R) Reason) (outcome : Result (Unit {0}) Reason) (before after : List R → Type 0) (start size offset offset' : ℕ) (header' : Bool) (bad' : Option BadPlace)
+    → TakesFields says before after outcome → Moves outcome start size after offset offset' header' bad' → TakesLine says start size before offset after offset' header' bad'
+takes-fields (Ok new) outcome before after start size offset offset' header' bad' said moves =
+    let m = subst (λ (t : Result (Unit {0}) Reason). Moves t start size after offset offset' header' bad') said.1 moves in
+    (said.0, m.0, m.1, m.2)
+takes-fields (Err why) outcome before after start size offset offset' header' bad' said moves = λ entries has.
+    let m = subst (λ (t : Result (Unit {0}) Reason). Moves t start size after offset offset' header' bad') said.1 moves in
+    let h = subst after (append-nil entries) (said.0 entries has) in
+    (h, m entries h)
+
+-- a collector has a place for a line that was bad
+pub outcome-place : {K R : Type 0} (has_taken : K → List R → Type 0) (says : Result (Option R) Reason) (outcome : Result (Unit {0}) Reason) (old new : K)
+    → HasPlace has_taken old → TakesFields says (has_taken old) (has_taken new) outcome → IfErr outcome (λ why. HasPlace has_taken new)
+outcome-place has_taken (Ok more) outcome old new place said = rw (said.1) tt
+outcome-place has_taken (Err bad) outcome old new place said =
+    rw (said.1) (record { entries = place.entries; has = subst (has_taken new) (append-nil place.entries) (said.0 place.entries place.has); few = place.few })
 
 -- nothing was taken yet
 pub goes-none : (old : List ℕ → Type 0) (piece : List ℕ) → Goes old old piece piece
@@ -340,79 +414,154 @@ none-is : {T : Type 0} (option : Option T) → is_some option ≡ false → opti
 none-is None e = refl
 none-is (Some value) e = absurd (cc e)
 
-module _ {R : Type 0} (names : List (List ℕ)) (entry : List (List ℕ) → Result R Reason) (old : List ℕ → Type 0) (entries : List R) (rest : List ℕ) (offset : ℕ) (header : Bool) where
-  open-none : (bad : Option BadPlace) (log : List ℕ) → is_some bad ≡ false → StandsAt names entry entries rest offset header bad log → IsOpen names entry entries rest offset header log
-  open-none bad log e is = subst (λ (b : Option BadPlace). StandsAt names entry entries rest offset header b log) (none-is bad e) is
+open-none : {R : Type 0} (names : List (List ℕ)) (entry : List (List ℕ) → Result R Reason) (entries : List R) (rest : List ℕ) (offset : ℕ) (header : Bool) (bad : Option BadPlace) (log : List ℕ)
+    → is_some bad ≡ false → StandsAt names entry entries rest offset header bad log → IsOpen names entry entries rest offset header log
+open-none names entry entries rest offset header bad log e is = subst (λ (b : Option BadPlace). StandsAt names entry entries rest offset header b log) (none-is bad e) is
 
+module _ {R : Type 0} (names : List (List ℕ)) (entry : List (List ℕ) → Result R Reason) (old : List ℕ → Type 0) (has_taken : List R → Type 0) (rest : List ℕ) (offset : ℕ) (header : Bool) where
   -- a log with a line that has not ended is within the limit
-  pub goes-room : (bad : Option BadPlace) (piece left line later : List ℕ) → Goes old (StandsAt names entry entries rest offset header bad) piece left → is_some bad ≡ false
+  pub goes-room : (bad : Option BadPlace) (piece left line later : List ℕ) → Goes old (StandsWith has_taken names entry rest offset header bad) piece left → is_some bad ≡ false
       → left ≡ line ++ 10 ∷ later → list_any is_lf line ≡ false → (front : List ℕ) → old front → length front + length piece ≤ longest_log
-      → HasLine names entry entries (rest ++ line) offset header
-  goes-room bad piece left line later goes none is whole front stood room = record {
-    log = (front ++ goes.done) ++ line;
-    stands = open-rest names entry entries rest line offset header (front ++ goes.done) whole (open-none bad (front ++ goes.done) none (goes.stands front stood));
-    room =
-        let size : length piece ≡ length goes.done + (length line + suc (length later)) =
-        ap length (goes.split ∙ ap (λ (t : List ℕ). goes.done ++ t) is) ∙ simp length-append in
-        simp length-append (omega (arith, size, room));
-  }
+      → HasLine names entry has_taken (rest ++ line) offset header
+  goes-room bad piece left line later goes none is whole front stood room =
+      let s = goes.stands front stood in
+      record {
+        entries = s.entries;
+        has = s.has;
+        log = (front ++ goes.done) ++ line;
+        stands = open-rest names entry s.entries rest line offset header (front ++ goes.done) whole (open-none names entry s.entries rest offset header bad (front ++ goes.done) none s.stands);
+        room =
+            let size : length piece ≡ length goes.done + (length line + suc (length later)) =
+            ap length (goes.split ∙ ap (λ (t : List ℕ). goes.done ++ t) is) ∙ simp length-append in
+            simp length-append (omega (arith, size, room));
+      }
 
   -- a line has ended
-  pub goes-line : (bad : Option BadPlace) (piece left line later : List ℕ) → Goes old (StandsAt names entry entries rest offset header bad) piece left → is_some bad ≡ false
-      → left ≡ line ++ 10 ∷ later → list_any is_lf line ≡ false → (new : List ℕ → Type 0) → ((log : List ℕ) → IsOpen names entry entries (rest ++ line) offset header log → new (log ++ 10 ∷ []))
-      → Goes old new piece later
-  goes-line bad piece left line later goes none is whole new taken = record {
+  pub goes-line : (bad : Option BadPlace) (piece left line later : List ℕ) → Goes old (StandsWith has_taken names entry rest offset header bad) piece left → is_some bad ≡ false
+      → left ≡ line ++ 10 ∷ later → list_any is_lf line ≡ false → (after : List R → Type 0) (rest' : List ℕ) (offset' : ℕ) (header' : Bool) (bad' : Option BadPlace)
+      → EndsLine names entry has_taken (rest ++ line) offset header after rest' offset' header' bad'
+      → Goes old (StandsWith after names entry rest' offset' header' bad') piece later
+  goes-line bad piece left line later goes none is whole after rest' offset' header' bad' taken = record {
     done = (goes.done ++ line) ++ 10 ∷ [];
     split = goes.split ∙ ap (λ (t : List ℕ). goes.done ++ t) is ∙ sym (append_assoc goes.done line (10 ∷ later)) ∙ sym (append_assoc (goes.done ++ line) (10 ∷ []) later);
     stands = λ log stood.
-        let is_open = open-rest names entry entries rest line offset header (log ++ goes.done) whole (open-none bad (log ++ goes.done) none (goes.stands log stood)) in
-        subst new (ap (λ (t : List ℕ). t ++ 10 ∷ []) (append_assoc log goes.done line) ∙ append_assoc log (goes.done ++ line) (10 ∷ [])) (taken ((log ++ goes.done) ++ line) is_open);
+        let s = goes.stands log stood in
+        let is_open = open-rest names entry s.entries rest line offset header (log ++ goes.done) whole (open-none names entry s.entries rest offset header bad (log ++ goes.done) none s.stands) in
+        subst (StandsWith after names entry rest' offset' header' bad') (ap (λ (t : List ℕ). t ++ 10 ∷ []) (append_assoc log goes.done line) ∙ append_assoc log (goes.done ++ line) (10 ∷ []))
+        (taken s.entries ((log ++ goes.done) ++ line) s.has is_open);
   }
 
   -- the rest of a piece has no LF
-  pub goes-rest : (bad : Option BadPlace) (piece left : List ℕ) → Goes old (StandsAt names entry entries rest offset header bad) piece left → is_some bad ≡ false
-      → list_any is_lf left ≡ false → (log : List ℕ) → old log → IsOpen names entry entries (rest ++ left) offset header (log ++ piece)
-  goes-rest bad piece left goes none whole log stood =
-      let is_open = open-rest names entry entries rest left offset header (log ++ goes.done) whole (open-none bad (log ++ goes.done) none (goes.stands log stood)) in
-      subst (IsOpen names entry entries (rest ++ left) offset header) (append_assoc log goes.done left ∙ ap (λ (t : List ℕ). log ++ t) (sym goes.split)) is_open
+  pub goes-rest : (bad : Option BadPlace) (piece left : List ℕ) → Goes old (StandsWith has_taken names entry rest offset header bad) piece left → is_some bad ≡ false
+      → list_any is_lf left ≡ false → (log : List ℕ) → old log → (bad' : Option BadPlace) (rest' : List ℕ) → bad' ≡ bad → rest' ≡ rest ++ left → StandsWith has_taken names entry rest' offset header bad' (log ++ piece)
+  goes-rest bad piece left goes none whole log stood bad' rest' same more =
+      let s = goes.stands log stood in
+      let is_open = open-rest names entry s.entries rest left offset header (log ++ goes.done) whole (open-none names entry s.entries rest offset header bad (log ++ goes.done) none s.stands) in
+      let stands : StandsAt names entry s.entries (rest ++ left) offset header None (log ++ piece) =
+      subst (IsOpen names entry s.entries (rest ++ left) offset header) (append_assoc log goes.done left ∙ ap (λ (t : List ℕ). log ++ t) (sym goes.split)) is_open in
+      record {
+        entries = s.entries;
+        has = s.has;
+        stands =
+            subst (λ (b : Option BadPlace). StandsAt names entry s.entries rest' offset header b (log ++ piece)) (sym (same ∙ none-is bad none))
+            (subst (λ (r : List ℕ). StandsAt names entry s.entries r offset header None (log ++ piece)) (sym more) stands);
+      }
+
+  shut-stays : (bad : Option BadPlace) (entries : List R) (log left : List ℕ) → is_some bad ≡ true → StandsAt names entry entries rest offset header bad log
+      → StandsAt names entry entries rest offset header bad (log ++ left)
+  shut-stays None entries log left none stands = absurd (cc none)
+  shut-stays (Some bad) entries log left none stands = shut-more names entry rest bad log left stands
 
   -- a bad line has ended
-  pub goes-shut : (bad : Option BadPlace) (piece left : List ℕ) → Goes old (StandsAt names entry entries rest offset header bad) piece left → is_some bad ≡ true
-      → (log : List ℕ) → old log → StandsAt names entry entries rest offset header bad (log ++ piece)
-  goes-shut None piece left goes none log stood = absurd (cc none)
-  goes-shut (Some bad) piece left goes none log stood =
-      subst (IsShut names entry rest bad) (append_assoc log goes.done left ∙ ap (λ (t : List ℕ). log ++ t) (sym goes.split))
-      (shut-more names entry rest bad (log ++ goes.done) left (goes.stands log stood))
+  pub goes-shut : (bad : Option BadPlace) (piece left : List ℕ) → Goes old (StandsWith has_taken names entry rest offset header bad) piece left → is_some bad ≡ true
+      → (log : List ℕ) → old log → StandsWith has_taken names entry rest offset header bad (log ++ piece)
+  goes-shut bad piece left goes none log stood =
+      let s = goes.stands log stood in
+      record {
+        entries = s.entries;
+        has = s.has;
+        stands =
+            subst (StandsAt names entry s.entries rest offset header bad) (append_assoc log goes.done left ∙ ap (λ (t : List ℕ). log ++ t) (sym goes.split))
+            (shut-stays bad s.entries (log ++ goes.done) left none s.stands);
+      }
+
+-- the rest of a piece was kept
+pub goes-keeps : {K R T E : Type 0} (names : List (List ℕ)) (entry : List (List ℕ) → Result R Reason) (has_taken : K → List R → Type 0) (result : Result T E) (old : List ℕ → Type 0) (was now : CsvFeed K) (piece left : List ℕ)
+    → Goes old (StandsFor has_taken names entry was) piece left → is_some was.bad ≡ false → list_any is_lf left ≡ false
+    → OnOk result (now.rest.items ≡ was.rest.items ++ left) → OnOk result ((now.entries ≡ was.entries) × (now.offset ≡ was.offset) × (now.header ≡ was.header) × (now.bad ≡ was.bad))
+    → OnOk result ((log : List ℕ) → old log → StandsFor has_taken names entry now (log ++ piece))
+goes-keeps names entry has_taken (Ok done) old was now piece left goes none whole more others = λ log stood.
+    let kept = goes-rest names entry old (has_taken was.entries) was.rest.items was.offset was.header was.bad piece left goes none whole log stood was.bad now.rest.items refl more in
+    rw (others.0, others.1, others.2, others.3) kept
+goes-keeps names entry has_taken (Err why) old was now piece left goes none whole more others = tt
+
+-- a line was taken by itself, where nothing of its front was kept
+pub ends-whole : {R T E : Type 0} (names : List (List ℕ)) (entry : List (List ℕ) → Result R Reason) (result : Result T E) (before after : List R → Type 0) (rest line : List ℕ) (offset : ℕ) (header : Bool) (rest' : List ℕ) (offset' : ℕ) (header' : Bool) (bad' : Option BadPlace)
+    → rest ≡ [] → OnOk result (EndsLine names entry before line offset header after [] offset' header' bad') → OnOk result (rest' ≡ rest)
+    → OnOk result (EndsLine names entry before (rest ++ line) offset header after rest' offset' header' bad')
+ends-whole names entry (Ok done) before after rest line offset header rest' offset' header' bad' none taken same =
+    rw (same, none) taken
+ends-whole names entry (Err why) before after rest line offset header rest' offset' header' bad' none taken same = tt
+
+-- a line was taken as one text
+pub ends-text : {R : Type 0} (names : List (List ℕ)) (entry : List (List ℕ) → Result R Reason) (before after : List R → Type 0) (line text : List ℕ) (offset : ℕ) (header : Bool) (rest' : List ℕ) (offset' : ℕ) (header' : Bool) (bad' : Option BadPlace)
+    → text ≡ line → rest' ≡ [] → EndsLine names entry before text offset header after [] offset' header' bad' → EndsLine names entry before line offset header after rest' offset' header' bad'
+ends-text names entry before after line text offset header rest' offset' header' bad' same none taken = rw (← same, none) taken
 
 -- The last line has ended: what the feed was, and what it is then.
-module _ {R : Type 0} (names : List (List ℕ)) (entry : List (List ℕ) → Result R Reason) (entries entries' : List R) (rest rest' : List ℕ) (offset offset' : ℕ) (header header' : Bool) (bad bad' : Option BadPlace)
-    (none : bad ≡ None) (nothing : rest' ≡ []) (taken : (log : List ℕ) → IsOpen names entry entries (rest ++ []) offset header log → StandsAt names entry entries' rest' offset' header' bad' (log ++ 10 ∷ [])) where
-  was : (log : List ℕ) → StandsAt names entry entries rest offset header bad log → IsOpen names entry entries rest offset header log
-  was log stood = subst (λ (b : Option BadPlace). StandsAt names entry entries rest offset header b log) none stood
+module _ {R : Type 0} (names : List (List ℕ)) (entry : List (List ℕ) → Result R Reason) (before after : List R → Type 0) (rest rest' : List ℕ) (offset offset' : ℕ) (header header' : Bool) (bad bad' : Option BadPlace)
+    (none : bad ≡ None) (nothing : rest' ≡ []) (taken : EndsLine names entry before (rest ++ []) offset header after rest' offset' header' bad') where
+  was : (entries : List R) (log : List ℕ) → StandsAt names entry entries rest offset header bad log → IsOpen names entry entries rest offset header log
+  was entries log stood = subst (λ (b : Option BadPlace). StandsAt names entry entries rest offset header b log) none stood
 
-  is : (log : List ℕ) → StandsAt names entry entries rest offset header bad log → StandsAt names entry entries' [] offset' header' bad' (log ++ 10 ∷ [])
+  is : (log : List ℕ) → StandsWith before names entry rest offset header bad log → StandsWith after names entry [] offset' header' bad' (log ++ 10 ∷ [])
   is log stood =
-      let long = subst (λ (r : List ℕ). IsOpen names entry entries r offset header log) (sym (append-nil rest)) (was log stood) in
-      subst (λ (r : List ℕ). StandsAt names entry entries' r offset' header' bad' (log ++ 10 ∷ [])) nothing (taken log long)
+      let long = subst (λ (r : List ℕ). IsOpen names entry stood.entries r offset header log) (sym (append-nil rest)) (was stood.entries log stood.stands) in
+      subst (λ (r : List ℕ). StandsWith after names entry r offset' header' bad' (log ++ 10 ∷ [])) nothing (taken stood.entries log stood.has long)
 
-  pub ends-bad : (why : BadPlace) → bad' ≡ Some why → (log : List ℕ) → StandsAt names entry entries rest offset header bad log → read_log names entry log ≡ Err why
+  pub ends-bad : (why : BadPlace) → bad' ≡ Some why → (log : List ℕ) → StandsWith before names entry rest offset header bad log → read_log names entry log ≡ Err why
   ends-bad why now log stood =
-      finish-bad names entry entries rest offset header why log (was log stood)
-      (subst (λ (b : Option BadPlace). StandsAt names entry entries' [] offset' header' b (log ++ 10 ∷ [])) now (is log stood))
+      let then_is = is log stood in
+      finish-bad names entry stood.entries rest offset header why log (was stood.entries log stood.stands)
+      (subst (λ (b : Option BadPlace). StandsAt names entry then_is.entries [] offset' header' b (log ++ 10 ∷ [])) now then_is.stands)
 
-  still : bad' ≡ None → (log : List ℕ) → StandsAt names entry entries rest offset header bad log → IsOpen names entry entries' [] offset' header' (log ++ 10 ∷ [])
-  still now log stood = subst (λ (b : Option BadPlace). StandsAt names entry entries' [] offset' header' b (log ++ 10 ∷ [])) now (is log stood)
+  still : bad' ≡ None → (entries : List R) (log : List ℕ) → StandsAt names entry entries [] offset' header' bad' (log ++ 10 ∷ []) → IsOpen names entry entries [] offset' header' (log ++ 10 ∷ [])
+  still now entries log stands = subst (λ (b : Option BadPlace). StandsAt names entry entries [] offset' header' b (log ++ 10 ∷ [])) now stands
 
-  pub ends-good : bad' ≡ None → header' ≡ true → (log : List ℕ) → StandsAt names entry entries rest offset header bad log → read_log names entry log ≡ Ok entries'
+  pub ends-good : bad' ≡ None → header' ≡ true → (log : List ℕ) → StandsWith before names entry rest offset header bad log → HasRead after (read_log names entry log)
   ends-good now has log stood =
-      finish-good names entry entries entries' rest offset offset' header log (was log stood)
-      (subst (λ (h : Bool). IsOpen names entry entries' [] offset' h (log ++ 10 ∷ [])) has (still now log stood))
+      let then_is = is log stood in
+      record {
+        entries = then_is.entries;
+        has = then_is.has;
+        reads =
+            finish-good names entry stood.entries then_is.entries rest offset offset' header log (was stood.entries log stood.stands)
+            (subst (λ (h : Bool). IsOpen names entry then_is.entries [] offset' h (log ++ 10 ∷ [])) has (still now then_is.entries log then_is.stands));
+      }
 
-  pub ends-none : bad' ≡ None → header' ≡ false → (log : List ℕ) → StandsAt names entry entries rest offset header bad log
+  pub ends-few : bad' ≡ None → header' ≡ true → (log : List ℕ) → length log ≤ longest_log → StandsWith before names entry rest offset header bad log → HasFew after
+  ends-few now has log within stood =
+      let read = ends-good now has log stood in
+      record { entries = read.entries; has = read.has; few = omega (arith, read_log-count names entry log read.entries read.reads, within) }
+
+  pub ends-none : bad' ≡ None → header' ≡ false → (log : List ℕ) → StandsWith before names entry rest offset header bad log
       → read_log names entry log ≡ Err (record { place = 1; offset = offset + length rest; reason = reason.Header })
   ends-none now has log stood =
-      finish-none names entry entries entries' rest offset offset' header log (was log stood)
-      (subst (λ (h : Bool). IsOpen names entry entries' [] offset' h (log ++ 10 ∷ [])) has (still now log stood))
+      let then_is = is log stood in
+      finish-none names entry stood.entries then_is.entries rest offset offset' header log (was stood.entries log stood.stands)
+      (subst (λ (h : Bool). IsOpen names entry then_is.entries [] offset' h (log ++ 10 ∷ [])) has (still now then_is.entries log then_is.stands))
+
+-- a vector that was handed the records of a log has them
+pub read-kept : {R : Type 0} (reading : Result (List R) BadPlace) (result : Result (Vec R) LogFault)
+    → IsHandedAs {K = Vec R} (λ kept entries. kept.items ≡ entries) reading result → IsReadAs reading result
+read-kept reading (Ok kept) is = is.reads ∙ ap (λ entries. Ok entries) (sym is.has)
+read-kept reading (Err why) is = is
+
+-- and these are sound where all records of the log are
+pub sound-kept : {R : Type 0} (reading : Result (List R) BadPlace) (result : Result (Vec R) LogFault) (sound : R → Type 0)
+    → IsReadAs reading result → IfOk reading (All sound) → IfOk result (λ kept. All sound kept.items)
+sound-kept reading (Ok kept) sound is all = rw is at all
+sound-kept reading (Err why) sound is all = tt
 
 -- one more part of a log was fed
 pub goes-piece : (old middle new : List ℕ → Type 0) (log left part rest : List ℕ) → Goes old middle log left → left ≡ part ++ rest

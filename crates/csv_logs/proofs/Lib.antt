@@ -1,10 +1,11 @@
 pub mod FieldLemmas
 pub mod LineLemmas
-pub mod PlainLemmas
+pub mod UnquotedLemmas
 pub mod LogLemmas
 pub mod ReadingLemmas
 pub mod FeedLemmas
 pub mod WrittenLemmas
 pub mod RecordLemmas
-pub mod BlockLemmas
+pub mod ReaderLemmas
 pub mod PricedLemmas
+pub mod SymbolLemmas

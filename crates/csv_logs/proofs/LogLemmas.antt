@@ -9,7 +9,7 @@ use Rattle.audit_base.specs.declared.faults.BadPlace.{BadPlace}
 use Rattle.csv_logs.specs.Lines.{Line, is_full, full_lines}
 use Rattle.csv_logs.specs.Logs.{is_header, line_entry, with_first, after_line, read_entries, read_lines, read_log}
 use Rattle.csv_logs.specs.Feeds.{IsPassed}
-use Rattle.csv_logs.specs.Steps.{header_says, line_says, said}
+use Rattle.csv_logs.specs.Steps.{header_says, line_says, entry_says}
 use Rattle.csv_logs.proofs.LineLemmas.{full-count}
 
 -- records before those that are read later
@@ -100,13 +100,13 @@ module _ {R : Type 0} (entry : List (List ℕ) → Result R Reason) where
   read_entries-bad before lines line more entries why e is = rw (read_entries-more before lines (line ∷ more) entries e, is) refl
 
 -- what a line says where the header came before it
-said-ok : {R : Type 0} (line : Result R Reason) (new : Option R) → said line ≡ Ok new → (entry : R) × (line ≡ Ok entry) × (new ≡ Some entry)
-said-ok (Ok entry) new e = (entry, refl, cc)
-said-ok (Err why) new e = absurd (cc e)
+entry_says-ok : {R : Type 0} (line : Result R Reason) (new : Option R) → entry_says line ≡ Ok new → (entry : R) × (line ≡ Ok entry) × (new ≡ Some entry)
+entry_says-ok (Ok entry) new e = (entry, refl, cc)
+entry_says-ok (Err why) new e = absurd (cc e)
 
-said-err : {R : Type 0} (line : Result R Reason) (why : Reason) → said line ≡ Err why → line ≡ Err why
-said-err (Ok entry) why e = absurd (cc e)
-said-err (Err other) why e = cc e
+entry_says-err : {R : Type 0} (line : Result R Reason) (why : Reason) → entry_says line ≡ Err why → line ≡ Err why
+entry_says-err (Ok entry) why e = absurd (cc e)
+entry_says-err (Err other) why e = cc e
 
 -- the header line
 header-ok : {R : Type 0} (test : Bool) (new : Option R) → header_says test ≡ Ok new → (test ≡ true) × (new ≡ None)
@@ -128,7 +128,7 @@ module _ {R : Type 0} (names : List (List ℕ)) (entry : List (List ℕ) → Res
       → line_says names entry header line.text ≡ Ok new → IsPassed names entry true (entries ++ option_to_list new) (lines ++ line ∷ [])
   passed-line true entries [] line new is says = absurd (cc is)
   passed-line true entries (first ∷ lines) line new is says =
-      let q = said-ok (line_entry entry line.text) new says in
+      let q = entry_says-ok (line_entry entry line.text) new says in
       let p = passed-header (is_header names first.text) (Ok entries) (read_entries entry 0 lines) _ entries is in
       rw (q.2, p.0) (read_entries-line entry 0 lines line entries q.0 p.1 q.1)
   passed-line false entries lines line new is says =
@@ -141,7 +141,7 @@ module _ {R : Type 0} (names : List (List ℕ)) (entry : List (List ℕ) → Res
       → read_lines names entry size (lines ++ line ∷ more) ≡ Err (record { place = length entries + 1; offset = line.start; reason = why })
   passed-bad true entries [] line more why size is says = absurd (cc is)
   passed-bad true entries (first ∷ lines) line more why size is says =
-      let q = said-err (line_entry entry line.text) why says in
+      let q = entry_says-err (line_entry entry line.text) why says in
       let p = passed-header (is_header names first.text) (Ok entries) (read_entries entry 0 lines) _ entries is in
       rw p.0 (read_entries-bad entry 0 lines line more entries why p.1 q
       ∙ ap (λ (n : ℕ). let bad : Result (List R) BadPlace = Err (record { place = n + 1; offset = line.start; reason = why }) in bad) (zero-add (length entries)))

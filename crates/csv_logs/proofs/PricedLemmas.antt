@@ -1,6 +1,6 @@
 -- A market order that is read has the market price of its side.
 use Rattle.std.proofs.Common.{◌≡◌, ℕ, List, subst, refl, Ok, Err, Result}
-use Rattle.std.specs.Prelude.{All, IfOk, MatchResult}
+use Rattle.std.specs.Prelude.{IfOk}
 use Rattle.audit_base.specs.declared.faults.Reason.{Reason}
 use Rattle.audit_base.specs.declared.records.OrderRecord.{OrderRecord}
 use Rattle.audit_base.specs.declared.records.OrderRecord.TheVariants as record_of
@@ -8,12 +8,10 @@ use Rattle.audit_base.specs.declared.terms.Life.TheVariants as life
 use Rattle.csv_logs.specs.declared.orders.Head.{Head}
 use Rattle.csv_logs.specs.declared.orders.Kind.{Kind}
 use Rattle.csv_logs.specs.declared.orders.Kind.TheVariants as kind
-use Rattle.csv_logs.specs.Columns.{◌>>=◌, column, in_column, name_at, side_at, quantity_at, price_at, empty_at}
-use Rattle.csv_logs.specs.Logs.{order_log}
+use Rattle.csv_logs.specs.Columns.{◌>>=◌, column_text, in_column, name_at, side_at, quantity_at, price_at, empty_at}
 use Rattle.audit_base.specs.Numbers.{market_price}
-use Rattle.csv_logs.specs.OrderLines.{kind_form, head_at, limit_order, market_order, cancel, replacement, order_of, order_names, order_entry}
+use Rattle.csv_logs.specs.OrderLines.{kind_form, head_at, limit_order, market_order, cancel, replacement, order_of_kind, order_entry}
 use Rattle.csv_logs.specs.Written.{HasMarketPrice}
-use Rattle.csv_logs.proofs.ReadingLemmas.{log-has}
 
 same : (a b : OrderRecord) → HasMarketPrice a → ◌≡◌ {A = Result OrderRecord Reason} (Ok a) (Ok b) → HasMarketPrice b
 same a b has e = let eq : a ≡ b = cc in subst HasMarketPrice eq has
@@ -29,15 +27,15 @@ four (Err why) b c d make order e each = absurd (cc e)
 
 limit-priced : (head : Head) (fields : List (List ℕ)) (order : OrderRecord) → limit_order head life.Rests fields ≡ Ok order → HasMarketPrice order
 limit-priced head fields order e =
-    four (side_at 6 fields) (quantity_at 7 fields) (price_at 8 fields) (empty_at 9 fields) (λ side quantity price none. record_of.New head.key head.time head.symbol side quantity price life.Rests) order e (λ _ _ _ _. tt)
+    four (side_at 6 fields) (quantity_at 7 fields) (price_at 8 fields) (empty_at 9 fields) (λ side quantity price none. record_of.New head.key head.time head.symbol side quantity price life.Rests) order e (λ _ _ _ _ other. cc other)
 
 immediate-priced : (head : Head) (fields : List (List ℕ)) (order : OrderRecord) → limit_order head life.Immediate fields ≡ Ok order → HasMarketPrice order
 immediate-priced head fields order e =
-    four (side_at 6 fields) (quantity_at 7 fields) (price_at 8 fields) (empty_at 9 fields) (λ side quantity price none. record_of.New head.key head.time head.symbol side quantity price life.Immediate) order e (λ _ _ _ _. tt)
+    four (side_at 6 fields) (quantity_at 7 fields) (price_at 8 fields) (empty_at 9 fields) (λ side quantity price none. record_of.New head.key head.time head.symbol side quantity price life.Immediate) order e (λ _ _ _ _ other. cc other)
 
 market-priced : (head : Head) (fields : List (List ℕ)) (order : OrderRecord) → market_order head fields ≡ Ok order → HasMarketPrice order
 market-priced head fields order e =
-    four (side_at 6 fields) (quantity_at 7 fields) (empty_at 8 fields) (empty_at 9 fields) (λ side quantity none nothing. record_of.New head.key head.time head.symbol side quantity (market_price side) life.Market) order e (λ _ _ _ _. refl)
+    four (side_at 6 fields) (quantity_at 7 fields) (empty_at 8 fields) (empty_at 9 fields) (λ side quantity none nothing. record_of.New head.key head.time head.symbol side quantity (market_price side) life.Market) order e (λ _ _ _ _ _. refl)
 
 cancel-priced : (head : Head) (fields : List (List ℕ)) (order : OrderRecord) → cancel head fields ≡ Ok order → HasMarketPrice order
 cancel-priced head fields order e =
@@ -47,7 +45,7 @@ replace-priced : (head : Head) (fields : List (List ℕ)) (order : OrderRecord) 
 replace-priced head fields order e =
     four (side_at 6 fields) (quantity_at 7 fields) (price_at 8 fields) (name_at 9 fields) (λ side quantity price target. record_of.Replace head.key head.time head.symbol target side quantity price) order e (λ _ _ _ _. tt)
 
-order-priced : (k : Kind) (head : Head) (fields : List (List ℕ)) (order : OrderRecord) → order_of k head fields ≡ Ok order → HasMarketPrice order
+order-priced : (k : Kind) (head : Head) (fields : List (List ℕ)) (order : OrderRecord) → order_of_kind k head fields ≡ Ok order → HasMarketPrice order
 order-priced kind.New head fields order e = limit-priced head fields order e
 order-priced kind.Immediate head fields order e = immediate-priced head fields order e
 order-priced kind.Market head fields order e = market-priced head fields order e
@@ -60,15 +58,14 @@ two (Ok x) (Ok y) make order e each = each x y e
 two (Ok x) (Err why) make order e each = absurd (cc e)
 two (Err why) b make order e each = absurd (cc e)
 
-entry-priced : (fields : List (List ℕ)) (order : OrderRecord) → order_entry fields ≡ Ok order → HasMarketPrice order
+pub entry-priced : (fields : List (List ℕ)) (order : OrderRecord) → order_entry fields ≡ Ok order → HasMarketPrice order
 unfolding order_entry
 entry-priced fields order e =
-    two (in_column 1 (kind_form (column 1 fields))) (head_at fields) (λ k head. order_of k head fields) order e (λ k head. order-priced k head fields order)
+    two (in_column 1 (kind_form (column_text 1 fields))) (head_at fields) (λ k head. order_of_kind k head fields) order e (λ k head. order-priced k head fields order)
 
-pub orders-priced : (log : List ℕ) (entries : List OrderRecord) → order_log log ≡ Ok entries → All HasMarketPrice entries
-orders-priced log entries e = log-has order_entry HasMarketPrice entry-priced order_names log entries e
-
--- what follows from an `Ok` that a reader gives
-pub read-then : {V E : Type 0} (P P' : V → Type 0) (Q : E → Type 0) (result : Result V E) → ((value : V) → P value → P' value) → MatchResult result P Q → IfOk result P'
-read-then P P' Q (Ok value) goes is = goes value is
-read-then P P' Q (Err why) goes is = tt
+pub meaning-priced : (fields : List (List ℕ)) → IfOk (order_entry fields) HasMarketPrice
+meaning-priced fields = each-is (order_entry fields) (entry-priced fields)
+  where
+    each-is : (reading : Result OrderRecord Reason) → ((order : OrderRecord) → reading ≡ Ok order → HasMarketPrice order) → IfOk reading HasMarketPrice
+    each-is (Ok order) each = each order refl
+    each-is (Err why) each = tt

@@ -4,7 +4,7 @@ use Rattle.std.proofs.lemmas.Bool.{cases_Bool}
 use Rattle.audit_base.specs.declared.faults.Reason.{Reason}
 use Rattle.audit_base.specs.declared.faults.Reason.TheVariants as reason
 use Rattle.audit_base.specs.declared.faults.BadPlace.{BadPlace}
-use Rattle.std.specs.Prelude.{All}
+use Rattle.std.specs.Prelude.{All, IfOk}
 use Rattle.csv_logs.specs.Columns.{is_broken, line_fields}
 use Rattle.csv_logs.specs.Lines.{Line, full_lines}
 use Rattle.csv_logs.specs.Logs.{is_header, line_entry, read_entries, read_lines, read_log, IsGood, IsBad, IsOnlyReading}
@@ -164,3 +164,16 @@ module _ {R : Type 0} (entry : List (List ℕ) → Result R Reason) (P : R → T
   log-has names log entries e =
       let q = lines-good names entry (length log) (full_lines log) entries e in
       entries-have 0 q.1 entries (records-read entry 0 q.1 entries q.4)
+
+-- Where every record that fields mean is sound, every record of a good log is.
+module _ {R : Type 0} (entry : List (List ℕ) → Result R Reason) (sound : R → Type 0) (each : (fields : List (List ℕ)) → IfOk (entry fields) sound) where
+  meant : (reading : Result R Reason) → IfOk reading sound → (new : R) → reading ≡ Ok new → sound new
+  meant (Ok found) is new e = let same : found ≡ new = cc in subst sound same is
+  meant (Err why) is new e = absurd (cc e)
+
+  all-sound : (reading : Result (List R) BadPlace) → ((entries : List R) → reading ≡ Ok entries → All sound entries) → IfOk reading (All sound)
+  all-sound (Ok entries) has = has entries refl
+  all-sound (Err bad) has = tt
+
+  pub log_sound : (names : List (List ℕ)) (log : List ℕ) → IfOk (read_log names entry log) (All sound)
+  log_sound names log = all-sound (read_log names entry log) (log-has entry sound (λ fields. meant (entry fields) (each fields)) names log)

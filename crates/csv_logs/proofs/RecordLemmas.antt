@@ -1,4 +1,4 @@
--- The fields of a record's line are plain and mean the record.
+-- The fields of a record's line are unquoted and mean the record.
 use Rattle.std.proofs.Common.{◌≡◌, ℕ, true, ◌&&◌, List, [], ◌∷◌, length, refl, sym, subst, Some, Ok}
 use Rattle.std.specs.Prelude.{⊤, decimal, nat_le, codes}
 use Rattle.std.specs.List.{list_all}
@@ -15,24 +15,24 @@ use Rattle.audit_base.specs.declared.terms.Side.TheVariants as side
 use Rattle.csv_logs.specs.declared.orders.Head.{Head}
 use Rattle.csv_logs.specs.declared.orders.Kind.{Kind}
 use Rattle.csv_logs.specs.declared.orders.Kind.TheVariants as kind
-use Rattle.csv_logs.specs.declared.rows.Terms.{Terms}
+use Rattle.csv_logs.specs.declared.written_lines.Terms.{Terms}
 use Rattle.csv_logs.specs.Columns.{side_form}
 use Rattle.csv_logs.specs.OrderLines.{kind_form, order_entry}
 use Rattle.csv_logs.specs.TradeLines.{trade_entry}
 use Rattle.csv_logs.specs.Written.{HasMarketPrice, limit_text, order_fields, trade_fields, side_text, kind_text}
-use Rattle.csv_logs.specs.Rows.{IsLineOf, are_plain, cancel_order, new_order, replace_order}
+use Rattle.csv_logs.specs.WrittenLines.{IsLineOf, have_name_bytes, cancel_order, new_order, replace_order}
 
-pub name-plain : (text name : List ℕ) → text ≡ name → is_name name ≡ true → list_all is_name_byte text ≡ true
-name-plain text name same is =
+pub name-unquoted : (text name : List ℕ) → text ≡ name → is_name name ≡ true → list_all is_name_byte text ≡ true
+name-unquoted text name same is =
     subst (λ (t : List ℕ). list_all is_name_byte t ≡ true) (sym same) (and_parts (nat_le 1 (length name) && nat_le (length name) 64) (list_all is_name_byte name) is).1
 
-pub text-plain : (text written : List ℕ) → text ≡ written → list_all is_name_byte written ≡ true → list_all is_name_byte text ≡ true
-text-plain text written same is = subst (λ (t : List ℕ). list_all is_name_byte t ≡ true) (sym same) is
+pub text-unquoted : (text written : List ℕ) → text ≡ written → list_all is_name_byte written ≡ true → list_all is_name_byte text ≡ true
+text-unquoted text written same is = subst (λ (t : List ℕ). list_all is_name_byte t ≡ true) (sym same) is
 
-pub nine-plain : (a b c d e f g h i : List ℕ) → list_all is_name_byte a ≡ true → list_all is_name_byte b ≡ true → list_all is_name_byte c ≡ true
+pub nine-unquoted : (a b c d e f g h i : List ℕ) → list_all is_name_byte a ≡ true → list_all is_name_byte b ≡ true → list_all is_name_byte c ≡ true
     → list_all is_name_byte d ≡ true → list_all is_name_byte e ≡ true → list_all is_name_byte f ≡ true → list_all is_name_byte g ≡ true
-    → list_all is_name_byte h ≡ true → list_all is_name_byte i ≡ true → are_plain (a ∷ b ∷ c ∷ d ∷ e ∷ f ∷ g ∷ h ∷ i ∷ []) ≡ true
-nine-plain a b c d e f g h i pa pb pc pd pe pf pg ph pi = rw (pa, pb, pc, pd, pe, pf, pg, ph, pi) refl
+    → list_all is_name_byte h ≡ true → list_all is_name_byte i ≡ true → have_name_bytes (a ∷ b ∷ c ∷ d ∷ e ∷ f ∷ g ∷ h ∷ i ∷ []) ≡ true
+nine-unquoted a b c d e f g h i pa pb pc pd pe pf pg ph pi = rw (pa, pb, pc, pd, pe, pf, pg, ph, pi) refl
 
 trade-again : (trade : TradeRecord) → is_name trade.trade ≡ true → stamp_form (stamp_text trade.time) ≡ Some trade.time → is_name trade.symbol ≡ true
     → is_name trade.buy.firm ≡ true → is_name trade.buy.id ≡ true → is_name trade.sell.firm ≡ true → is_name trade.sell.id ≡ true
@@ -55,14 +55,14 @@ kind-again life.Rests = refl
 kind-again life.Immediate = refl
 kind-again life.Market = refl
 
-side-plain : (s : Side) → list_all is_name_byte (side_text s) ≡ true
-side-plain side.Buy = refl
-side-plain side.Sell = refl
+side-unquoted : (s : Side) → list_all is_name_byte (side_text s) ≡ true
+side-unquoted side.Buy = refl
+side-unquoted side.Sell = refl
 
-kind-plain : (l : Life) → list_all is_name_byte (kind_text l) ≡ true
-kind-plain life.Rests = refl
-kind-plain life.Immediate = refl
-kind-plain life.Market = refl
+kind-unquoted : (l : Life) → list_all is_name_byte (kind_text l) ≡ true
+kind-unquoted life.Rests = refl
+kind-unquoted life.Immediate = refl
+kind-unquoted life.Market = refl
 
 -- a line of an order means the order
 new-again : (head : Head) (terms : Terms) (l : Life) → is_name head.key.firm ≡ true → is_name head.key.id ≡ true → stamp_form (stamp_text head.time) ≡ Some head.time → is_name head.symbol ≡ true
@@ -71,7 +71,7 @@ new-again : (head : Head) (terms : Terms) (l : Life) → is_name head.key.firm �
 unfolding order_entry field_at
 new-again head terms life.Rests a b c d e f priced = rw (a, b, c, d, side-again terms.side, e, f) refl
 new-again head terms life.Immediate a b c d e f priced = rw (a, b, c, d, side-again terms.side, e, f) refl
-new-again head terms life.Market a b c d e f priced = rw (a, b, c, d, side-again terms.side, e, priced) refl
+new-again head terms life.Market a b c d e f priced = rw (a, b, c, d, side-again terms.side, e, priced refl) refl
 
 cancel-again : (head : Head) (target : List ℕ) → is_name head.key.firm ≡ true → is_name head.key.id ≡ true → stamp_form (stamp_text head.time) ≡ Some head.time → is_name head.symbol ≡ true
     → is_name target ≡ true → order_entry (order_fields (cancel_order head target)) ≡ Ok (cancel_order head target)
@@ -86,29 +86,29 @@ replace-again head terms target a b c d e f g = rw (a, b, c, d, side-again terms
 
 -- A name's facts, and those of a canonical text.
 name-bytes : (name : List ℕ) → is_name name ≡ true → list_all is_name_byte name ≡ true
-name-bytes name is = name-plain name name refl is
+name-bytes name is = name-unquoted name name refl is
 
 pub new-line : (head : Head) (terms : Terms) (l : Life) → is_name head.key.firm ≡ true → is_name head.key.id ≡ true → is_name head.symbol ≡ true
     → list_all is_name_byte (stamp_text head.time) ≡ true → stamp_form (stamp_text head.time) ≡ Some head.time
     → list_all is_name_byte (decimal terms.quantity) ≡ true → quantity_form (decimal terms.quantity) ≡ Some terms.quantity
     → list_all is_name_byte (limit_text l terms.price) ≡ true → price_form (price_text terms.price) ≡ Some terms.price
     → IsLineOf order_entry HasMarketPrice (new_order head terms l) (order_fields (new_order head terms l))
-new-line head terms l firm id symbol time_plain time quantity_plain quantity limit_plain price = record {
+new-line head terms l firm id symbol time_unquoted time quantity_unquoted quantity limit_unquoted price = record {
   nine = refl;
-  plain =
-      nine-plain (kind_text l) head.key.firm head.key.id (stamp_text head.time) head.symbol (side_text terms.side) (decimal terms.quantity) (limit_text l terms.price) []
-      (kind-plain l) (name-bytes head.key.firm firm) (name-bytes head.key.id id) time_plain (name-bytes head.symbol symbol) (side-plain terms.side) quantity_plain limit_plain refl;
+  unquoted =
+      nine-unquoted (kind_text l) head.key.firm head.key.id (stamp_text head.time) head.symbol (side_text terms.side) (decimal terms.quantity) (limit_text l terms.price) []
+      (kind-unquoted l) (name-bytes head.key.firm firm) (name-bytes head.key.id id) time_unquoted (name-bytes head.symbol symbol) (side-unquoted terms.side) quantity_unquoted limit_unquoted refl;
   again = λ priced. new-again head terms l firm id time symbol quantity price priced;
 }
 
 pub cancel-line : (head : Head) (target : List ℕ) → is_name head.key.firm ≡ true → is_name head.key.id ≡ true → is_name head.symbol ≡ true → is_name target ≡ true
     → list_all is_name_byte (stamp_text head.time) ≡ true → stamp_form (stamp_text head.time) ≡ Some head.time
     → IsLineOf order_entry HasMarketPrice (cancel_order head target) (order_fields (cancel_order head target))
-cancel-line head target firm id symbol name time_plain time = record {
+cancel-line head target firm id symbol name time_unquoted time = record {
   nine = refl;
-  plain =
-      nine-plain (codes "X") head.key.firm head.key.id (stamp_text head.time) head.symbol [] [] [] target
-      refl (name-bytes head.key.firm firm) (name-bytes head.key.id id) time_plain (name-bytes head.symbol symbol) refl refl refl (name-bytes target name);
+  unquoted =
+      nine-unquoted (codes "X") head.key.firm head.key.id (stamp_text head.time) head.symbol [] [] [] target
+      refl (name-bytes head.key.firm firm) (name-bytes head.key.id id) time_unquoted (name-bytes head.symbol symbol) refl refl refl (name-bytes target name);
   again = λ _. cancel-again head target firm id time symbol name;
 }
 
@@ -117,11 +117,11 @@ pub replace-line : (head : Head) (terms : Terms) (target : List ℕ) → is_name
     → list_all is_name_byte (decimal terms.quantity) ≡ true → quantity_form (decimal terms.quantity) ≡ Some terms.quantity
     → list_all is_name_byte (price_text terms.price) ≡ true → price_form (price_text terms.price) ≡ Some terms.price
     → IsLineOf order_entry HasMarketPrice (replace_order head terms target) (order_fields (replace_order head terms target))
-replace-line head terms target firm id symbol name time_plain time quantity_plain quantity price_plain price = record {
+replace-line head terms target firm id symbol name time_unquoted time quantity_unquoted quantity price_unquoted price = record {
   nine = refl;
-  plain =
-      nine-plain (codes "R") head.key.firm head.key.id (stamp_text head.time) head.symbol (side_text terms.side) (decimal terms.quantity) (price_text terms.price) target
-      refl (name-bytes head.key.firm firm) (name-bytes head.key.id id) time_plain (name-bytes head.symbol symbol) (side-plain terms.side) quantity_plain price_plain (name-bytes target name);
+  unquoted =
+      nine-unquoted (codes "R") head.key.firm head.key.id (stamp_text head.time) head.symbol (side_text terms.side) (decimal terms.quantity) (price_text terms.price) target
+      refl (name-bytes head.key.firm firm) (name-bytes head.key.id id) time_unquoted (name-bytes head.symbol symbol) (side-unquoted terms.side) quantity_unquoted price_unquoted (name-bytes target name);
   again = λ _. replace-again head terms target firm id time symbol quantity price name;
 }
 
@@ -131,11 +131,11 @@ pub trade-line : (trade : TradeRecord) → is_name trade.trade ≡ true → is_n
     → list_all is_name_byte (decimal trade.quantity) ≡ true → quantity_form (decimal trade.quantity) ≡ Some trade.quantity
     → list_all is_name_byte (price_text trade.price) ≡ true → price_form (price_text trade.price) ≡ Some trade.price
     → IsLineOf trade_entry (λ _. ⊤) trade (trade_fields trade)
-trade-line trade name symbol buy_firm buy_id sell_firm sell_id time_plain time quantity_plain quantity price_plain price = record {
+trade-line trade name symbol buy_firm buy_id sell_firm sell_id time_unquoted time quantity_unquoted quantity price_unquoted price = record {
   nine = refl;
-  plain =
-      nine-plain trade.trade (stamp_text trade.time) trade.symbol trade.buy.firm trade.buy.id trade.sell.firm trade.sell.id (decimal trade.quantity) (price_text trade.price)
-      (name-bytes trade.trade name) time_plain (name-bytes trade.symbol symbol) (name-bytes trade.buy.firm buy_firm) (name-bytes trade.buy.id buy_id)
-      (name-bytes trade.sell.firm sell_firm) (name-bytes trade.sell.id sell_id) quantity_plain price_plain;
+  unquoted =
+      nine-unquoted trade.trade (stamp_text trade.time) trade.symbol trade.buy.firm trade.buy.id trade.sell.firm trade.sell.id (decimal trade.quantity) (price_text trade.price)
+      (name-bytes trade.trade name) time_unquoted (name-bytes trade.symbol symbol) (name-bytes trade.buy.firm buy_firm) (name-bytes trade.buy.id buy_id)
+      (name-bytes trade.sell.firm sell_firm) (name-bytes trade.sell.id sell_id) quantity_unquoted price_unquoted;
   again = λ _. trade-again trade name time symbol buy_firm buy_id sell_firm sell_id quantity price;
 }

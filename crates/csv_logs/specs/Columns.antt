@@ -26,13 +26,17 @@ is_printable byte = nat_le 0x20 byte && nat_le byte 0x7E
 abbrev pub is_quote : ℕ → Bool
 is_quote byte = byte == 34
 
+-- a printable byte that is no quote: a line of such bytes is unquoted
+abbrev pub is_unquoted_byte : ℕ → Bool
+is_unquoted_byte byte = is_printable byte && not (is_quote byte)
+
 -- a byte that no line may hold, or an odd number of quotes
 abbrev pub is_broken : List ℕ → Bool
 is_broken line = not (list_all is_printable line) || (count_by is_quote line % 2 == 1)
 
 -- the text of a column, from 1 on
-abbrev pub column : ℕ → List (List ℕ) → List ℕ
-column number fields = unwrap_or (field_at fields (number - 1)) []
+abbrev pub column_text : ℕ → List (List ℕ) → List ℕ
+column_text number fields = unwrap_or (field_at fields (number - 1)) []
 
 -- a column's value, or that it is the column which is not in its form
 abbrev pub in_column : {T : Type 0} → ℕ → Option T → Result T Reason
@@ -44,6 +48,11 @@ infixl 10 ◌>>=◌
 abbrev pub ◌>>=◌ : {S T : Type 0} → Result S Reason → (S → Result T Reason) → Result T Reason
 Ok value >>= next = next value
 Err why >>= next = Err why
+
+-- whether there is a value, and else why not
+abbrev pub tested : {T : Type 0} → Result T Reason → Result (Unit {0}) Reason
+tested (Ok value) = Ok tt
+tested (Err why) = Err why
 
 -- the form of a column that holds nothing
 abbrev pub empty_form : List ℕ → Option (Unit {0})
@@ -58,22 +67,22 @@ side_form (byte ∷ next ∷ rest) = None
 
 -- the values of a column
 abbrev pub name_at : ℕ → List (List ℕ) → Result (List ℕ) Reason
-name_at number fields = in_column number (name_form (column number fields))
+name_at number fields = in_column number (name_form (column_text number fields))
 
 abbrev pub stamp_at : ℕ → List (List ℕ) → Result Moment Reason
-stamp_at number fields = in_column number (stamp_form (column number fields))
+stamp_at number fields = in_column number (stamp_form (column_text number fields))
 
 abbrev pub side_at : ℕ → List (List ℕ) → Result Side Reason
-side_at number fields = in_column number (side_form (column number fields))
+side_at number fields = in_column number (side_form (column_text number fields))
 
 abbrev pub quantity_at : ℕ → List (List ℕ) → Result ℕ Reason
-quantity_at number fields = in_column number (quantity_form (column number fields))
+quantity_at number fields = in_column number (quantity_form (column_text number fields))
 
 abbrev pub price_at : ℕ → List (List ℕ) → Result ℕ Reason
-price_at number fields = in_column number (price_form (column number fields))
+price_at number fields = in_column number (price_form (column_text number fields))
 
 abbrev pub empty_at : ℕ → List (List ℕ) → Result (Unit {0}) Reason
-empty_at number fields = in_column number (empty_form (column number fields))
+empty_at number fields = in_column number (empty_form (column_text number fields))
 
 -- a firm, and in the next column its id
 abbrev pub key_at : ℕ → List (List ℕ) → Result Key Reason

@@ -1,5 +1,6 @@
 -- What a CSV feed stands for, and what it and the readers of whole logs answer. The code of LF is 10.
-use Rattle.std.specs.Prelude.{◌≡◌, ⊤, ℕ, Bool, true, false, ◌==◌, ◌≤◌, IsTrue, Option, Some, None, Result, Ok, Err, List, [], ◌∷◌, ◌++◌, length, drop}
+use Rattle.std.specs.Prelude.{◌≡◌, ⊤, ℕ, Bool, true, false, ◌==◌, ◌≤◌, IsTrue, Option, Some, None, Result, Ok, Err, List, [], ◌∷◌, ◌++◌, length, drop, MatchResult}
+use Rattle.std.specs.Global.{Vec}
 use Rattle.std.specs.List.{list_any}
 use Rattle.audit_base.specs.declared.faults.Reason.{Reason}
 use Rattle.audit_base.specs.declared.faults.BadPlace.{BadPlace}
@@ -44,18 +45,39 @@ abbrev pub StandsAt : {R : Type 0} → List (List ℕ) → (List (List ℕ) → 
 StandsAt names entry entries rest offset header None log = IsOpen names entry entries rest offset header log
 StandsAt names entry entries rest offset header (Some bad) log = IsShut names entry rest bad log
 
--- the feed stands for this log
-abbrev pub StandsFor : {R : Type 0} → List (List ℕ) → (List (List ℕ) → Result R Reason) → CsvFeed R → List ℕ → Type 0
-StandsFor names entry feed log =
-    StandsAt names entry feed.entries.items feed.rest.items feed.offset feed.header feed.bad log
+-- The feed has been handed some records, and with these its fields stand for this log.
+pub record StandsWith {R : Type 0} (has_taken : List R → Type 0) (names : List (List ℕ)) (entry : List (List ℕ) → Result R Reason) (rest : List ℕ) (offset : ℕ) (header : Bool) (bad : Option BadPlace) (log : List ℕ) : Type 0 where
+  pub entries : List R
+  pub has : has_taken entries
+  pub stands : StandsAt names entry entries rest offset header bad log
+
+-- the feed stands for this log; `has_taken` says what its collector has been handed
+abbrev pub StandsFor : {K R : Type 0} → (K → List R → Type 0) → List (List ℕ) → (List (List ℕ) → Result R Reason) → CsvFeed K → List ℕ → Type 0
+StandsFor has_taken names entry feed log =
+    StandsWith (has_taken feed.entries) names entry feed.rest.items feed.offset feed.header feed.bad log
 
 -- The feed stands for some log that is no longer than a log may be.
-pub record IsWithin {R : Type 0} (names : List (List ℕ)) (entry : List (List ℕ) → Result R Reason) (feed : CsvFeed R) : Type 0 where
+pub record IsWithinLimit {K R : Type 0} (has_taken : K → List R → Type 0) (names : List (List ℕ)) (entry : List (List ℕ) → Result R Reason) (feed : CsvFeed K) : Type 0 where
   pub log : List ℕ
-  pub stands : StandsFor names entry feed log
+  pub stands : StandsFor has_taken names entry feed log
   pub within : length log ≤ longest_log
 
--- why a log is not read: it is bad there, or memory was wanted
+-- The collector has been handed exactly the records of a good log.
+pub record HasRead {R : Type 0} (has_taken : List R → Type 0) (reading : Result (List R) BadPlace) : Type 0 where
+  pub entries : List R
+  pub has : has_taken entries
+  pub reads : reading ≡ Ok entries
+
+-- why a log is not read: it is bad there, or there was too little memory
 abbrev pub IsCause : {R : Type 0} → Result (List R) BadPlace → LogFault → Type 0
 IsCause reading (fault.Bad bad) = reading ≡ Err bad
 IsCause reading fault.Memory = ⊤
+
+-- what a log says is answered: a list of its records, or why there is none
+abbrev pub IsReadAs : {R : Type 0} → Result (List R) BadPlace → Result (Vec R) LogFault → Type 0
+IsReadAs reading result = MatchResult result (λ records. reading ≡ Ok records.items) (IsCause reading)
+
+-- the same, where the records were handed to a collector
+abbrev pub IsHandedAs : {K R : Type 0} → (K → List R → Type 0) → Result (List R) BadPlace → Result K LogFault → Type 0
+IsHandedAs has_taken reading result =
+    MatchResult result (λ collector. HasRead (has_taken collector) reading) (IsCause reading)

@@ -1,3 +1,5 @@
+-- What a reader must believe: how a log is cut into lines, what nine fields mean, what a good and a bad
+-- log is, what a feed stands for, and the canonical log.
 pub mod Lines
 pub mod Columns
 pub mod OrderLines
@@ -5,6 +7,8 @@ pub mod TradeLines
 pub mod Logs
 pub mod Feeds
 pub mod Written
-pub mod Blocks
+-- What private functions pass on: one line of a feed, lines that are read by one reader, one written
+-- line.
 pub mod Steps
-pub mod Rows
+pub mod Readers
+pub mod WrittenLines

@@ -9,8 +9,9 @@ use Rattle.audit_base.specs.declared.records.OrderRecord.{OrderRecord}
 use Rattle.audit_base.specs.declared.records.TradeRecord.{TradeRecord}
 use Rattle.csv_logs.specs.Columns.{is_broken, line_fields}
 use Rattle.csv_logs.specs.Lines.{Line, full_lines}
-use Rattle.csv_logs.specs.OrderLines.{order_names, order_entry}
-use Rattle.csv_logs.specs.TradeLines.{trade_names, trade_entry}
+use Rattle.audit_base.specs.Columns.{order_columns, trade_columns}
+use Rattle.csv_logs.specs.OrderLines.{order_entry}
+use Rattle.csv_logs.specs.TradeLines.{trade_entry}
 
 -- nine fields mean a record, or the first column that is not in its form
 abbrev pub fields_entry : {R : Type 0} → (List (List ℕ) → Result R Reason) → List (List ℕ) → Result R Reason
@@ -20,6 +21,11 @@ fields_entry entry fields = if length fields == 9 then entry fields else Err rea
 unfoldable pub line_entry : {R : Type 0} → (List (List ℕ) → Result R Reason) → List ℕ → Result R Reason
 line_entry entry line = if is_broken line then Err reason.Break else fields_entry entry (line_fields line)
 
+-- this is the symbol of the record that was read, if one was
+abbrev pub IsSymbolOf : {R : Type 0} → (R → List ℕ) → Result R Reason → List ℕ → Type 0
+IsSymbolOf symbol_of reading symbol = (entry : _) → reading ≡ Ok entry → symbol_of entry ≡ symbol
+
+-- these are the same fields, byte for byte
 abbrev pub same_fields : List (List ℕ) → List (List ℕ) → Bool
 same_fields = pointwise (pointwise ◌==◌)
 
@@ -54,10 +60,10 @@ unfoldable pub read_log : {R : Type 0} → List (List ℕ) → (List (List ℕ) 
 read_log names entry log = read_lines names entry (length log) (full_lines log)
 
 abbrev pub order_log : List ℕ → Result (List OrderRecord) BadPlace
-order_log log = read_log order_names order_entry log
+order_log log = read_log order_columns order_entry log
 
 abbrev pub trade_log : List ℕ → Result (List TradeRecord) BadPlace
-trade_log log = read_log trade_names trade_entry log
+trade_log log = read_log trade_columns trade_entry log
 
 -- The log is good with these records: its first line that is not empty is the header, and each further one is a record.
 pub record IsGood {R : Type 0} (names : List (List ℕ)) (entry : List (List ℕ) → Result R Reason) (log : List ℕ) (entries : List R) : Type 0 where

@@ -1,5 +1,5 @@
 -- What a line of an order log means. The codes of `N`, `X`, `R`, `I` and `M` are 78, 88, 82, 73 and 77.
-use Rattle.std.specs.Prelude.{ℕ, ◌==◌, Option, Some, None, Result, Ok, List, [], ◌∷◌, codes, if◌then◌else◌}
+use Rattle.std.specs.Prelude.{ℕ, ◌==◌, Option, Some, None, Result, Ok, List, [], ◌∷◌, if◌then◌else◌}
 use Rattle.audit_base.specs.declared.faults.Reason.{Reason}
 use Rattle.audit_base.specs.declared.records.OrderRecord.{OrderRecord}
 use Rattle.audit_base.specs.declared.records.OrderRecord.TheVariants as record_of
@@ -9,12 +9,7 @@ use Rattle.audit_base.specs.Numbers.{market_price}
 use Rattle.csv_logs.specs.declared.orders.Kind.{Kind}
 use Rattle.csv_logs.specs.declared.orders.Kind.TheVariants as kind
 use Rattle.csv_logs.specs.declared.orders.Head.{Head}
-use Rattle.csv_logs.specs.Columns.{column, in_column, ◌>>=◌, name_at, stamp_at, side_at, quantity_at, price_at, empty_at, key_at}
-
--- the header of an order log
-abbrev pub order_names : List (List ℕ)
-order_names =
-    codes "kind" ∷ codes "firm" ∷ codes "id" ∷ codes "time" ∷ codes "symbol" ∷ codes "side" ∷ codes "quantity" ∷ codes "price" ∷ codes "target" ∷ []
+use Rattle.csv_logs.specs.Columns.{column_text, in_column, ◌>>=◌, name_at, stamp_at, side_at, quantity_at, price_at, empty_at, key_at}
 
 abbrev pub kind_of : ℕ → Option Kind
 kind_of letter =
@@ -71,16 +66,16 @@ replacement head fields = do
   Ok (record_of.Replace head.key head.time head.symbol target side quantity price)
 
 -- columns 6 to 9, by the kind
-abbrev pub order_of : Kind → Head → List (List ℕ) → Result OrderRecord Reason
-order_of kind.New head fields = limit_order head life.Rests fields
-order_of kind.Immediate head fields = limit_order head life.Immediate fields
-order_of kind.Market head fields = market_order head fields
-order_of kind.Cancel head fields = cancel head fields
-order_of kind.Replace head fields = replacement head fields
+abbrev pub order_of_kind : Kind → Head → List (List ℕ) → Result OrderRecord Reason
+order_of_kind kind.New head fields = limit_order head life.Rests fields
+order_of_kind kind.Immediate head fields = limit_order head life.Immediate fields
+order_of_kind kind.Market head fields = market_order head fields
+order_of_kind kind.Cancel head fields = cancel head fields
+order_of_kind kind.Replace head fields = replacement head fields
 
 -- what nine fields mean in an order log: a record, or the first column that is not in its form
 unfoldable pub order_entry : List (List ℕ) → Result OrderRecord Reason
 order_entry fields = do
-  kind ← in_column 1 (kind_form (column 1 fields))
+  kind ← in_column 1 (kind_form (column_text 1 fields))
   head ← head_at fields
-  order_of kind head fields
+  order_of_kind kind head fields

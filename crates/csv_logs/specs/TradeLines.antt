@@ -1,14 +1,9 @@
 -- What a line of a trade log means.
-use Rattle.std.specs.Prelude.{ℕ, Result, Ok, List, [], ◌∷◌, codes}
+use Rattle.std.specs.Prelude.{ℕ, Result, Ok, List}
 use Rattle.audit_base.specs.declared.faults.Reason.{Reason}
 use Rattle.audit_base.specs.declared.names.Key.{Key}
 use Rattle.audit_base.specs.declared.records.TradeRecord.{TradeRecord}
 use Rattle.csv_logs.specs.Columns.{◌>>=◌, name_at, stamp_at, quantity_at, price_at, key_at}
-
--- the header of a trade log
-abbrev pub trade_names : List (List ℕ)
-trade_names =
-    codes "trade" ∷ codes "time" ∷ codes "symbol" ∷ codes "buy_firm" ∷ codes "buy_id" ∷ codes "sell_firm" ∷ codes "sell_id" ∷ codes "quantity" ∷ codes "price" ∷ []
 
 -- columns 4 to 7: the bid's key and the ask's
 abbrev pub parties_at : List (List ℕ) → Result (Key × Key) Reason

@@ -1,6 +1,6 @@
 -- How logs are written: the header, then a line for each record, of canonical texts joined by commas. The codes of `,` and LF are 44
 -- and 10.
-use Rattle.std.specs.Prelude.{◌≡◌, ⊤, ℕ, List, [], ◌∷◌, ◌++◌, codes, decimal}
+use Rattle.std.specs.Prelude.{◌≡◌, ⊤, ℕ, All, Result, Ok, List, [], ◌∷◌, ◌++◌, codes, decimal}
 use Rattle.std.specs.List.{flat_map, join_with_byte}
 use Rattle.audit_base.specs.Numbers.{price_text}
 use Rattle.audit_base.specs.Stamps.{stamp_text}
@@ -11,9 +11,10 @@ use Rattle.audit_base.specs.declared.terms.Life.{Life}
 use Rattle.audit_base.specs.declared.terms.Life.TheVariants as life
 use Rattle.audit_base.specs.declared.terms.Side.{Side}
 use Rattle.audit_base.specs.declared.terms.Side.TheVariants as side
-use Rattle.audit_base.specs.Numbers.{market_price}
-use Rattle.csv_logs.specs.OrderLines.{order_names}
-use Rattle.csv_logs.specs.TradeLines.{trade_names}
+use Rattle.audit_base.specs.Columns.{order_columns, trade_columns}
+use Rattle.audit_base.specs.Orders.{IsMarketPriced}
+use Rattle.audit_base.specs.declared.faults.Reason.{Reason}
+use Rattle.csv_logs.specs.Logs.{order_log, read_log}
 
 -- fields joined by commas, and an LF
 abbrev pub line_text : List (List ℕ) → List ℕ
@@ -54,18 +55,22 @@ trade_fields trade =
 
 -- the canonical order log and trade log of a list
 abbrev pub orders_text : List OrderRecord → List ℕ
-orders_text entries = log_text order_names order_fields entries
+orders_text entries = log_text order_columns order_fields entries
 
 abbrev pub trades_text : List TradeRecord → List ℕ
-trades_text trades = log_text trade_names trade_fields trades
+trades_text trades = log_text trade_columns trade_fields trades
 
-abbrev pub HasPriceOfLife : Life → Side → ℕ → Type 0
-HasPriceOfLife life.Rests side price = ⊤
-HasPriceOfLife life.Immediate side price = ⊤
-HasPriceOfLife life.Market side price = price ≡ market_price side
-
--- a market order has the market price of its side
+-- a record of life Market has the market price of its side
 abbrev pub HasMarketPrice : OrderRecord → Type 0
-HasMarketPrice (record_of.New key time symbol side quantity price life) = HasPriceOfLife life side price
+HasMarketPrice (record_of.New key time symbol side quantity price life) = IsMarketPriced life side price
 HasMarketPrice (record_of.Cancel key time symbol target) = ⊤
 HasMarketPrice (record_of.Replace key time symbol target side quantity price) = ⊤
+
+-- the log that is written of these records says these records, where each of them is sound
+abbrev pub IsReadAgain : {R : Type 0} → List (List ℕ) → (List (List ℕ) → Result R Reason) → (R → Type 0) → (R → List (List ℕ)) → List R → Type 0
+IsReadAgain names entry sound fields records =
+    All sound records → read_log names entry (log_text names fields records) ≡ Ok records
+
+-- the canonical order log of these records says these records, where those of life Market have the market price
+abbrev pub AreOrdersReadAgain : List OrderRecord → Type 0
+AreOrdersReadAgain records = All HasMarketPrice records → order_log (orders_text records) ≡ Ok records

@@ -2,20 +2,20 @@
 //! number, from 1 on.
 ghost use Rattle.std.specs.Prelude.{◌≡◌, ◌<◌, ◌↔◌, IsTrue, Some, map};
 ghost use Rattle.csv.specs.Records.{field_at, fields_of};
-ghost use Rattle.csv_logs.specs.Columns.{column, in_column, empty_form, side_form, name_at, stamp_at, side_at, quantity_at, price_at, empty_at, key_at};
+ghost use Rattle.csv_logs.specs.Columns.{column_text, in_column, empty_form, side_form, name_at, stamp_at, side_at, quantity_at, price_at, empty_at, key_at, tested};
 ghost use Rattle.csv_logs.specs.Logs.{same_fields};
 
 use audit_base::faults::Reason;
-use audit_base::names::{Key, Name, read_name};
+use audit_base::names::{Key, Name, is_name, read_name};
 use audit_base::numbers::{Price, Quantity, read_price, read_quantity};
 use audit_base::stamps::{Stamp, read_stamp};
 use audit_base::terms::Side;
 use csv::ByteRecord;
 
 /// The text of a column, which is empty where the line has fewer columns.
-pub(crate) fn column(fields: &ByteRecord, number: u8) -> &[u8]
+pub(crate) fn column_text(fields: &ByteRecord, number: u8) -> &[u8]
     requires { 0 < number }
-    ensures { result.now ≡ column number (fields_of fields.now) }
+    ensures { result.now ≡ column_text number (fields_of fields.now) }
 {
     match fields.get(usize::from(number) - 1) {
         Some(text) => text,
@@ -51,7 +51,29 @@ pub(crate) fn name_at(number: u8, fields: &ByteRecord) -> Result<Name, Reason>
     requires { 0 < number }
     ensures { result ≡ name_at number (fields_of fields.now) }
 {
-    in_column(number, read_name(column(fields, number)))
+    in_column(number, read_name(column_text(fields, number)))
+}
+
+/// Whether a column holds a name.
+pub(crate) fn test_name(number: u8, fields: &ByteRecord) -> Result<(), Reason>
+    requires { 0 < number }
+    ensures { result ≡ tested (name_at number (fields_of fields.now)) }
+{
+    if is_name(column_text(fields, number)) {
+        Ok(())
+    } else {
+        Err(Reason::Column(number))
+    }
+}
+
+/// Whether a column holds a firm, and the next one an id.
+pub(crate) fn test_key(number: u8, fields: &ByteRecord) -> Result<(), Reason>
+    requires first { 0 < number }
+    requires next { number < 9 }
+    ensures { result ≡ tested (key_at number (fields_of fields.now)) }
+{
+    test_name(number, fields)?;
+    test_name(number + 1, fields)
 }
 
 /// The point in time in a column.
@@ -59,7 +81,7 @@ pub(crate) fn stamp_at(number: u8, fields: &ByteRecord) -> Result<Stamp, Reason>
     requires { 0 < number }
     ensures { result ≡ stamp_at number (fields_of fields.now) }
 {
-    in_column(number, read_stamp(column(fields, number)))
+    in_column(number, read_stamp(column_text(fields, number)))
 }
 
 /// The side in a column: `B` for a bid, `S` for an ask.
@@ -67,7 +89,7 @@ pub(crate) fn side_at(number: u8, fields: &ByteRecord) -> Result<Side, Reason>
     requires { 0 < number }
     ensures { result ≡ side_at number (fields_of fields.now) }
 {
-    in_column(number, read_side(column(fields, number)))
+    in_column(number, read_side(column_text(fields, number)))
 }
 
 /// The quantity in a column.
@@ -75,7 +97,7 @@ pub(crate) fn quantity_at(number: u8, fields: &ByteRecord) -> Result<Quantity, R
     requires { 0 < number }
     ensures { result ≡ quantity_at number (fields_of fields.now) }
 {
-    in_column(number, read_quantity(column(fields, number)))
+    in_column(number, read_quantity(column_text(fields, number)))
 }
 
 /// The price in a column.
@@ -83,7 +105,7 @@ pub(crate) fn price_at(number: u8, fields: &ByteRecord) -> Result<Price, Reason>
     requires { 0 < number }
     ensures { result ≡ price_at number (fields_of fields.now) }
 {
-    in_column(number, read_price(column(fields, number)))
+    in_column(number, read_price(column_text(fields, number)))
 }
 
 /// A column that holds nothing.
@@ -91,7 +113,7 @@ pub(crate) fn empty_at(number: u8, fields: &ByteRecord) -> Result<(), Reason>
     requires { 0 < number }
     ensures { result ≡ empty_at number (fields_of fields.now) }
 {
-    in_column(number, read_empty(column(fields, number)))
+    in_column(number, read_empty(column_text(fields, number)))
 }
 
 /// The firm in a column, and its id in the next one.

@@ -3,25 +3,33 @@
 ghost use Rattle.std.specs.Prelude.{◌≡◌, ℕ, IfOk, List, Result};
 ghost use Rattle.audit_base.specs.declared.faults.Reason.{Reason};
 ghost use Rattle.csv.specs.Records.{fields_of};
-ghost use Rattle.csv_logs.specs.Logs.{same_fields};
-ghost use Rattle.csv_logs.specs.Steps.{fields_say, line_says};
+ghost use Rattle.csv_logs.specs.Columns.{tested};
+ghost use Rattle.csv_logs.specs.Logs.{IsSymbolOf, same_fields};
+ghost use Rattle.csv_logs.specs.Steps.{TakesFields, entry_says, fields_say, line_says};
+ghost use Rattle.log_source.specs.Collectors.{HasPlace};
 
-use crate::columns::have_names;
-use crate::lines::{fields_of, is_broken};
-use crate::orders::{ORDER_NAMES, order_entry};
-use crate::trades::{TRADE_NAMES, trade_entry};
+use crate::columns::{column_text, have_names};
+use crate::lines::{is_broken, line_fields};
+use crate::orders::{order_entry, test_order};
+use crate::trades::{test_trade, trade_entry};
+use audit_base::columns::columns;
 use audit_base::faults::{NoMemory, Reason};
-use audit_base::records::{OrderRecord, TradeRecord};
+use audit_base::records::{OrderRecord, TradeRecord, Traded};
+use audit_base::terms::Which;
 use csv::ByteRecord;
+use log_source::collector::Collector;
 use std::alloc::Global;
 
 /// A record of a log: an order or a trade.
-pub trait LogEntry: Copy + Drop {
+pub trait LogEntry: Traded {
     // The names of the nine columns.
     ghost names: { List (List ℕ) };
 
     // What nine fields mean.
     ghost meaning: { List (List ℕ) → Result Self Reason };
+
+    // What holds of every record that fields mean.
+    ghost sound: { Self → Type 0 };
 
     /// Whether these are the names of the columns.
     fn are_names(fields: &ByteRecord) -> bool
@@ -30,68 +38,143 @@ pub trait LogEntry: Copy + Drop {
     /// The record that these nine fields mean, or the first column that is not in its form.
     fn of_fields(fields: &ByteRecord) -> Result<Self, Reason>
         ensures { result ≡ meaning (fields_of fields.now) };
+
+    /// The symbol of the record that these nine fields mean, if they mean one.
+    fn symbol_in(fields: &ByteRecord) -> &[u8]
+        ensures { IsSymbolOf Self.symbol_of (meaning (fields_of fields.now)) result.now };
+
+    /// Whether these nine fields mean a record, or else the first column that is not in its form.
+    fn test(fields: &ByteRecord) -> Result<(), Reason>
+        ensures { result ≡ tested (meaning (fields_of fields.now)) };
+
+    /// Every record that fields mean is sound. This call does nothing: it only has its contract.
+    fn means_sound_records()
+        ensures { (fields : List (List ℕ)) → IfOk (meaning fields) sound };
 }
 
 impl LogEntry for OrderRecord {
-    ghost use Rattle.csv_logs.specs.OrderLines.{order_names, order_entry};
+    ghost use Rattle.audit_base.specs.Columns.{order_columns};
+    ghost use Rattle.csv_logs.specs.OrderLines.{order_entry};
+    ghost use Rattle.csv_logs.specs.Written.{HasMarketPrice};
 
-    ghost names = { order_names };
+    ghost names = { order_columns };
 
     ghost meaning = { order_entry };
 
+    ghost sound = { HasMarketPrice };
+
     fn are_names(fields: &ByteRecord) -> bool {
-        have_names(fields, &ORDER_NAMES)
+        have_names(fields, &columns(Which::Orders))
     }
 
     fn of_fields(fields: &ByteRecord) -> Result<OrderRecord, Reason> {
         order_entry(fields)
     }
+
+    fn symbol_in(fields: &ByteRecord) -> &[u8] {
+        column_text(fields, 5)
+    }
+
+    fn test(fields: &ByteRecord) -> Result<(), Reason> {
+        test_order(fields)
+    }
+
+    fn means_sound_records() {}
 }
 
 impl LogEntry for TradeRecord {
-    ghost use Rattle.csv_logs.specs.TradeLines.{trade_names, trade_entry};
+    ghost use Rattle.std.specs.Prelude.{⊤};
+    ghost use Rattle.audit_base.specs.Columns.{trade_columns};
+    ghost use Rattle.csv_logs.specs.TradeLines.{trade_entry};
 
-    ghost names = { trade_names };
+    ghost names = { trade_columns };
 
     ghost meaning = { trade_entry };
 
+    ghost sound = { λ _. ⊤ };
+
     fn are_names(fields: &ByteRecord) -> bool {
-        have_names(fields, &TRADE_NAMES)
+        have_names(fields, &columns(Which::Trades))
     }
 
     fn of_fields(fields: &ByteRecord) -> Result<TradeRecord, Reason> {
         trade_entry(fields)
     }
+
+    fn symbol_in(fields: &ByteRecord) -> &[u8] {
+        column_text(fields, 3)
+    }
+
+    fn test(fields: &ByteRecord) -> Result<(), Reason> {
+        test_trade(fields)
+    }
+
+    fn means_sound_records() {}
 }
 
-/// What the fields of a line say, where the header has come or is to come.
-pub(crate) fn fields_say<R: LogEntry>(
-    header: bool,
+/// Hands on the record that nine fields mean, or tells the first column that is not in its form. Where
+/// the collector does not look at records of the symbol, none is made.
+fn take_entry<R: LogEntry, K: Collector<Entry = R>>(
+    entries: &mut K,
     fields: &ByteRecord,
-) -> Result<Option<R>, Reason>
-    ensures { result ≡ fields_say R.names R.meaning header (fields_of fields.now) }
+) -> Result<Result<(), Reason>, NoMemory>
+    requires { HasPlace K.has_taken entries.old }
+    ensures { let says = entry_says (R.meaning (fields_of fields.now)) in
+        IfOk result (TakesFields says (K.has_taken entries.old) (K.has_taken entries.new)) }
 {
-    if !header {
-        if R::are_names(fields) {
-            Ok(None)
-        } else {
-            Err(Reason::Header)
+    if entries.wants(R::symbol_in(fields)) {
+        match R::of_fields(fields) {
+            Ok(entry) => {
+                entries.take(entry)?;
+                Ok(Ok(()))
+            }
+            Err(why) => Ok(Err(why)),
         }
-    } else if fields.len() == 9 {
-        Ok(Some(R::of_fields(fields)?))
     } else {
-        Err(Reason::Columns)
+        match R::test(fields) {
+            Ok(()) => {
+                entries.pass_over();
+                Ok(Ok(()))
+            }
+            Err(why) => Ok(Err(why)),
+        }
     }
 }
 
-/// What a line that is not empty says.
+/// Takes the fields of a line, where the header has come or is to come.
+pub(crate) fn take_fields<R: LogEntry, K: Collector<Entry = R>>(
+    entries: &mut K,
+    header: bool,
+    fields: &ByteRecord,
+) -> Result<Result<(), Reason>, NoMemory>
+    requires { HasPlace K.has_taken entries.old }
+    ensures { let says = fields_say R.names R.meaning header (fields_of fields.now) in
+        IfOk result (TakesFields says (K.has_taken entries.old) (K.has_taken entries.new)) }
+{
+    if !header {
+        if R::are_names(fields) {
+            Ok(Ok(()))
+        } else {
+            Ok(Err(Reason::Header))
+        }
+    } else if fields.len() == 9 {
+        take_entry(entries, fields)
+    } else {
+        Ok(Err(Reason::Columns))
+    }
+}
+
+/// Takes a line that is not empty.
 #[tactic(auto, unfolding(crate::specs::Logs::line_entry, crate::specs::Logs::is_header))]
-pub(crate) fn line_says<R: LogEntry>(
+pub(crate) fn take_text<R: LogEntry, K: Collector<Entry = R>>(
     alloc: Global,
+    entries: &mut K,
     header: bool,
     line: &[u8],
-) -> Result<Result<Option<R>, Reason>, NoMemory>
-    ensures { IfOk result (λ said. said ≡ line_says R.names R.meaning header line.now) }
+) -> Result<Result<(), Reason>, NoMemory>
+    requires { HasPlace K.has_taken entries.old }
+    ensures { let says = line_says R.names R.meaning header line.now in
+        IfOk result (TakesFields says (K.has_taken entries.old) (K.has_taken entries.new)) }
 {
     if is_broken(line) {
         let why = if header {
@@ -101,6 +184,6 @@ pub(crate) fn line_says<R: LogEntry>(
         };
         return Ok(Err(why));
     }
-    let fields = fields_of(alloc, line)?;
-    Ok(fields_say(header, &fields))
+    let fields = line_fields(alloc, line)?;
+    take_fields(entries, header, &fields)
 }

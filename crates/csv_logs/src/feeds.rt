@@ -1,21 +1,24 @@
 //! Feeds: what takes a log piece by piece, keeps its records and the line that has not ended, and
 //! stops at the first bad line.
-ghost use Rattle.std.specs.Prelude.{◌≡◌, ℕ, List, ◌+◌, ◌-◌, ◌<◌, ◌≤◌, ◌^◌, ◌++◌, ◌∷◌, [], None, Ok, vec_len, IfOk, IsTrue, OnOk, MatchResult};
+ghost use Rattle.std.specs.Prelude.{◌≡◌, ℕ, List, ◌+◌, ◌<◌, ◌≤◌, ◌^◌, ◌++◌, [], All, IfErr, IfOk, IsTrue, OnOk, vec_len};
 ghost use Rattle.std.specs.List.{list_all};
 ghost use Rattle.log_source.specs.Feeds.{HasRoom};
-ghost use Rattle.csv_logs.specs.Blocks.{IsReading, IsReadingLine};
-ghost use Rattle.csv_logs.specs.Feeds.{StandsFor, StandsAt, IsWithin, IsOpen, IsCause};
-ghost use Rattle.csv_logs.specs.Steps.{Goes, HasLine, TakesLine, is_plain_byte};
+ghost use Rattle.log_source.specs.Collectors.{HasFew, HasPlace};
+ghost use Rattle.csv_logs.specs.Columns.{is_unquoted_byte};
+ghost use Rattle.csv_logs.specs.Readers.{IsReadingLine, PassesLine};
+ghost use Rattle.csv_logs.specs.Feeds.{IsHandedAs, IsReadAs, IsWithinLimit, StandsFor};
+ghost use Rattle.csv_logs.specs.Steps.{FeedEndsLine, FeedGoes, FeedHasLine, FeedMoves, KeepsAllButRest};
 ghost use Rattle.csv_logs.specs.Lines.{without_cr};
 ghost use Rattle.csv_logs.specs.Logs.{read_log};
 ghost use Rattle.log_source.specs.Sources.{longest_log};
 
-use crate::blocks::next_fields;
-use crate::entries::{LogEntry, fields_say, line_says};
-use crate::lines::{is_plain, line_at, split_line, starts_plain, without_cr};
+use crate::entries::{LogEntry, take_fields, take_text};
+use crate::lines::{is_unquoted, line_at, split_line, starts_unquoted, without_cr};
+use crate::reader::next_fields;
 use audit_base::faults::{BadPlace, LogFault, NoMemory, Reason};
 use audit_base::records::{OrderRecord, TradeRecord};
 use csv::{ByteRecord, Reader, ReaderBuilder};
+use log_source::collector::Collector;
 use log_source::feed::Feed;
 use std::alloc::Global;
 use std::io::Read;
@@ -25,10 +28,10 @@ use std::mem;
 /// between CR and LF, within a quoted field. Only the line that has not ended is kept as bytes. After a
 /// bad line further pieces are taken without being looked at.
 #[derive(Drop)]
-pub struct CsvFeed<R> {
+pub struct CsvFeed<K> {
     pub alloc: Global,
-    /// The records of the lines that have ended, in order.
-    pub entries: Vec<R>,
+    /// What has been handed the records of the lines that have ended, in order.
+    pub entries: K,
     /// The bytes of the line that has not ended.
     pub rest: Vec<u8>,
     /// How many bytes came up to the last LF and with it.
@@ -40,19 +43,20 @@ pub struct CsvFeed<R> {
 }
 
 /// The feed of an order log.
-pub type CsvOrderFeed = CsvFeed<OrderRecord>;
+pub type CsvOrderFeed = CsvFeed<Vec<OrderRecord>>;
 
 /// The feed of a trade log.
-pub type CsvTradeFeed = CsvFeed<TradeRecord>;
+pub type CsvTradeFeed = CsvFeed<Vec<TradeRecord>>;
 
-impl<R: LogEntry> CsvFeed<R> {
-    /// A feed that no bytes have come to.
-    pub fn new(alloc: Global) -> Self
-        ensures { StandsFor R.names R.meaning result [] }
+impl<R: LogEntry, K: Collector<Entry = R>> CsvFeed<K> {
+    /// A feed that no bytes have come to, over a collector that has been handed nothing.
+    pub fn over(alloc: Global, entries: K) -> Self
+        requires { K.has_taken entries [] }
+        ensures { StandsFor K.has_taken R.names R.meaning result [] }
     {
         CsvFeed {
             alloc,
-            entries: Vec::new(alloc),
+            entries,
             rest: Vec::new(alloc),
             offset: 0,
             header: false,
@@ -60,49 +64,38 @@ impl<R: LogEntry> CsvFeed<R> {
         }
     }
 
-    // Takes a line that is not empty, given where it starts, how many bytes it has with its LF, and
-    // what it says.
-    fn take_line(
-        &mut self,
-        start: u64,
-        size: usize,
-        says: Result<Option<R>, Reason>,
-    ) -> Result<(), NoMemory>
-        requires count { vec_len self.old.entries < 2 ^ 32 - 1 }
+    // Goes behind a line that is not empty and has been taken, given where it starts, how many bytes it
+    // has with its LF, and what was outcome of it.
+    fn move_on(&mut self, start: u64, size: usize, outcome: Result<(), Reason>)
+        requires place { IfErr outcome (λ why. HasPlace K.has_taken self.old.entries) }
         requires fits { self.old.offset + size < 2 ^ 64 }
         requires good { self.old.bad ≡ None }
-        ensures moved { OnOk result (self.old.offset ≤ self.new.offset) }
-        ensures taken { OnOk result (TakesLine says start size self.old.entries.items self.old.offset self.new.entries.items self.new.offset self.new.header self.new.bad) }
-        ensures rest { OnOk result (self.new.rest.items ≡ self.old.rest.items) }
+        ensures moved { self.old.offset ≤ self.new.offset }
+        ensures moves { FeedMoves K.has_taken outcome start size self.old self.new }
+        ensures entries { self.new.entries ≡ self.old.entries }
+        ensures rest { self.new.rest.items ≡ self.old.rest.items }
     {
-        match says {
-            Ok(new) => {
-                if let Some(entry) = new {
-                    if self.entries.push(entry).is_err() {
-                        return Err(NoMemory);
-                    }
-                }
+        match outcome {
+            Ok(()) => {
                 self.header = true;
                 self.offset += size as u64;
             }
             Err(reason) => {
                 self.bad = Some(BadPlace {
-                    place: self.entries.len() as u32 + 1,
+                    place: self.entries.count() + 1,
                     offset: start,
                     reason,
                 });
             }
         }
-        Ok(())
     }
 
     // Takes a line that has ended, without its LF.
     fn end_line(&mut self, line: &[u8]) -> Result<(), NoMemory>
         requires good { self.old.bad ≡ None }
-        requires room { HasLine R.names R.meaning self.old.entries.items line.now self.old.offset self.old.header }
+        requires room { FeedHasLine K.has_taken R.names R.meaning self.old line.now }
         ensures moved { OnOk result (self.old.offset ≤ self.new.offset) }
-        ensures taken { OnOk result ((log : List ℕ) → IsOpen R.names R.meaning self.old.entries.items line.now self.old.offset self.old.header log
-            → StandsAt R.names R.meaning self.new.entries.items [] self.new.offset self.new.header self.new.bad (log ++ 10 ∷ [])) }
+        ensures taken { OnOk result (FeedEndsLine K.has_taken R.names R.meaning self.old self.new line.now []) }
         ensures rest { OnOk result (self.new.rest.items ≡ self.old.rest.items) }
     {
         let size = line.len() + 1;
@@ -111,11 +104,12 @@ impl<R: LogEntry> CsvFeed<R> {
             self.offset += size as u64;
             return Ok(());
         }
-        let says = line_says(self.alloc, self.header, text)?;
-        self.take_line(start, size, says)
+        let outcome = take_text(self.alloc, &mut self.entries, self.header, text)?;
+        self.move_on(start, size, outcome);
+        Ok(())
     }
 
-    // Takes a plain line that has ended, without its LF, from a reader that stands at it. The reader then
+    // Takes an unquoted line that has ended, without its LF, from a reader that stands at it. The reader then
     // stands at the next line.
     fn read_line<I: Read>(
         &mut self,
@@ -125,53 +119,53 @@ impl<R: LogEntry> CsvFeed<R> {
     ) -> Result<(), NoMemory>
         requires good { self.old.bad ≡ None }
         requires started { 0 < self.old.offset }
-        requires room { HasLine R.names R.meaning self.old.entries.items line.now self.old.offset self.old.header }
-        requires plain { IsTrue (list_all is_plain_byte (without_cr line.now)) }
+        requires room { FeedHasLine K.has_taken R.names R.meaning self.old line.now }
+        requires unquoted { IsTrue (list_all is_unquoted_byte (without_cr line.now)) }
         requires reading { IsReadingLine I.remaining reader.old line.now }
         ensures moved { OnOk result (self.old.offset ≤ self.new.offset) }
-        ensures taken { OnOk result ((log : List ℕ) → IsOpen R.names R.meaning self.old.entries.items line.now self.old.offset self.old.header log
-            → StandsAt R.names R.meaning self.new.entries.items [] self.new.offset self.new.header self.new.bad (log ++ 10 ∷ [])) }
+        ensures taken { OnOk result (FeedEndsLine K.has_taken R.names R.meaning self.old self.new line.now []) }
         ensures rest { OnOk result (self.new.rest.items ≡ self.old.rest.items) }
-        ensures reading { OnOk result ((later : List ℕ) → IsReading I.remaining reader.old (line.now ++ 10 ∷ later) → IsReading I.remaining reader.new later) }
+        ensures reading { OnOk result (PassesLine I.remaining reader.old reader.new line.now) }
     {
         if without_cr(line).is_empty() {
             return self.end_line(line);
         }
         next_fields(reader, fields)?;
-        let says = fields_say(self.header, fields);
-        self.take_line(self.offset, line.len() + 1, says)
+        let outcome = take_fields(&mut self.entries, self.header, fields)?;
+        self.move_on(self.offset, line.len() + 1, outcome);
+        Ok(())
     }
 
     // Takes the end of a line whose front is in `rest`, without its LF.
     fn end_rest(&mut self, end: &[u8]) -> Result<(), NoMemory>
         requires good { self.old.bad ≡ None }
-        requires room { HasLine R.names R.meaning self.old.entries.items (self.old.rest.items ++ end.now) self.old.offset self.old.header }
-        ensures taken { OnOk result ((log : List ℕ) → IsOpen R.names R.meaning self.old.entries.items (self.old.rest.items ++ end.now) self.old.offset self.old.header log
-            → StandsFor R.names R.meaning self.new (log ++ 10 ∷ [])) }
+        requires room { FeedHasLine K.has_taken R.names R.meaning self.old (self.old.rest.items ++ end.now) }
+        ensures taken { let line = self.old.rest.items ++ end.now in
+            let rest = self.new.rest.items in
+            OnOk result (FeedEndsLine K.has_taken R.names R.meaning self.old self.new line rest) }
         ensures rest { OnOk result (self.new.rest.items ≡ []) }
     {
         if self.rest.is_empty() {
             return self.end_line(end);
         }
         let mut line = mem::replace(&mut self.rest, Vec::new(self.alloc));
-        if line.extend_from_slice(end).is_err() {
-            return Err(NoMemory);
-        }
+        line.extend_from_slice(end)?;
         self.end_line(&line)?;
         line.clear();
         self.rest = line;
         Ok(())
     }
 
-    // Takes plain lines from the start of a text, as far as there are such, by one reader, and gives the
+    // Takes unquoted lines from the start of a text, as far as there are such, by one reader, and gives the
     // rest.
     fn read_lines<'p>(&mut self, text: &'p [u8]) -> Result<&'p [u8], NoMemory>
         requires rest { self.old.rest.items ≡ [] }
-        requires room { HasRoom (StandsFor R.names R.meaning) self.old text.now }
-        ensures { IfOk result (λ left. Goes (StandsFor R.names R.meaning self.old) (StandsFor R.names R.meaning self.new) text.now left.now) }
+        requires room { HasRoom (StandsFor K.has_taken R.names R.meaning) self.old text.now }
+        ensures { let goes = FeedGoes K.has_taken R.names R.meaning self.old self.new in
+            IfOk result (λ left. goes text.now left.now) }
     {
         let mut left = text;
-        if self.offset == 0 || !starts_plain(left) {
+        if self.offset == 0 || !starts_unquoted(left) {
             return Ok(left);
         }
         let mut reader = ReaderBuilder::new()
@@ -183,7 +177,7 @@ impl<R: LogEntry> CsvFeed<R> {
             let Some((line, later)) = split_line(left) else {
                 break;
             };
-            if !is_plain(without_cr(line)) {
+            if !is_unquoted(without_cr(line)) {
                 break;
             }
             self.read_line(&mut reader, &mut fields, line)?;
@@ -195,44 +189,66 @@ impl<R: LogEntry> CsvFeed<R> {
     // Keeps the front of a line that has not ended.
     fn keep_rest(&mut self, front: &[u8]) -> Result<(), NoMemory>
         ensures rest { OnOk result (self.new.rest.items ≡ self.old.rest.items ++ front.now) }
-        ensures others { OnOk result ((self.new.entries.items ≡ self.old.entries.items) × (self.new.offset ≡ self.old.offset) × (self.new.header ≡ self.old.header) × (self.new.bad ≡ self.old.bad)) }
+        ensures others { OnOk result (KeepsAllButRest self.old self.new) }
     {
-        if self.rest.extend_from_slice(front).is_err() {
-            return Err(NoMemory);
-        }
+        self.rest.extend_from_slice(front)?;
         Ok(())
     }
 
-    /// The records of the log that has come, or its first bad line: what the reading of the whole log
-    /// gives, for every log that the feed stands for.
-    pub fn finish(mut self) -> Result<Vec<R>, LogFault>
-        requires { IsWithin R.names R.meaning self }
-        ensures reads { (log : List ℕ) → StandsFor R.names R.meaning self log
-            → MatchResult result (λ entries. read_log R.names R.meaning log ≡ Ok entries.items) (IsCause (read_log R.names R.meaning log)) }
-        ensures few { IfOk result (λ entries. vec_len entries ≤ longest_log) }
+    /// The collector, which has been handed exactly the records of the log that has come, or its first bad
+    /// line: what the reading of the whole log gives, for every log that the feed stands for. Each record
+    /// is sound: one of life Market has the market price of its side.
+    #[tactic(auto, using(crate::proofs::ReadingLemmas::log_sound))]
+    pub fn close(mut self) -> Result<K, LogFault>
+        requires { IsWithinLimit K.has_taken R.names R.meaning self }
+        ensures reads { (log : List ℕ) → StandsFor K.has_taken R.names R.meaning self log
+            → IsHandedAs K.has_taken (read_log R.names R.meaning log) result }
+        ensures few { IfOk result (λ collector. HasFew (K.has_taken collector)) }
+        ensures sound { (log : List ℕ) → IfOk (read_log R.names R.meaning log) (All R.sound) }
     {
+        R::means_sound_records();
         if let Some(bad) = self.bad {
             return Err(LogFault::Bad(bad));
         }
         let size = self.offset + self.rest.len() as u64;
         // The last line may lack its LF.
-        match self.end_rest(&[]) {
-            Err(NoMemory) => Err(LogFault::Memory),
-            Ok(()) => match self.bad {
-                Some(bad) => Err(LogFault::Bad(bad)),
-                None if self.header => Ok(self.entries),
-                None => Err(LogFault::Bad(BadPlace {
-                    place: 1,
-                    offset: size,
-                    reason: Reason::Header,
-                })),
-            },
+        self.end_rest(&[])?;
+        match self.bad {
+            Some(bad) => Err(LogFault::Bad(bad)),
+            None if self.header => Ok(self.entries),
+            None => Err(LogFault::Bad(BadPlace {
+                place: 1,
+                offset: size,
+                reason: Reason::Header,
+            })),
         }
     }
 }
 
-impl<R: LogEntry> Feed for CsvFeed<R> {
-    ghost stands_for = { StandsFor R.names R.meaning };
+impl<R: LogEntry> CsvFeed<Vec<R>> {
+    /// A feed that no bytes have come to.
+    pub fn new(alloc: Global) -> Self
+        ensures { StandsFor ⟦<Vec<R> as Collector>⟧.has_taken R.names R.meaning result [] }
+    {
+        CsvFeed::over(alloc, Vec::new(alloc))
+    }
+
+    /// The records of the log that has come, or its first bad line: what the reading of the whole log
+    /// gives, for every log that the feed stands for.
+    pub fn finish(self) -> Result<Vec<R>, LogFault>
+        requires { IsWithinLimit ⟦<Vec<R> as Collector>⟧.has_taken R.names R.meaning self }
+        ensures reads { let has_taken = ⟦<Vec<R> as Collector>⟧.has_taken in
+            (log : List ℕ) → StandsFor has_taken R.names R.meaning self log
+            → IsReadAs (read_log R.names R.meaning log) result }
+        ensures sound { IfOk result (λ entries. All R.sound entries.items) }
+        ensures few { IfOk result (λ entries. vec_len entries ≤ longest_log) }
+    {
+        self.close()
+    }
+}
+
+impl<R: LogEntry, K: Collector<Entry = R>> Feed for CsvFeed<K> {
+    ghost stands_for = { StandsFor K.has_taken R.names R.meaning };
 
     fn feed(&mut self, piece: &[u8]) -> Result<(), NoMemory> {
         let mut left = piece;

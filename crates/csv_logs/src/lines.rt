@@ -3,9 +3,9 @@ ghost use Rattle.std.specs.Prelude.{◌≡◌, ◌==◌, ◌+◌, ◌<◌, ◌^�
 ghost use Rattle.std.specs.List.{list_all, list_any};
 ghost use Rattle.csv.specs.Reading.{strip_bom};
 ghost use Rattle.csv.specs.Records.{fields_of};
-ghost use Rattle.csv_logs.specs.Columns.{is_broken, is_printable, is_quote, line_fields};
+ghost use Rattle.csv_logs.specs.Columns.{is_broken, is_printable, is_quote, is_unquoted_byte, line_fields};
 ghost use Rattle.csv_logs.specs.Feeds.{is_lf};
-ghost use Rattle.csv_logs.specs.Steps.{is_plain_byte, line_at};
+ghost use Rattle.csv_logs.specs.Steps.{line_at};
 ghost use Rattle.csv_logs.specs.Lines.{mark_size, without_cr};
 
 use audit_base::faults::NoMemory;
@@ -54,7 +54,8 @@ pub(crate) fn line_at(offset: u64, line: &[u8]) -> (u64, &[u8])
 
 /// The text up to the first LF, and the text after it, if there is one.
 pub(crate) fn split_line(text: &[u8]) -> Option<(&[u8], &[u8])>
-    ensures { MatchOption result (list_any is_lf text.now ≡ false) (λ parts. (text.now ≡ parts.0.now ++ 10 ∷ parts.1.now) × (list_any is_lf parts.0.now ≡ false)) }
+    ensures { MatchOption result (list_any is_lf text.now ≡ false) (λ parts.
+        (text.now ≡ parts.0.now ++ 10 ∷ parts.1.now) × (list_any is_lf parts.0.now ≡ false)) }
 {
     let at = memchr(b'\n', text)?;
     Some((&text[..at], &text[at + 1..]))
@@ -80,26 +81,26 @@ pub(crate) fn is_broken(line: &[u8]) -> bool
 }
 
 /// Whether a line has printable bytes alone, and no quote.
-pub(crate) fn is_plain(line: &[u8]) -> bool
-    ensures { result ≡ list_all is_plain_byte line.now }
+pub(crate) fn is_unquoted(line: &[u8]) -> bool
+    ensures { result ≡ list_all is_unquoted_byte line.now }
 {
     line.iter()
         .all(|byte| *byte >= 0x20 && *byte <= 0x7E && *byte != b'"')
 }
 
-/// Whether the first line of a text has ended and is plain.
-pub(crate) fn starts_plain(text: &[u8]) -> bool
+/// Whether the first line of a text has ended and is unquoted.
+pub(crate) fn starts_unquoted(text: &[u8]) -> bool
     ensures { IsTrue result → strip_bom text.now ≡ text.now }
 {
     match split_line(text) {
-        Some((line, _)) => is_plain(without_cr(line)),
+        Some((line, _)) => is_unquoted(without_cr(line)),
         None => false,
     }
 }
 
 /// The fields of a line that is read by itself.
 #[tactic(auto, unfolding(crate::specs::Columns::line_fields))]
-pub(crate) fn fields_of(alloc: Global, line: &[u8]) -> Result<ByteRecord, NoMemory>
+pub(crate) fn line_fields(alloc: Global, line: &[u8]) -> Result<ByteRecord, NoMemory>
     ensures { IfOk result (λ fields. fields_of fields ≡ line_fields line.now) }
 {
     let ended = line.chain(b"\n".as_slice());

@@ -1,9 +1,10 @@
 //! Reading a log that is there as a whole.
-ghost use Rattle.std.specs.Prelude.{◌≡◌, ◌≤◌, All, IfOk, Ok, length, MatchResult};
+ghost use Rattle.std.specs.Prelude.{◌≤◌, All, IfOk, length};
+ghost use Rattle.audit_base.specs.Columns.{order_columns, trade_columns};
 ghost use Rattle.csv_logs.specs.Logs.{read_log, order_log, trade_log, IsOnlyReading};
-ghost use Rattle.csv_logs.specs.OrderLines.{order_names, order_entry};
-ghost use Rattle.csv_logs.specs.TradeLines.{trade_names, trade_entry};
-ghost use Rattle.csv_logs.specs.Feeds.{IsCause};
+ghost use Rattle.csv_logs.specs.OrderLines.{order_entry};
+ghost use Rattle.csv_logs.specs.TradeLines.{trade_entry};
+ghost use Rattle.csv_logs.specs.Feeds.{IsReadAs};
 ghost use Rattle.csv_logs.specs.Written.{HasMarketPrice};
 ghost use Rattle.log_source.specs.Sources.{longest_log};
 
@@ -17,14 +18,14 @@ use std::alloc::Global;
 /// One feed and its end.
 fn entries_of<R: LogEntry>(alloc: Global, bytes: &[u8]) -> Result<Vec<R>, LogFault>
     requires { length bytes.now ≤ longest_log }
-    ensures reads { MatchResult result (λ entries. read_log R.names R.meaning bytes.now ≡ Ok entries.items) (IsCause (read_log R.names R.meaning bytes.now)) }
-    ensures unique { IsOnlyReading R.names R.meaning bytes.now (read_log R.names R.meaning bytes.now) }
+    ensures reads { IsReadAs (read_log R.names R.meaning bytes.now) result }
+    ensures sound { IfOk result (λ entries. All R.sound entries.items) }
+    ensures unique { let reading = read_log R.names R.meaning bytes.now in
+        IsOnlyReading R.names R.meaning bytes.now reading }
 {
     let mut feed = CsvFeed::new(alloc);
-    match feed.feed(bytes) {
-        Ok(()) => feed.finish(),
-        Err(_) => Err(LogFault::Memory),
-    }
+    feed.feed(bytes)?;
+    feed.finish()
 }
 
 /// The orders, cancels and replacements of an order log of at most 67,108,864 bytes, in order. The
@@ -35,9 +36,9 @@ fn entries_of<R: LogEntry>(alloc: Global, bytes: &[u8]) -> Result<Vec<R>, LogFau
 /// market order has the market price of its side. The answer is `Memory` where there was too little.
 pub fn csv_orders_of(alloc: Global, bytes: &[u8]) -> Result<Vec<OrderRecord>, LogFault>
     requires { length bytes.now ≤ longest_log }
-    ensures reads { MatchResult result (λ entries. order_log bytes.now ≡ Ok entries.items) (IsCause (order_log bytes.now)) }
+    ensures reads { IsReadAs (order_log bytes.now) result }
     ensures priced { IfOk result (λ entries. All HasMarketPrice entries.items) }
-    ensures unique { IsOnlyReading order_names order_entry bytes.now (order_log bytes.now) }
+    ensures unique { IsOnlyReading order_columns order_entry bytes.now (order_log bytes.now) }
 {
     entries_of(alloc, bytes)
 }
@@ -46,8 +47,8 @@ pub fn csv_orders_of(alloc: Global, bytes: &[u8]) -> Result<Vec<OrderRecord>, Lo
 /// order log.
 pub fn csv_trades_of(alloc: Global, bytes: &[u8]) -> Result<Vec<TradeRecord>, LogFault>
     requires { length bytes.now ≤ longest_log }
-    ensures reads { MatchResult result (λ entries. trade_log bytes.now ≡ Ok entries.items) (IsCause (trade_log bytes.now)) }
-    ensures unique { IsOnlyReading trade_names trade_entry bytes.now (trade_log bytes.now) }
+    ensures reads { IsReadAs (trade_log bytes.now) result }
+    ensures unique { IsOnlyReading trade_columns trade_entry bytes.now (trade_log bytes.now) }
 {
     entries_of(alloc, bytes)
 }

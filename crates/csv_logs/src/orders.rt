@@ -1,10 +1,14 @@
 //! The lines of an order log.
 ghost use Rattle.std.specs.Prelude.{◌≡◌};
 ghost use Rattle.csv.specs.Records.{fields_of};
-ghost use Rattle.csv_logs.specs.OrderLines.{kind_form, head_at, limit_order, market_order, cancel, replacement, order_of, order_entry};
+ghost use Rattle.audit_base.specs.declared.terms.Life.{Life};
+ghost use Rattle.csv_logs.specs.Columns.{tested};
+ghost use Rattle.csv_logs.specs.declared.orders.Head.{Head};
+ghost use Rattle.csv_logs.specs.OrderLines.{kind_form, head_at, limit_order, market_order, cancel, replacement, order_of_kind, order_entry};
 
 use crate::columns::{
-    column, empty_at, in_column, key_at, name_at, price_at, quantity_at, side_at, stamp_at,
+    column_text, empty_at, in_column, key_at, name_at, price_at, quantity_at, side_at, stamp_at,
+    test_key, test_name,
 };
 use audit_base::faults::Reason;
 use audit_base::names::{Key, Name};
@@ -13,19 +17,6 @@ use audit_base::records::OrderRecord;
 use audit_base::stamps::Stamp;
 use audit_base::terms::{Life, Side};
 use csv::ByteRecord;
-
-/// The header of an order log.
-pub(crate) const ORDER_NAMES: [&[u8]; 9] = [
-    b"kind",
-    b"firm",
-    b"id",
-    b"time",
-    b"symbol",
-    b"side",
-    b"quantity",
-    b"price",
-    b"target",
-];
 
 /// What the first column of an order line says that the line is.
 #[derive(Clone, Copy)]
@@ -108,7 +99,7 @@ fn market_order(head: Head, fields: &ByteRecord) -> Result<OrderRecord, Reason>
 fn cancel(head: Head, fields: &ByteRecord) -> Result<OrderRecord, Reason>
     ensures { result ≡ cancel head (fields_of fields.now) }
 {
-    empty_at(6, fields)?;
+    empty_at(6, fields)?; // no side
     empty_at(7, fields)?;
     empty_at(8, fields)?;
     let target = name_at(9, fields)?;
@@ -140,8 +131,8 @@ fn replacement(head: Head, fields: &ByteRecord) -> Result<OrderRecord, Reason>
     })
 }
 
-fn order_of(kind: Kind, head: Head, fields: &ByteRecord) -> Result<OrderRecord, Reason>
-    ensures { result ≡ order_of kind head (fields_of fields.now) }
+fn order_of_kind(kind: Kind, head: Head, fields: &ByteRecord) -> Result<OrderRecord, Reason>
+    ensures { result ≡ order_of_kind kind head (fields_of fields.now) }
 {
     match kind {
         Kind::New => limit_order(head, Life::Rests, fields),
@@ -157,7 +148,72 @@ fn order_of(kind: Kind, head: Head, fields: &ByteRecord) -> Result<OrderRecord, 
 pub(crate) fn order_entry(fields: &ByteRecord) -> Result<OrderRecord, Reason>
     ensures { result ≡ order_entry (fields_of fields.now) }
 {
-    let kind = in_column(1, read_kind(column(fields, 1)))?;
+    let kind = in_column(1, read_kind(column_text(fields, 1)))?;
     let head = head_at(fields)?;
-    order_of(kind, head, fields)
+    order_of_kind(kind, head, fields)
+}
+
+fn test_head(fields: &ByteRecord) -> Result<(), Reason>
+    ensures { result ≡ tested (head_at (fields_of fields.now)) }
+{
+    test_key(2, fields)?;
+    stamp_at(4, fields)?;
+    test_name(5, fields)
+}
+
+fn test_limit(fields: &ByteRecord) -> Result<(), Reason>
+    ensures { (head : Head) (life : Life) → result ≡ tested (limit_order head life (fields_of fields.now)) }
+{
+    side_at(6, fields)?;
+    quantity_at(7, fields)?;
+    price_at(8, fields)?;
+    empty_at(9, fields)
+}
+
+fn test_market(fields: &ByteRecord) -> Result<(), Reason>
+    ensures { (head : Head) → result ≡ tested (market_order head (fields_of fields.now)) }
+{
+    side_at(6, fields)?;
+    quantity_at(7, fields)?;
+    empty_at(8, fields)?;
+    empty_at(9, fields)
+}
+
+fn test_cancel(fields: &ByteRecord) -> Result<(), Reason>
+    ensures { (head : Head) → result ≡ tested (cancel head (fields_of fields.now)) }
+{
+    empty_at(6, fields)?;
+    empty_at(7, fields)?;
+    empty_at(8, fields)?;
+    test_name(9, fields)
+}
+
+fn test_replacement(fields: &ByteRecord) -> Result<(), Reason>
+    ensures { (head : Head) → result ≡ tested (replacement head (fields_of fields.now)) }
+{
+    side_at(6, fields)?;
+    quantity_at(7, fields)?;
+    price_at(8, fields)?;
+    test_name(9, fields)
+}
+
+fn test_order_of_kind(kind: Kind, fields: &ByteRecord) -> Result<(), Reason>
+    ensures { (head : Head) → result ≡ tested (order_of_kind kind head (fields_of fields.now)) }
+{
+    match kind {
+        Kind::New | Kind::Immediate => test_limit(fields),
+        Kind::Market => test_market(fields),
+        Kind::Cancel => test_cancel(fields),
+        Kind::Replace => test_replacement(fields),
+    }
+}
+
+/// Whether nine fields mean a record in an order log, or else the first column that is not in its form.
+#[tactic(auto, unfolding(crate::specs::OrderLines::order_entry))]
+pub(crate) fn test_order(fields: &ByteRecord) -> Result<(), Reason>
+    ensures { result ≡ tested (order_entry (fields_of fields.now)) }
+{
+    let kind = in_column(1, read_kind(column_text(fields, 1)))?;
+    test_head(fields)?;
+    test_order_of_kind(kind, fields)
 }

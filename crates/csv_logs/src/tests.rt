@@ -1,7 +1,7 @@
 //! Rows of the specification on whole logs, on feeds and on the writers.
 ghost use Rattle.std.specs.Prelude.{◌≤◌, ◌<◌, [], length, OnOk};
 ghost use Rattle.log_source.specs.Sources.{longest_log};
-ghost use Rattle.csv_logs.specs.Feeds.{IsWithin, StandsFor};
+ghost use Rattle.csv_logs.specs.Feeds.{IsWithinLimit, StandsFor};
 
 use crate::entries::LogEntry;
 use crate::feeds::{CsvFeed, CsvOrderFeed, CsvTradeFeed};
@@ -13,6 +13,8 @@ use audit_base::numbers::{Price, Quantity};
 use audit_base::records::{OrderRecord, TradeRecord};
 use audit_base::stamps::Stamp;
 use audit_base::terms::{Life, Side};
+use log_source::collector::Collector;
+use log_source::counter::Counter;
 use log_source::feed::Feed;
 use std::alloc::Global;
 use std::process::Abort;
@@ -106,19 +108,36 @@ fn place(place: u32, offset: u64, reason: Reason) -> Option<BadPlace> {
     })
 }
 
-/// Where an order log is bad, if it is.
-fn bad_of(rt: &impl Abort, alloc: Global, log: &[u8]) -> Option<BadPlace> {
-    assert!(rt; log.len() <= 67_108_864);
-    match csv_orders_of(alloc, log) {
+/// How many records a log has, where each is only tested and none is made.
+fn count_of<R: LogEntry>(alloc: Global, log: &[u8]) -> Result<u32, LogFault>
+    requires { length log.now ≤ longest_log }
+{
+    let mut feed = CsvFeed::over(alloc, Counter::<R>::new());
+    feed_all(&mut feed, log, 64)?;
+    let counter = feed.close()?;
+    Ok(counter.count())
+}
+
+/// Where a log is bad, if it is.
+fn bad_place<T: Drop>(rt: &impl Abort, read: Result<T, LogFault>) -> Option<BadPlace> {
+    match read {
         Ok(_) => None,
         Err(LogFault::Bad(bad)) => Some(bad),
         Err(LogFault::Memory) => panic!(rt; "out of memory"),
     }
 }
 
+/// Where an order log is bad, if it is: the same, whether its records are made or only tested.
+fn bad_of(rt: &impl Abort, alloc: Global, log: &[u8]) -> Option<BadPlace> {
+    assert!(rt; log.len() <= 67_108_864);
+    let bad = bad_place(rt, csv_orders_of(alloc, log));
+    assert_eq!(rt; bad_place(rt, count_of::<OrderRecord>(alloc, log)), bad);
+    bad
+}
+
 #[test]
 fn bad_logs_are_refused_at_their_place(rt: HostRuntime) {
-    let cases: [(&[u8], Option<BadPlace>); 14] = [
+    let cases: [(&[u8], Option<BadPlace>); 15] = [
         // Row `empty-order-file`.
         (b"", place(1, 0, Reason::Header)),
         // Row `quantity-too-great`.
@@ -161,6 +180,11 @@ fn bad_logs_are_refused_at_their_place(rt: HostRuntime) {
         (
             b"kind,firm,id,time,symbol,side,quantity,price,target\r\nN,A,b1,20240102-09:00:00,Y,B,1,1,\r\n\r\nX,A,x1,20240102-09:00:00,Z,,,,\r\n",
             place(2, 90, Reason::Column(9)),
+        ),
+        // A line of eight fields behind one of nine, which one reader of `csv` reads both.
+        (
+            b"kind,firm,id,time,symbol,side,quantity,price,target\nN,A,b1,20240102-09:00:00,Z,B,1,1,\nN,A,b2,20240102-09:00:00,Z,B,1,1\n",
+            place(2, 86, Reason::Columns),
         ),
     ];
     for (log, want) in cases {
@@ -364,34 +388,40 @@ fn trade_lines_name_the_first_column_that_is_out_of_form(rt: HostRuntime) {
         assert!(rt; log.extend_from_slice(line).is_ok());
         assert!(rt; log.len() < 1000 && column < 9);
         column += 1;
-        match csv_trades_of(rt.alloc(), &log) {
-            Err(LogFault::Bad(bad)) => {
-                assert_eq!(rt;
-                    bad,
-                    BadPlace {
-                        place: 2,
-                        offset: 108,
-                        reason: Reason::Column(column)
-                    }
-                );
-            }
-            _ => panic!(rt; "a bad line is refused"),
-        }
+        let bad = place(2, 108, Reason::Column(column));
+        assert_eq!(rt; bad_place(&rt, csv_trades_of(rt.alloc(), &log)), bad);
+        assert_eq!(rt;
+            bad_place(&rt, count_of::<TradeRecord>(rt.alloc(), &log)),
+            bad
+        );
     }
 }
 
 /// Feeds a log in pieces of this size.
-fn feed_all<R: LogEntry>(feed: &mut CsvFeed<R>, log: &[u8], size: usize) -> Result<(), NoMemory>
+fn feed_all<R: LogEntry, K: Collector<Entry = R>>(
+    feed: &mut CsvFeed<K>,
+    log: &[u8],
+    size: usize,
+) -> Result<(), NoMemory>
     requires size { 0 < size }
-    requires new { StandsFor R.names R.meaning feed.old [] }
+    requires new { StandsFor K.has_taken R.names R.meaning feed.old [] }
     requires within { length log.now ≤ longest_log }
-    ensures { OnOk result (IsWithin R.names R.meaning feed.new) }
+    ensures { OnOk result (IsWithinLimit K.has_taken R.names R.meaning feed.new) }
 {
     let mut left = log;
     'pieces: while !left.is_empty() {
         let (piece, rest) = left.split_at(size.min(left.len()));
         feed.feed(piece)?;
         left = rest;
+    }
+    Ok(())
+}
+
+#[test]
+fn records_that_are_only_tested_are_counted(rt: HostRuntime) -> Result<(), Fail> {
+    for (log, count) in [(HEADER, 0), (ORDERS, 2), (MARKED_ORDERS, 2)] {
+        assert!(rt; log.len() < 1000);
+        assert_eq!(rt; count_of::<OrderRecord>(rt.alloc(), log)?, count);
     }
     Ok(())
 }

@@ -1,26 +1,14 @@
 //! The lines of a trade log.
 ghost use Rattle.std.specs.Prelude.{◌≡◌};
 ghost use Rattle.csv.specs.Records.{fields_of};
+ghost use Rattle.csv_logs.specs.Columns.{tested};
 ghost use Rattle.csv_logs.specs.TradeLines.{parties_at, trade_entry};
 
-use crate::columns::{key_at, name_at, price_at, quantity_at, stamp_at};
+use crate::columns::{key_at, name_at, price_at, quantity_at, stamp_at, test_key, test_name};
 use audit_base::faults::Reason;
 use audit_base::names::Key;
 use audit_base::records::TradeRecord;
 use csv::ByteRecord;
-
-/// The header of a trade log.
-pub(crate) const TRADE_NAMES: [&[u8]; 9] = [
-    b"trade",
-    b"time",
-    b"symbol",
-    b"buy_firm",
-    b"buy_id",
-    b"sell_firm",
-    b"sell_id",
-    b"quantity",
-    b"price",
-];
 
 fn parties_at(fields: &ByteRecord) -> Result<(Key, Key), Reason>
     ensures { result ≡ parties_at (fields_of fields.now) }
@@ -50,4 +38,25 @@ pub(crate) fn trade_entry(fields: &ByteRecord) -> Result<TradeRecord, Reason>
         quantity,
         price,
     })
+}
+
+fn test_parties(fields: &ByteRecord) -> Result<(), Reason>
+    ensures { result ≡ tested (parties_at (fields_of fields.now)) }
+{
+    test_key(4, fields)?;
+    test_key(6, fields)
+}
+
+/// Whether nine fields mean a record in a trade log, or else the first column that is not in its form.
+#[tactic(auto, unfolding(crate::specs::TradeLines::trade_entry))]
+pub(crate) fn test_trade(fields: &ByteRecord) -> Result<(), Reason>
+    ensures { result ≡ tested (trade_entry (fields_of fields.now)) }
+{
+    test_name(1, fields)?;
+    stamp_at(2, fields)?;
+    test_name(3, fields)?;
+    test_parties(fields)?;
+    quantity_at(8, fields)?;
+    price_at(9, fields)?;
+    Ok(())
 }

@@ -1,9 +1,9 @@
 //! Writing logs: the header, then one line for each record, of canonical texts.
-ghost use Rattle.std.specs.Prelude.{◌≡◌, ◌++◌, All, IfOk, Ok, OnErr, OnOk};
-ghost use Rattle.csv_logs.specs.Logs.{order_log, read_log, trade_log};
-ghost use Rattle.csv_logs.specs.Written.{HasMarketPrice, log_text, orders_text, trades_text};
+ghost use Rattle.std.specs.Prelude.{◌≡◌, ◌++◌, IfOk, Ok, OnErr, OnOk};
+ghost use Rattle.csv_logs.specs.Logs.{trade_log};
+ghost use Rattle.csv_logs.specs.Written.{AreOrdersReadAgain, IsReadAgain, log_text, orders_text, trades_text};
 
-use crate::rows::LogLine;
+use crate::written_lines::LogLine;
 use audit_base::faults::NoMemory;
 use audit_base::records::{OrderRecord, TradeRecord};
 use csv::WriterBuilder;
@@ -12,7 +12,7 @@ use std::alloc::Global;
 /// The text of a log.
 fn text_of<R: LogLine>(alloc: Global, entries: &[R]) -> Result<Vec<u8>, NoMemory>
     ensures text { IfOk result (λ text. text.items ≡ log_text R.names R.fields entries.now) }
-    ensures again { OnOk result (All R.readable entries.now → read_log R.names R.meaning (log_text R.names R.fields entries.now) ≡ Ok entries.now) }
+    ensures again { OnOk result (IsReadAgain R.names R.meaning R.sound R.fields entries.now) }
 {
     let mut writer = WriterBuilder::new().from_writer(Vec::new(alloc));
     R::write_names(&mut writer)?;
@@ -28,17 +28,15 @@ fn text_of<R: LogLine>(alloc: Global, entries: &[R]) -> Result<Vec<u8>, NoMemory
 fn append<R: LogLine>(alloc: Global, entries: &[R], out: &mut Vec<u8>) -> Result<(), NoMemory>
     ensures appended { OnOk result (out.new.items ≡ out.old.items ++ log_text R.names R.fields entries.now) }
     ensures unchanged { OnErr result (out.new.items ≡ out.old.items) }
-    ensures again { OnOk result (All R.readable entries.now → read_log R.names R.meaning (log_text R.names R.fields entries.now) ≡ Ok entries.now) }
+    ensures again { OnOk result (IsReadAgain R.names R.meaning R.sound R.fields entries.now) }
 {
     let text = text_of(alloc, entries)?;
-    match out.extend_from_slice(&text) {
-        Ok(()) => Ok(()),
-        Err(_) => Err(NoMemory),
-    }
+    out.extend_from_slice(&text)?;
+    Ok(())
 }
 
-/// Appends the canonical order log of these records: the header, and a line for each. After want of
-/// memory `out` is as before. What is written is read again as the same records, where those of life
+/// Appends the canonical order log of these records: the header, and a line for each. Out of
+/// memory leaves `out` as before. What is written is read again as the same records, where those of life
 /// Market have the market price.
 pub fn write_orders(
     alloc: Global,
@@ -47,13 +45,13 @@ pub fn write_orders(
 ) -> Result<(), NoMemory>
     ensures appended { OnOk result (out.new.items ≡ out.old.items ++ orders_text entries.now) }
     ensures unchanged { OnErr result (out.new.items ≡ out.old.items) }
-    ensures again { OnOk result (All HasMarketPrice entries.now → order_log (orders_text entries.now) ≡ Ok entries.now) }
+    ensures again { OnOk result (AreOrdersReadAgain entries.now) }
 {
     append(alloc, entries, out)
 }
 
-/// Appends the canonical trade log of these records: the header, and a line for each. After want of
-/// memory `out` is as before. What is written is read again as the same records.
+/// Appends the canonical trade log of these records: the header, and a line for each. Out of
+/// memory leaves `out` as before. What is written is read again as the same records.
 pub fn write_trades(
     alloc: Global,
     trades: &[TradeRecord],

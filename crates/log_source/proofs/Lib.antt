@@ -1,2 +1,2 @@
-mod PlaceLemmas
+mod CursorLemmas
 mod WriteLemmas

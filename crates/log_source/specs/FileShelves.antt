@@ -6,10 +6,10 @@ use Rattle.audit_base.specs.declared.terms.Which.TheVariants.{Orders, Trades}
 use Rattle.log_source.specs.Sources.{Slot}
 use Rattle.log_source.specs.declared.file_shelf.FileSlot.{FileSlot}
 
--- What stands in one slot: a file that is open is started, and what is left is what the file itself
+-- The state of one slot: a file that is open is started, and what is left is what the file itself
 -- tells of it, which is nothing at a file of the system.
-abbrev pub file_standing : {X : Type 0} → (X → Option (List ℕ)) → FileSlot X → Slot
-file_standing remaining slot = record {
+abbrev pub file_state : {X : Type 0} → (X → Option (List ℕ)) → FileSlot X → Slot
+file_state remaining slot = record {
   started = is_some slot.file;
   left = option_and_then remaining slot.file;
   taken = slot.taken;
@@ -18,5 +18,5 @@ file_standing remaining slot = record {
 
 -- what stands in the slot of each log
 abbrev pub file_slot : {X : Type 0} → (X → Option (List ℕ)) → FileSlot X → FileSlot X → Which → Slot
-file_slot remaining orders trades Orders = file_standing remaining orders
-file_slot remaining orders trades Trades = file_standing remaining trades
+file_slot remaining orders trades Orders = file_state remaining orders
+file_slot remaining orders trades Trades = file_state remaining trades

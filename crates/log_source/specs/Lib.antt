@@ -1,12 +1,20 @@
-pub mod Calls
-pub mod EndlessShelves
-pub mod Feeds
-pub mod FileShelves
-pub mod MemoryShelves
-pub mod MemorySinks
-pub mod Places
-pub mod QuietShelves
-pub mod Sinks
+-- What a reader must believe: the meanings of shelves, sinks, feeds and collectors, and what the
+-- public calls say by them.
 pub mod Sources
-pub mod StdSinks
 pub mod Taking
+pub mod Sinks
+pub mod Handing
+pub mod Feeds
+pub mod Pumping
+pub mod Collectors
+-- What the shelves and sinks of this crate stand at. The counts and the failing calls of those in
+-- memory are in Calls; the shelf over files and the sink over a writer tell nothing.
+pub mod Calls
+pub mod MemoryShelves
+pub mod QuietShelves
+pub mod EndlessShelves
+pub mod FileShelves
+pub mod MemorySinks
+pub mod StdSinks
+-- What private functions pass on.
+pub mod Cursors

@@ -1,9 +1,10 @@
 -- A shelf in memory: its logs and slots, the number of its next call, and which calls fail.
-use Rattle.std.specs.Prelude.{◌≡◌, ℕ, Bool, List, Option}
+use Rattle.std.specs.Prelude.{◌≡◌, ◌≢◌, ℕ, Bool, true, ◌||◌, List, length, min, Option, is_none}
+use Rattle.std.specs.Option.{option_map_or}
 use Rattle.audit_base.specs.declared.terms.Which.{Which}
 use Rattle.audit_base.specs.declared.terms.Which.TheVariants.{Orders, Trades}
-use Rattle.log_source.specs.Calls.{count_after, is_listed}
-use Rattle.log_source.specs.Places.{newest, standing}
+use Rattle.log_source.specs.Calls.{count_after, faults_after, is_listed}
+use Rattle.log_source.specs.Cursors.{newest, cursor_state}
 use Rattle.log_source.specs.Sources.{Slot}
 use Rattle.log_source.specs.declared.memory_shelf.MemoryShelf.{MemoryShelf}
 
@@ -13,8 +14,20 @@ memory_log shelf name = newest shelf.logs.items name
 
 -- what stands in a slot
 abbrev pub memory_slot : MemoryShelf → Which → Slot
-memory_slot shelf Orders = standing shelf.logs.items shelf.orders
-memory_slot shelf Trades = standing shelf.logs.items shelf.trades
+memory_slot shelf Orders = cursor_state shelf.logs.items shelf.orders
+memory_slot shelf Trades = cursor_state shelf.logs.items shelf.trades
+
+-- it tells what it holds
+abbrev pub memory_tells : MemoryShelf → Bool
+memory_tells shelf = true
+
+-- the log that a slot finds under a name: both slots find the same
+abbrev pub memory_log_of : MemoryShelf → Which → List ℕ → Option (List ℕ)
+memory_log_of shelf which name = memory_log shelf name
+
+-- how many faults of a slot were counted
+abbrev pub memory_faults : MemoryShelf → Which → ℕ
+memory_faults shelf which = (memory_slot shelf which).faults
 
 -- how many starts and reads were made, together
 abbrev pub calls_made : MemoryShelf → ℕ
@@ -32,10 +45,30 @@ piece_size shelf = shelf.piece
 abbrev pub fails_next : MemoryShelf → Bool
 fails_next shelf = is_listed (count_after (calls_made shelf)) (failing_calls shelf)
 
+-- a start of this name fails next: it is to, or the name is not there
+abbrev pub fails_to_start : MemoryShelf → List ℕ → Bool
+fails_to_start shelf name = fails_next shelf || is_none (memory_log shelf name)
+
+-- how many bytes the next read into a buffer of this length gives: at most a piece, and what is left
+abbrev pub read_size : MemoryShelf → Which → ℕ → ℕ
+read_size shelf which room = min (piece_size shelf) (min (option_map_or length (memory_slot shelf which).left 0) room)
+
+-- every name has the bytes that it had
+abbrev pub KeepsLogs : MemoryShelf → MemoryShelf → Type 0
+KeepsLogs old new = (n : List ℕ) → memory_log new n ≡ memory_log old n
+
+-- every name but this one has the bytes that it had
+abbrev pub KeepsOthers : MemoryShelf → MemoryShelf → List ℕ → Type 0
+KeepsOthers old new name = (n : List ℕ) → n ≢ name → memory_log new n ≡ memory_log old n
+
 -- which calls fail and how much a read gives stay as they are
 pub record KeepsRules (old new : MemoryShelf) : Type 0 where
   pub fails : failing_calls new ≡ failing_calls old
   pub piece : piece_size new ≡ piece_size old
+
+-- where the call was to fail, it is counted as a fault of this slot
+abbrev pub CountsFault : MemoryShelf → MemoryShelf → Which → Type 0
+CountsFault old new which = memory_faults new which ≡ faults_after (fails_next old) (memory_faults old which)
 
 -- one more call was made
 pub record CountsCall (old new : MemoryShelf) : Type 0 where

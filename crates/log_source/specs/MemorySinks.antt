@@ -1,7 +1,7 @@
 -- A sink in memory: what it holds, its room, and which writes fail.
-use Rattle.std.specs.Prelude.{◌≡◌, ℕ, Bool, List, [], length, Some, nat_le, ◌||◌, ◌∷◌}
-use Rattle.log_source.specs.Calls.{count_after, is_listed}
-use Rattle.log_source.specs.Sinks.{Held}
+use Rattle.std.specs.Prelude.{◌≡◌, ℕ, ◌-◌, min, Bool, List, [], length, Some, nat_le, ◌||◌, ◌∷◌}
+use Rattle.log_source.specs.Calls.{count_after, faults_after, is_listed}
+use Rattle.log_source.specs.Sinks.{SinkState}
 use Rattle.log_source.specs.declared.memory_sink.MemorySink.{MemorySink}
 
 -- a sink none of whose writes is to fail takes its whole room for sure
@@ -9,9 +9,9 @@ abbrev pub sure_room : List ℕ → ℕ → ℕ
 sure_room [] room = room
 sure_room (_ ∷ _) room = 0
 
--- what the sink holds
-abbrev pub memory_held : MemorySink → Held
-memory_held sink = record { wrote = Some (sink.bytes.items); faults = sink.faults; sure = sure_room sink.fails.items sink.room }
+-- what the sink stands at: it tells all that was written
+abbrev pub memory_state : MemorySink → SinkState
+memory_state sink = record { wrote = Some (sink.bytes.items); faults = sink.faults; sure = sure_room sink.fails.items sink.room }
 
 -- how many bytes the sink can hold
 abbrev pub room_of : MemorySink → ℕ
@@ -36,6 +36,18 @@ length_of sink = length sink.bytes.items
 -- the next write fails: its number is listed, or the room is full
 abbrev pub write_fails : MemorySink → Bool
 write_fails sink = is_listed (count_after sink.calls) sink.fails.items || nat_le sink.room (length_of sink)
+
+-- how many bytes of a piece of this length the next write takes: at most `most`, and the room that is left
+abbrev pub write_size : MemorySink → ℕ → ℕ
+write_size sink size = min sink.most (min size (sink.room - length_of sink))
+
+-- how many faults were counted
+abbrev pub sink_faults : MemorySink → ℕ
+sink_faults sink = sink.faults
+
+-- where the write was to fail, a fault is counted
+abbrev pub CountsFault : MemorySink → MemorySink → Type 0
+CountsFault old new = sink_faults new ≡ faults_after (write_fails old) (sink_faults old)
 
 -- one more write was made; the room, the most and the list stay
 pub record CountsWrite (old new : MemorySink) : Type 0 where

@@ -1,16 +1,13 @@
 -- What a shelf holds of its two logs: what stands before and after a start and a read.
-use Rattle.std.specs.Prelude.{◌≡◌, ℕ, ◌+◌, ◌-◌, ◌<◌, ◌≤◌, ◌^◌, ◌⊎◌, Bool, true, List, Option, None, IsSome, Result, is_ok, OnOk, OnErr, IsErrOf, MatchResult}
+use Rattle.std.specs.Prelude.{◌≡◌, ℕ, ◌+◌, ◌-◌, ◌<◌, ◌≤◌, ◌^◌, ◌⊎◌, Bool, true, false, List, Option, None, IsSome, Result, is_ok, OnOk, OnErr, IsErrOf, MatchResult}
 use Rattle.std.specs.Io.{ReadsAtMost}
 use Rattle.std.specs.Io.KnownBytes.{ReadConsumes}
 use Rattle.audit_base.specs.declared.terms.Which.{Which}
 use Rattle.audit_base.specs.declared.terms.Which.TheVariants.{Orders, Trades}
+pub use Rattle.audit_base.specs.Sizes.{longest_log}
 use Rattle.log_source.specs.declared.shelf.Failed.{Failed}
 use Rattle.log_source.specs.declared.shelf.StartFault.{StartFault}
 use Rattle.log_source.specs.declared.shelf.StartFault.TheVariants as start
-
--- the greatest number of bytes of one log
-abbrev pub longest_log : ℕ
-longest_log = 67108864
 
 -- the slot beside this one
 abbrev pub other_of : Which → Which
@@ -25,9 +22,19 @@ pub record Slot : Type 0 where
   pub taken : ℕ
   pub faults : ℕ
 
+-- a slot of a new shelf: nothing is started, taken or counted; `left` is what the shelf tells of it
+abbrev pub fresh_slot : Option (List ℕ) → Slot
+fresh_slot left = record { started = false; left = left; taken = 0; faults = 0 }
+
 -- a count of faults rose, or stands at the greatest value that it can show
 abbrev pub Rose : ℕ → ℕ → Type 0
 Rose old new = (old < new) ⊎ (new ≡ 2 ^ 64 - 1)
+
+-- Only this slot may have changed: whether the shelf tells, its logs and its other slot stay.
+pub record ChangesOnly {F : Type 0} (tells : F → Bool) (log_of : F → Which → List ℕ → Option (List ℕ)) (slot : F → Which → Slot) (which : Which) (old new : F) : Type 0 where
+  pub tells_stays : tells new ≡ tells old
+  pub logs_stay : (w : Which) (n : List ℕ) → log_of new w n ≡ log_of old w n
+  pub other_stays : slot new (other_of which) ≡ slot old (other_of which)
 
 -- What a start does to its slot. `log` is what the shelf has under the name, known where it tells.
 pub record Starts {T : Type 0} (tells : Bool) (log : Option (List ℕ)) (old new : Slot) (result : Result T StartFault) : Type 0 where

@@ -1,22 +1,37 @@
 -- What taking a whole log leaves of its slot, and why it may fail.
-use Rattle.std.specs.Prelude.{◌≡◌, ℕ, ◌<◌, ◌≤◌, ◌⊎◌, ◌↔◌, Bool, true, List, length, Option, None, IsSomeAnd, Result, OnOk, IsErrOf}
+use Rattle.std.specs.Prelude.{◌≡◌, ℕ, ◌<◌, ◌≤◌, ◌⊎◌, ◌↔◌, true, List, length, Some, None, IsSomeAnd, Result, OnOk, IsErrOf}
 use Rattle.std.specs.Io.KnownBytes.{IsAtEnd}
-use Rattle.log_source.specs.Sources.{Slot, Rose, longest_log}
+use Rattle.audit_base.specs.declared.terms.Which.{Which}
+use Rattle.log_source.specs.Sources.{Rose, longest_log}
+use Rattle.log_source.specs.declared.shelf.Shelf as shelf
 use Rattle.log_source.specs.declared.take.TakeFault.{TakeFault}
 use Rattle.log_source.specs.declared.take.TakeFault.TheVariants as take
 use Rattle.log_source.specs.declared.shelf.StartFault.{StartFault}
 use Rattle.log_source.specs.declared.shelf.StartFault.TheVariants as start
 
--- What taking a whole log does to its slot. `log` is what the shelf has under the name, known where it
--- tells. After `Ok` the log was read to its end. It is too long exactly where more was taken than a
--- log may hold.
-pub record Takes {T : Type 0} (tells : Bool) (log : Option (List ℕ)) (old new : Slot) (result : Result T TakeFault) : Type 0 where
-  pub later : old.faults ≤ new.faults
-  pub started : OnOk result (new.started ≡ true)
-  pub at_end : OnOk result (IsAtEnd new.left)
-  pub too_long : IsErrOf result take.TooLong ↔ (longest_log < new.taken)
-  pub longer : IsErrOf result take.TooLong → tells ≡ true → IsSomeAnd log (λ bytes. longest_log < length bytes)
-  pub fault : IsErrOf result take.Fault → Rose old.faults new.faults ⊎ ((tells ≡ true) × (log ≡ None))
+-- the shelf tells, and has no log of this name for the slot
+abbrev pub LacksLog : {F : Type 0} → shelf.Ghosts F → Which → List ℕ → F → Type 0
+LacksLog shelves which name shelf = (shelves.tells shelf ≡ true) × (shelves.log_of shelf which name ≡ None)
+
+-- the shelf, where it tells, has a log of this name that is longer than a log may be
+abbrev pub HasTooLong : {F : Type 0} → shelf.Ghosts F → Which → List ℕ → F → Type 0
+HasTooLong shelves which name shelf =
+    shelves.tells shelf ≡ true → IsSomeAnd (shelves.log_of shelf which name) (λ bytes. longest_log < length bytes)
+
+-- these are the bytes of the log that the shelf has under the name, where it tells
+abbrev pub IsWhole : {F : Type 0} → shelf.Ghosts F → Which → List ℕ → F → List ℕ → Type 0
+IsWhole shelves which name shelf bytes = shelves.tells shelf ≡ true → shelves.log_of shelf which name ≡ Some bytes
+
+-- What taking a whole log does to its slot. After `Ok` the log was read to its end. It is too long
+-- exactly where more was taken than a log may hold. `Fault` comes only where the slot's faults rose, or
+-- where the shelf tells and has no such log.
+pub record Takes {F T : Type 0} (shelves : shelf.Ghosts F) (which : Which) (name : List ℕ) (old new : F) (result : Result T TakeFault) : Type 0 where
+  pub later : (shelves.slot old which).faults ≤ (shelves.slot new which).faults
+  pub started : OnOk result ((shelves.slot new which).started ≡ true)
+  pub at_end : OnOk result (IsAtEnd (shelves.slot new which).left)
+  pub too_long : IsErrOf result take.TooLong ↔ (longest_log < (shelves.slot new which).taken)
+  pub longer : IsErrOf result take.TooLong → HasTooLong shelves which name old
+  pub fault : IsErrOf result take.Fault → Rose (shelves.slot old which).faults (shelves.slot new which).faults ⊎ LacksLog shelves which name old
 
 -- what a call that takes a whole log answers where the start failed so
 abbrev pub of_start : StartFault → TakeFault

@@ -1,7 +1,7 @@
 //! A shelf whose logs have no end.
 ghost use Rattle.std.specs.Prelude.{◌≡◌, ◌<◌, ◌≤◌, true, false, length, replicate, None, IsOk, Ok};
 ghost use Rattle.audit_base.specs.declared.terms.Which.{Which};
-ghost use Rattle.log_source.specs.Sources.{Starts, Reads, other_of, longest_log};
+ghost use Rattle.log_source.specs.Sources.{ChangesOnly, Starts, Reads, fresh_slot, longest_log};
 
 use crate::shelf::{Failed, Shelf, StartFault};
 use audit_base::terms::Which;
@@ -28,7 +28,7 @@ impl EndlessShelf {
     /// A shelf that fills every buffer with this byte, with nothing started.
     pub fn new(byte: u8) -> EndlessShelf
         ensures byte { endless_byte result ≡ byte }
-        ensures fresh { (w : Which) → endless_slot result w ≡ record { started = false; left = None; taken = 0; faults = 0 } }
+        ensures fresh { (w : Which) → endless_slot result w ≡ fresh_slot None }
     {
         let fresh = EndlessSlot {
             started: false,
@@ -43,17 +43,19 @@ impl EndlessShelf {
 }
 
 impl Shelf for EndlessShelf {
-    ghost use Rattle.log_source.specs.EndlessShelves.{endless_slot, endless_byte};
+    ghost use Rattle.log_source.specs.EndlessShelves.{endless_log_of, endless_slot, endless_byte, endless_tells};
 
-    ghost tells = { λ _. false };
+    ghost tells = { endless_tells };
 
-    ghost log_of = { λ _ _ _. None };
+    ghost log_of = { endless_log_of };
 
     ghost slot = { endless_slot };
 
     fn start(&mut self, which: Which, name: &str) -> Result<(), StartFault>
-        ensures slot { Starts false None (endless_slot self.old which) (endless_slot self.new which) result }
-        ensures other { endless_slot self.new (other_of which) ≡ endless_slot self.old (other_of which) }
+        ensures only { ChangesOnly endless_tells endless_log_of endless_slot
+            which self.old self.new }
+        ensures slot { Starts false None (endless_slot self.old which) (endless_slot self.new which)
+            result }
         ensures byte { endless_byte self.new ≡ endless_byte self.old }
         ensures starts { IsOk result }
     {
@@ -72,8 +74,10 @@ impl Shelf for EndlessShelf {
         requires room { 0 < length buf.old }
         requires started { (endless_slot self.old which).started ≡ true }
         requires within { (endless_slot self.old which).taken ≤ longest_log }
-        ensures slot { Reads (endless_slot self.old which) (endless_slot self.new which) result buf.new }
-        ensures other { endless_slot self.new (other_of which) ≡ endless_slot self.old (other_of which) }
+        ensures only { ChangesOnly endless_tells endless_log_of endless_slot
+            which self.old self.new }
+        ensures slot { Reads (endless_slot self.old which) (endless_slot self.new which)
+            result buf.new }
         ensures byte { endless_byte self.new ≡ endless_byte self.old }
         ensures reads { result ≡ Ok (length buf.old) }
         ensures filled { buf.new ≡ replicate (length buf.old) (endless_byte self.old) }

@@ -1,6 +1,7 @@
 //! A feed: what is handed a log piece by piece and keeps what it needs of it.
-ghost use Rattle.std.specs.Prelude.{ℕ, List, ◌++◌, OnOk};
+ghost use Rattle.std.specs.Prelude.{ℕ, List, OnOk};
 ghost use Rattle.log_source.specs.Feeds.{HasRoom};
+ghost use Rattle.log_source.specs.Handing.{Adds};
 
 use audit_base::faults::NoMemory;
 
@@ -14,5 +15,5 @@ pub trait Feed {
     /// answered `NoMemory` is given up: nothing is known of it afterwards.
     fn feed(&mut self, piece: &[u8]) -> Result<(), NoMemory>
         requires { HasRoom stands_for self.old piece.now }
-        ensures { OnOk result ((bytes : List ℕ) → stands_for self.old bytes → stands_for self.new (bytes ++ piece.now)) };
+        ensures { OnOk result (Adds (stands_for self.old) (stands_for self.new) piece.now) };
 }

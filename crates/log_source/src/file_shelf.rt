@@ -1,8 +1,8 @@
 //! The shelf of the program: files, each opened under its path.
 ghost use Rattle.std.specs.Prelude.{◌≡◌, ◌<◌, ◌≤◌, true, false, length, None, IsErrOf};
 ghost use Rattle.audit_base.specs.declared.terms.Which.{Which};
-ghost use Rattle.log_source.specs.Sources.{Starts, Reads, other_of, longest_log};
-ghost use Rattle.log_source.specs.FileShelves.{file_standing, file_slot};
+ghost use Rattle.log_source.specs.Sources.{ChangesOnly, Starts, Reads, fresh_slot, longest_log};
+ghost use Rattle.log_source.specs.FileShelves.{file_state, file_slot};
 
 use crate::shelf::{Failed, Shelf, StartFault};
 use audit_base::terms::Which;
@@ -20,7 +20,7 @@ struct FileSlot<X> {
 
 impl<X: Read + Drop> FileSlot<X> {
     fn new() -> FileSlot<X>
-        ensures { file_standing X.remaining result ≡ record { started = false; left = None; taken = 0; faults = 0 } }
+        ensures { file_state X.remaining result ≡ fresh_slot None }
     {
         FileSlot {
             file: None,
@@ -30,7 +30,8 @@ impl<X: Read + Drop> FileSlot<X> {
     }
 
     fn start<R: Files<File = X>>(&mut self, files: &R, name: &str) -> Result<(), StartFault>
-        ensures slot { Starts false None (file_standing X.remaining self.old) (file_standing X.remaining self.new) result }
+        ensures slot { let state = file_state X.remaining in
+            Starts false None (state self.old) (state self.new) result }
         ensures memory { IsErrOf result StartFault.Memory → self.new.faults ≡ self.old.faults }
     {
         self.file = None;
@@ -50,9 +51,9 @@ impl<X: Read + Drop> FileSlot<X> {
 
     fn read(&mut self, buf: &mut [u8]) -> Result<usize, Failed>
         requires room { 0 < length buf.old }
-        requires started { (file_standing X.remaining self.old).started ≡ true }
+        requires started { (file_state X.remaining self.old).started ≡ true }
         requires within { self.old.taken ≤ longest_log }
-        ensures { Reads (file_standing X.remaining self.old) (file_standing X.remaining self.new) result buf.new }
+        ensures { let state = file_state X.remaining in Reads (state self.old) (state self.new) result buf.new }
     {
         let Some(file) = &mut self.file else {
             unreachable!()
@@ -84,7 +85,7 @@ pub struct FileShelf<R: Files> {
 impl<R: Files + Drop> FileShelf<R> {
     /// A shelf over these files, with nothing started and no fault counted.
     pub fn new(files: R) -> FileShelf<R>
-        ensures { (w : Which) → ⟦<FileShelf<R> as Shelf>⟧.slot result w ≡ record { started = false; left = None; taken = 0; faults = 0 } }
+        ensures { (w : Which) → ⟦<FileShelf<R> as Shelf>⟧.slot result w ≡ fresh_slot None }
     {
         FileShelf {
             files,
@@ -102,9 +103,13 @@ impl<R: Files + Drop> Shelf for FileShelf<R> {
     ghost slot = { λ shelf which. file_slot R.File.remaining shelf.orders shelf.trades which };
 
     fn start(&mut self, which: Which, name: &str) -> Result<(), StartFault>
-        ensures slot { Starts false None (⟦<FileShelf<R> as Shelf>⟧.slot self.old which) (⟦<FileShelf<R> as Shelf>⟧.slot self.new which) result }
-        ensures other { ⟦<FileShelf<R> as Shelf>⟧.slot self.new (other_of which) ≡ ⟦<FileShelf<R> as Shelf>⟧.slot self.old (other_of which) }
-        ensures memory { IsErrOf result StartFault.Memory → (⟦<FileShelf<R> as Shelf>⟧.slot self.new which).faults ≡ (⟦<FileShelf<R> as Shelf>⟧.slot self.old which).faults }
+        ensures only { let shelf = ⟦<FileShelf<R> as Shelf>⟧ in
+            ChangesOnly shelf.tells shelf.log_of shelf.slot which self.old self.new }
+        ensures slot { let slot = ⟦<FileShelf<R> as Shelf>⟧.slot in
+            Starts false None (slot self.old which) (slot self.new which) result }
+        ensures memory { let slot = ⟦<FileShelf<R> as Shelf>⟧.slot in
+            IsErrOf result StartFault.Memory
+            → (slot self.new which).faults ≡ (slot self.old which).faults }
     {
         match which {
             Which::Orders => self.orders.start(&self.files, name),

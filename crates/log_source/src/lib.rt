@@ -4,14 +4,15 @@
 //! claimed, and the causes of every failure still are.
 #![tactic(auto)]
 
-mod calls;
+pub mod collector;
+pub mod counter;
+mod cursors;
 pub mod endless_shelf;
 pub mod feed;
 pub mod file_shelf;
+mod in_memory;
 pub mod memory_shelf;
 pub mod memory_sink;
-mod pieces;
-mod places;
 pub mod pump;
 pub mod put;
 pub mod quiet_shelf;

@@ -1,9 +1,8 @@
 //! A sink in memory, which fails at chosen writes and where its room is full.
-ghost use Rattle.std.specs.Prelude.{◌≡◌, ◌-◌, ◌<◌, ◌≤◌, [], length, min, Some, IfOk, is_err, if◌then◌else◌, vec_len, vec_capacity};
+ghost use Rattle.std.specs.Prelude.{◌≡◌, ◌<◌, ◌≤◌, [], length, Some, IfOk, is_err, vec_len, vec_capacity};
 ghost use Rattle.log_source.specs.Sinks.{Writes};
-ghost use Rattle.log_source.specs.Calls.{count_after};
 
-use crate::calls::is_listed;
+use crate::in_memory::is_listed;
 use crate::shelf::Failed;
 use crate::sink::Sink;
 use audit_base::faults::NoMemory;
@@ -26,7 +25,7 @@ pub struct MemorySink {
 }
 
 impl MemorySink {
-    ghost use Rattle.log_source.specs.MemorySinks.{memory_held, room_of, most_of, writes_made, failing_writes};
+    ghost use Rattle.log_source.specs.MemorySinks.{memory_state, room_of, most_of, writes_made, failing_writes, sink_faults};
 
     /// An empty sink with room for `room` bytes. One write takes at most `most` bytes, and the
     /// writes whose numbers, from 1, are in `fails` fail, as does every write once the room is
@@ -38,14 +37,14 @@ impl MemorySink {
         fails: Vec<u32>,
     ) -> Result<MemorySink, NoMemory>
         requires { 1 ≤ most }
-        ensures wrote { IfOk result (λ sink. (memory_held sink).wrote ≡ Some []) }
-        ensures faults { IfOk result (λ sink. (memory_held sink).faults ≡ 0) }
+        ensures wrote { IfOk result (λ sink. (memory_state sink).wrote ≡ Some []) }
+        ensures faults { IfOk result (λ sink. sink_faults sink ≡ 0) }
         ensures calls { IfOk result (λ sink. writes_made sink ≡ 0) }
         ensures room { IfOk result (λ sink. room_of sink ≡ room) }
         ensures most { IfOk result (λ sink. most_of sink ≡ most) }
         ensures fails { IfOk result (λ sink. failing_writes sink ≡ fails.items) }
     {
-        let bytes = Vec::with_capacity(alloc, room).map_err(|_| NoMemory)?;
+        let bytes = Vec::with_capacity(alloc, room)?;
         Ok(MemorySink {
             bytes,
             room,
@@ -58,24 +57,24 @@ impl MemorySink {
 
     /// What was written.
     pub fn bytes(&self) -> &[u8]
-        ensures { (memory_held self.now).wrote ≡ Some result.now }
+        ensures { (memory_state self.now).wrote ≡ Some result.now }
     {
         self.bytes.as_slice()
     }
 }
 
 impl Sink for MemorySink {
-    ghost use Rattle.log_source.specs.MemorySinks.{memory_held, room_of, most_of, length_of, write_fails, CountsWrite};
+    ghost use Rattle.log_source.specs.MemorySinks.{memory_state, write_fails, write_size, CountsFault, CountsWrite};
 
-    ghost held = { memory_held };
+    ghost state = { memory_state };
 
     fn write(&mut self, piece: &[u8]) -> Result<usize, Failed>
         requires { 0 < length piece.now }
-        ensures written { Writes (memory_held self.old) (memory_held self.new) result piece.now }
+        ensures written { Writes (memory_state self.old) (memory_state self.new) result piece.now }
         ensures counted { CountsWrite self.old self.new }
         ensures failing { is_err result ≡ write_fails self.old }
-        ensures count { IfOk result (λ n. n ≡ min (most_of self.old) (min (length piece.now) (room_of self.old - length_of self.old))) }
-        ensures faults { (memory_held self.new).faults ≡ (if write_fails self.old then count_after (memory_held self.old).faults else (memory_held self.old).faults) }
+        ensures count { IfOk result (λ n. n ≡ write_size self.old (length piece.now)) }
+        ensures faults { CountsFault self.old self.new }
     {
         self.calls = self.calls.saturating_add(1);
         let free = self.room - self.bytes.len();

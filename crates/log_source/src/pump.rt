@@ -1,25 +1,27 @@
 //! Handing a whole log to a feed, piece by piece.
-ghost use Rattle.std.specs.Prelude.{◌≡◌, ◌≢◌, ℕ, List, [], OnOk, IfErr};
-ghost use Rattle.audit_base.specs.declared.terms.Which.{Which};
-ghost use Rattle.log_source.specs.Sources.{other_of};
+ghost use Rattle.std.specs.Prelude.{[], OnOk, IsErrOf};
+ghost use Rattle.log_source.specs.Sources.{ChangesOnly};
 ghost use Rattle.log_source.specs.Taking.{Takes};
-ghost use Rattle.log_source.specs.Feeds.{StandsForWhole, StandsForFront};
+ghost use Rattle.log_source.specs.Pumping.{StandsForWhole, StandsForTaken, StandsForFront};
 
 use crate::feed::Feed;
 use crate::shelf::Shelf;
 use crate::take::TakeFault;
+use audit_base::sizes::LONGEST_LOG;
 use audit_base::terms::Which;
-
-/// The greatest number of bytes of one log.
-const LONGEST_LOG: usize = 67_108_864;
 
 /// The bytes of one read: few enough to stay near the processor, and enough that a read's own cost
 /// is small beside that of its bytes.
 const PIECE: usize = 65_536;
 
 /// Hands the log of this name to the feed, piece by piece up to its end. The causes of failure are
-/// those of `take_log`. The piece that takes the slot past 67,108,864 bytes is not handed on, so
-/// after `TooLong` and `Fault` the feed stands for a front of the log.
+/// those of `take_log`.
+///
+/// After `Fault` the feed stands for exactly the bytes that were taken, a front of the log: none, where
+/// the log was not started. The piece that takes the slot past 67,108,864 bytes is not handed on, so
+/// after `TooLong` the feed stands for a front of the log that is no longer than this. In both cases
+/// the feed may be used on. After `Memory` it is given up. Whatever the answer, the slot may be started
+/// anew, and the other slot is as it was.
 pub fn pump<F: Shelf, D: Feed>(
     shelf: &mut F,
     which: Which,
@@ -27,12 +29,14 @@ pub fn pump<F: Shelf, D: Feed>(
     feed: &mut D,
 ) -> Result<(), TakeFault>
     requires { D.stands_for feed.old [] }
-    ensures tells { F.tells shelf.new ≡ F.tells shelf.old }
-    ensures logs { (w : Which) (n : List ℕ) → F.log_of shelf.new w n ≡ F.log_of shelf.old w n }
-    ensures slot { Takes (F.tells shelf.old) (F.log_of shelf.old which name.now) (F.slot shelf.old which) (F.slot shelf.new which) result }
-    ensures other { F.slot shelf.new (other_of which) ≡ F.slot shelf.old (other_of which) }
-    ensures whole { OnOk result (StandsForWhole D.stands_for feed.new (F.tells shelf.old) (F.log_of shelf.old which name.now) (F.slot shelf.new which).taken) }
-    ensures front { IfErr result (λ fault. fault ≢ TakeFault.Memory → StandsForFront D.stands_for feed.new (F.tells shelf.old) (F.log_of shelf.old which name.now) (F.slot shelf.new which).taken) }
+    ensures only { ChangesOnly F.tells F.log_of F.slot which shelf.old shelf.new }
+    ensures slot { Takes F.Shelf which name.now shelf.old shelf.new result }
+    ensures whole { OnOk result
+        (StandsForWhole F.Shelf D.Feed which name.now shelf.old shelf.new feed.new) }
+    ensures fault { IsErrOf result TakeFault.Fault
+        → StandsForTaken F.Shelf D.Feed which name.now shelf.old shelf.new feed.new }
+    ensures too_long { IsErrOf result TakeFault.TooLong
+        → StandsForFront F.Shelf D.Feed which name.now shelf.old shelf.new feed.new }
 {
     shelf.start(which, name)?;
     let mut buffer = [0u8; PIECE];
@@ -63,11 +67,11 @@ mod tests {
 
     // A feed that counts, and says of what it stands for only how long it is.
     #[derive(Drop)]
-    struct Counter {
+    struct ByteCount {
         bytes: usize,
     }
 
-    impl Feed for Counter {
+    impl Feed for ByteCount {
         ghost use Rattle.std.specs.Prelude.{◌≡◌, length};
 
         ghost stands_for = { λ counter bytes. counter.bytes ≡ length bytes };
@@ -87,7 +91,7 @@ mod tests {
                 String::from_str(rt.alloc(), "log")?,
                 Vec::from_slice(rt.alloc(), b"seventeen letters")?,
             )?;
-            let mut counter = Counter { bytes: 0 };
+            let mut counter = ByteCount { bytes: 0 };
             let result = pump(&mut shelf, Which::Trades, "log", &mut counter);
             let wanted = if fails <= 5 {
                 Err(TakeFault::Fault)
@@ -103,7 +107,7 @@ mod tests {
     #[test]
     fn the_piece_past_the_limit_is_not_handed_on(rt: HostRuntime) {
         let mut shelf = EndlessShelf::new(b'8');
-        let mut counter = Counter { bytes: 0 };
+        let mut counter = ByteCount { bytes: 0 };
         let result = pump(&mut shelf, Which::Orders, "any", &mut counter);
         assert_eq!(rt; result, Err(TakeFault::TooLong));
         assert_eq!(rt; counter.bytes, 67_108_864);

@@ -1,9 +1,9 @@
 //! A shelf in memory that never fails.
 ghost use Rattle.std.specs.Prelude.{◌≡◌, ◌<◌, ◌≤◌, true, [], length, Some, IsOk, IsOkAnd, Ok, false};
 ghost use Rattle.audit_base.specs.declared.terms.Which.{Which};
-ghost use Rattle.log_source.specs.Sources.{Starts, Reads, other_of, longest_log};
+ghost use Rattle.log_source.specs.Sources.{ChangesOnly, Starts, Reads, fresh_slot, longest_log};
 
-use crate::pieces::copy_piece;
+use crate::in_memory::copy_piece;
 use crate::shelf::{Failed, Shelf, StartFault};
 use audit_base::terms::Which;
 
@@ -16,11 +16,11 @@ struct QuietSlot {
 }
 
 impl QuietSlot {
-    ghost use Rattle.log_source.specs.QuietShelves.{quiet_standing};
+    ghost use Rattle.log_source.specs.QuietShelves.{quiet_state, started_slot};
 
     fn new(log: Vec<u8>) -> QuietSlot
         ensures log { result.log.items ≡ log.items }
-        ensures fresh { quiet_standing result ≡ record { started = false; left = Some []; taken = 0; faults = 0 } }
+        ensures fresh { quiet_state result ≡ fresh_slot (Some []) }
     {
         QuietSlot {
             log,
@@ -31,7 +31,7 @@ impl QuietSlot {
 
     fn start(&mut self)
         ensures log { self.new.log.items ≡ self.old.log.items }
-        ensures slot { quiet_standing self.new ≡ record { started = true; left = Some (self.old.log.items); taken = 0; faults = 0 } }
+        ensures slot { quiet_state self.new ≡ started_slot self.old.log.items }
     {
         self.started = true;
         self.at = 0;
@@ -40,9 +40,9 @@ impl QuietSlot {
     fn read(&mut self, piece: usize, buf: &mut [u8]) -> usize
         requires room { 0 < length buf.old }
         requires piece { 1 ≤ piece }
-        requires started { (quiet_standing self.old).started ≡ true }
+        requires started { (quiet_state self.old).started ≡ true }
         ensures log { self.new.log.items ≡ self.old.log.items }
-        ensures slot { Reads (quiet_standing self.old) (quiet_standing self.new) (Ok result) buf.new }
+        ensures slot { Reads (quiet_state self.old) (quiet_state self.new) (Ok result) buf.new }
         ensures piece { result ≤ piece }
     {
         let rest = self.log.get(self.at..).unwrap_or(&[]);
@@ -70,7 +70,7 @@ impl QuietShelf {
         ensures orders { quiet_log result Which.Orders ≡ orders.items }
         ensures trades { quiet_log result Which.Trades ≡ trades.items }
         ensures piece { quiet_piece result ≡ piece }
-        ensures fresh { (w : Which) → quiet_slot result w ≡ record { started = false; left = Some []; taken = 0; faults = 0 } }
+        ensures fresh { (w : Which) → quiet_slot result w ≡ fresh_slot (Some []) }
     {
         QuietShelf {
             orders: QuietSlot::new(orders),
@@ -81,18 +81,19 @@ impl QuietShelf {
 }
 
 impl Shelf for QuietShelf {
-    ghost use Rattle.log_source.specs.QuietShelves.{quiet_log, quiet_slot, quiet_piece};
+    ghost use Rattle.log_source.specs.QuietShelves.{quiet_log, quiet_log_of, quiet_slot, quiet_piece, quiet_tells};
 
-    ghost tells = { λ _. true };
+    ghost tells = { quiet_tells };
 
-    ghost log_of = { λ shelf which _. Some (quiet_log shelf which) };
+    ghost log_of = { quiet_log_of };
 
     ghost slot = { quiet_slot };
 
     fn start(&mut self, which: Which, name: &str) -> Result<(), StartFault>
+        ensures only { ChangesOnly quiet_tells quiet_log_of quiet_slot which self.old self.new }
         ensures logs { (w : Which) → quiet_log self.new w ≡ quiet_log self.old w }
-        ensures slot { Starts true (Some (quiet_log self.old which)) (quiet_slot self.old which) (quiet_slot self.new which) result }
-        ensures other { quiet_slot self.new (other_of which) ≡ quiet_slot self.old (other_of which) }
+        ensures slot { let log = quiet_log self.old which in
+            Starts true (Some log) (quiet_slot self.old which) (quiet_slot self.new which) result }
         ensures piece { quiet_piece self.new ≡ quiet_piece self.old }
         ensures starts { IsOk result }
     {
@@ -107,9 +108,10 @@ impl Shelf for QuietShelf {
         requires room { 0 < length buf.old }
         requires started { (quiet_slot self.old which).started ≡ true }
         requires within { (quiet_slot self.old which).taken ≤ longest_log }
+        ensures only { ChangesOnly quiet_tells quiet_log_of quiet_slot which self.old self.new }
         ensures logs { (w : Which) → quiet_log self.new w ≡ quiet_log self.old w }
-        ensures slot { Reads (quiet_slot self.old which) (quiet_slot self.new which) result buf.new }
-        ensures other { quiet_slot self.new (other_of which) ≡ quiet_slot self.old (other_of which) }
+        ensures slot { Reads (quiet_slot self.old which) (quiet_slot self.new which)
+            result buf.new }
         ensures piece { quiet_piece self.new ≡ quiet_piece self.old }
         ensures reads { IsOkAnd result (λ n. n ≤ quiet_piece self.old) }
     {

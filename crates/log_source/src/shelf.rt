@@ -1,7 +1,7 @@
 //! A shelf: two slots, one for each log, that give their bytes piece by piece.
 ghost use Rattle.std.specs.Prelude.{◌≡◌, ℕ, ◌<◌, ◌≤◌, Bool, true, List, length, Option};
 ghost use Rattle.audit_base.specs.declared.terms.Which.{Which};
-ghost use Rattle.log_source.specs.Sources.{Slot, Starts, Reads, other_of, longest_log};
+ghost use Rattle.log_source.specs.Sources.{ChangesOnly, Slot, Starts, Reads, longest_log};
 
 use audit_base::terms::Which;
 use thiserror::Error;
@@ -38,10 +38,9 @@ pub trait Shelf {
     /// Starts the log of this name in the slot, from its first byte. `Failed` comes only where the
     /// slot's faults rose, or where the shelf tells and has no such log.
     fn start(&mut self, which: Which, name: &str) -> Result<(), StartFault>
-        ensures tells { tells self.new ≡ tells self.old }
-        ensures logs { (w : Which) (n : List ℕ) → log_of self.new w n ≡ log_of self.old w n }
-        ensures slot { Starts (tells self.old) (log_of self.old which name.now) (slot self.old which) (slot self.new which) result }
-        ensures other { slot self.new (other_of which) ≡ slot self.old (other_of which) };
+        ensures only { ChangesOnly tells log_of slot which self.old self.new }
+        ensures slot { let log = log_of self.old which name.now in
+            Starts (tells self.old) log (slot self.old which) (slot self.new which) result };
 
     /// Reads the next bytes of the started log to the front of `buf`, and answers how many; 0 is
     /// the end of the log. `Failed` comes only where the slot's faults rose, and the same bytes
@@ -50,8 +49,6 @@ pub trait Shelf {
         requires room { 0 < length buf.old }
         requires started { (slot self.old which).started ≡ true }
         requires within { (slot self.old which).taken ≤ longest_log }
-        ensures tells { tells self.new ≡ tells self.old }
-        ensures logs { (w : Which) (n : List ℕ) → log_of self.new w n ≡ log_of self.old w n }
-        ensures slot { Reads (slot self.old which) (slot self.new which) result buf.new }
-        ensures other { slot self.new (other_of which) ≡ slot self.old (other_of which) };
+        ensures only { ChangesOnly tells log_of slot which self.old self.new }
+        ensures slot { Reads (slot self.old which) (slot self.new which) result buf.new };
 }

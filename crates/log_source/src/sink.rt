@@ -1,17 +1,17 @@
 //! A sink: what takes a text piece by piece.
 ghost use Rattle.std.specs.Prelude.{◌<◌, length};
-ghost use Rattle.log_source.specs.Sinks.{Held, Writes};
+ghost use Rattle.log_source.specs.Sinks.{SinkState, Writes};
 
 use crate::shelf::Failed;
 
 /// What takes a text piece by piece. A sink tells where what was written to it is known.
 pub trait Sink {
     // What the sink stands at.
-    ghost held: { Self → Held };
+    ghost state: { Self → SinkState };
 
     /// Writes a front of the piece, at least one byte of it, and answers how many bytes it took.
     /// `Failed` comes only where the sink's faults rose, and nothing was then written.
     fn write(&mut self, piece: &[u8]) -> Result<usize, Failed>
         requires { 0 < length piece.now }
-        ensures { Writes (held self.old) (held self.new) result piece.now };
+        ensures { Writes (state self.old) (state self.new) result piece.now };
 }

@@ -16,26 +16,27 @@ pub struct StdSink<W> {
 }
 
 impl<W: Write> StdSink<W> {
-    ghost use Rattle.log_source.specs.StdSinks.{std_held};
+    ghost use Rattle.log_source.specs.StdSinks.{std_state};
 
     /// A sink over this writer, with no fault counted.
     pub fn new(writer: W) -> StdSink<W>
-        ensures { std_held result ≡ record { wrote = None; faults = 0; sure = 0 } }
+        ensures { std_state result ≡ record { wrote = None; faults = 0; sure = 0 } }
     {
         StdSink { writer, faults: 0 }
     }
 }
 
 impl<W: Write> Sink for StdSink<W> {
-    ghost use Rattle.log_source.specs.StdSinks.{std_held, writer_of};
+    ghost use Rattle.log_source.specs.StdSinks.{std_state, writer_contents};
 
-    ghost held = { std_held };
+    ghost state = { std_state };
 
     fn write(&mut self, piece: &[u8]) -> Result<usize, Failed>
         requires { 0 < length piece.now }
-        ensures written { Writes (std_held self.old) (std_held self.new) result piece.now }
+        ensures written { Writes (std_state self.old) (std_state self.new) result piece.now }
         // Where the writer tells what it holds, that is what was written.
-        ensures writer { WriteAppends (W.contents (writer_of self.old)) (W.contents (writer_of self.new)) result piece.now }
+        ensures writer { let contents = writer_contents W.contents in
+            WriteAppends (contents self.old) (contents self.new) result piece.now }
     {
         match self.writer.write(piece) {
             Ok(count) if count > 0 => Ok(count),

@@ -1,8 +1,7 @@
 //! Taking a whole log into memory.
-ghost use Rattle.std.specs.Prelude.{◌≡◌, ℕ, ◌≤◌, true, List, Some, IfOk, vec_len};
-ghost use Rattle.audit_base.specs.declared.terms.Which.{Which};
-ghost use Rattle.log_source.specs.Sources.{other_of, longest_log};
-ghost use Rattle.log_source.specs.Taking.{Takes};
+ghost use Rattle.std.specs.Prelude.{◌≡◌, ◌≤◌, IfOk, vec_len};
+ghost use Rattle.log_source.specs.Sources.{ChangesOnly, longest_log};
+ghost use Rattle.log_source.specs.Taking.{IsWhole, Takes};
 
 use crate::feed::Feed;
 use crate::pump::pump;
@@ -60,40 +59,40 @@ impl From<NoMemory> for TakeFault {
 
 /// A feed that keeps all that it is handed.
 #[derive(Drop)]
-struct Gathered {
+struct WholeLog {
     bytes: Vec<u8>,
 }
 
-impl Feed for Gathered {
-    ghost stands_for = { λ gathered bytes. gathered.bytes.items ≡ bytes };
+impl Feed for WholeLog {
+    ghost stands_for = { λ log bytes. log.bytes.items ≡ bytes };
 
     fn feed(&mut self, piece: &[u8]) -> Result<(), NoMemory> {
-        self.bytes.extend_from_slice(piece).map_err(|_| NoMemory)
+        self.bytes.extend_from_slice(piece)?;
+        Ok(())
     }
 }
 
 /// Takes the log of this name whole. `Fault` comes only where the slot's faults rose in this call,
 /// or where the shelf tells and has no such log. `TooLong` comes exactly where more than
-/// 67,108,864 bytes were taken.
+/// 67,108,864 bytes were taken. Whatever the answer, the slot may be started anew, and the other slot
+/// is as it was.
 pub fn take_log<F: Shelf>(
     alloc: Global,
     shelf: &mut F,
     which: Which,
     name: &str,
 ) -> Result<Vec<u8>, TakeFault>
-    ensures tells { F.tells shelf.new ≡ F.tells shelf.old }
-    ensures logs { (w : Which) (n : List ℕ) → F.log_of shelf.new w n ≡ F.log_of shelf.old w n }
-    ensures slot { Takes (F.tells shelf.old) (F.log_of shelf.old which name.now) (F.slot shelf.old which) (F.slot shelf.new which) result }
-    ensures other { F.slot shelf.new (other_of which) ≡ F.slot shelf.old (other_of which) }
+    ensures only { ChangesOnly F.tells F.log_of F.slot which shelf.old shelf.new }
+    ensures slot { Takes F.Shelf which name.now shelf.old shelf.new result }
     ensures taken { IfOk result (λ log. (F.slot shelf.new which).taken ≡ vec_len log) }
     ensures within { IfOk result (λ log. vec_len log ≤ longest_log) }
-    ensures whole { IfOk result (λ log. F.tells shelf.old ≡ true → F.log_of shelf.old which name.now ≡ Some log.items) }
+    ensures whole { IfOk result (λ log. IsWhole F.Shelf which name.now shelf.old log.items) }
 {
-    let mut gathered = Gathered {
+    let mut log = WholeLog {
         bytes: Vec::new(alloc),
     };
-    pump(shelf, which, name, &mut gathered)?;
-    Ok(gathered.bytes)
+    pump(shelf, which, name, &mut log)?;
+    Ok(log.bytes)
 }
 
 #[cfg(test)]

@@ -1,8 +1,15 @@
+use Rattle.std.proofs.Common.{[]}
 use Rattle.csv_logs.proofs.ReadingLemmas.{only-reading}
 use Rattle.csv_logs.proofs.logs.entries_of.Goals as goal
 
-pub returns-in-Ok-clause-unique : goal.returns-in-Ok-clause-unique
-returns-in-Ok-clause-unique g c = only-reading _ _ _
+pub finish-requires : goal.finish-requires
+finish-requires g c = record { log = c.args.bytes.now; stands = c.in_ok-feed.ensures [] c.new-feed.ensures; within = c.requires }
 
-pub returns-in-Err-clause-unique : goal.returns-in-Err-clause-unique
-returns-in-Err-clause-unique g c = only-reading _ _ _
+pub returns-clause-reads : goal.returns-clause-reads
+returns-clause-reads g c = c.finish.ensures.reads c.args.bytes.now (c.in_ok-feed.ensures [] c.new-feed.ensures)
+
+pub returns-clause-unique : goal.returns-clause-unique
+returns-clause-unique g c = only-reading _ _ _
+
+pub returns-in_err-feed-clause-unique : goal.returns-in_err-feed-clause-unique
+returns-in_err-feed-clause-unique g c = only-reading _ _ _

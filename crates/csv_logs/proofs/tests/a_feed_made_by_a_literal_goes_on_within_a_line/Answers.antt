@@ -2,7 +2,8 @@ use Rattle.std.proofs.Common.{◌≡◌, [], ◌++◌, ◌∙◌, List, ℕ, Ok,
 use Rattle.std.specs.Prelude.{codes}
 use Rattle.audit_base.specs.declared.records.OrderRecord.{OrderRecord}
 use Rattle.csv_logs.specs.Logs.{order_log}
-use Rattle.csv_logs.specs.OrderLines.{order_names, order_entry}
+use Rattle.csv_logs.specs.OrderLines.{order_entry}
+use Rattle.audit_base.specs.Columns.{order_columns}
 use Rattle.csv_logs.specs.Feeds.{IsOpen}
 use Rattle.csv_logs.proofs.FeedLemmas.{open-after}
 use Rattle.csv_logs.proofs.tests.a_feed_made_by_a_literal_goes_on_within_a_line.Goals as goal
@@ -16,21 +17,21 @@ second_line = codes "N,B,s1"
 
 -- the literal stands for these
 stands : (entries : List OrderRecord) (new all : List ℕ) → order_log first_lines ≡ Ok entries → new ≡ [] → all ≡ new ++ second_line
-    → IsOpen order_names order_entry entries all 89 true (first_lines ++ second_line)
+    → IsOpen order_columns order_entry entries all 89 true (first_lines ++ second_line)
 stands entries new all reads none rest =
-    subst (λ (r : List ℕ). IsOpen order_names order_entry entries r 89 true (first_lines ++ second_line)) (sym (rest ∙ ap (λ (t : List ℕ). t ++ second_line) none))
-    (open-after order_names order_entry entries first_lines second_line 89 reads refl refl refl)
+    subst (λ (r : List ℕ). IsOpen order_columns order_entry entries r 89 true (first_lines ++ second_line)) (sym (rest ∙ ap (λ (t : List ℕ). t ++ second_line) none))
+    (open-after order_columns order_entry entries first_lines second_line 89 reads refl refl refl)
 
 pub feed-requires : goal.feed-requires
 feed-requires g c = record {
   bytes = first_lines ++ second_line;
-  stands = stands _ _ _ c.in_ok-entries.ensures.reads c.new-rest.ensures.items c.in_ok-extend_from_slice.ensures.items;
+  stands = record { entries = _; has = refl; stands = stands _ _ _ c.in_ok-entries.ensures.reads c.new-rest.ensures.items c.in_ok-extend_from_slice.ensures.items };
   room = lit≤ tt;
 }
 
 pub finish-requires : goal.finish-requires
 finish-requires g c = record {
   log = (first_lines ++ second_line) ++ codes ",20240102-09:00:00,Z,S,100,9,\n";
-  stands = c.in_ok-feed.ensures (first_lines ++ second_line) (stands _ _ _ c.in_ok-entries.ensures.reads c.new-rest.ensures.items c.in_ok-extend_from_slice.ensures.items);
+  stands = c.in_ok-feed.ensures (first_lines ++ second_line) (record { entries = _; has = refl; stands = stands _ _ _ c.in_ok-entries.ensures.reads c.new-rest.ensures.items c.in_ok-extend_from_slice.ensures.items });
   within = lit≤ tt;
 }

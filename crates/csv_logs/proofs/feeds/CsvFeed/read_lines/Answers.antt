@@ -1,9 +1,8 @@
-use Rattle.std.proofs.Common.{◌≡◌, [], ◌∷◌, ◌++◌, List, ℕ, not, ap, subst, sym, ◌∙◌, arith}
-use Rattle.csv.specs.Reading.{builder_config, builder_names_headers, builder_trim}
-use Rattle.csv_logs.specs.Blocks.{IsReading}
-use Rattle.csv_logs.specs.Feeds.{IsOpen, StandsAt}
-use Rattle.csv_logs.specs.Steps.{HasLine}
-use Rattle.csv_logs.proofs.BlockLemmas.{new-reading}
+use Rattle.std.proofs.Common.{◌≡◌, [], ◌++◌, List, ℕ, not, ap, subst, sym, ◌∙◌, arith}
+use Rattle.csv.specs.Reading.{builder_config, builder_is_flexible, builder_names_headers, builder_trim}
+use Rattle.csv_logs.specs.Readers.{IsReading}
+use Rattle.csv_logs.specs.Steps.{EndsLine, HasLine}
+use Rattle.csv_logs.proofs.ReaderLemmas.{new-reading}
 use Rattle.csv_logs.proofs.FeedLemmas.{goes-none, goes-room, goes-line}
 use Rattle.csv_logs.proofs.feeds.CsvFeed.read_lines.Goals as goal
 
@@ -16,14 +15,15 @@ lines-init g c = record {
       let made = c.from_reader-reader.ensures in
       new-reading _ c.from_reader-reader.result c.args.text.now (made.config ∙ ap builder_config c.flexible.ensures ∙ ap builder_config c.has_headers.ensures ∙ c.new.ensures.config)
       (made.trim ∙ ap builder_trim c.flexible.ensures ∙ ap builder_trim c.has_headers.ensures ∙ c.new.ensures.trim)
+      (made.flexible ∙ ap builder_is_flexible c.flexible.ensures)
       (made.has_headers ∙ ap builder_names_headers c.flexible.ensures ∙ ap builder_names_headers c.has_headers.ensures)
-      made.headers made.fresh made.state made.source (c.starts_plain.ensures c.if-not-starts_plain.false);
+      made.headers made.fresh made.state made.source (c.starts_unquoted.ensures c.if-not-starts_unquoted.false);
 }
 
 pub read_line-requires-clause-room : goal.read_line-requires-clause-room
 read_line-requires-clause-room g c =
     let room = goes-room _ _ _ _ _ _ _ _ _ _ _ _ c.lines.invariant.goes (c.is_none.ensures ∙ ap not c.lines-test.true) c.in-Some.ensures.0 c.in-Some.ensures.1 c.requires.room.bytes c.requires.room.stands c.requires.room.room in
-    subst (λ (r : List ℕ). HasLine g.R.LogEntry.names g.R.LogEntry.meaning c.lines.self.entries.items (r ++ c.in-Some.line.now) c.lines.self.offset c.lines.self.header) c.lines.invariant.nothing room
+    subst (λ (r : List ℕ). HasLine g.R.LogEntry.names g.R.LogEntry.meaning (g.K.Collector.has_taken c.lines.self.entries) (r ++ c.in-Some.line.now) c.lines.self.offset c.lines.self.header) c.lines.invariant.nothing room
 
 pub lines-preserved : goal.lines-preserved
 lines-preserved g c =
@@ -32,9 +32,9 @@ lines-preserved g c =
     let said = c.in_ok-read_line.ensures in
     let nothing : now.rest.items ≡ [] = said.rest ∙ c.lines.invariant.nothing in
     record {
-      goes = goes-line _ _ _ _ _ _ _ _ _ _ _ _ c.lines.invariant.goes (c.is_none.ensures ∙ ap not c.lines-test.true) c.in-Some.ensures.0 c.in-Some.ensures.1 _
-          (λ log is. subst (λ (r : List ℕ). StandsAt g.R.LogEntry.names g.R.LogEntry.meaning now.entries.items r now.offset now.header now.bad (log ++ 10 ∷ [])) (sym nothing)
-          (said.taken log (subst (λ (r : List ℕ). IsOpen g.R.LogEntry.names g.R.LogEntry.meaning was.entries.items (r ++ c.in-Some.line.now) was.offset was.header log) c.lines.invariant.nothing is)));
+      goes = goes-line _ _ _ _ _ _ _ _ _ _ _ _ c.lines.invariant.goes (c.is_none.ensures ∙ ap not c.lines-test.true) c.in-Some.ensures.0 c.in-Some.ensures.1 _ _ _ _ _
+          (subst (λ (r : List ℕ). EndsLine g.R.LogEntry.names g.R.LogEntry.meaning (g.K.Collector.has_taken was.entries) (r ++ c.in-Some.line.now) was.offset was.header (g.K.Collector.has_taken now.entries) now.rest.items now.offset now.header now.bad) (sym c.lines.invariant.nothing)
+          (subst (λ (r : List ℕ). EndsLine g.R.LogEntry.names g.R.LogEntry.meaning (g.K.Collector.has_taken was.entries) c.in-Some.line.now was.offset was.header (g.K.Collector.has_taken now.entries) r now.offset now.header now.bad) (sym nothing) said.taken));
       nothing = nothing;
       started = omega (arith, c.lines.invariant.started, said.moved);
       reading = said.reading c.in-Some.later.now (subst (IsReading _ c.lines.reader) c.in-Some.ensures.0 c.lines.invariant.reading);

@@ -1,5 +1,5 @@
 use Rattle.std.proofs.Common.{◌≡◌, ◌<◌, [], Some, length}
-use Rattle.csv_logs.specs.Blocks.{IsReading}
+use Rattle.csv_logs.specs.Readers.{IsReading}
 use Rattle.csv_logs.specs.Feeds.{StandsFor}
 use Rattle.csv_logs.specs.Steps.{Goes}
 use Rattle.csv_logs.proofs.feeds.CsvFeed.read_lines.Given as goal
@@ -7,7 +7,7 @@ use Rattle.csv_logs.proofs.feeds.CsvFeed.read_lines.Given as goal
 -- what was taken of the text is what the feed has come to stand for, and the reader stands at what is left
 abbrev pub invariant-lines : goal.invariant-lines
 invariant-lines g l = record {
-  goes : Goes (StandsFor g.R.LogEntry.names g.R.LogEntry.meaning l.fn.self) (StandsFor g.R.LogEntry.names g.R.LogEntry.meaning l.self) l.fn.text l.left;
+  goes : Goes (StandsFor g.K.Collector.has_taken g.R.LogEntry.names g.R.LogEntry.meaning l.fn.self) (StandsFor g.K.Collector.has_taken g.R.LogEntry.names g.R.LogEntry.meaning l.self) l.fn.text l.left;
   nothing : l.self.rest.items ≡ [];
   started : 0 < l.self.offset;
   reading : IsReading (λ input. Some input.now) l.reader l.left;

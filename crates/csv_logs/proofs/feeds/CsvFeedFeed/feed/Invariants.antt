@@ -6,8 +6,8 @@ use Rattle.csv_logs.proofs.feeds.CsvFeedFeed.feed.Given as goal
 -- what was taken of the piece is what the feed has come to stand for
 abbrev pub invariant-lines : goal.invariant-lines
 invariant-lines g l =
-    Goes (StandsFor g.R.LogEntry.names g.R.LogEntry.meaning l.fn.self)
-    (StandsFor g.R.LogEntry.names g.R.LogEntry.meaning l.self) l.fn.piece l.left
+    Goes (StandsFor g.K.Collector.has_taken g.R.LogEntry.names g.R.LogEntry.meaning l.fn.self)
+    (StandsFor g.K.Collector.has_taken g.R.LogEntry.names g.R.LogEntry.meaning l.self) l.fn.piece l.left
 
 abbrev pub decreases-lines : goal.decreases-lines
 decreases-lines g l = length l.left

@@ -1,0 +1,303 @@
+//! The lines of written logs: the header, and the line of a record.
+ghost use Rattle.std.specs.Prelude.{◌≡◌, ℕ, List, IfOk, IsTrue, OnOk, Some, decimal, length, map};
+ghost use Rattle.std.specs.List.{list_all};
+ghost use Rattle.audit_base.specs.Names.{is_name_byte};
+ghost use Rattle.audit_base.specs.Numbers.{price_form, price_text, quantity_form};
+ghost use Rattle.audit_base.specs.Stamps.{stamp_form, stamp_text};
+ghost use Rattle.csv_logs.specs.Written.{order_fields, side_text, kind_text, limit_text};
+ghost use Rattle.csv_logs.specs.WrittenLines.{IsAtLine, IsLineOf, IsOrderLine, WritesLine, have_name_bytes, cancel_order, new_order, replace_order};
+
+use crate::entries::LogEntry;
+use crate::orders::Head;
+use audit_base::columns::columns;
+use audit_base::faults::NoMemory;
+use audit_base::names::Name;
+use audit_base::numbers::{Price, Quantity};
+use audit_base::records::{OrderRecord, TradeRecord};
+use audit_base::stamps::Stamp;
+use audit_base::terms::{Life, Side, Which};
+use audit_base::texts::{write_number, write_price, write_stamp};
+use csv::Writer;
+use std::alloc::Global;
+use std::io::Write;
+
+/// Writes one line of unquoted fields.
+fn write_row<W: Write + Drop>(writer: &mut Writer<W>, fields: &[&[u8]]) -> Result<(), NoMemory>
+    requires at_line { IsAtLine writer.old }
+    requires nine { length fields.now ≡ 9 }
+    requires unquoted { IsTrue (have_name_bytes (map (λ field. field.now) fields.now)) }
+    ensures at_line { OnOk result (IsAtLine writer.new) }
+    ensures written { let row = map (λ field. field.now) fields.now in
+        OnOk result (WritesLine W.contents writer.old writer.new row) }
+{
+    match writer.write_fields(fields) {
+        Ok(()) => Ok(()),
+        Err(_) => Err(NoMemory),
+    }
+}
+
+fn stamp_bytes(alloc: Global, stamp: Stamp) -> Result<Vec<u8>, NoMemory>
+    ensures text { IfOk result (λ text. text.items ≡ stamp_text stamp) }
+    ensures unquoted { IsTrue (list_all is_name_byte (stamp_text stamp)) }
+    ensures again { stamp_form (stamp_text stamp) ≡ Some stamp }
+{
+    let mut text = Vec::new(alloc);
+    write_stamp(alloc, stamp, &mut text)?;
+    Ok(text)
+}
+
+fn quantity_bytes(alloc: Global, quantity: Quantity) -> Result<Vec<u8>, NoMemory>
+    ensures text { IfOk result (λ text. text.items ≡ decimal quantity) }
+    ensures unquoted { IsTrue (list_all is_name_byte (decimal quantity)) }
+    ensures again { quantity_form (decimal quantity) ≡ Some quantity }
+{
+    let mut text = Vec::new(alloc);
+    write_number(alloc, u128::from(quantity.value()), &mut text)?;
+    Ok(text)
+}
+
+fn price_bytes(alloc: Global, price: Price) -> Result<Vec<u8>, NoMemory>
+    ensures text { IfOk result (λ text. text.items ≡ price_text price) }
+    ensures unquoted { IsTrue (list_all is_name_byte (price_text price)) }
+    ensures again { price_form (price_text price) ≡ Some price }
+{
+    let mut text = Vec::new(alloc);
+    write_price(alloc, price.units(), &mut text)?;
+    Ok(text)
+}
+
+fn side_bytes(side: Side) -> &'static [u8]
+    ensures { result.now ≡ side_text side }
+{
+    match side {
+        Side::Buy => b"B",
+        Side::Sell => b"S",
+    }
+}
+
+fn kind_bytes(life: Life) -> &'static [u8]
+    ensures { result.now ≡ kind_text life }
+{
+    match life {
+        Life::Rests => b"N",
+        Life::Immediate => b"I",
+        Life::Market => b"M",
+    }
+}
+
+fn limit_bytes(alloc: Global, life: Life, price: Price) -> Result<Vec<u8>, NoMemory>
+    ensures text { IfOk result (λ text. text.items ≡ limit_text life price) }
+    ensures unquoted { IsTrue (list_all is_name_byte (limit_text life price)) }
+    ensures again { price_form (price_text price) ≡ Some price }
+{
+    let text = price_bytes(alloc, price)?;
+    match life {
+        Life::Rests | Life::Immediate => Ok(text),
+        Life::Market => Ok(Vec::new(alloc)),
+    }
+}
+
+/// What an order asks for.
+#[derive(Clone, Copy)]
+struct Terms {
+    side: Side,
+    quantity: Quantity,
+    price: Price,
+}
+
+fn write_new<W: Write + Drop>(
+    alloc: Global,
+    head: Head,
+    terms: Terms,
+    life: Life,
+    writer: &mut Writer<W>,
+) -> Result<(), NoMemory>
+    requires { IsAtLine writer.old }
+    ensures at_line { OnOk result (IsAtLine writer.new) }
+    ensures written { let row = order_fields (new_order head terms life) in
+        OnOk result (WritesLine W.contents writer.old writer.new row) }
+    ensures line { OnOk result (IsOrderLine (new_order head terms life)) }
+{
+    let time = stamp_bytes(alloc, head.time)?;
+    let quantity = quantity_bytes(alloc, terms.quantity)?;
+    let price = limit_bytes(alloc, life, terms.price)?;
+    let row: [&[u8]; 9] = [
+        kind_bytes(life),
+        head.key.firm.bytes(),
+        head.key.id.bytes(),
+        &time,
+        head.symbol.bytes(),
+        side_bytes(terms.side),
+        &quantity,
+        &price,
+        &[],
+    ];
+    write_row(writer, &row)
+}
+
+fn write_cancel<W: Write + Drop>(
+    alloc: Global,
+    head: Head,
+    target: Name,
+    writer: &mut Writer<W>,
+) -> Result<(), NoMemory>
+    requires { IsAtLine writer.old }
+    ensures at_line { OnOk result (IsAtLine writer.new) }
+    ensures written { let row = order_fields (cancel_order head target) in
+        OnOk result (WritesLine W.contents writer.old writer.new row) }
+    ensures line { OnOk result (IsOrderLine (cancel_order head target)) }
+{
+    let time = stamp_bytes(alloc, head.time)?;
+    let row: [&[u8]; 9] = [
+        b"X",
+        head.key.firm.bytes(),
+        head.key.id.bytes(),
+        &time,
+        head.symbol.bytes(),
+        &[],
+        &[],
+        &[],
+        target.bytes(),
+    ];
+    write_row(writer, &row)
+}
+
+fn write_replace<W: Write + Drop>(
+    alloc: Global,
+    head: Head,
+    terms: Terms,
+    target: Name,
+    writer: &mut Writer<W>,
+) -> Result<(), NoMemory>
+    requires { IsAtLine writer.old }
+    ensures at_line { OnOk result (IsAtLine writer.new) }
+    ensures written { let row = order_fields (replace_order head terms target) in
+        OnOk result (WritesLine W.contents writer.old writer.new row) }
+    ensures line { OnOk result (IsOrderLine (replace_order head terms target)) }
+{
+    let time = stamp_bytes(alloc, head.time)?;
+    let quantity = quantity_bytes(alloc, terms.quantity)?;
+    let price = price_bytes(alloc, terms.price)?;
+    let row: [&[u8]; 9] = [
+        b"R",
+        head.key.firm.bytes(),
+        head.key.id.bytes(),
+        &time,
+        head.symbol.bytes(),
+        side_bytes(terms.side),
+        &quantity,
+        &price,
+        target.bytes(),
+    ];
+    write_row(writer, &row)
+}
+
+/// A record that can be written as a line.
+pub trait LogLine: LogEntry {
+    // The nine fields of its line.
+    ghost fields: { Self → List (List ℕ) };
+
+    /// Writes the header.
+    fn write_names<W: Write + Drop>(writer: &mut Writer<W>) -> Result<(), NoMemory>
+        requires { IsAtLine writer.old }
+        ensures at_line { OnOk result (IsAtLine writer.new) }
+        ensures written { OnOk result (WritesLine W.contents writer.old writer.new Self.names) }
+        ensures nine { length Self.names ≡ 9 }
+        ensures unquoted { IsTrue (have_name_bytes Self.names) };
+
+    /// Writes the line of the record.
+    fn write<W: Write + Drop>(&self, alloc: Global, writer: &mut Writer<W>) -> Result<(), NoMemory>
+        requires { IsAtLine writer.old }
+        ensures at_line { OnOk result (IsAtLine writer.new) }
+        ensures written { OnOk result (WritesLine W.contents writer.old writer.new (fields self.now)) }
+        ensures line { OnOk result (IsLineOf Self.meaning Self.sound self.now (fields self.now)) };
+}
+
+impl LogLine for TradeRecord {
+    ghost use Rattle.csv_logs.specs.Written.{trade_fields};
+
+    ghost fields = { trade_fields };
+
+    fn write_names<W: Write + Drop>(writer: &mut Writer<W>) -> Result<(), NoMemory> {
+        write_row(writer, &columns(Which::Trades))
+    }
+
+    fn write<W: Write + Drop>(
+        &self,
+        alloc: Global,
+        writer: &mut Writer<W>,
+    ) -> Result<(), NoMemory> {
+        let time = stamp_bytes(alloc, self.time)?;
+        let quantity = quantity_bytes(alloc, self.quantity)?;
+        let price = price_bytes(alloc, self.price)?;
+        let row: [&[u8]; 9] = [
+            self.trade.bytes(),
+            &time,
+            self.symbol.bytes(),
+            self.buy.firm.bytes(),
+            self.buy.id.bytes(),
+            self.sell.firm.bytes(),
+            self.sell.id.bytes(),
+            &quantity,
+            &price,
+        ];
+        write_row(writer, &row)
+    }
+}
+
+impl LogLine for OrderRecord {
+    ghost use Rattle.csv_logs.specs.Written.{order_fields};
+
+    ghost fields = { order_fields };
+
+    fn write_names<W: Write + Drop>(writer: &mut Writer<W>) -> Result<(), NoMemory> {
+        write_row(writer, &columns(Which::Orders))
+    }
+
+    fn write<W: Write + Drop>(
+        &self,
+        alloc: Global,
+        writer: &mut Writer<W>,
+    ) -> Result<(), NoMemory> {
+        match *self {
+            OrderRecord::New {
+                key,
+                time,
+                symbol,
+                side,
+                quantity,
+                price,
+                life,
+            } => {
+                let terms = Terms {
+                    side,
+                    quantity,
+                    price,
+                };
+                write_new(alloc, Head { key, time, symbol }, terms, life, writer)
+            }
+            OrderRecord::Cancel {
+                key,
+                time,
+                symbol,
+                target,
+            } => write_cancel(alloc, Head { key, time, symbol }, target, writer),
+            OrderRecord::Replace {
+                key,
+                time,
+                symbol,
+                target,
+                side,
+                quantity,
+                price,
+            } => {
+                let terms = Terms {
+                    side,
+                    quantity,
+                    price,
+                };
+                write_replace(alloc, Head { key, time, symbol }, terms, target, writer)
+            }
+        }
+    }
+}

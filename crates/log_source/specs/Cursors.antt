@@ -1,0 +1,37 @@
+-- Logs in memory, and where a slot stands in one of them: what the private functions of the shelf in
+-- memory say.
+use Rattle.std.specs.Prelude.{◌≡◌, ℕ, ◌<◌, Bool, true, List, [], drop, reverse, find, length, min, Option, Some, slice_get, if◌then◌else◌, string_bytes}
+use Rattle.std.specs.Option.{option_map, option_map_or}
+use Rattle.std.specs.Str.{bytes_eq}
+use Rattle.log_source.specs.Sources.{Slot}
+use Rattle.log_source.specs.declared.cursors.Log.{Log}
+use Rattle.log_source.specs.declared.cursors.Cursor.{Cursor}
+
+-- the log has this name
+abbrev pub is_named : List ℕ → Log → Bool
+is_named name log = bytes_eq (string_bytes log.name) name
+
+-- the bytes of the last log of this name, which is the newest
+abbrev pub newest : List Log → List ℕ → Option (List ℕ)
+newest logs name = option_map (λ log. log.bytes.items) (find (is_named name) (reverse logs))
+
+-- the bytes of the log at an index
+abbrev pub bytes_at : List Log → ℕ → List ℕ
+bytes_at logs i = option_map_or (λ log. log.bytes.items) (slice_get logs i) []
+
+-- the state of the slot of a cursor: of a started log the bytes past those given are left
+abbrev pub cursor_state : List Log → Cursor → Slot
+cursor_state logs cursor = record {
+  started = cursor.started;
+  left = Some (if cursor.started then drop cursor.at (bytes_at logs cursor.log) else []);
+  taken = cursor.at;
+  faults = cursor.faults;
+}
+
+-- how many bytes a read gives at a cursor: at most a piece, what is left, and the room of the buffer
+abbrev pub cursor_read_size : List Log → Cursor → ℕ → ℕ → ℕ
+cursor_read_size logs cursor piece room = min piece (min (length (drop cursor.at (bytes_at logs cursor.log))) room)
+
+-- a cursor whose log is started is in a log that is there
+abbrev pub IsCursorInside : List Log → Cursor → Type 0
+IsCursorInside logs cursor = cursor.started ≡ true → cursor.log < length logs
