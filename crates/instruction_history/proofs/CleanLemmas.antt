@@ -9,7 +9,7 @@ use Rattle.audit_base.specs.declared.records.OrderRecord.TheVariants.{New, Cance
 use Rattle.audit_base.specs.Least.{only_if}
 use Rattle.audit_base.specs.Orders.{same_key}
 use Rattle.audit_base.specs.Histories.{target_key, ends, record_at, key_at, earlier_with_key, target_of, duplicate_id, time_back, unknown_target, record_finding}
-use Rattle.instruction_history.specs.Drafts.{finding_in}
+use Rattle.instruction_history.specs.Draft.{finding_in}
 use Rattle.instruction_history.proofs.FirstLemmas.{least_answer-none, least_with-none, least_with-some, option_or-parts}
 use Rattle.instruction_history.proofs.KeyLemmas.{same_key-is, same_key-itself}
 use Rattle.instruction_history.proofs.RecordLemmas.{Records, target-before}

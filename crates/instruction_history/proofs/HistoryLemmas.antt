@@ -1,5 +1,5 @@
 -- The history of the first records of a log, and of one record more.
-use Rattle.std.proofs.Common.{◌≡◌, ◌<◌, ◌≤◌, ◌+◌, ℕ, suc, Bool, Some, List, [], ◌∷◌, ◌++◌, length, get_or, take, drop, refl, sym, ap, ◌∙◌, arith, subst, length-append, take-append-drop}
+use Rattle.std.proofs.Common.{◌≡◌, ◌<◌, ◌≤◌, ◌+◌, ℕ, suc, Bool, Some, List, [], ◌∷◌, ◌++◌, length, get_or, take, refl, ap, ◌∙◌, arith, length-append}
 use Rattle.std.specs.Prelude.{filter}
 use Rattle.std.specs.List.{enumerate_from}
 use Rattle.std.proofs.lemmas.List.{get_or_append_left, take_more, length-take-le, take_all}
@@ -10,14 +10,13 @@ use Rattle.audit_base.specs.declared.findings.Finding.{Finding}
 use Rattle.audit_base.specs.declared.records.OrderRecord.{OrderRecord}
 use Rattle.audit_base.specs.Least.{least_answer}
 use Rattle.audit_base.specs.Orders.{same_name}
-use Rattle.audit_base.specs.Histories.{symbol_of, history, any_entry, record_finding, order_index, is_order}
-use Rattle.instruction_history.specs.declared.draft.Draft.{Draft}
-use Rattle.instruction_history.specs.Drafts.{IsDraft, finding_in, orders_in, entry_of}
+use Rattle.audit_base.specs.Histories.{symbol_of, history, missing_entry, record_finding, order_index, is_order}
+use Rattle.instruction_history.specs.Draft.{finding_in, orders_in, entry_of}
 use Rattle.instruction_history.proofs.FirstLemmas.{least_answer-same, least_answer-stays}
 use Rattle.instruction_history.proofs.MadeLemmas.{length-orders_in}
 use Rattle.instruction_history.proofs.RecordLemmas.{Records, SameBelow, record_finding-same}
 
-enumerate_from-append : {X : Type 0} (b : ℕ) (xs ys : List X) → enumerate_from b (xs ++ ys) ≡ enumerate_from b xs ++ enumerate_from (b + length xs) ys
+pub enumerate_from-append : {X : Type 0} (b : ℕ) (xs ys : List X) → enumerate_from b (xs ++ ys) ≡ enumerate_from b xs ++ enumerate_from (b + length xs) ys
 enumerate_from-append b [] ys = let number : b ≡ b + 0 = omega arith in ap (λ (n : ℕ). enumerate_from n ys) number
 enumerate_from-append b (x ∷ xs) ys =
     let rest : enumerate_from (b + 1) (xs ++ ys) ≡ enumerate_from (b + 1) xs ++ enumerate_from (b + 1 + length xs) ys = enumerate_from-append (b + 1) xs ys in
@@ -31,7 +30,7 @@ of_symbol symbol e = same_name (symbol_of e.1) symbol
 history-append : (symbol : List ℕ) (xs ys : List OrderRecord) → history symbol (xs ++ ys) ≡ history symbol xs ++ filter (of_symbol symbol) (enumerate_from (1 + length xs) ys)
 history-append symbol xs ys = ap (filter (of_symbol symbol)) (enumerate_from-append 1 xs ys) ∙ filter-append (of_symbol symbol) (enumerate_from 1 xs) (enumerate_from (1 + length xs) ys)
 
-history-push : (symbol : List ℕ) (xs : List OrderRecord) (x : OrderRecord) → history symbol (xs ++ x ∷ []) ≡ history symbol xs ++ entry_of symbol (length xs + 1) x
+pub history-push : (symbol : List ℕ) (xs : List OrderRecord) (x : OrderRecord) → history symbol (xs ++ x ∷ []) ≡ history symbol xs ++ entry_of symbol (length xs + 1) x
 history-push symbol xs x =
     let number : 1 + length xs ≡ length xs + 1 = omega arith in
     history-append symbol xs (x ∷ []) ∙ ap (λ (n : ℕ). history symbol xs ++ entry_of symbol n x) number
@@ -44,18 +43,12 @@ history-more symbol entries i d lt =
     ∙ ap (λ (n : ℕ). history symbol (take i entries) ++ entry_of symbol (n + 1) (get_or entries i d)) size
 
 -- a finding of the first records is that of all
-finding_in-append : (h r : Records) (f : Finding) → finding_in h ≡ Some f → finding_in (h ++ r) ≡ Some f
+pub finding_in-append : (h r : Records) (f : Finding) → finding_in h ≡ Some f → finding_in (h ++ r) ≡ Some f
 finding_in-append h r f is =
-    let same : SameBelow (h ++ r) h (length h) = record { at = λ j lt. get_or_append_left h r any_entry j lt } in
+    let same : SameBelow (h ++ r) h (length h) = record { at = λ j lt. get_or_append_left h r missing_entry j lt } in
     let early : least_answer (record_finding (h ++ r)) (length h) ≡ Some f =
     least_answer-same (record_finding (h ++ r)) (record_finding h) (length h) (λ k lt. record_finding-same (length h) (h ++ r) h same k lt) ∙ is in
     least_answer-stays (record_finding (h ++ r)) (length h) (length (h ++ r)) f early (omega (arith, length-append h r))
-
-pub found-stays : (symbol : List ℕ) (entries : List OrderRecord) (n : ℕ) (f : Finding) → finding_in (history symbol (take n entries)) ≡ Some f → finding_in (history symbol entries) ≡ Some f
-found-stays symbol entries n f is =
-    ap (λ (xs : List OrderRecord). finding_in (history symbol xs)) (sym (take-append-drop n entries))
-    ∙ ap finding_in (history-append symbol (take n entries) (drop n entries))
-    ∙ finding_in-append (history symbol (take n entries)) (filter (of_symbol symbol) (enumerate_from (1 + length (take n entries)) (drop n entries))) f is
 
 length-history : (symbol : List ℕ) (entries : List OrderRecord) → length (history symbol entries) ≤ length entries
 length-history symbol entries =
@@ -69,26 +62,3 @@ length-orders symbol entries =
     let whole : take (length h) h ≡ h = take_all (length h) h (omega arith) in
     let size : length (take (length h) h) ≡ length h = ap length whole in
     omega (arith, length-orders_in h, length-history symbol entries)
-
--- as many as the first i records have
-pub few-orders : (symbol : List ℕ) (entries : List OrderRecord) (i : ℕ) (d : Draft) → IsDraft (history symbol (take i entries)) d → i ≤ length entries → length d.orders.items ≤ i
-few-orders symbol entries i d is le =
-    let size : length (take i entries) ≡ i = length-take-le i entries le in
-    let orders : length d.orders.items ≡ length (orders_in (history symbol (take i entries))) = ap length is.orders in
-    omega (arith, length-orders symbol (take i entries))
-
--- the draft of one record more
-pub draft-more : (symbol : List ℕ) (entries : List OrderRecord) (i : ℕ) (x : OrderRecord) (old new : Draft) → i < length entries → x ≡ get_or entries i x → IsDraft (history symbol (take i entries)) old →
-    ((h : Records) → IsDraft h old → IsDraft (h ++ entry_of symbol (i + 1) x) new) → IsDraft (history symbol (take (i + 1) entries)) new
-draft-more symbol entries i x old new lt is draft next =
-    let more : history symbol (take (i + 1) entries) ≡ history symbol (take i entries) ++ entry_of symbol (i + 1) x =
-    history-more symbol entries i x lt ∙ ap (λ (y : OrderRecord). history symbol (take i entries) ++ entry_of symbol (i + 1) y) (sym is) in
-    subst (λ (h : Records). IsDraft h new) (sym more) (next (history symbol (take i entries)) draft)
-
--- a finding at one record more
-pub found-more : (symbol : List ℕ) (entries : List OrderRecord) (i : ℕ) (x : OrderRecord) (old : Draft) (f : Finding) → i < length entries → x ≡ get_or entries i x → IsDraft (history symbol (take i entries)) old →
-    ((h : Records) → IsDraft h old → finding_in (h ++ entry_of symbol (i + 1) x) ≡ Some f) → finding_in (history symbol entries) ≡ Some f
-found-more symbol entries i x old f lt is draft found =
-    let more : history symbol (take (i + 1) entries) ≡ history symbol (take i entries) ++ entry_of symbol (i + 1) x =
-    history-more symbol entries i x lt ∙ ap (λ (y : OrderRecord). history symbol (take i entries) ++ entry_of symbol (i + 1) y) (sym is) in
-    found-stays symbol entries (i + 1) f (ap finding_in more ∙ found (history symbol (take i entries)) draft)

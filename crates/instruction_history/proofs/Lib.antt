@@ -1,6 +1,5 @@
 pub mod CleanLemmas
 pub mod DraftLemmas
-pub mod FactLemmas
 pub mod FirstLemmas
 pub mod HistoryLemmas
 pub mod KeyLemmas
@@ -8,8 +7,9 @@ pub mod MadeLemmas
 pub mod NameLemmas
 pub mod OrderLemmas
 pub mod PlaceLemmas
+pub mod PriceLemmas
 pub mod PushLemmas
 pub mod RecordLemmas
+pub mod SoFarLemmas
 pub mod StepLemmas
-pub mod TidyLemmas
 pub mod WellFormedLemmas

@@ -9,28 +9,28 @@ use Rattle.audit_base.specs.declared.orders.Order.{Order}
 use Rattle.audit_base.specs.declared.records.OrderRecord.{OrderRecord}
 use Rattle.audit_base.specs.declared.records.OrderRecord.TheVariants.{New, Cancel, Replace}
 use Rattle.audit_base.specs.declared.terms.Life.TheVariants.{Rests}
-use Rattle.audit_base.specs.Orders.{any_order, order_at}
-use Rattle.audit_base.specs.Histories.{key_of, side_of, is_order, any_entry, record_at, record_place, cancelled_of, replaced_at, order_index, order_of}
-use Rattle.instruction_history.specs.Drafts.{orders_in}
+use Rattle.audit_base.specs.Orders.{missing_order, order_at}
+use Rattle.audit_base.specs.Histories.{key_of, side_of, is_order, missing_entry, record_at, record_place, cancelled_of, replaced_at, order_index, order_of_record}
+use Rattle.instruction_history.specs.Draft.{orders_in}
 use Rattle.instruction_history.proofs.PlaceLemmas.{filter_map-at, kept_before, kept_before-count}
 use Rattle.instruction_history.proofs.RecordLemmas.{Records}
 
 -- the order of a numbered record
 abbrev pub order_in : Records → ℕ × (ℕ × OrderRecord) → Option Order
-order_in h e = order_of h (e.0, e.1.0, e.1.1)
+order_in h e = order_of_record h (e.0, e.1.0, e.1.1)
 
 abbrev pub numbered : Records → List (ℕ × (ℕ × OrderRecord))
 numbered h = enumerate_from 0 h
 
 abbrev pub any_numbered : ℕ × (ℕ × OrderRecord)
-any_numbered = (0, any_entry)
+any_numbered = (0, missing_entry)
 
-pub numbered-at : (h : Records) (k : ℕ) → k < length h → get_or (numbered h) k any_numbered ≡ (k, get_or h k any_entry)
-numbered-at h k lt = get_or-enumerate_from 0 h k any_numbered lt ∙ ap (λ (n : ℕ). (n, get_or h k any_entry)) (zero-add k)
+pub numbered-at : (h : Records) (k : ℕ) → k < length h → get_or (numbered h) k any_numbered ≡ (k, get_or h k missing_entry)
+numbered-at h k lt = get_or-enumerate_from 0 h k any_numbered lt ∙ ap (λ (n : ℕ). (n, get_or h k missing_entry)) (zero-add k)
 
 -- the order that a record makes
 pub record IsMade (h : Records) (k at : ℕ) (r : OrderRecord) (o : Order) : Type 0 where
-  pub made : order_of h (k, at, r) ≡ Some o
+  pub made : order_of_record h (k, at, r) ≡ Some o
   pub key : o.key ≡ key_of r
   pub side : Some o.side ≡ side_of r
   pub place : o.place ≡ at
@@ -47,7 +47,7 @@ making h k at (Replace key time symbol target side quantity price) e = (
   record { made = refl; key = refl; side = refl; place = refl; cancelled = refl },
 )
 
-pub is_some-order_of : (h : Records) (k at : ℕ) (r : OrderRecord) → is_some (order_of h (k, at, r)) ≡ is_order r
+pub is_some-order_of : (h : Records) (k at : ℕ) (r : OrderRecord) → is_some (order_of_record h (k, at, r)) ≡ is_order r
 is_some-order_of h k at (New key time symbol side quantity price life) = refl
 is_some-order_of h k at (Cancel key time symbol target) = refl
 is_some-order_of h k at (Replace key time symbol target side quantity price) = refl
@@ -75,8 +75,8 @@ standing h k lt e =
     let made : IsMade h k (record_place h k) (record_at h k) o = maker.1 in
     let numbers : length (numbered h) ≡ length h = length-enumerate_from 0 h in
     let kept : order_in h (get_or (numbered h) k any_numbered) ≡ Some o = ap (order_in h) (numbered-at h k lt) ∙ made.made in
-    let found = filter_map-at (order_in h) (numbered h) any_numbered k o any_order (omega arith) kept in
+    let found = filter_map-at (order_in h) (numbered h) any_numbered k o missing_order (omega arith) kept in
     let index : kept_before (order_in h) (numbered h) k ≡ order_index h k = order_index-kept h k in
     let there : order_at (orders_in h) (order_index h k) ≡ o = ap (order_at (orders_in h)) (sym index) ∙ found.0 in
     let inside : order_index h k < length (orders_in h) = omega (arith, found.1, index) in
-    (o, record { made = made; at = there; got = slice_get-get_or (orders_in h) (order_index h k) any_order inside ∙ ap (λ (x : Order). Some x) there; within = inside })
+    (o, record { made = made; at = there; got = slice_get-get_or (orders_in h) (order_index h k) missing_order inside ∙ ap (λ (x : Order). Some x) there; within = inside })

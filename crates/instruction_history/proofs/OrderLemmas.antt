@@ -12,9 +12,9 @@ use Rattle.audit_base.specs.declared.orders.Order.{Order}
 use Rattle.audit_base.specs.declared.records.OrderRecord.{OrderRecord}
 use Rattle.audit_base.specs.declared.records.OrderRecord.TheVariants.{New, Cancel, Replace}
 use Rattle.audit_base.specs.Least.{least_with, only_if}
-use Rattle.audit_base.specs.Histories.{target_key, is_order, ends, side_of, fits_side, any_entry, record_at, record_place, key_at, target_of, replaced_at, ended_before, is_placed, cancelled_of, order_index, order_of}
-use Rattle.instruction_history.specs.Drafts.{finding_in, orders_in}
-use Rattle.instruction_history.specs.Steps.{ended, ended_among, own_end, order_made, pushed}
+use Rattle.audit_base.specs.Histories.{target_key, is_order, ends, side_of, fits_side, missing_entry, record_at, record_place, key_at, target_of, replaced_at, ended_before, is_placed, cancelled_of, order_index, order_of_record}
+use Rattle.instruction_history.specs.Draft.{finding_in, orders_in}
+use Rattle.instruction_history.specs.Draft.{ended, ended_among, own_end, order_made, pushed}
 use Rattle.instruction_history.proofs.FirstLemmas.{least_with-from_none, least_with-some, any_below-is, option_or-nothing}
 use Rattle.instruction_history.proofs.CleanLemmas.{clean-ender, clean-target, nameless-ends}
 use Rattle.instruction_history.proofs.MadeLemmas.{order_in, numbered, any_numbered, numbered-at, IsAt, standing, order_index-kept}
@@ -24,7 +24,7 @@ use Rattle.instruction_history.proofs.StepLemmas.{target-nameless}
 use Rattle.instruction_history.proofs.RecordLemmas.{Records, key_at-same, record_at-same, target-before, replaced-before, is_placed-same, is_placed-new, is_placed-replacement, ended_before-same}
 
 -- the orders of the earlier records, and that of the record
-parted : (h : Records) (e : ℕ × OrderRecord) → orders_in (h ++ e ∷ []) ≡ filter_map (order_in (h ++ e ∷ [])) (numbered h) ++ cons_option (order_of (h ++ e ∷ []) (length h, e.0, e.1)) []
+parted : (h : Records) (e : ℕ × OrderRecord) → orders_in (h ++ e ∷ []) ≡ filter_map (order_in (h ++ e ∷ [])) (numbered h) ++ cons_option (order_of_record (h ++ e ∷ []) (length h, e.0, e.1)) []
 parted h e =
     let longer : Records = h ++ e ∷ [] in
     ap (filter_map (order_in longer)) (enumerate_from-push 0 h e ∙ ap (λ (n : ℕ). numbered h ++ (n, e) ∷ []) (zero-add (length h)))
@@ -35,7 +35,7 @@ abbrev stopped : Option ℕ → Order → Order
 stopped c o = record o { cancelled = option_or o.cancelled c }
 
 made-stopped : (h g : Records) (k at : ℕ) (r : OrderRecord) (c : Option ℕ) → cancelled_of g k ≡ option_or (cancelled_of h k) c → option_map (order_index g) (replaced_at g k) ≡ option_map (order_index h) (replaced_at h k) →
-    order_of g (k, at, r) ≡ option_map (stopped c) (order_of h (k, at, r))
+    order_of_record g (k, at, r) ≡ option_map (stopped c) (order_of_record h (k, at, r))
 made-stopped h g k at (New key time symbol side quantity price life) c cancels targets = rw cancels refl
 made-stopped h g k at (Cancel key time symbol target) c cancels targets = refl
 made-stopped h g k at (Replace key time symbol target side quantity price) c cancels targets = rw (cancels, targets) refl
@@ -44,7 +44,7 @@ made-stopped h g k at (Replace key time symbol target side quantity price) c can
 earlier : (h : Records) (e : ℕ × OrderRecord) (k : ℕ) → k < length h →
     order_in (h ++ e ∷ []) (get_or (numbered h) k any_numbered) ≡ option_map (stopped (only_if (ends (key_at h k) e.1) e.0)) (order_in h (get_or (numbered h) k any_numbered))
 earlier h e k lt =
-    let x : ℕ × OrderRecord = get_or h k any_entry in
+    let x : ℕ × OrderRecord = get_or h k missing_entry in
     ap (order_in (h ++ e ∷ [])) (numbered-at h k lt)
     ∙ made-stopped h (h ++ e ∷ []) k x.0 x.1 (only_if (ends (key_at h k) e.1) e.0) (cancelled-push h e k lt) (target_index-push h e k lt)
     ∙ ap (λ (z : ℕ × (ℕ × OrderRecord)). option_map (stopped (only_if (ends (key_at h k) e.1) e.0)) (order_in h z)) (sym (numbered-at h k lt))
@@ -182,7 +182,7 @@ replaced-index h e t ordered is =
     ap (option_map (order_index (h ++ e ∷ []))) (replaced-push h e ordered ∙ is) ∙ ap (λ (i : ℕ). Some i) (order_index-push h e t (omega arith))
 
 -- the order of the record
-new-order : (h : Records) (e : ℕ × OrderRecord) → finding_in (h ++ e ∷ []) ≡ None → order_of (h ++ e ∷ []) (length h, e.0, e.1) ≡ order_made (orders_in h) e.1 (target_index h e) e.0
+new-order : (h : Records) (e : ℕ × OrderRecord) → finding_in (h ++ e ∷ []) ≡ None → order_of_record (h ++ e ∷ []) (length h, e.0, e.1) ≡ order_made (orders_in h) e.1 (target_index h e) e.0
 new-order h (place, New key time symbol side quantity price life) clean =
     let none = target-nameless h (place, New key time symbol side quantity price life) refl in
     let live = new-cancelled h (place, New key time symbol side quantity price life) clean refl none in
@@ -214,6 +214,6 @@ earlier-step h e clean = go (target_key e.1) refl
 pub orders-step : (h : Records) (e : ℕ × OrderRecord) → finding_in (h ++ e ∷ []) ≡ None → orders_in (h ++ e ∷ []) ≡ pushed (ended_among (orders_in h) (target_index h e) e.0) (order_made (orders_in h) e.1 (target_index h e) e.0)
 orders-step h e clean =
     parted h e
-    ∙ ap (λ (front : List Order). front ++ cons_option (order_of (h ++ e ∷ []) (length h, e.0, e.1)) []) (earlier-step h e clean)
-    ∙ pushed-is (ended_among (orders_in h) (target_index h e) e.0) (order_of (h ++ e ∷ []) (length h, e.0, e.1))
+    ∙ ap (λ (front : List Order). front ++ cons_option (order_of_record (h ++ e ∷ []) (length h, e.0, e.1)) []) (earlier-step h e clean)
+    ∙ pushed-is (ended_among (orders_in h) (target_index h e) e.0) (order_of_record (h ++ e ∷ []) (length h, e.0, e.1))
     ∙ ap (pushed (ended_among (orders_in h) (target_index h e) e.0)) (new-order h e clean)

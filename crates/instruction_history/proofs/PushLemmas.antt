@@ -8,8 +8,8 @@ use Rattle.audit_base.specs.declared.findings.Finding.{Finding}
 use Rattle.audit_base.specs.declared.records.OrderRecord.{OrderRecord}
 use Rattle.audit_base.specs.Least.{least_answer, least_with, only_if}
 use Rattle.audit_base.specs.Orders.{same_key}
-use Rattle.audit_base.specs.Histories.{key_of, is_order, ends, any_entry, record_at, record_place, key_at, record_finding, is_placed, cancelled_of, order_index, replaced_at}
-use Rattle.instruction_history.specs.Drafts.{finding_in, seen_at, named_in}
+use Rattle.audit_base.specs.Histories.{key_of, is_order, ends, missing_entry, record_at, record_place, key_at, record_finding, is_placed, cancelled_of, order_index, replaced_at}
+use Rattle.instruction_history.specs.Draft.{finding_in, seen_at, named_in}
 use Rattle.instruction_history.specs.declared.keys.Seen.{Seen}
 use Rattle.instruction_history.proofs.FirstLemmas.{least_answer-same, least_with-same, least_with-some, option_or-parts}
 use Rattle.instruction_history.proofs.RecordLemmas.{Records, SameBelow, key_at-same, record_at-same, record_place-same, record_finding-same, is_placed-same, replaced-same, replaced-before, option_map-same}
@@ -19,10 +19,10 @@ length-push [] x = refl
 length-push (y ∷ xs) x = ap suc (length-push xs x)
 
 pub pushed-same : (h : Records) (e : ℕ × OrderRecord) → SameBelow (h ++ e ∷ []) h (length h)
-pushed-same h e = record { at = λ j lt. get_or_append_left h (e ∷ []) any_entry j lt }
+pushed-same h e = record { at = λ j lt. get_or_append_left h (e ∷ []) missing_entry j lt }
 
-pub pushed-at : (h : Records) (e : ℕ × OrderRecord) → get_or (h ++ e ∷ []) (length h) any_entry ≡ e
-pushed-at h e = get_or_at h e [] any_entry (length h) refl
+pub pushed-at : (h : Records) (e : ℕ × OrderRecord) → get_or (h ++ e ∷ []) (length h) missing_entry ≡ e
+pushed-at h e = get_or_at h e [] missing_entry (length h) refl
 
 -- the first finding is that of the records before, or else that of the record
 pub finding_in-push : (h : Records) (e : ℕ × OrderRecord) → finding_in (h ++ e ∷ []) ≡ option_or (finding_in h) (record_finding (h ++ e ∷ []) (length h))
@@ -40,10 +40,10 @@ order_index-push h e k le = rw (take-append-le k h (e ∷ []) le) refl
 
 pub seen_at-push : (h : Records) (e : ℕ × OrderRecord) (k : ℕ) → k < length h → seen_at (h ++ e ∷ []) k ≡ seen_at h k
 seen_at-push h e k lt =
-    let entry : get_or (h ++ e ∷ []) k any_entry ≡ get_or h k any_entry = get_or_append_left h (e ∷ []) any_entry k lt in
+    let entry : get_or (h ++ e ∷ []) k missing_entry ≡ get_or h k missing_entry = get_or_append_left h (e ∷ []) missing_entry k lt in
     let index : order_index (h ++ e ∷ []) k ≡ order_index h k = order_index-push h e k (omega arith) in
     let shown : (ℕ × OrderRecord) → ℕ → Seen = λ x i. record { place = x.0; index = if is_order x.1 then Some i else None } in
-    ap (λ (x : ℕ × OrderRecord). shown x (order_index (h ++ e ∷ []) k)) entry ∙ ap (shown (get_or h k any_entry)) index
+    ap (λ (x : ℕ × OrderRecord). shown x (order_index (h ++ e ∷ []) k)) entry ∙ ap (shown (get_or h k missing_entry)) index
 
 -- a first number below n, or else n
 mapped-or : {A : Type 0} (f g : ℕ → A) (o : Option ℕ) (b : Bool) (n : ℕ) (a : A) → ((j : ℕ) → o ≡ Some j → f j ≡ g j) → f n ≡ a → option_map f (option_or o (if b then Some n else None)) ≡ option_or (option_map g o) (only_if b a)

@@ -6,7 +6,7 @@ use Rattle.audit_base.specs.declared.findings.Finding.{Finding}
 use Rattle.audit_base.specs.declared.records.OrderRecord.{OrderRecord}
 use Rattle.audit_base.specs.Least.{only_if}
 use Rattle.audit_base.specs.Orders.{same_key}
-use Rattle.audit_base.specs.Histories.{key_of, time_of, target_key, is_order, ends, side_of, fits_side, is_before, any_entry, record_at, record_place, key_at, earlier_with_key, target_of, duplicate_id, time_back, unknown_target, record_finding, replaced_at, ended_before, placed_within, is_placed}
+use Rattle.audit_base.specs.Histories.{key_of, time_of, target_key, is_order, ends, side_of, fits_side, is_before, missing_entry, record_at, record_place, key_at, earlier_with_key, target_of, duplicate_id, time_back, unknown_target, record_finding, replaced_at, ended_before, placed_within, is_placed}
 use Rattle.audit_base.specs.declared.findings.Property.TheVariants as property
 use Rattle.audit_base.specs.declared.terms.Which.TheVariants as which
 use Rattle.audit_base.specs.Shows.{found, show_place}
@@ -17,7 +17,7 @@ Records = List (ℕ × OrderRecord)
 
 -- two histories have the same first n records
 pub record SameBelow (h g : Records) (n : ℕ) : Type 0 where
-  pub at : (j : ℕ) → j < n → get_or h j any_entry ≡ get_or g j any_entry
+  pub at : (j : ℕ) → j < n → get_or h j missing_entry ≡ get_or g j missing_entry
 
 pub key_at-same : {n : ℕ} (h g : Records) → SameBelow h g n → (j : ℕ) → j < n → key_at h j ≡ key_at g j
 key_at-same h g same j lt = ap (λ (e : ℕ × OrderRecord). key_of e.1) (same.at j lt)
@@ -39,9 +39,9 @@ may_target e f = is_order e.1 && ends (key_of e.1) f.1 && fits_side (side_of f.1
 
 pub target-same : (n : ℕ) (h g : Records) → SameBelow h g n → (k : ℕ) → k < n → target_of h k ≡ target_of g k
 target-same n h g same k lt =
-    least_with-same (λ j. may_target (get_or h j any_entry) (get_or h k any_entry)) (λ j. may_target (get_or g j any_entry) (get_or g k any_entry)) k
+    least_with-same (λ j. may_target (get_or h j missing_entry) (get_or h k missing_entry)) (λ j. may_target (get_or g j missing_entry) (get_or g k missing_entry)) k
     (λ j less. let here : j < n = omega arith in
-    ap (λ (e : ℕ × OrderRecord). may_target e (get_or h k any_entry)) (same.at j here) ∙ ap (may_target (get_or g j any_entry)) (same.at k lt))
+    ap (λ (e : ℕ × OrderRecord). may_target e (get_or h k missing_entry)) (same.at j here) ∙ ap (may_target (get_or g j missing_entry)) (same.at k lt))
 
 -- the target of a record is an earlier one
 pub target-before : (h : Records) (k t : ℕ) → target_of h k ≡ Some t → t < k
@@ -71,7 +71,7 @@ pub time_back-same : (n : ℕ) (h g : Records) → SameBelow h g n → (k : ℕ)
 time_back-same n h g same zero lt = refl
 time_back-same n h g same (suc j) lt =
     let less : j < n = omega arith in
-    ap (λ (e : ℕ × OrderRecord). back_finding e (get_or h j any_entry)) (same.at (suc j) lt) ∙ ap (back_finding (get_or g (suc j) any_entry)) (same.at j less)
+    ap (λ (e : ℕ × OrderRecord). back_finding e (get_or h j missing_entry)) (same.at (suc j) lt) ∙ ap (back_finding (get_or g (suc j) missing_entry)) (same.at j less)
 
 -- the finding that a record names no target
 abbrev pub targetless : ℕ × OrderRecord → Option ℕ → Option Finding
@@ -79,7 +79,7 @@ targetless e target = only_if (is_some (target_key e.1) && is_none target) (foun
 
 pub unknown-same : (n : ℕ) (h g : Records) → SameBelow h g n → (k : ℕ) → k < n → unknown_target h k ≡ unknown_target g k
 unknown-same n h g same k lt =
-    ap (λ (e : ℕ × OrderRecord). targetless e (target_of h k)) (same.at k lt) ∙ ap (targetless (get_or g k any_entry)) (target-same n h g same k lt)
+    ap (λ (e : ℕ × OrderRecord). targetless e (target_of h k)) (same.at k lt) ∙ ap (targetless (get_or g k missing_entry)) (target-same n h g same k lt)
 
 pub record_finding-same : (n : ℕ) (h g : Records) → SameBelow h g n → (k : ℕ) → k < n → record_finding h k ≡ record_finding g k
 record_finding-same n h g same k lt =

@@ -13,11 +13,11 @@ use Rattle.audit_base.specs.declared.terms.Which.TheVariants as which
 use Rattle.audit_base.specs.Shows.{found}
 use Rattle.audit_base.specs.Least.{least_with, first_of, only_if}
 use Rattle.audit_base.specs.Orders.{same_name, same_key}
-use Rattle.audit_base.specs.Histories.{key_of, time_of, target_key, is_order, ends, side_of, fits_side, any_entry, record_at, record_place, key_at, target_of, earlier_with_key, duplicate_id, time_back, unknown_target, record_finding, order_index}
+use Rattle.audit_base.specs.Histories.{key_of, time_of, target_key, is_order, ends, side_of, fits_side, missing_entry, record_at, record_place, key_at, target_of, earlier_with_key, duplicate_id, time_back, unknown_target, record_finding, order_index}
 use Rattle.instruction_history.specs.declared.findings.Last.{Last}
 use Rattle.instruction_history.specs.declared.keys.Seen.{Seen}
-use Rattle.instruction_history.specs.Drafts.{finding_in, orders_in, seen_at, named_in, last_from}
-use Rattle.instruction_history.specs.Steps.{fitting, target_among, duplicate_of, back_of, unknown_of}
+use Rattle.instruction_history.specs.Draft.{finding_in, orders_in, seen_at, named_in, last_from}
+use Rattle.instruction_history.specs.Draft.{fitting, target_among, duplicate_of, back_of, unknown_of}
 use Rattle.instruction_history.proofs.FirstLemmas.{least_with-same, least_with-some, least_with-from_none, least_with-both}
 use Rattle.instruction_history.proofs.CleanLemmas.{clean-distinct, named-ends, nameless-ends}
 use Rattle.instruction_history.proofs.KeyLemmas.{same_key-is, same_key-itself}
@@ -55,8 +55,8 @@ target-named : (h : Records) (e : ℕ × OrderRecord) (named : Key) → finding_
 target-named h e named clean is =
     let longer : Records = h ++ e ∷ [] in
     let same = pushed-same h e in
-    least_with-same (λ k. may_target (get_or longer k any_entry) (get_or longer (length h) any_entry)) (λ k. same_key (key_at h k) named && fits e.1 (record_at h k)) (length h)
-    (λ k lt. ap (λ (x : ℕ × OrderRecord). may_target x (get_or longer (length h) any_entry)) (same.at k lt) ∙ ap (may_target (get_or h k any_entry)) (pushed-at h e) ∙ may_target-named (get_or h k any_entry) e named is)
+    least_with-same (λ k. may_target (get_or longer k missing_entry) (get_or longer (length h) missing_entry)) (λ k. same_key (key_at h k) named && fits e.1 (record_at h k)) (length h)
+    (λ k lt. ap (λ (x : ℕ × OrderRecord). may_target x (get_or longer (length h) missing_entry)) (same.at k lt) ∙ ap (may_target (get_or h k missing_entry)) (pushed-at h e) ∙ may_target-named (get_or h k missing_entry) e named is)
     ∙ least_with-both (λ k. same_key (key_at h k) named) (λ k. fits e.1 (record_at h k)) (length h)
     (λ i j less lt one two.
     let keys : key_at h i ≡ key_at h j = same_key-is _ _ one ∙ sym (same_key-is _ _ two) in
@@ -68,7 +68,7 @@ pub target-nameless : (h : Records) (e : ℕ × OrderRecord) → target_key e.1 
 target-nameless h e is =
     let longer : Records = h ++ e ∷ [] in
     least_with-from_none _ (length h)
-    (λ k lt. ap (may_target (get_or longer k any_entry)) (pushed-at h e) ∙ fails-between _ _ _ (nameless-ends (key_at longer k) e.1 is))
+    (λ k lt. ap (may_target (get_or longer k missing_entry)) (pushed-at h e) ∙ fails-between _ _ _ (nameless-ends (key_at longer k) e.1 is))
 
 kept-if : {A : Type 0} (b : Bool) (k : ℕ) (f : ℕ → A) → only_if b (f k) ≡ option_map f (cond b (Some k) None)
 kept-if true k f = refl
@@ -123,9 +123,9 @@ back-step h e = go (length h) refl
     go zero is = refl
     go (suc k) is =
         let longer : Records = h ++ e ∷ [] in
-        let here : get_or longer (suc k) any_entry ≡ e = ap (λ (n : ℕ). get_or longer n any_entry) is ∙ pushed-at h e in
-        let before : get_or longer k any_entry ≡ get_or h k any_entry = (pushed-same h e).at k (omega arith) in
-        ap (λ (x : ℕ × OrderRecord). back_finding x (get_or longer k any_entry)) here ∙ ap (back_finding e) before
+        let here : get_or longer (suc k) missing_entry ≡ e = ap (λ (n : ℕ). get_or longer n missing_entry) is ∙ pushed-at h e in
+        let before : get_or longer k missing_entry ≡ get_or h k missing_entry = (pushed-same h e).at k (omega arith) in
+        ap (λ (x : ℕ × OrderRecord). back_finding x (get_or longer k missing_entry)) here ∙ ap (back_finding e) before
 
 is_none-option_map : {A B : Type 0} (f : A → B) (o : Option A) → is_none (option_map f o) ≡ is_none o
 is_none-option_map f None = refl

@@ -1,9 +1,9 @@
 //! Why a history has no order list.
-ghost use Rattle.instruction_history.specs.declared.faults.HistoryFault.TheVariants.{Memory};
+ghost use Rattle.instruction_history.specs.declared.faults.HistoryFault.TheVariants.{Found, Memory};
 ghost use Rattle.std.specs.Prelude.{◌≡◌};
 
+use audit_base::faults::NoMemory;
 use audit_base::findings::Finding;
-use std::alloc::AllocError;
 use thiserror::Error;
 
 /// Why a history has no order list.
@@ -17,10 +17,18 @@ pub enum HistoryFault {
     Memory,
 }
 
-impl From<AllocError> for HistoryFault {
-    ghost from_gives = { λ _ e. e ≡ Memory };
+impl From<Finding> for HistoryFault {
+    ghost from_gives = { λ finding fault. fault ≡ Found finding };
 
-    fn from(_e: AllocError) -> HistoryFault {
+    fn from(finding: Finding) -> HistoryFault {
+        HistoryFault::Found(finding)
+    }
+}
+
+impl From<NoMemory> for HistoryFault {
+    ghost from_gives = { λ _ fault. fault ≡ Memory };
+
+    fn from(_fault: NoMemory) -> HistoryFault {
         HistoryFault::Memory
     }
 }

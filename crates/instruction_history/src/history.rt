@@ -1,19 +1,19 @@
 //! The history of a symbol, and its order list.
-ghost use Rattle.std.specs.Prelude.{◌≡◌, ◌<◌, ◌^◌, ◌⊎◌, Some, Err, IfOk, OnOk, length};
+ghost use Rattle.std.specs.Prelude.{◌≡◌, ◌<◌, ◌^◌, Some, IfOk, OnOk, length};
 ghost use Rattle.audit_base.specs.Histories.{history_finding, order_list, WellFormed, Regular};
-ghost use Rattle.audit_base.specs.Orders.{IsOrderList, AreOrders};
-ghost use Rattle.audit_base.specs.Orders.{with_key};
-ghost use Rattle.audit_base.specs.declared.findings.Finding.{Finding};
+ghost use Rattle.audit_base.specs.Orders.{with_key, IsOrderList, AreOrders, HaveOwnKeys};
+ghost use Rattle.instruction_history.specs.Answers.{IfFound, IsAnswer, IsExact};
+ghost use Rattle.instruction_history.specs.MarketPrices.{AreRecordsMarketPriced, AreMarketPriced};
 
-use super::draft::Draft;
 use super::faults::HistoryFault;
+use super::history_draft::{AuditedSymbol, draft_of};
+use super::history_so_far::HistorySoFar;
 use super::keys::Keys;
-use super::reading::draft_of;
 use audit_base::names::{Key, Name};
 use audit_base::orders::Order;
 use audit_base::records::OrderRecord;
 use std::alloc::Global;
-use std::marker::Model;
+use std::marker::{Brand, Model};
 
 /// The order list of a well-formed history: its new orders and replacements, in log order. Contracts
 /// see that list. An order is found by its key.
@@ -29,20 +29,42 @@ impl Model for History {
 
     ghost Value = { List Order };
 
-    ghost use Rattle.instruction_history.specs.Holds.{Holds};
+    ghost use Rattle.instruction_history.specs.History.{IsHistory};
 
     ghost view = { λ h. h.orders.items };
 
-    ghost invariant = { λ h. Holds h.orders.items h.keys };
+    ghost invariant = { λ h. IsHistory h.orders.items h.keys };
+}
+
+/// The history of the symbol in these records, by a draft that is handed them.
+fn history_of<S: AuditedSymbol>(
+    alloc: Global,
+    entries: &[OrderRecord],
+    symbol: &Name,
+) -> Result<History, HistoryFault>
+    requires symbol { symbol.now ≡ S.symbol }
+    requires few { length entries.now < 2 ^ 32 }
+    ensures { IsAnswer symbol.now entries.now result }
+{
+    let draft = draft_of::<S>(alloc, entries, symbol)?;
+    Ok(draft.end()?)
 }
 
 impl History {
-    ghost use Rattle.instruction_history.specs.Answers.{answer_of};
-    ghost use Rattle.instruction_history.specs.Holds.{HasDistinctKeys};
+    /// The history of what is known of all its records.
+    pub(crate) fn of(so_far: HistorySoFar) -> History
+        requires { IsHistory so_far.orders.items so_far.keys }
+        ensures { result ≡ so_far.orders.items }
+    {
+        let HistorySoFar { orders, keys, .. } = so_far;
+        History { orders, keys }
+    }
+
+    ghost use Rattle.instruction_history.specs.History.{IsHistory};
 
     /// The history of the symbol in an order log of fewer than 2^32 records, which stand at the places
     /// 1, 2 and so on. Ok exactly where the history is well-formed and Found exactly where it has a
-    /// finding of number 1, 2 or 3, want of memory aside.
+    /// finding of number 1, 2 or 3, out of memory aside.
     pub fn build(
         alloc: Global,
         entries: &[OrderRecord],
@@ -51,22 +73,13 @@ impl History {
         requires { length entries.now < 2 ^ 32 }
         ensures well_formed { OnOk result (WellFormed symbol.now entries.now) }
         ensures orders { IfOk result (λ history. history ≡ order_list symbol.now entries.now) }
-        ensures found { (finding : Finding) → result ≡ Err (HistoryFault.Found finding) → history_finding symbol.now entries.now ≡ Some finding }
+        ensures market { AreRecordsMarketPriced entries.now → IfOk result AreMarketPriced }
+        ensures found { IfFound result (λ f. history_finding symbol.now entries.now ≡ Some f) }
 
         // The other way round: the history alone decides, unless memory runs out.
-        ensures exact { (result ≡ answer_of (history_finding symbol.now entries.now) (order_list symbol.now entries.now)) ⊎ (result ≡ Err HistoryFault.Memory) }
+        ensures exact { IsExact symbol.now entries.now result }
     {
-        match draft_of(alloc, entries, symbol) {
-            Err(fault) => Err(fault),
-            Ok(draft) => {
-                let Draft {
-                    orders,
-                    keys,
-                    last: _,
-                } = draft;
-                Ok(History { orders, keys })
-            }
-        }
+        history_of::<Brand>(alloc, entries, symbol)
     }
 
     /// The order list: the new orders and the replacements, in log order. It is regular, and no two of
@@ -76,7 +89,7 @@ impl History {
         ensures order_list { IsOrderList result.now }
         ensures regular { Regular result.now }
         ensures numbers { AreOrders result.now }
-        ensures keys { HasDistinctKeys result.now }
+        ensures keys { HaveOwnKeys result.now }
     {
         self.orders.as_slice()
     }
@@ -85,14 +98,9 @@ impl History {
     /// where none has it. Takes no memory.
     pub fn find(&self, key: &Key) -> Option<usize>
         ensures index { result ≡ with_key self.now key.now }
-        ensures keys { HasDistinctKeys self.now }
+        ensures keys { HaveOwnKeys self.now }
     {
-        match self.keys.find(key) {
-            None => None,
-            Some(seen) => match seen.index {
-                None => None,
-                Some(index) => Some(index as usize),
-            },
-        }
+        let index = self.keys.find(key)?.index?;
+        Some(index as usize)
     }
 }

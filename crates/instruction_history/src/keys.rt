@@ -1,11 +1,11 @@
 //! The keys of a history, and what each of them names.
-ghost use Rattle.std.specs.Prelude.{◌≡◌, None, Some, OnOk, IfOk, if◌then◌else◌};
+ghost use Rattle.std.specs.Prelude.{◌≡◌, None, Some, OnOk, if◌then◌else◌};
 ghost use Rattle.audit_base.specs.declared.names.Key.{Key};
-ghost use Rattle.audit_base.specs.Orders.{same_key};
-ghost use Rattle.instruction_history.specs.Seen.{seen_in};
+ghost use Rattle.instruction_history.specs.Keys.{seen_in, AddsKey};
 
+use audit_base::faults::NoMemory;
 use audit_base::names::Key;
-use std::alloc::{AllocError, Global};
+use std::alloc::Global;
 use std::collections::HashMap;
 
 /// What a key names.
@@ -24,13 +24,13 @@ pub(crate) struct Keys {
 }
 
 impl Keys {
-    /// No keys, and room for some.
-    pub fn new(alloc: Global, room: usize) -> Result<Keys, AllocError>
-        ensures { IfOk result (λ keys. (key : Key) → seen_in keys key ≡ None) }
+    /// No keys.
+    pub fn new(alloc: Global) -> Keys
+        ensures { (key : Key) → seen_in result key ≡ None }
     {
-        Ok(Keys {
-            map: HashMap::with_capacity(alloc, room)?,
-        })
+        Keys {
+            map: HashMap::new(alloc),
+        }
     }
 
     /// What the key names, if a record has it.
@@ -41,8 +41,8 @@ impl Keys {
     }
 
     /// One more key.
-    pub fn add(&mut self, key: Key, seen: Seen) -> Result<(), AllocError>
-        ensures { OnOk result ((q : Key) → seen_in self.new q ≡ (if same_key key q then Some seen else seen_in self.old q)) }
+    pub fn add(&mut self, key: Key, seen: Seen) -> Result<(), NoMemory>
+        ensures { OnOk result (AddsKey self.old self.new key seen) }
     {
         self.map.insert(key, seen)?;
         Ok(())

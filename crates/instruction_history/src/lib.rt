@@ -6,16 +6,15 @@
 //!
 //! One pass over the records keeps a draft: the orders so far, and for each key what it named. An
 //! order's `cancelled` so far says whether it is still there, so nothing else has to be remembered.
-//! Keys are found by their hash, in constant time on average, and the memory for the orders and the
-//! keys is taken once, after the records of the symbol have been counted.
+//! Keys are found by their hash, in constant time on average, and what is kept goes by the orders and
+//! keys of the symbol, whatever else the log holds.
 #![tactic(auto)]
 
-mod draft;
 pub mod faults;
-mod fields;
 mod findings;
 pub mod history;
+pub mod history_draft;
+mod history_so_far;
 mod keys;
-mod reading;
 #[cfg(test)]
 mod tests;

@@ -1,41 +1,39 @@
 -- What is known when the first deals have been gone over, and one deal further.
-use Rattle.std.proofs.Common.{◌≡◌, ◌≢◌, ◌∙◌, ◌⊎◌, inl, inr, sym, ap, subst, refl, ℕ, suc, zero, Bool, true, false, ◌+◌, ◌*◌, ◌^◌, ◌<◌, ◌≤◌, List, [], ◌∷◌, length, take, get_or, Option, None, Some, add-one, arith}
-use Rattle.std.specs.Prelude.{slice_index, slice_set, sum_by, replicate, All}
+use Rattle.std.proofs.Common.{◌≡◌, ◌≢◌, ◌∙◌, inl, inr, sym, ap, subst, refl, ℕ, Bool, true, false, ◌+◌, ◌*◌, ◌^◌, ◌<◌, ◌≤◌, List, length, take, get_or, None, add-one, arith}
+use Rattle.std.specs.Prelude.{slice_set, replicate, All}
 use Rattle.std.proofs.lemmas.List.{length-set, get_or-set_same, get_or-set_other, get_or-replicate, length-replicate}
 use Rattle.std.proofs.lemmas.List.Sums.{sum_by_more}
 use Rattle.std.proofs.lemmas.Bool.{cases_eq, or_from, ne_eqb}
-use Rattle.audit_base.specs.declared.terms.Side.TheVariants.{Buy, Sell}
 use Rattle.audit_base.specs.declared.orders.Order.{Order}
 use Rattle.audit_base.specs.declared.orders.Deal.{Deal}
-use Rattle.audit_base.specs.declared.findings.Finding.{Finding}
 use Rattle.audit_base.specs.Least.{least_answer}
 use Rattle.audit_base.specs.Orders.{order_at, side_at}
-use Rattle.audit_base.specs.Deals.{names, part_of, traded, volume, deal_at, any_deal, NamesOrders}
-use Rattle.audit_base.specs.CallOffences.{inactive, off_limit, other_price, bid_overfilled, ask_overfilled, matching_fault}
+use Rattle.audit_base.specs.Deals.{names, traded, volume, deal_at, missing_deal, NamesOrders}
+use Rattle.audit_base.specs.CallOffences.{call_inactive, call_off_limit, other_price, bid_overfilled, ask_overfilled, matching_finding}
 use Rattle.audit_base.proofs.OffenceLemmas.{traded_more, part-away}
 use Rattle.audit_base.proofs.DealLemmas.{part-bid, part-ask}
 use Rattle.audit_base.proofs.OrderLemmas.{not_both_sides}
 use Rattle.audit_base.proofs.LeastLemmas.{least-none_more}
 use Rattle.std.specs.Bool.{OnTrue}
-use Rattle.matching_core.specs.Faults.{fault_at}
+use Rattle.matching_core.specs.DealFindings.{finding_at_deal}
 
--- the first k deals have been gone over, with no fault at any
+-- the first k deals have been gone over, with no finding at any
 pub record IsGoneOver (uniform : Bool) (orders : List Order) (deals : List Deal) (k : ℕ) (so_far : List ℕ) (total : ℕ) : Type 0 where
   pub count : length so_far ≡ length orders
   pub sums : (i : ℕ) → i < length orders → get_or so_far i 0 ≡ traded (take k deals) i
   pub whole : total ≡ volume (take k deals)
   pub bounded : (i : ℕ) → i < length orders → get_or so_far i 0 ≤ k * 10 ^ 12
   pub total_bounded : total ≤ k * 10 ^ 12
-  pub clean : least_answer (matching_fault uniform orders deals) k ≡ None
+  pub clean : least_answer (matching_finding uniform orders deals) k ≡ None
 
 -- a bid is no ask
 pub apart : (orders : List Order) (d : Deal) → NamesOrders orders d → d.bid ≢ d.ask
 apart orders d n same = not_both_sides (sym n.buys ∙ ap (side_at orders) same ∙ n.sells)
 
--- the fault at the deal at k is that of its orders and of what they trade up to it
-pub fault-is : (uniform : Bool) (orders : List Order) (deals : List Deal) (k : ℕ) → fault_at uniform (deal_at deals k) (deal_at deals 0) (order_at orders (deal_at deals k).bid) (order_at orders (deal_at deals k).ask) (traded (take (k + 1) deals) (deal_at deals k).bid) (traded (take (k + 1) deals) (deal_at deals k).ask) ≡ matching_fault uniform orders deals k
-unfolding inactive off_limit other_price bid_overfilled ask_overfilled
-fault-is uniform orders deals k = refl
+-- the finding at the deal at k is that of its orders and of what they trade up to it
+pub finding-is : (uniform : Bool) (orders : List Order) (deals : List Deal) (k : ℕ) → finding_at_deal uniform (deal_at deals k) (deal_at deals 0) (order_at orders (deal_at deals k).bid) (order_at orders (deal_at deals k).ask) (traded (take (k + 1) deals) (deal_at deals k).bid) (traded (take (k + 1) deals) (deal_at deals k).ask) ≡ matching_finding uniform orders deals k
+unfolding call_inactive call_off_limit other_price bid_overfilled ask_overfilled
+finding-is uniform orders deals k = refl
 
 -- nothing is traded before the first deal
 pub gone_none : (uniform : Bool) (orders : List Order) (deals : List Deal) → IsGoneOver uniform orders deals 0 (replicate (length orders) 0) 0
@@ -66,7 +64,7 @@ module _ (orders : List Order) (deals : List Deal) (k : ℕ) (lt : k < length de
       omega (arith, traded_more deals k i lt, part-away i d away)
 
   volume-more : volume (take (k + 1) deals) ≡ volume (take k deals) + (deal_at deals k).quantity
-  volume-more = sum_by_more (λ (d : Deal). d.quantity) deals k any_deal lt
+  volume-more = sum_by_more (λ (d : Deal). d.quantity) deals k missing_deal lt
 
   module _ (uniform : Bool) (so_far : List ℕ) (total quantity : ℕ) (is : IsGoneOver uniform orders deals k so_far total) (same : quantity ≡ (deal_at deals k).quantity) (most : quantity ≤ 10 ^ 12) where
     abbrev pub after : List ℕ
@@ -104,41 +102,41 @@ module _ (orders : List Order) (deals : List Deal) (k : ℕ) (lt : k < length de
       ]
     ]
 
-    pub gone_more : matching_fault uniform orders deals k ≡ None → IsGoneOver uniform orders deals (k + 1) after (total + quantity)
+    pub gone_more : matching_finding uniform orders deals k ≡ None → IsGoneOver uniform orders deals (k + 1) after (total + quantity)
     gone_more none = record {
       count = length-set {A = ℕ} (slice_set so_far (deal_at deals k).bid (get_or so_far (deal_at deals k).bid 0 + quantity)) (deal_at deals k).ask (get_or so_far (deal_at deals k).ask 0 + quantity) ∙ length-set {A = ℕ} so_far (deal_at deals k).bid (get_or so_far (deal_at deals k).bid 0 + quantity) ∙ is.count;
       sums = λ i lt_i. (sums-after i lt_i).0;
       whole = omega (arith, volume-more, is.whole, same);
       bounded = λ i lt_i. (sums-after i lt_i).1;
       total_bounded = omega (arith, is.total_bounded, most);
-      clean = rw add-one (least-none_more (matching_fault uniform orders deals) k is.clean none);
+      clean = rw add-one (least-none_more (matching_finding uniform orders deals) k is.clean none);
     }
 
-    -- the fault that is looked for at the deal
-    pub fault_here : fault_at uniform (deal_at deals k) (deal_at deals 0) (order_at orders (deal_at deals k).bid) (order_at orders (deal_at deals k).ask) (get_or so_far (deal_at deals k).bid 0 + quantity) (get_or so_far (deal_at deals k).ask 0 + quantity) ≡ matching_fault uniform orders deals k
-    fault_here =
+    -- the finding that is looked for at the deal
+    pub finding_here : finding_at_deal uniform (deal_at deals k) (deal_at deals 0) (order_at orders (deal_at deals k).bid) (order_at orders (deal_at deals k).ask) (get_or so_far (deal_at deals k).bid 0 + quantity) (get_or so_far (deal_at deals k).ask 0 + quantity) ≡ matching_finding uniform orders deals k
+    finding_here =
         let b : get_or so_far (deal_at deals k).bid 0 + quantity ≡ traded (take (k + 1) deals) (deal_at deals k).bid = omega (arith, bid-more, is.sums (deal_at deals k).bid named.bid_inside, same) in
         let a : get_or so_far (deal_at deals k).ask 0 + quantity ≡ traded (take (k + 1) deals) (deal_at deals k).ask = omega (arith, ask-more, is.sums (deal_at deals k).ask named.ask_inside, same) in
-        (λ i. fault_at uniform (deal_at deals k) (deal_at deals 0) (order_at orders (deal_at deals k).bid) (order_at orders (deal_at deals k).ask) (b i) (a i)) ∙ fault-is uniform orders deals k
+        (λ i. finding_at_deal uniform (deal_at deals k) (deal_at deals 0) (order_at orders (deal_at deals k).bid) (order_at orders (deal_at deals k).ask) (b i) (a i)) ∙ finding-is uniform orders deals k
 
 -- the same, in the words of the code: the deal, the first deal and the two orders that it reads
 module _ (uniform : Bool) (orders : List Order) (deals : List Deal) (k : ℕ) (lt : k < length deals) (all_named : All (NamesOrders orders) deals) (d : Deal) (d_is : d ≡ deal_at deals k) (so_far : List ℕ) (total quantity : ℕ) (is : IsGoneOver uniform orders deals k so_far total) (same : quantity ≡ d.quantity) (most : quantity ≤ 10 ^ 12) where
   named_here : NamesOrders orders (deal_at deals k)
-  named_here = all_named k any_deal lt
+  named_here = all_named k missing_deal lt
 
   same_here : quantity ≡ (deal_at deals k).quantity
   same_here = same ∙ ap (λ (x : Deal). x.quantity) d_is
 
-  pub fault_read : (first : Deal) (bid ask : Order) (bid_traded ask_traded : ℕ) → first ≡ deal_at deals 0 → bid ≡ order_at orders d.bid → ask ≡ order_at orders d.ask → bid_traded ≡ get_or so_far d.bid 0 + quantity → ask_traded ≡ get_or so_far d.ask 0 + quantity
-      → fault_at uniform d first bid ask bid_traded ask_traded ≡ matching_fault uniform orders deals k
-  fault_read first bid ask bid_traded ask_traded f_is b_is a_is bt_is at_is =
+  pub finding_read : (first : Deal) (bid ask : Order) (bid_traded ask_traded : ℕ) → first ≡ deal_at deals 0 → bid ≡ order_at orders d.bid → ask ≡ order_at orders d.ask → bid_traded ≡ get_or so_far d.bid 0 + quantity → ask_traded ≡ get_or so_far d.ask 0 + quantity
+      → finding_at_deal uniform d first bid ask bid_traded ask_traded ≡ matching_finding uniform orders deals k
+  finding_read first bid ask bid_traded ask_traded f_is b_is a_is bt_is at_is =
       let b : bid ≡ order_at orders (deal_at deals k).bid = b_is ∙ ap (λ (x : Deal). order_at orders x.bid) d_is in
       let a : ask ≡ order_at orders (deal_at deals k).ask = a_is ∙ ap (λ (x : Deal). order_at orders x.ask) d_is in
       let bt : bid_traded ≡ get_or so_far (deal_at deals k).bid 0 + quantity = bt_is ∙ ap (λ (x : Deal). get_or so_far x.bid 0 + quantity) d_is in
       let at : ask_traded ≡ get_or so_far (deal_at deals k).ask 0 + quantity = at_is ∙ ap (λ (x : Deal). get_or so_far x.ask 0 + quantity) d_is in
-      (λ i. fault_at uniform (d_is i) (f_is i) (b i) (a i) (bt i) (at i)) ∙ fault_here orders deals k lt named_here uniform so_far total quantity is same_here most
+      (λ i. finding_at_deal uniform (d_is i) (f_is i) (b i) (a i) (bt i) (at i)) ∙ finding_here orders deals k lt named_here uniform so_far total quantity is same_here most
 
-  pub gone_further : (later : List ℕ) → later ≡ slice_set (slice_set so_far d.bid (get_or so_far d.bid 0 + quantity)) d.ask (get_or so_far d.ask 0 + quantity) → matching_fault uniform orders deals k ≡ None → IsGoneOver uniform orders deals (k + 1) later (total + quantity)
+  pub gone_further : (later : List ℕ) → later ≡ slice_set (slice_set so_far d.bid (get_or so_far d.bid 0 + quantity)) d.ask (get_or so_far d.ask 0 + quantity) → matching_finding uniform orders deals k ≡ None → IsGoneOver uniform orders deals (k + 1) later (total + quantity)
   gone_further later later_is none =
       let l : later ≡ after orders deals k lt named_here uniform so_far total quantity is same_here most = later_is ∙ ap (λ (x : Deal). slice_set (slice_set so_far x.bid (get_or so_far x.bid 0 + quantity)) x.ask (get_or so_far x.ask 0 + quantity)) d_is in
       rw l (gone_more orders deals k lt named_here uniform so_far total quantity is same_here most none)
@@ -146,3 +144,7 @@ module _ (uniform : Bool) (orders : List Order) (deals : List Deal) (k : ℕ) (l
 pub on_true : {P : Type 0} (b : Bool) → (b ≡ true → P) → OnTrue b P
 on_true true h = h refl
 on_true false h = tt
+
+pub true_on : {P : Type 0} (b : Bool) → b ≡ true → OnTrue b P → P
+true_on true is h = h
+true_on false is h = absurd (cc is)

@@ -1,2 +1,3 @@
 pub mod CheckLemmas
 pub mod ResolveLemmas
+pub mod DraftLemmas

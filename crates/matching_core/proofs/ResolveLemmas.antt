@@ -1,9 +1,9 @@
 -- Trades of a symbol, with one more at their end: their findings, their ids and their deals.
-use Rattle.std.proofs.Common.{◌≡◌, ◌<◌, ◌≤◌, ◌+◌, ℕ, zero, suc, Bool, true, false, Option, None, Some, List, [], ◌∷◌, ◌++◌, length, get_or, map, take, drop, refl, sym, ap, ◌∙◌, arith, subst, length-append, take-append-drop}
+use Rattle.std.proofs.Common.{◌≡◌, ◌<◌, ◌+◌, ℕ, zero, suc, Bool, true, false, Option, None, Some, List, [], ◌∷◌, ◌++◌, length, get_or, map, refl, sym, ap, ◌∙◌, arith, length-append}
 use Rattle.std.specs.Prelude.{◌&&◌, filter, option_map, option_and_then, slice_get, if◌then◌else◌}
 use Rattle.std.specs.List.{enumerate_from}
 use Rattle.std.specs.Option.{option_or}
-use Rattle.std.proofs.lemmas.List.{get_or_append_left, get_or_at, take_more, length-take-le, take_all}
+use Rattle.std.proofs.lemmas.List.{get_or_append_left, get_or_at}
 use Rattle.std.proofs.lemmas.List.Elements.{filter-append}
 use Rattle.std.proofs.lemmas.Map.Entries.{option_filter}
 use Rattle.audit_base.specs.declared.names.Key.{Key}
@@ -12,15 +12,14 @@ use Rattle.audit_base.specs.declared.records.TradeRecord.{TradeRecord}
 use Rattle.audit_base.specs.declared.orders.Order.{Order}
 use Rattle.audit_base.specs.declared.orders.Deal.{Deal}
 use Rattle.audit_base.specs.declared.findings.Finding.{Finding}
-use Rattle.audit_base.specs.Deals.{AreDeals}
 use Rattle.audit_base.specs.Least.{least_answer, least_with, only_if}
-use Rattle.audit_base.specs.Orders.{same_name, same_key, same_side, order_at, side_at, any_order, with_key, on_side_with_key}
-use Rattle.audit_base.specs.Trades.{trades_of, any_trade, trade_at, trade_place, duplicate_trade, unknown_order, unsound_trade, deal_of, deals_of}
+use Rattle.audit_base.specs.Orders.{same_name, same_key, same_side, order_at, side_at, missing_order, with_key, on_side_with_key, HaveOwnKeys}
+use Rattle.audit_base.specs.Trades.{trades_of, missing_trade, trade_at, trade_place, duplicate_trade, unknown_order, unsound_trade, deal_of}
 use Rattle.instruction_history.proofs.FirstLemmas.{least_answer-same, least_with-same, least_answer-stays, least_with-some, least_with-both, option_or-none, option_or-nothing}
-use Rattle.instruction_history.proofs.KeyLemmas.{same_name-is, same_key-is, same_key-itself}
-use Rattle.instruction_history.specs.Holds.{HasDistinctKeys}
-use Rattle.matching_core.specs.declared.resolving.Resolved.{Resolved}
-use Rattle.matching_core.specs.Resolving.{first_in, of_side, duplicate_of, unknown_in, finding_in, first_with, IsResolved, entry_of}
+use Rattle.instruction_history.proofs.HistoryLemmas.{enumerate_from-append}
+use Rattle.instruction_history.proofs.KeyLemmas.{same_name-is, same_key-is}
+use Rattle.matching_core.specs.declared.sound_deals.SoundDeals.{SoundDeals}
+use Rattle.matching_core.specs.DealsSoFar.{first_in, of_side, duplicate_of, unknown_in, finding_in, first_with, IsResolved, AddsDeal, entry_of}
 
 abbrev pub Listed : Type 0
 Listed = List (ℕ × TradeRecord)
@@ -39,13 +38,13 @@ option_map-same {B = B} f g (Some a) same = ap (λ (b : B). Some b) (same a refl
 
 -- two lists have the same first n trades
 pub record SameBelow (h g : Listed) (n : ℕ) : Type 0 where
-  pub at : (j : ℕ) → j < n → get_or h j any_trade ≡ get_or g j any_trade
+  pub at : (j : ℕ) → j < n → get_or h j missing_trade ≡ get_or g j missing_trade
 
 -- 5 and 6 of a trade, by the trade itself and those before it
 duplicate-same : (n : ℕ) (h g : Listed) → SameBelow h g n → (k : ℕ) → k < n → duplicate_trade h k ≡ duplicate_trade g k
 unfolding duplicate_trade
 duplicate-same n h g same k lt =
-    let here : get_or h k any_trade ≡ get_or g k any_trade = same.at k lt in
+    let here : get_or h k missing_trade ≡ get_or g k missing_trade = same.at k lt in
     let tests : least_with (λ j. same_name (trade_at h j).trade (trade_at h k).trade) k ≡ least_with (λ j. same_name (trade_at g j).trade (trade_at g k).trade) k =
     least_with-same (λ j. same_name (trade_at h j).trade (trade_at h k).trade) (λ j. same_name (trade_at g j).trade (trade_at g k).trade) k
     (λ j less. ap (λ (e : ℕ × TradeRecord). same_name e.1.trade (trade_at h k).trade) (same.at j (omega arith)) ∙ ap (λ (e : ℕ × TradeRecord). same_name (trade_at g j).trade e.1.trade) here) in
@@ -55,31 +54,31 @@ duplicate-same n h g same k lt =
     ap (λ (x : ℕ × TradeRecord). duplicate_of x.0 (trade_place h j)) here ∙ ap (λ (x : ℕ × TradeRecord). duplicate_of (trade_place g k) x.0) (same.at j (omega (arith, first.within))))
     ∙ ap (option_map (λ j. duplicate_of (trade_place g k) (trade_place g j))) tests
 
-unknown-at : (orders : List Order) (h : Listed) (k : ℕ) → unknown_order orders h k ≡ unknown_in orders (get_or h k any_trade)
+unknown-at : (orders : List Order) (h : Listed) (k : ℕ) → unknown_order orders h k ≡ unknown_in orders (get_or h k missing_trade)
 unfolding unknown_order
 unknown-at orders h k = refl
 
-abbrev fault_at : List Order → Listed → ℕ → Option Finding
-fault_at orders h k = option_or (duplicate_trade h k) (unknown_order orders h k)
+abbrev trade_finding : List Order → Listed → ℕ → Option Finding
+trade_finding orders h k = option_or (duplicate_trade h k) (unknown_order orders h k)
 
-fault-same : (orders : List Order) (n : ℕ) (h g : Listed) → SameBelow h g n → (k : ℕ) → k < n → fault_at orders h k ≡ fault_at orders g k
-fault-same orders n h g same k lt =
+finding-same : (orders : List Order) (n : ℕ) (h g : Listed) → SameBelow h g n → (k : ℕ) → k < n → trade_finding orders h k ≡ trade_finding orders g k
+finding-same orders n h g same k lt =
     let five : duplicate_trade h k ≡ duplicate_trade g k = duplicate-same n h g same k lt in
     let six : unknown_order orders h k ≡ unknown_order orders g k = unknown-at orders h k ∙ ap (unknown_in orders) (same.at k lt) ∙ sym (unknown-at orders g k) in
     rw (five, six) refl
 
 pushed-same : (h : Listed) (e : ℕ × TradeRecord) → SameBelow (h ++ e ∷ []) h (length h)
-pushed-same h e = record { at = λ j lt. get_or_append_left h (e ∷ []) any_trade j lt }
+pushed-same h e = record { at = λ j lt. get_or_append_left h (e ∷ []) missing_trade j lt }
 
-pushed-at : (h : Listed) (e : ℕ × TradeRecord) → get_or (h ++ e ∷ []) (length h) any_trade ≡ e
-pushed-at h e = get_or_at h e [] any_trade (length h) refl
+pushed-at : (h : Listed) (e : ℕ × TradeRecord) → get_or (h ++ e ∷ []) (length h) missing_trade ≡ e
+pushed-at h e = get_or_at h e [] missing_trade (length h) refl
 
 -- the first finding is that of the trades before, or else that of the last one
-finding_in-push : (orders : List Order) (h : Listed) (e : ℕ × TradeRecord) → finding_in orders (h ++ e ∷ []) ≡ option_or (finding_in orders h) (fault_at orders (h ++ e ∷ []) (length h))
+finding_in-push : (orders : List Order) (h : Listed) (e : ℕ × TradeRecord) → finding_in orders (h ++ e ∷ []) ≡ option_or (finding_in orders h) (trade_finding orders (h ++ e ∷ []) (length h))
 finding_in-push orders h e =
-    let before : least_answer (fault_at orders (h ++ e ∷ [])) (length h) ≡ finding_in orders h =
-    least_answer-same (fault_at orders (h ++ e ∷ [])) (fault_at orders h) (length h) (λ k lt. fault-same orders (length h) (h ++ e ∷ []) h (pushed-same h e) k lt) in
-    ap (least_answer (fault_at orders (h ++ e ∷ []))) (length-push h e) ∙ ap (λ (o : Option Finding). option_or o (fault_at orders (h ++ e ∷ []) (length h))) before
+    let before : least_answer (trade_finding orders (h ++ e ∷ [])) (length h) ≡ finding_in orders h =
+    least_answer-same (trade_finding orders (h ++ e ∷ [])) (trade_finding orders h) (length h) (λ k lt. finding-same orders (length h) (h ++ e ∷ []) h (pushed-same h e) k lt) in
+    ap (least_answer (trade_finding orders (h ++ e ∷ []))) (length-push h e) ∙ ap (λ (o : Option Finding). option_or o (trade_finding orders (h ++ e ∷ []) (length h))) before
 
 -- 5 of the last one
 duplicate-push : (h : Listed) (e : ℕ × TradeRecord) → duplicate_trade (h ++ e ∷ []) (length h) ≡ option_map (duplicate_of e.0) (first_with h e.1.trade)
@@ -103,14 +102,14 @@ duplicate-push h e =
     mapped-twice (Some j) = refl
 
 -- the finding of the last one
-fault-push : (orders : List Order) (h : Listed) (e : ℕ × TradeRecord) → fault_at orders (h ++ e ∷ []) (length h) ≡ option_or (option_map (duplicate_of e.0) (first_with h e.1.trade)) (unknown_in orders e)
-fault-push orders h e =
+finding-push : (orders : List Order) (h : Listed) (e : ℕ × TradeRecord) → trade_finding orders (h ++ e ∷ []) (length h) ≡ option_or (option_map (duplicate_of e.0) (first_with h e.1.trade)) (unknown_in orders e)
+finding-push orders h e =
     let five = duplicate-push h e in
     let six : unknown_order orders (h ++ e ∷ []) (length h) ≡ unknown_in orders e = unknown-at orders (h ++ e ∷ []) (length h) ∙ ap (unknown_in orders) (pushed-at h e) in
     ap (λ (o : Option Finding). option_or o (unknown_order orders (h ++ e ∷ []) (length h))) five ∙ ap (option_or (option_map (duplicate_of e.0) (first_with h e.1.trade))) six
 
 finding-next : (orders : List Order) (h : Listed) (e : ℕ × TradeRecord) → finding_in orders h ≡ None → finding_in orders (h ++ e ∷ []) ≡ option_or (option_map (duplicate_of e.0) (first_with h e.1.trade)) (unknown_in orders e)
-finding-next orders h e clean = finding_in-push orders h e ∙ option_or-none (finding_in orders h) (fault_at orders (h ++ e ∷ []) (length h)) clean ∙ fault-push orders h e
+finding-next orders h e clean = finding_in-push orders h e ∙ option_or-none (finding_in orders h) (trade_finding orders (h ++ e ∷ []) (length h)) clean ∙ finding-push orders h e
 
 -- an id's first trade is the one before, or else the last one
 mapped-or : (f g : ℕ → ℕ) (o : Option ℕ) (b : Bool) (n a : ℕ) → ((j : ℕ) → o ≡ Some j → f j ≡ g j) → f n ≡ a → option_map f (option_or o (if b then Some n else None)) ≡ option_or (option_map g o) (only_if b a)
@@ -134,27 +133,21 @@ first_with-push h e id =
 
 -- what is kept, with one trade more
 
-pub duplicate-found : (orders : List Order) (h : Listed) (r : Resolved) (place first : ℕ) (t : TradeRecord) → IsResolved orders h r → first_in r.ids t.trade ≡ Some first → finding_in orders (h ++ (place, t) ∷ []) ≡ Some (duplicate_of place first)
+pub duplicate-found : (orders : List Order) (h : Listed) (r : SoundDeals) (place first : ℕ) (t : TradeRecord) → IsResolved orders h r → first_in r.ids t.trade ≡ Some first → finding_in orders (h ++ (place, t) ∷ []) ≡ Some (duplicate_of place first)
 duplicate-found orders h r place first t is seen =
     let earlier : first_with h t.trade ≡ Some first = sym (is.ids t.trade) ∙ seen in
     finding-next orders h (place, t) is.clean ∙ ap (λ (o : Option ℕ). option_or (option_map (duplicate_of place) o) (unknown_in orders (place, t))) earlier
 
-new-finding : (orders : List Order) (h : Listed) (r : Resolved) (place : ℕ) (t : TradeRecord) → IsResolved orders h r → first_in r.ids t.trade ≡ None → finding_in orders (h ++ (place, t) ∷ []) ≡ unknown_in orders (place, t)
+new-finding : (orders : List Order) (h : Listed) (r : SoundDeals) (place : ℕ) (t : TradeRecord) → IsResolved orders h r → first_in r.ids t.trade ≡ None → finding_in orders (h ++ (place, t) ∷ []) ≡ unknown_in orders (place, t)
 new-finding orders h r place t is unseen =
     let earlier : first_with h t.trade ≡ None = sym (is.ids t.trade) ∙ unseen in
     finding-next orders h (place, t) is.clean ∙ ap (λ (o : Option ℕ). option_or (option_map (duplicate_of place) o) (unknown_in orders (place, t))) earlier
 
-pub unknown-found : (orders : List Order) (h : Listed) (r : Resolved) (place : ℕ) (t : TradeRecord) (f : Finding) → IsResolved orders h r → first_in r.ids t.trade ≡ None → unknown_in orders (place, t) ≡ Some f → finding_in orders (h ++ (place, t) ∷ []) ≡ Some f
+pub unknown-found : (orders : List Order) (h : Listed) (r : SoundDeals) (place : ℕ) (t : TradeRecord) (f : Finding) → IsResolved orders h r → first_in r.ids t.trade ≡ None → unknown_in orders (place, t) ≡ Some f → finding_in orders (h ++ (place, t) ∷ []) ≡ Some f
 unknown-found orders h r place t f is unseen unknown = new-finding orders h r place t is unseen ∙ unknown
 
--- what is kept after a trade without a finding
-pub record Takes (r new : Resolved) (id : List ℕ) (deal : Deal) : Type 0 where
-  pub deals : new.deals.items ≡ r.deals.items ++ deal ∷ []
-  pub numbers : AreDeals r.deals.items → AreDeals new.deals.items
-  pub ids : (q : List ℕ) → first_in new.ids q ≡ (if same_name id q then Some deal.place else first_in r.ids q)
-
-pub trade-taken : (orders : List Order) (h : Listed) (r new : Resolved) (place : ℕ) (t : TradeRecord) (deal : Deal) → IsResolved orders h r → first_in r.ids t.trade ≡ None → unknown_in orders (place, t) ≡ None
-    → deal ≡ deal_of orders (place, t) → Takes r new t.trade deal → IsResolved orders (h ++ (place, t) ∷ []) new
+pub trade-taken : (orders : List Order) (h : Listed) (r new : SoundDeals) (place : ℕ) (t : TradeRecord) (deal : Deal) → IsResolved orders h r → first_in r.ids t.trade ≡ None → unknown_in orders (place, t) ≡ None
+    → deal ≡ deal_of orders (place, t) → AddsDeal r new t.trade deal → IsResolved orders (h ++ (place, t) ∷ []) new
 trade-taken orders h r new place t deal is unseen known made takes = record {
   clean = new-finding orders h r place t is unseen ∙ known;
   deals = takes.deals ∙ ap (λ (ds : List Deal). ds ++ deal ∷ []) is.deals ∙ ap (λ (d : Deal). map (deal_of orders) h ++ d ∷ []) made ∙ sym (map-push (deal_of orders) h (place, t));
@@ -189,7 +182,7 @@ and-swap true false = refl
 and-swap false true = refl
 and-swap false false = refl
 
-pub side-of_key : (orders : List Order) (side : Side) (key : Key) → HasDistinctKeys orders → option_and_then (of_side orders side) (with_key orders key) ≡ on_side_with_key orders side key
+pub side-of_key : (orders : List Order) (side : Side) (key : Key) → HaveOwnKeys orders → option_and_then (of_side orders side) (with_key orders key) ≡ on_side_with_key orders side key
 side-of_key orders side key distinct =
     let first = least_with (λ i. same_key (order_at orders i).key key) (length orders) in
     side-filter orders side first (λ i e. (least_with-some _ (length orders) i e).within)
@@ -198,19 +191,9 @@ side-of_key orders side key distinct =
   where
     apart : (i j : ℕ) → i < j → j < length orders → same_key (order_at orders i).key key ≡ true → same_key (order_at orders j).key key ≡ true → ⊥
     apart i j less lt one two =
-        let keys : (order_at orders i).key ≡ (order_at orders j).key = same_key-is _ _ one ∙ sym (same_key-is _ _ two) in
-        let differ : same_key (order_at orders i).key (order_at orders j).key ≡ false = distinct i j any_order less lt in
-        let itself : same_key (order_at orders j).key (order_at orders j).key ≡ true = same_key-itself (order_at orders j).key in
-        let other : same_key (order_at orders j).key (order_at orders j).key ≡ false = ap (λ (k : Key). same_key k (order_at orders j).key) (sym keys) ∙ differ in cc
+        distinct i j missing_order less lt (same_key-is _ _ one ∙ sym (same_key-is _ _ two))
 
 -- the trades of the first records, and one record more
-
-enumerate_from-append : {X : Type 0} (b : ℕ) (xs ys : List X) → enumerate_from b (xs ++ ys) ≡ enumerate_from b xs ++ enumerate_from (b + length xs) ys
-enumerate_from-append b [] ys = let number : b ≡ b + 0 = omega arith in ap (λ (n : ℕ). enumerate_from n ys) number
-enumerate_from-append b (x ∷ xs) ys =
-    let rest : enumerate_from (b + 1) (xs ++ ys) ≡ enumerate_from (b + 1) xs ++ enumerate_from (b + 1 + length xs) ys = enumerate_from-append (b + 1) xs ys in
-    let number : b + 1 + length xs ≡ b + suc (length xs) = omega arith in
-    rw (rest, number) refl
 
 abbrev of_symbol : List ℕ → ℕ × TradeRecord → Bool
 of_symbol symbol e = same_name e.1.symbol symbol
@@ -219,61 +202,19 @@ trades_of-append : (symbol : List ℕ) (xs ys : List TradeRecord) → trades_of 
 unfolding trades_of
 trades_of-append symbol xs ys = ap (filter (of_symbol symbol)) (enumerate_from-append 1 xs ys) ∙ filter-append (of_symbol symbol) (enumerate_from 1 xs) (enumerate_from (1 + length xs) ys)
 
-trades_of-push : (symbol : List ℕ) (xs : List TradeRecord) (x : TradeRecord) → trades_of symbol (xs ++ x ∷ []) ≡ trades_of symbol xs ++ entry_of symbol (length xs + 1) x
+pub trades_of-push : (symbol : List ℕ) (xs : List TradeRecord) (x : TradeRecord) → trades_of symbol (xs ++ x ∷ []) ≡ trades_of symbol xs ++ entry_of symbol (length xs + 1) x
 trades_of-push symbol xs x =
     let number : 1 + length xs ≡ length xs + 1 = omega arith in
     trades_of-append symbol xs (x ∷ []) ∙ ap (λ (n : ℕ). trades_of symbol xs ++ entry_of symbol n x) number
 
-trades_of-more : (symbol : List ℕ) (trades : List TradeRecord) (i : ℕ) (d : TradeRecord) → i < length trades → trades_of symbol (take (i + 1) trades) ≡ trades_of symbol (take i trades) ++ entry_of symbol (i + 1) (get_or trades i d)
-trades_of-more symbol trades i d lt =
-    let size : length (take i trades) ≡ i = length-take-le i trades (omega arith) in
-    ap (trades_of symbol) (take_more trades i d lt) ∙ trades_of-push symbol (take i trades) (get_or trades i d)
-    ∙ ap (λ (n : ℕ). trades_of symbol (take i trades) ++ entry_of symbol (n + 1) (get_or trades i d)) size
-
 -- a finding of the first trades is that of all
-finding_in-append : (orders : List Order) (h r : Listed) (f : Finding) → finding_in orders h ≡ Some f → finding_in orders (h ++ r) ≡ Some f
+pub finding_in-append : (orders : List Order) (h r : Listed) (f : Finding) → finding_in orders h ≡ Some f → finding_in orders (h ++ r) ≡ Some f
 finding_in-append orders h r f is =
-    let same : SameBelow (h ++ r) h (length h) = record { at = λ j lt. get_or_append_left h r any_trade j lt } in
-    let early : least_answer (fault_at orders (h ++ r)) (length h) ≡ Some f =
-    least_answer-same (fault_at orders (h ++ r)) (fault_at orders h) (length h) (λ k lt. fault-same orders (length h) (h ++ r) h same k lt) ∙ is in
-    least_answer-stays (fault_at orders (h ++ r)) (length h) (length (h ++ r)) f early (omega (arith, length-append h r))
+    let same : SameBelow (h ++ r) h (length h) = record { at = λ j lt. get_or_append_left h r missing_trade j lt } in
+    let early : least_answer (trade_finding orders (h ++ r)) (length h) ≡ Some f =
+    least_answer-same (trade_finding orders (h ++ r)) (trade_finding orders h) (length h) (λ k lt. finding-same orders (length h) (h ++ r) h same k lt) ∙ is in
+    least_answer-stays (trade_finding orders (h ++ r)) (length h) (length (h ++ r)) f early (omega (arith, length-append h r))
 
-unsound-is : (orders : List Order) (symbol : List ℕ) (trades : List TradeRecord) → unsound_trade orders symbol trades ≡ finding_in orders (trades_of symbol trades)
+pub unsound-is : (orders : List Order) (symbol : List ℕ) (trades : List TradeRecord) → unsound_trade orders symbol trades ≡ finding_in orders (trades_of symbol trades)
 unfolding unsound_trade
 unsound-is orders symbol trades = refl
-
-found-stays : (orders : List Order) (symbol : List ℕ) (trades : List TradeRecord) (n : ℕ) (f : Finding) → finding_in orders (trades_of symbol (take n trades)) ≡ Some f → unsound_trade orders symbol trades ≡ Some f
-found-stays orders symbol trades n f is =
-    unsound-is orders symbol trades
-    ∙ ap (λ (xs : List TradeRecord). finding_in orders (trades_of symbol xs)) (sym (take-append-drop n trades))
-    ∙ ap (finding_in orders) (trades_of-append symbol (take n trades) (drop n trades))
-    ∙ finding_in-append orders (trades_of symbol (take n trades)) (filter (of_symbol symbol) (enumerate_from (1 + length (take n trades)) (drop n trades))) f is
-
-pub resolved-more : (orders : List Order) (symbol : List ℕ) (trades : List TradeRecord) (i : ℕ) (x : TradeRecord) (old new : Resolved) → i < length trades → x ≡ get_or trades i x → IsResolved orders (trades_of symbol (take i trades)) old →
-    ((h : Listed) → IsResolved orders h old → IsResolved orders (h ++ entry_of symbol (i + 1) x) new) → IsResolved orders (trades_of symbol (take (i + 1) trades)) new
-resolved-more orders symbol trades i x old new lt is so_far next =
-    let more : trades_of symbol (take (i + 1) trades) ≡ trades_of symbol (take i trades) ++ entry_of symbol (i + 1) x =
-    trades_of-more symbol trades i x lt ∙ ap (λ (y : TradeRecord). trades_of symbol (take i trades) ++ entry_of symbol (i + 1) y) (sym is) in
-    subst (λ (h : Listed). IsResolved orders h new) (sym more) (next (trades_of symbol (take i trades)) so_far)
-
-pub found-more : (orders : List Order) (symbol : List ℕ) (trades : List TradeRecord) (i : ℕ) (x : TradeRecord) (old : Resolved) (f : Finding) → i < length trades → x ≡ get_or trades i x → IsResolved orders (trades_of symbol (take i trades)) old →
-    ((h : Listed) → IsResolved orders h old → finding_in orders (h ++ entry_of symbol (i + 1) x) ≡ Some f) → unsound_trade orders symbol trades ≡ Some f
-found-more orders symbol trades i x old f lt is so_far found =
-    let more : trades_of symbol (take (i + 1) trades) ≡ trades_of symbol (take i trades) ++ entry_of symbol (i + 1) x =
-    trades_of-more symbol trades i x lt ∙ ap (λ (y : TradeRecord). trades_of symbol (take i trades) ++ entry_of symbol (i + 1) y) (sym is) in
-    found-stays orders symbol trades (i + 1) f (ap (finding_in orders) more ∙ found (trades_of symbol (take i trades)) so_far)
-
--- what is kept of no trades
-pub resolved-start : (orders : List Order) (symbol : List ℕ) (trades : List TradeRecord) (r : Resolved) → IsResolved orders [] r → IsResolved orders (trades_of symbol (take 0 trades)) r
-unfolding trades_of
-resolved-start orders symbol trades r is = is
-
--- what is kept of all
-pub resolved-sound : (orders : List Order) (symbol : List ℕ) (trades : List TradeRecord) (n : ℕ) (r : Resolved) → length trades ≤ n → IsResolved orders (trades_of symbol (take n trades)) r
-    → (unsound_trade orders symbol trades ≡ None) × (r.deals.items ≡ deals_of orders symbol trades)
-unfolding deals_of
-resolved-sound orders symbol trades n r le is =
-    let whole : take n trades ≡ trades = take_all n trades le in (
-      unsound-is orders symbol trades ∙ ap (λ (xs : List TradeRecord). finding_in orders (trades_of symbol xs)) (sym whole) ∙ is.clean,
-      is.deals ∙ ap (λ (xs : List TradeRecord). map (deal_of orders) (trades_of symbol xs)) whole,
-    )

@@ -1,2 +1,7 @@
-pub mod Faults
-pub mod Resolving
+-- What a reader must believe: the words of public contracts. Sound trades, matchings and the findings of
+-- both are those of audit_base.
+pub mod Answers
+pub mod DealsDraft
+-- What private functions pass on: what is kept while trades come, and the finding of one deal.
+pub mod DealFindings
+pub mod DealsSoFar

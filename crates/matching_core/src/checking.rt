@@ -1,24 +1,31 @@
 //! Whether deals are a matching, deal by deal.
-ghost use Rattle.std.specs.Prelude.{◌≡◌, ◌≤◌, ◌<◌, ◌+◌, ◌*◌, ◌^◌, ◌∷◌, [], ℕ, List, None, Some, Err, IfOk, OnOk, IfSome, IfErr, ◌≢◌, length, slice_index, slice_set, IsTrue, take, vec_len, replicate};
+ghost use Rattle.std.specs.Prelude.{◌≡◌, ◌<◌, ◌+◌, ◌^◌, IfOk, OnOk, ◌≢◌, length, slice_index, vec_len, replicate, Some, None};
 ghost use Rattle.std.specs.Bool.{OnTrue};
-ghost use Rattle.audit_base.specs.Orders.{IsOrderList, order_at};
-ghost use Rattle.audit_base.specs.Deals.{IsDealList, NamesOrders, deal_at, traded, volume};
-ghost use Rattle.audit_base.specs.Calls.{Matching, OnePrice};
 ghost use Rattle.audit_base.specs.CallOffences.{matching_offence};
-ghost use Rattle.audit_base.specs.Least.{first_of as the_first, only_if};
-ghost use Rattle.audit_base.specs.declared.findings.Finding.{Finding};
-ghost use Rattle.audit_base.specs.Shows.{at_deal, order_line, show_place};
-ghost use Rattle.audit_base.specs.declared.terms.Which.TheVariants as which;
-ghost use Rattle.matching_core.specs.Faults as fault;
+ghost use Rattle.audit_base.specs.Calls.{Matching, OnePrice};
+ghost use Rattle.audit_base.specs.Deals.{IsDealList, volume};
+ghost use Rattle.matching_core.specs.Answers.{IfFound, HasTraded, IsNoMatching};
+ghost use Rattle.matching_core.specs.DealFindings as at;
 
 use super::outcomes::CheckFault;
 use super::totals::Totals;
+use audit_base::faults::NoMemory;
 use audit_base::findings::{Finding, OrderLine, Property, Shown};
 use audit_base::orders::{Deal, Order};
 use audit_base::terms::Which;
 use std::alloc::Global;
 
-/// The bid, or else the ask, is one that some record cancels.
+/// Finding 7 about one order of the deal: some record cancels it.
+fn cancelled_at(deal: &Deal, order: &Order, line: &OrderLine) -> Option<Finding>
+    ensures { result ≡ at.cancelled_at deal.now order.now line.now }
+{
+    if order.cancelled.is_none() {
+        return None;
+    }
+    Some(Finding::at_deal(Property::Inactive, deal, Some(Shown::Order(*line)), None))
+}
+
+/// Finding 7: the bid, or else the ask, is one that some record cancels.
 fn inactive_at(
     deal: &Deal,
     bid: &Order,
@@ -26,42 +33,34 @@ fn inactive_at(
     bid_line: &OrderLine,
     ask_line: &OrderLine,
 ) -> Option<Finding>
-    ensures { result ≡ fault.inactive_at deal.now bid.now ask.now bid_line.now ask_line.now }
+    ensures { result ≡ at.inactive_at deal.now bid.now ask.now bid_line.now ask_line.now }
 {
-    if bid.cancelled.is_some() {
-        return Some(Finding::at_deal(
-            Property::Inactive,
-            deal,
-            Some(Shown::Order(*bid_line)),
-            None,
-        ));
+    if let Some(finding) = cancelled_at(deal, bid, bid_line) {
+        return Some(finding);
     }
-    if ask.cancelled.is_some() {
-        return Some(Finding::at_deal(
-            Property::Inactive,
-            deal,
-            Some(Shown::Order(*ask_line)),
-            None,
-        ));
-    }
-    None
+    cancelled_at(deal, ask, ask_line)
 }
 
-/// The price is outside a limit.
-fn off_limit_at(deal: &Deal, bid_line: &OrderLine, ask_line: &OrderLine) -> Option<Finding>
-    ensures { result ≡ fault.off_limit_at deal.now bid_line.now ask_line.now }
+/// Finding 8: the price is outside a limit.
+fn off_limit_at(
+    deal: &Deal,
+    bid: &Order,
+    ask: &Order,
+    bid_line: &OrderLine,
+    ask_line: &OrderLine,
+) -> Option<Finding>
+    ensures { result ≡ at.off_limit_at deal.now bid.now ask.now bid_line.now ask_line.now }
 {
-    if ask_line.limit <= deal.price && deal.price <= bid_line.limit {
-        None
-    } else {
-        let bid = Some(Shown::Order(*bid_line));
-        Some(Finding::at_deal(Property::Limit, deal, bid, Some(Shown::Order(*ask_line))))
+    if deal.is_within(bid, ask) {
+        return None;
     }
+    let bid = Some(Shown::Order(*bid_line));
+    Some(Finding::at_deal(Property::Limit, deal, bid, Some(Shown::Order(*ask_line))))
 }
 
-/// One price is asked for, and the price is not that of the first deal.
+/// Finding 9: one price is asked for, and the price is not that of the first deal.
 fn other_price_at(uniform: bool, deal: &Deal, first: &Deal) -> Option<Finding>
-    ensures { result ≡ fault.other_price_at uniform deal.now first.now }
+    ensures { result ≡ at.other_price_at uniform deal.now first.now }
 {
     if uniform && deal.price != first.price {
         let see = Shown::Place {
@@ -74,35 +73,19 @@ fn other_price_at(uniform: bool, deal: &Deal, first: &Deal) -> Option<Finding>
     }
 }
 
-/// The bid trades more than its quantity.
-fn bid_overfilled_at(deal: &Deal, line: &OrderLine) -> Option<Finding>
-    ensures { result ≡ fault.bid_overfilled_at deal.now line.now }
+/// Finding 10 of the bid and 11 of the ask: it trades more than its quantity.
+fn overfilled_at(number: Property, deal: &Deal, line: &OrderLine) -> Option<Finding>
+    ensures { result ≡ at.overfilled_at number deal.now line.now }
 {
     if (line.quantity.value() as u128) < line.traded {
-        Some(Finding::at_deal(Property::BuyQuantity, deal, Some(Shown::Order(*line)), None))
-    } else {
-        None
-    }
-}
-
-/// The ask trades more than its quantity.
-fn ask_overfilled_at(deal: &Deal, line: &OrderLine) -> Option<Finding>
-    ensures { result ≡ fault.ask_overfilled_at deal.now line.now }
-{
-    if (line.quantity.value() as u128) < line.traded {
-        Some(Finding::at_deal(
-            Property::SellQuantity,
-            deal,
-            Some(Shown::Order(*line)),
-            None,
-        ))
+        Some(Finding::at_deal(number, deal, Some(Shown::Order(*line)), None))
     } else {
         None
     }
 }
 
 /// The first of the findings 7 to 11 at a deal, from what its orders trade up to it.
-fn fault_at(
+fn finding_at_deal(
     uniform: bool,
     deal: &Deal,
     first: &Deal,
@@ -111,34 +94,30 @@ fn fault_at(
     bid_traded: u128,
     ask_traded: u128,
 ) -> Option<Finding>
-    ensures { result ≡ fault.fault_at uniform deal.now first.now bid.now ask.now bid_traded ask_traded }
+    ensures { result ≡ at.finding_at_deal uniform deal.now first.now bid.now ask.now bid_traded ask_traded }
 {
     let bid_line = OrderLine::of(bid, bid_traded);
     let ask_line = OrderLine::of(ask, ask_traded);
     if let Some(finding) = inactive_at(deal, bid, ask, &bid_line, &ask_line) {
         return Some(finding);
     }
-    if let Some(finding) = off_limit_at(deal, &bid_line, &ask_line) {
+    if let Some(finding) = off_limit_at(deal, bid, ask, &bid_line, &ask_line) {
         return Some(finding);
     }
     if let Some(finding) = other_price_at(uniform, deal, first) {
         return Some(finding);
     }
-    if let Some(finding) = bid_overfilled_at(deal, &bid_line) {
+    if let Some(finding) = overfilled_at(Property::BuyQuantity, deal, &bid_line) {
         return Some(finding);
     }
-    ask_overfilled_at(deal, &ask_line)
+    overfilled_at(Property::SellQuantity, deal, &ask_line)
 }
 
 /// A zero for each order.
-fn zeros(alloc: Global, count: usize) -> Result<Vec<u128>, CheckFault>
-    ensures ok { IfOk result (λ traded. traded.items ≡ replicate count 0) }
-    ensures err { IfErr result (λ f. f ≡ CheckFault.Memory) }
+fn zeros(alloc: Global, count: usize) -> Result<Vec<u128>, NoMemory>
+    ensures { IfOk result (λ traded. traded.items ≡ replicate count 0) }
 {
-    match vec![in alloc; 0u128; count] {
-        Ok(traded) => Ok(traded),
-        Err(_) => Err(CheckFault::Memory),
-    }
+    Ok(vec![in alloc; 0u128; count]?)
 }
 
 /// Adds the quantity of a deal to what its two orders trade, and gives what they then trade.
@@ -148,7 +127,7 @@ fn add_deal(traded: &mut Vec<u128>, bid: usize, ask: usize, quantity: u128) -> (
     requires apart { bid ≢ ask }
     requires bid_fits { slice_index traded.old.items bid + quantity < 2 ^ 128 }
     requires ask_fits { slice_index traded.old.items ask + quantity < 2 ^ 128 }
-    ensures added { traded.new.items ≡ slice_set (slice_set traded.old.items bid (slice_index traded.old.items bid + quantity)) ask (slice_index traded.old.items ask + quantity) }
+    ensures added { traded.new.items ≡ at.added traded.old.items bid ask quantity }
     ensures bid { result.0 ≡ slice_index traded.old.items bid + quantity }
     ensures ask { result.1 ≡ slice_index traded.old.items ask + quantity }
 {
@@ -160,8 +139,8 @@ fn add_deal(traded: &mut Vec<u128>, bid: usize, ask: usize, quantity: u128) -> (
 }
 
 /// The totals of deals that are a matching, under `uniform` one of one price; else the first of the
-/// findings 7 to 11. The deals are gone over once. Ok exactly where they are such a matching and Found
-/// exactly where they are not, want of memory aside.
+/// findings 7 to 11. One pass over the deals. Ok exactly where they are such a matching and Found
+/// exactly where they are not, out of memory aside.
 pub fn check_matching(
     alloc: Global,
     orders: &[Order],
@@ -173,9 +152,10 @@ pub fn check_matching(
     ensures matching { OnOk result (Matching orders.now deals.now) }
     ensures one_price { OnOk result (OnTrue uniform (OnePrice deals.now)) }
     ensures count { IfOk result (λ totals. length totals.0 ≡ length orders.now) }
-    ensures traded { IfOk result (λ totals. (i : ℕ) → i < length orders.now → slice_index totals.0 i ≡ traded deals.now i) }
+    ensures traded { IfOk result (HasTraded orders.now deals.now) }
     ensures volume { IfOk result (λ totals. totals.1 ≡ volume deals.now) }
-    ensures found { (finding : Finding) → result ≡ Err (CheckFault.Found finding) → matching_offence uniform orders.now deals.now ≡ Some finding }
+    ensures found { IfFound result (λ f. matching_offence uniform orders.now deals.now ≡ Some f) }
+    ensures only { IfFound result (λ _. IsNoMatching uniform orders.now deals.now) }
 {
     let mut traded = zeros(alloc, orders.len())?;
     let mut volume: u128 = 0;
@@ -184,7 +164,7 @@ pub fn check_matching(
         let (bid_traded, ask_traded) = add_deal(&mut traded, deal.bid, deal.ask, quantity);
         let bid = &orders[deal.bid];
         let ask = &orders[deal.ask];
-        if let Some(finding) = fault_at(
+        if let Some(finding) = finding_at_deal(
             uniform, deal, &deals[0], bid, ask, bid_traded, ask_traded,
         ) {
             return Err(CheckFault::Found(finding));

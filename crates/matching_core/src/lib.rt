@@ -4,9 +4,12 @@
 #[cfg(test)]
 mod check_tests;
 pub mod checking;
+pub mod deals_draft;
+mod deals_so_far;
 pub mod outcomes;
 #[cfg(test)]
 mod resolve_tests;
 pub mod resolving;
+mod sound_deals;
 pub mod totals;
 mod trade_ids;

@@ -1,5 +1,9 @@
 //! What an audit of a rule answers.
+ghost use Rattle.matching_core.specs.declared.outcomes.CheckFault.TheVariants.{Found, Memory};
+ghost use Rattle.std.specs.Prelude.{◌≡◌};
+
 use super::totals::Totals;
+use audit_base::faults::NoMemory;
 use audit_base::findings::Finding;
 use audit_base::orders::Cut;
 use thiserror::Error;
@@ -12,6 +16,22 @@ pub enum CheckFault {
     Found(Finding),
     #[error("out of memory")]
     Memory,
+}
+
+impl From<Finding> for CheckFault {
+    ghost from_gives = { λ finding fault. fault ≡ Found finding };
+
+    fn from(finding: Finding) -> CheckFault {
+        CheckFault::Found(finding)
+    }
+}
+
+impl From<NoMemory> for CheckFault {
+    ghost from_gives = { λ _ fault. fault ≡ Memory };
+
+    fn from(_fault: NoMemory) -> CheckFault {
+        CheckFault::Memory
+    }
 }
 
 /// What conforming deals come to.

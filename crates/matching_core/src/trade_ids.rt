@@ -1,10 +1,10 @@
 //! The ids of the trades so far, and where each of them came first.
-ghost use Rattle.std.specs.Prelude.{◌≡◌, ℕ, List, None, Some, OnOk, IfOk, if◌then◌else◌};
-ghost use Rattle.audit_base.specs.Orders.{same_name};
-ghost use Rattle.matching_core.specs.Resolving.{first_in};
+ghost use Rattle.std.specs.Prelude.{◌≡◌, ℕ, List, None, OnOk};
+ghost use Rattle.matching_core.specs.DealsSoFar.{first_in, AddsId};
 
+use audit_base::faults::NoMemory;
 use audit_base::names::Name;
-use std::alloc::{AllocError, Global};
+use std::alloc::Global;
 use std::collections::HashMap;
 
 /// For each trade id the place of its first trade.
@@ -14,13 +14,13 @@ pub(crate) struct TradeIds {
 }
 
 impl TradeIds {
-    /// No ids, and room for some.
-    pub fn new(alloc: Global, room: usize) -> Result<TradeIds, AllocError>
-        ensures { IfOk result (λ ids. (id : List ℕ) → first_in ids id ≡ None) }
+    /// No ids.
+    pub fn new(alloc: Global) -> TradeIds
+        ensures { (id : List ℕ) → first_in result id ≡ None }
     {
-        Ok(TradeIds {
-            map: HashMap::with_capacity(alloc, room)?,
-        })
+        TradeIds {
+            map: HashMap::new(alloc),
+        }
     }
 
     /// The place of the first trade with the id, if there is one.
@@ -31,8 +31,8 @@ impl TradeIds {
     }
 
     /// One more id.
-    pub fn add(&mut self, id: Name, place: u32) -> Result<(), AllocError>
-        ensures { OnOk result ((q : List ℕ) → first_in self.new q ≡ (if same_name id q then Some place else first_in self.old q)) }
+    pub fn add(&mut self, id: Name, place: u32) -> Result<(), NoMemory>
+        ensures { OnOk result (AddsId self.old self.new id place) }
     {
         self.map.insert(id, place)?;
         Ok(())

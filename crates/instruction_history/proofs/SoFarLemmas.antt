@@ -1,0 +1,86 @@
+-- A draft of a history, with one record more.
+use Rattle.std.proofs.Common.{◌≡◌, ℕ, Bool, true, false, Option, None, Some, List, [], ◌∷◌, ◌++◌, length, refl, sym, ap, ◌∙◌}
+use Rattle.std.specs.Prelude.{option_and_then, if◌then◌else◌}
+use Rattle.std.specs.Option.{option_or}
+use Rattle.audit_base.specs.declared.names.Key.{Key}
+use Rattle.audit_base.specs.declared.orders.Order.{Order}
+use Rattle.audit_base.specs.declared.findings.Finding.{Finding}
+use Rattle.audit_base.specs.declared.records.OrderRecord.{OrderRecord}
+use Rattle.audit_base.specs.Least.{first_of, only_if}
+use Rattle.audit_base.specs.Orders.{same_key}
+use Rattle.audit_base.specs.Histories.{key_of, time_of, target_key, record_finding}
+use Rattle.instruction_history.specs.declared.history_so_far.HistorySoFar.{HistorySoFar}
+use Rattle.instruction_history.specs.declared.findings.Last.{Last}
+use Rattle.instruction_history.specs.declared.keys.Seen.{Seen}
+use Rattle.instruction_history.specs.Draft.{IsHistorySoFar, finding_in, orders_in, seen_at, named_in, last_from}
+use Rattle.instruction_history.specs.Keys.{seen_in}
+use Rattle.instruction_history.specs.Draft.{fitting, target_among, finding_by, duplicate_of, back_of, unknown_of, ended_among, order_made, pushed, seen_as, AddsRecord}
+use Rattle.instruction_history.proofs.CleanLemmas.{option_map-none}
+use Rattle.instruction_history.proofs.FirstLemmas.{option_or-none, option_or-nothing, option_or-parts}
+use Rattle.instruction_history.proofs.KeyLemmas.{same_key-is}
+use Rattle.instruction_history.proofs.OrderLemmas.{target_index, orders-step}
+use Rattle.instruction_history.proofs.PushLemmas.{finding_in-push, named_in-push}
+use Rattle.instruction_history.proofs.RecordLemmas.{Records}
+use Rattle.instruction_history.proofs.StepLemmas.{target-step, finding-step, seen-step, last-step}
+
+and_then-same : {A B : Type 0} (f g : A → Option B) (o : Option A) → ((a : A) → f a ≡ g a) → option_and_then f o ≡ option_and_then g o
+and_then-same f g None same = refl
+and_then-same f g (Some a) same = same a
+
+-- the target by what a draft holds
+abbrev pub target_by : HistorySoFar → OrderRecord → Option ℕ
+target_by d r = target_among d.orders.items (seen_in d.keys) r
+
+target-by : (h : Records) (d : HistorySoFar) (e : ℕ × OrderRecord) → IsHistorySoFar h d → target_by d e.1 ≡ target_index h e
+target-by h d e is =
+    and_then-same _ _ (target_key e.1) (λ key. ap (option_and_then (λ s. option_and_then (fitting d.orders.items e.1) s.index)) (is.keys key))
+    ∙ ap (λ (orders : List Order). target_among orders (named_in h) e.1) is.orders
+    ∙ target-step h e is.clean
+
+-- the finding at a record by what is kept
+abbrev pub finding_so_far : HistorySoFar → ℕ → OrderRecord → Option ℕ → Option Finding
+finding_so_far d place r target = finding_by (seen_in d.keys) d.last r target place
+
+finding-by : (h : Records) (d : HistorySoFar) (e : ℕ × OrderRecord) (target : Option ℕ) → IsHistorySoFar h d → target ≡ target_by d e.1 → finding_so_far d e.0 e.1 target ≡ finding_in (h ++ e ∷ [])
+finding-by h d e target is by =
+    ap (λ (s : Option Seen). first_of (duplicate_of s e.0 ∷ back_of d.last (time_of e.1) e.0 ∷ unknown_of (target_key e.1) target e.0 ∷ [])) (is.keys (key_of e.1))
+    ∙ ap (λ (l : Option Last). first_of (duplicate_of (named_in h (key_of e.1)) e.0 ∷ back_of l (time_of e.1) e.0 ∷ unknown_of (target_key e.1) target e.0 ∷ [])) is.last
+    ∙ ap (λ (t : Option ℕ). first_of (duplicate_of (named_in h (key_of e.1)) e.0 ∷ back_of (last_from h (length h)) (time_of e.1) e.0 ∷ unknown_of (target_key e.1) t e.0 ∷ [])) (by ∙ target-by h d e is)
+    ∙ sym (finding-step h e)
+    ∙ sym (option_or-none (finding_in h) (record_finding (h ++ e ∷ []) (length h)) is.clean)
+    ∙ sym (finding_in-push h e)
+
+-- a finding by what a draft holds is that of the history
+pub draft-found : (h : Records) (d : HistorySoFar) (place : ℕ) (r : OrderRecord) (target : Option ℕ) (f : Finding) → IsHistorySoFar h d → target ≡ target_by d r → Some f ≡ finding_so_far d place r target → finding_in (h ++ (place, r) ∷ []) ≡ Some f
+draft-found h d place r target f is by found = sym (finding-by h d (place, r) target is by) ∙ sym found
+
+orders-by : (h : Records) (d new : HistorySoFar) (place : ℕ) (r : OrderRecord) (target : Option ℕ) → IsHistorySoFar h d → target ≡ target_by d r → finding_in (h ++ (place, r) ∷ []) ≡ None → AddsRecord d new place r target → new.orders.items ≡ orders_in (h ++ (place, r) ∷ [])
+orders-by h d new place r target is by clean takes =
+    takes.orders
+    ∙ ap (λ (orders : List Order). pushed (ended_among orders target place) (order_made orders r target place)) is.orders
+    ∙ ap (λ (t : Option ℕ). pushed (ended_among (orders_in h) t place) (order_made (orders_in h) r t place)) (by ∙ target-by h d (place, r) is)
+    ∙ sym (orders-step h (place, r) clean)
+
+keys-by : (h : Records) (d new : HistorySoFar) (place : ℕ) (r : OrderRecord) (target : Option ℕ) → IsHistorySoFar h d → None ≡ finding_so_far d place r target → AddsRecord d new place r target → (key : Key) → seen_in new.keys key ≡ named_in (h ++ (place, r) ∷ []) key
+keys-by h d new place r target is none takes key = takes.keys key ∙ go (same_key (key_of r) key) refl ∙ sym (named_in-push h (place, r) key)
+  where
+    go : (b : Bool) → same_key (key_of r) key ≡ b → (if b then Some (seen_as r place (length d.orders.items)) else seen_in d.keys key) ≡ option_or (named_in h key) (only_if b (seen_at (h ++ (place, r) ∷ []) (length h)))
+    go true e =
+        let own : key_of r ≡ key = same_key-is (key_of r) key e in
+        let unseen : seen_in d.keys (key_of r) ≡ None = option_map-none _ _ (option_or-parts (duplicate_of (seen_in d.keys (key_of r)) place) _ (sym none)).0 in
+        let unnamed : named_in h key ≡ None = sym (is.keys key) ∙ ap (seen_in d.keys) (sym own) ∙ unseen in
+        ap (λ (orders : List Order). Some (seen_as r place (length orders))) is.orders
+        ∙ ap (λ (s : Seen). Some s) (sym (seen-step h (place, r)))
+        ∙ sym (option_or-none (named_in h key) _ unnamed)
+    go false e = is.keys key ∙ sym (option_or-nothing (named_in h key))
+
+pub draft-takes : (h : Records) (d new : HistorySoFar) (place : ℕ) (r : OrderRecord) (target : Option ℕ) → IsHistorySoFar h d → target ≡ target_by d r → None ≡ finding_so_far d place r target → AddsRecord d new place r target → IsHistorySoFar (h ++ (place, r) ∷ []) new
+draft-takes h d new place r target is by none takes =
+    let clean : finding_in (h ++ (place, r) ∷ []) ≡ None = sym (finding-by h d (place, r) target is by) ∙ sym none in
+    record {
+      clean = clean;
+      orders = orders-by h d new place r target is by clean takes;
+      numbers = takes.numbers is.numbers;
+      keys = keys-by h d new place r target is none takes;
+      last = takes.last ∙ sym (last-step h (place, r));
+    }

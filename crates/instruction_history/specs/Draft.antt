@@ -1,0 +1,164 @@
+-- A history record by record: what is known after some of its records, and what one record more changes.
+use Rattle.std.specs.Prelude.{◌≡◌, ℕ, zero, suc, ◌&&◌, List, [], ◌∷◌, ◌++◌, Option, None, Some, is_some, is_none, option_map, option_and_then, filter_map, length, slice_get, slice_set, if◌then◌else◌}
+use Rattle.std.specs.Option.{option_or}
+use Rattle.std.specs.List.{enumerate_from}
+use Rattle.audit_base.specs.Moments.{Moment}
+use Rattle.audit_base.specs.declared.names.Key.{Key}
+use Rattle.audit_base.specs.declared.terms.Which.TheVariants as which
+use Rattle.audit_base.specs.declared.terms.Life.TheVariants.{Rests}
+use Rattle.audit_base.specs.declared.records.OrderRecord.{OrderRecord}
+use Rattle.audit_base.specs.declared.records.OrderRecord.TheVariants.{New, Cancel, Replace}
+use Rattle.audit_base.specs.declared.orders.Order.{Order}
+use Rattle.audit_base.specs.declared.findings.Property.TheVariants as property
+use Rattle.audit_base.specs.declared.findings.Finding.{Finding}
+use Rattle.audit_base.specs.Histories.{symbol_of, key_of, time_of, record_at, record_place, key_at, is_order, target_key, side_of, fits_side, is_before, order_index, order_of_record, record_finding}
+use Rattle.audit_base.specs.Least.{least_answer, least_with, first_of, only_if}
+use Rattle.audit_base.specs.Orders.{same_name, same_key, order_at, AreOrders}
+use Rattle.audit_base.specs.Shows.{found, show_place}
+use Rattle.instruction_history.specs.declared.history_so_far.HistorySoFar.{HistorySoFar}
+use Rattle.instruction_history.specs.declared.findings.Last.{Last}
+use Rattle.instruction_history.specs.declared.keys.Seen.{Seen}
+use Rattle.instruction_history.specs.Keys.{seen_in, AddsKey}
+
+-- What is known after some records of a history.
+
+-- the first finding of a history, and its order list
+abbrev pub finding_in : List (ℕ × OrderRecord) → Option Finding
+finding_in h = least_answer (record_finding h) (length h)
+
+abbrev pub orders_in : List (ℕ × OrderRecord) → List Order
+orders_in h = filter_map (λ e. order_of_record h (e.0, e.1.0, e.1.1)) (enumerate_from 0 h)
+
+-- what a record is seen as: its place, and where it is an order its index in the order list
+abbrev pub seen_at : List (ℕ × OrderRecord) → ℕ → Seen
+seen_at h k = record {
+  place = record_place h k;
+  index = if is_order (record_at h k) then Some (order_index h k) else None;
+}
+
+-- what a key names: the first record that has it
+abbrev pub named_in : List (ℕ × OrderRecord) → Key → Option Seen
+named_in h key = option_map (seen_at h) (least_with (λ k. same_key (key_at h k) key) (length h))
+
+-- the record before the next one
+abbrev pub last_from : List (ℕ × OrderRecord) → ℕ → Option Last
+last_from h zero = None
+last_from h (suc k) = Some (record { place = record_place h k; time = time_of (record_at h k) })
+
+-- what is kept is that of a history without a finding
+pub record IsHistorySoFar (h : List (ℕ × OrderRecord)) (d : HistorySoFar) : Type 0 where
+  pub clean : finding_in h ≡ None
+  pub orders : d.orders.items ≡ orders_in h
+  pub numbers : AreOrders d.orders.items
+  pub keys : (key : Key) → seen_in d.keys key ≡ named_in h key
+  pub last : d.last ≡ last_from h (length h)
+
+-- what is kept is that of the history, or the finding is its first one
+abbrev pub IsKnown : List (ℕ × OrderRecord) → HistorySoFar → Option Finding → Type 0
+IsKnown h d None = IsHistorySoFar h d
+IsKnown h d (Some finding) = finding_in h ≡ Some finding
+
+-- whatever history was known, it is known with one record more, at its place
+abbrev pub KnowsOneMore : HistorySoFar → HistorySoFar → ℕ → OrderRecord → Option Finding → Type 0
+KnowsOneMore old new place entry finding =
+    (h : List (ℕ × OrderRecord)) → IsHistorySoFar h old → IsKnown (h ++ (place, entry) ∷ []) new finding
+
+-- a record at a place, if it is one of the symbol
+abbrev pub entry_of : List ℕ → ℕ → OrderRecord → List (ℕ × OrderRecord)
+entry_of symbol place entry = if same_name (symbol_of entry) symbol then (place, entry) ∷ [] else []
+
+-- One record more: what becomes of an order list and its keys.
+
+-- an index, if the order there may be the target of the record
+abbrev pub fitting : List Order → OrderRecord → ℕ → Option ℕ
+fitting orders entry index =
+    option_and_then (λ o. only_if (fits_side (side_of entry) (Some o.side)) index) (slice_get orders index)
+
+-- the index of the target of the record, by what its target's key names
+abbrev pub target_among : List Order → (Key → Option Seen) → OrderRecord → Option ℕ
+target_among orders seen entry =
+    option_and_then (λ key. option_and_then (λ s. option_and_then (fitting orders entry) s.index) (seen key))
+    (target_key entry)
+
+-- 1, 2 and 3 of a record at a place
+abbrev pub duplicate_of : Option Seen → ℕ → Option Finding
+duplicate_of earlier place =
+    option_map (λ s. found property.DuplicateId which.Orders place (show_place which.Orders s.place) None) earlier
+
+abbrev pub back_of : Option Last → Moment → ℕ → Option Finding
+back_of last time place =
+    option_and_then (λ l. only_if (is_before time l.time)
+    (found property.TimeBack which.Orders place (show_place which.Orders l.place) None)) last
+
+abbrev pub unknown_of : Option Key → Option ℕ → ℕ → Option Finding
+unknown_of named target place =
+    only_if (is_some named && is_none target) (found property.UnknownTarget which.Orders place None None)
+
+-- the first of these, by what the keys name, the record before and the record's target
+abbrev pub finding_by : (Key → Option Seen) → Option Last → OrderRecord → Option ℕ → ℕ → Option Finding
+finding_by seen last entry target place =
+    first_of (duplicate_of (seen (key_of entry)) place ∷ back_of last (time_of entry) place
+    ∷ unknown_of (target_key entry) target place ∷ [])
+
+-- an order that a record at a place ends, unless an earlier one did
+abbrev pub ended : ℕ → Order → Order
+ended place o = record o { cancelled = option_or o.cancelled (Some place) }
+
+-- the orders, their target ended
+abbrev pub ended_among : List Order → Option ℕ → ℕ → List Order
+ended_among orders None place = orders
+ended_among orders (Some t) place = slice_set orders t (ended place (order_at orders t))
+
+-- the own place of a replacement, where its target isn't there any more
+abbrev pub own_end : List Order → Option ℕ → ℕ → Option ℕ
+own_end orders None place = None
+own_end orders (Some t) place = if is_none (order_at orders t).cancelled then None else Some place
+
+-- the order of a record
+abbrev pub order_made : List Order → OrderRecord → Option ℕ → ℕ → Option Order
+order_made orders (New key time symbol side quantity price life) target place =
+    Some (record {
+      place = place;
+      key = key;
+      time = time;
+      side = side;
+      quantity = quantity;
+      limit = price;
+      cancelled = None;
+      target = None;
+      life = life;
+    })
+order_made orders (Cancel key time symbol named) target place = None
+order_made orders (Replace key time symbol named side quantity price) target place =
+    Some (record {
+      place = place;
+      key = key;
+      time = time;
+      side = side;
+      quantity = quantity;
+      limit = price;
+      cancelled = own_end orders target place;
+      target = target;
+      life = Rests;
+    })
+
+-- the orders and one more, if there is one
+abbrev pub pushed : List Order → Option Order → List Order
+pushed orders None = orders
+pushed orders (Some o) = orders ++ o ∷ []
+
+-- the orders after a record at a place: its target is ended, and its own order comes last
+abbrev pub orders_after : List Order → OrderRecord → Option ℕ → ℕ → List Order
+orders_after orders entry target place =
+    pushed (ended_among orders target place) (order_made orders entry target place)
+
+-- what a record is remembered as, where this many orders came before it
+abbrev pub seen_as : OrderRecord → ℕ → ℕ → Seen
+seen_as entry place orders = record { place = place; index = if is_order entry then Some orders else None }
+
+-- what is kept after a record that has no finding
+pub record AddsRecord (old new : HistorySoFar) (place : ℕ) (entry : OrderRecord) (target : Option ℕ) : Type 0 where
+  pub orders : new.orders.items ≡ orders_after old.orders.items entry target place
+  pub numbers : AreOrders old.orders.items → AreOrders new.orders.items
+  pub keys : AddsKey old.keys new.keys (key_of entry) (seen_as entry place (length old.orders.items))
+  pub last : new.last ≡ Some (record { place = place; time = time_of entry })

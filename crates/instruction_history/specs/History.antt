@@ -1,0 +1,16 @@
+-- What a history keeps: an order list in which the keys name the orders.
+use Rattle.std.specs.Prelude.{◌≡◌, List, option_and_then}
+use Rattle.audit_base.specs.declared.names.Key.{Key}
+use Rattle.audit_base.specs.declared.orders.Order.{Order}
+use Rattle.audit_base.specs.Histories.{Regular}
+use Rattle.audit_base.specs.Orders.{with_key, IsOrderList, AreOrders, HaveOwnKeys}
+use Rattle.instruction_history.specs.declared.keys.Keys.{Keys}
+use Rattle.instruction_history.specs.Keys.{seen_in}
+
+-- the orders are a regular order list with keys of their own, and each key of an order names it
+pub record IsHistory (orders : List Order) (keys : Keys) : Type 0 where
+  pub order_list : IsOrderList orders
+  pub regular : Regular orders
+  pub numbers : AreOrders orders
+  pub own_keys : HaveOwnKeys orders
+  pub named : (key : Key) → option_and_then (λ s. s.index) (seen_in keys key) ≡ with_key orders key

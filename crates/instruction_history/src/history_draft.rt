@@ -1,0 +1,143 @@
+//! The draft of a history: what is handed the records of an order log one after another, and keeps
+//! what the history of its symbol needs of them.
+//!
+//! A draft counts every record, since places are counted over all symbols. A record of another symbol
+//! is only counted, and after the first finding so is every record. No room is reserved, since only
+//! the end of the log tells how many orders there are: the order list and the keys grow with them, by
+//! doubling.
+ghost use Rattle.std.specs.Prelude.{◌≡◌, ◌+◌, ◌<◌, ◌^◌, ◌∷◌, [], ◌++◌, ℕ, List, None, IfOk, IfErr, OnOk, Some, length, vec_len};
+ghost use Rattle.audit_base.specs.Histories.{WellFormed};
+ghost use Rattle.audit_base.specs.declared.records.OrderRecord.{OrderRecord};
+ghost use Rattle.instruction_history.specs.HistoryDraft.{IsHistoryDraft, ForHanded, AreOrdersOf, KeepsMarketPrices, IsFindingOf, TakesRecord};
+ghost use Rattle.log_source.specs.Collectors.{HasPlace};
+
+use super::history::History;
+use super::history_so_far::HistorySoFar;
+use audit_base::faults::NoMemory;
+use audit_base::findings::Finding;
+use audit_base::names::Name;
+use audit_base::records::{OrderRecord, is_of};
+use log_source::collector::Collector;
+use std::alloc::Global;
+use std::marker::{Brand, PhantomData};
+
+/// The symbol of a draft, for proofs alone. What hands records to collectors of any kind can say of one
+/// only which records it has been handed, and not which symbol it was made for. So the type of a draft
+/// says that. Whoever makes a draft picks the symbol, at `Brand`, and nothing of it is there when the
+/// program runs.
+pub trait AuditedSymbol {
+    ghost symbol: { List ℕ };
+}
+
+impl AuditedSymbol for Brand {
+    ghost symbol = { [] };
+}
+
+/// What is known of the history of a symbol after some records of an order log: its orders so far, or its
+/// first finding.
+#[derive(Drop)]
+pub struct HistoryDraft<S> {
+    symbol: Name,
+    /// How many records of the log there were, of all symbols.
+    count: u32,
+    /// What is known where there is no finding.
+    so_far: HistorySoFar,
+    finding: Option<Finding>,
+    of: PhantomData<S>,
+}
+
+impl<S: AuditedSymbol> HistoryDraft<S> {
+    /// A draft that has been handed no records. Takes no memory.
+    pub fn new(alloc: Global, symbol: Name) -> HistoryDraft<S>
+        requires { symbol ≡ S.symbol }
+        ensures { IsHistoryDraft S.symbol result [] }
+    {
+        HistoryDraft {
+            symbol,
+            count: 0,
+            so_far: HistorySoFar::new(alloc),
+            finding: None,
+            of: PhantomData,
+        }
+    }
+
+    /// Takes the next record of the log. After `NoMemory` nothing is known of the draft.
+    pub(crate) fn take_entry(&mut self, entry: &OrderRecord) -> Result<(), NoMemory>
+        requires { HasPlace (IsHistoryDraft S.symbol) self.old }
+        ensures { OnOk result (TakesRecord S.symbol self.old self.new entry.now) }
+    {
+        self.count += 1;
+        if let Some(_) = self.finding {
+            return Ok(());
+        }
+        if !is_of(entry, &self.symbol) {
+            return Ok(());
+        }
+        self.finding = self.so_far.take(entry, self.count)?;
+        Ok(())
+    }
+
+    /// The history, where it is well-formed, or else its first finding. Takes no memory.
+    pub fn end(self) -> Result<History, Finding>
+        requires { (entries : List OrderRecord) × IsHistoryDraft S.symbol self entries }
+        ensures well_formed { OnOk result (ForHanded S.symbol self (WellFormed S.symbol)) }
+        ensures orders { IfOk result (AreOrdersOf S.symbol self) }
+        ensures market { IfOk result (KeepsMarketPrices S.symbol self) }
+        ensures found { IfErr result (IsFindingOf S.symbol self) }
+    {
+        // This read tells the proof that there are fewer than 2^32 records.
+        let _ = self.count;
+        let HistoryDraft {
+            so_far,
+            finding,
+            ..
+        } = self;
+        match finding {
+            Some(finding) => Err(finding),
+            None => Ok(History::of(so_far)),
+        }
+    }
+}
+
+impl<S: AuditedSymbol> Collector for HistoryDraft<S> {
+    ghost use Rattle.audit_base.specs.Orders.{same_name};
+
+    type Entry = OrderRecord;
+
+    ghost has_taken = { IsHistoryDraft S.symbol };
+
+    ghost wants = { λ draft symbol. same_name symbol draft.symbol };
+
+    fn take(&mut self, entry: OrderRecord) -> Result<(), NoMemory> {
+        self.take_entry(&entry)
+    }
+
+    fn wants(&self, symbol: &[u8]) -> bool {
+        symbol == self.symbol.bytes()
+    }
+
+    fn pass_over(&mut self) {
+        self.count += 1;
+    }
+
+    fn count(&self) -> u32 {
+        self.count
+    }
+}
+
+/// The draft that has been handed these records.
+pub(crate) fn draft_of<S: AuditedSymbol>(
+    alloc: Global,
+    entries: &[OrderRecord],
+    symbol: &Name,
+) -> Result<HistoryDraft<S>, NoMemory>
+    requires symbol { symbol.now ≡ S.symbol }
+    requires few { length entries.now < 2 ^ 32 }
+    ensures { IfOk result (λ draft. IsHistoryDraft S.symbol draft entries.now) }
+{
+    let mut draft = HistoryDraft::new(alloc, *symbol);
+    for entry in entries {
+        draft.take_entry(entry)?;
+    }
+    Ok(draft)
+}

@@ -1,0 +1,215 @@
+//! What is known of a history after some of its records, record by record.
+ghost use Rattle.std.specs.Prelude.{◌≡◌, ◌<◌, ◌^◌, [], List, vec_len, length, IfSome, IfOk, OnOk, Some};
+ghost use Rattle.std.specs.Option.{ForSome};
+ghost use Rattle.audit_base.specs.Orders.{AreOrders};
+ghost use Rattle.instruction_history.specs.Draft as draft;
+ghost use Rattle.instruction_history.specs.Keys.{seen_in};
+
+use super::findings::{Last, finding_of};
+use super::keys::{Keys, Seen};
+use audit_base::faults::NoMemory;
+use audit_base::findings::Finding;
+use audit_base::orders::Order;
+use audit_base::records::OrderRecord;
+use audit_base::terms::Life;
+use std::alloc::Global;
+
+/// The index, if the order there may be the target of the record.
+fn fitting(orders: &[Order], entry: &OrderRecord, index: usize) -> Option<usize>
+    ensures value { result ≡ draft.fitting orders.now entry.now index }
+    ensures in_range { IfSome result (λ i. i < length orders.now) }
+{
+    let order = orders.get(index)?;
+    if entry.fits_side(order.side) {
+        Some(index)
+    } else {
+        None
+    }
+}
+
+/// The index of the target of the record.
+fn target_of(orders: &[Order], keys: &Keys, entry: &OrderRecord) -> Option<usize>
+    ensures value { result ≡ draft.target_among orders.now (seen_in keys.now) entry.now }
+    ensures in_range { IfSome result (λ i. i < length orders.now) }
+{
+    let key = entry.target_key()?;
+    let seen = keys.find(&key)?;
+    let index = seen.index?;
+    fitting(orders, entry, index as usize)
+}
+
+/// Ends the order at an index, unless an earlier record did.
+fn end(orders: &mut Vec<Order>, target: usize, place: u32)
+    requires { target < vec_len orders.old }
+    ensures items { orders.new.items ≡ draft.ended_among orders.old.items (Some target) place }
+    ensures len { vec_len orders.new ≡ vec_len orders.old }
+    ensures numbers { AreOrders orders.old.items → AreOrders orders.new.items }
+{
+    let order = &mut orders[target];
+    order.cancelled = order.cancelled.or(Some(place));
+}
+
+/// Ends the target.
+fn end_target(orders: &mut Vec<Order>, target: Option<usize>, place: u32)
+    requires { ForSome target (λ t. t < vec_len orders.old) }
+    ensures items { orders.new.items ≡ draft.ended_among orders.old.items target place }
+    ensures len { vec_len orders.new ≡ vec_len orders.old }
+    ensures numbers { AreOrders orders.old.items → AreOrders orders.new.items }
+{
+    if let Some(target) = target {
+        end(orders, target, place);
+    }
+}
+
+/// The own place of a replacement, where its target is not there any more: it is never placed.
+fn own_end(orders: &[Order], target: Option<usize>, place: u32) -> Option<u32>
+    ensures { result ≡ draft.own_end orders.now target place }
+{
+    let order = orders.get(target?)?;
+    if order.cancelled.is_none() {
+        None
+    } else {
+        Some(place)
+    }
+}
+
+/// The order of a new order or a replacement.
+fn order_of(
+    orders: &[Order],
+    entry: &OrderRecord,
+    target: Option<usize>,
+    place: u32,
+) -> Option<Order>
+    ensures { result ≡ draft.order_made orders.now entry.now target place }
+{
+    match *entry {
+        OrderRecord::New {
+            key,
+            time,
+            symbol: _,
+            side,
+            quantity,
+            price,
+            life,
+        } => Some(Order {
+            place,
+            key,
+            time,
+            side,
+            quantity,
+            limit: price,
+            cancelled: None,
+            target: None,
+            life,
+        }),
+        OrderRecord::Cancel { .. } => None,
+        OrderRecord::Replace {
+            key,
+            time,
+            symbol: _,
+            target: _,
+            side,
+            quantity,
+            price,
+        } => Some(Order {
+            place,
+            key,
+            time,
+            side,
+            quantity,
+            limit: price,
+            cancelled: own_end(orders, target, place),
+            target,
+            life: Life::Rests,
+        }),
+    }
+}
+
+/// One more order.
+fn push(orders: &mut Vec<Order>, order: Option<Order>) -> Result<(), NoMemory>
+    ensures items { OnOk result (orders.new.items ≡ draft.pushed orders.old.items order) }
+    ensures numbers { AreOrders orders.old.items → AreOrders orders.new.items }
+{
+    let Some(order) = order else {
+        return Ok(());
+    };
+    // These calls tell the proof the ranges that each price and quantity keeps.
+    let _ = order.quantity.value();
+    let _ = order.limit.units();
+    orders.push(order)?;
+    Ok(())
+}
+
+/// What a record is remembered as, where `orders` orders came before it.
+fn seen_as(entry: &OrderRecord, place: u32, orders: u32) -> Seen
+    ensures { result ≡ draft.seen_as entry.now place orders }
+{
+    if entry.is_order() {
+        Seen {
+            place,
+            index: Some(orders),
+        }
+    } else {
+        Seen { place, index: None }
+    }
+}
+
+/// What is known after some records of a history that have no finding: the order list as they make it,
+/// what each of their keys names, and the last of them.
+#[derive(Drop)]
+pub(crate) struct HistorySoFar {
+    pub orders: Vec<Order>,
+    pub keys: Keys,
+    pub last: Option<Last>,
+}
+
+impl HistorySoFar {
+    ghost use Rattle.instruction_history.specs.Draft.{IsHistorySoFar, KnowsOneMore, AddsRecord};
+
+    /// No records.
+    pub fn new(alloc: Global) -> HistorySoFar
+        ensures { IsHistorySoFar [] result }
+    {
+        HistorySoFar {
+            orders: Vec::new(alloc),
+            keys: Keys::new(alloc),
+            last: None,
+        }
+    }
+
+    /// Takes the next record of the history, at its place in the log, or gives the finding that it has.
+    pub fn take(&mut self, entry: &OrderRecord, place: u32) -> Result<Option<Finding>, NoMemory>
+        requires { vec_len self.old.orders < 2 ^ 32 }
+        ensures { IfOk result (KnowsOneMore self.old self.new place entry.now) }
+    {
+        let target = target_of(&self.orders, &self.keys, entry);
+        if let Some(finding) = finding_of(&self.keys, self.last, entry, target, place) {
+            return Ok(Some(finding));
+        }
+        self.add(entry, target, place)?;
+        Ok(None)
+    }
+
+    /// Adds a record that has no finding.
+    fn add(
+        &mut self,
+        entry: &OrderRecord,
+        target: Option<usize>,
+        place: u32,
+    ) -> Result<(), NoMemory>
+        requires few { vec_len self.old.orders < 2 ^ 32 }
+        requires target { ForSome target (λ t. t < vec_len self.old.orders) }
+        ensures { OnOk result (AddsRecord self.old self.new place entry.now target) }
+    {
+        let seen = seen_as(entry, place, self.orders.len() as u32);
+        let order = order_of(&self.orders, entry, target, place);
+        end_target(&mut self.orders, target, place);
+        push(&mut self.orders, order)?;
+        self.keys.add(entry.key(), seen)?;
+        self.last = Some(Last {
+            place,
+            time: entry.time(),
+        });
+        Ok(())
+    }
+}

@@ -1,0 +1,104 @@
+-- The trades of a symbol one by one: what is known after some of them.
+use Rattle.std.specs.Prelude.{◌≡◌, ℕ, List, [], ◌∷◌, ◌++◌, Option, None, Some, is_none, map, option_map, option_and_then, length, slice_get, if◌then◌else◌}
+use Rattle.std.specs.Option.{option_or}
+use Rattle.std.specs.HashMap.{get}
+use Rattle.audit_base.specs.declared.names.Key.{Key}
+use Rattle.audit_base.specs.declared.terms.Side.{Side}
+use Rattle.audit_base.specs.declared.terms.Side.TheVariants.{Buy, Sell}
+use Rattle.audit_base.specs.declared.terms.Which.TheVariants as which
+use Rattle.audit_base.specs.declared.records.TradeRecord.{TradeRecord}
+use Rattle.audit_base.specs.declared.orders.Order.{Order}
+use Rattle.audit_base.specs.declared.orders.Deal.{Deal}
+use Rattle.audit_base.specs.declared.findings.Property.TheVariants as property
+use Rattle.audit_base.specs.declared.findings.Finding.{Finding}
+use Rattle.audit_base.specs.declared.findings.Shown.TheVariants as shown
+use Rattle.audit_base.specs.Deals.{AreDeals}
+use Rattle.audit_base.specs.Least.{least_answer, least_with, only_if}
+use Rattle.audit_base.specs.Orders.{same_name, same_side, on_side_with_key}
+use Rattle.audit_base.specs.Shows.{found, show_place}
+use Rattle.audit_base.specs.Trades.{trades_of, trade_at, trade_place, duplicate_trade, unknown_order, deal_of}
+use Rattle.matching_core.specs.declared.deals_so_far.DealsSoFar.{DealsSoFar}
+use Rattle.matching_core.specs.declared.sound_deals.SoundDeals.{SoundDeals}
+use Rattle.matching_core.specs.declared.trade_ids.TradeIds.{TradeIds}
+
+-- Ids and keys.
+
+-- the place of the first trade with an id, as a map holds it
+abbrev pub first_in : TradeIds → List ℕ → Option ℕ
+first_in ids id = get same_name ids.map id
+
+-- one id more: it has this place, and every other id has what it had
+abbrev pub AddsId : TradeIds → TradeIds → List ℕ → ℕ → Type 0
+AddsId old new id place =
+    (other : List ℕ) → first_in new other ≡ (if same_name id other then Some place else first_in old other)
+
+-- an index, if the order there is of the side
+abbrev pub of_side : List Order → Side → ℕ → Option ℕ
+of_side orders side index = option_and_then (λ o. only_if (same_side side o.side) index) (slice_get orders index)
+
+-- Findings 5 and 6 of a trade, by what is known of those before it.
+
+-- 5, by the place of the earlier trade
+abbrev pub duplicate_of : ℕ → ℕ → Finding
+duplicate_of place first = found property.DuplicateTrade which.Trades place (show_place which.Trades first) None
+
+-- 6, by the key that no order of the side has
+abbrev pub unknown_of : Side → Key → ℕ → Finding
+unknown_of side key place = found property.UnknownOrder which.Trades place (Some (shown.Unknown side key)) None
+
+-- 6 of a trade with its place
+abbrev pub unknown_in : List Order → ℕ × TradeRecord → Option Finding
+unknown_in orders e =
+    option_or (only_if (is_none (on_side_with_key orders Buy e.1.buy)) (unknown_of Buy e.1.buy e.0))
+    (only_if (is_none (on_side_with_key orders Sell e.1.sell)) (unknown_of Sell e.1.sell e.0))
+
+-- What is known after some trades of a symbol.
+
+-- the first finding of such a list
+abbrev pub finding_in : List Order → List (ℕ × TradeRecord) → Option Finding
+finding_in orders listed =
+    least_answer (λ k. option_or (duplicate_trade listed k) (unknown_order orders listed k)) (length listed)
+
+-- the place of the first trade of the list with an id
+abbrev pub first_with : List (ℕ × TradeRecord) → List ℕ → Option ℕ
+first_with listed id =
+    option_map (trade_place listed) (least_with (λ j. same_name (trade_at listed j).trade id) (length listed))
+
+-- what is kept of trades without a finding: their deals and their ids
+pub record IsResolved (orders : List Order) (listed : List (ℕ × TradeRecord)) (kept : SoundDeals) : Type 0 where
+  pub clean : finding_in orders listed ≡ None
+  pub deals : kept.deals.items ≡ map (deal_of orders) listed
+  pub numbers : AreDeals kept.deals.items
+  pub ids : (id : List ℕ) → first_in kept.ids id ≡ first_with listed id
+
+-- what is kept is that of these trades, or the finding is their first one
+abbrev pub IsKnown : List Order → List (ℕ × TradeRecord) → SoundDeals → Option Finding → Type 0
+IsKnown orders listed kept None = IsResolved orders listed kept
+IsKnown orders listed kept (Some finding) = finding_in orders listed ≡ Some finding
+
+-- the symbol's part of exactly these records of the trade log is known
+pub record IsDealsSoFar {M : Type 0} (orders : List Order) (symbol : List ℕ) (so_far : DealsSoFar M) (trades : List TradeRecord) : Type 0 where
+  pub count : so_far.count ≡ length trades
+  pub known : IsKnown orders (trades_of symbol trades) so_far.sound so_far.finding
+
+-- whatever records of the trade log were known, they are known with one more
+abbrev pub TakesTrade : {M : Type 0} → List Order → List ℕ → DealsSoFar M → DealsSoFar M → TradeRecord → Type 0
+TakesTrade orders symbol old new trade =
+    (trades : List TradeRecord) → IsDealsSoFar orders symbol old trades
+    → IsDealsSoFar orders symbol new (trades ++ trade ∷ [])
+
+-- whatever trades were resolved, one more is known, at its place
+abbrev pub KnowsOneMore : List Order → SoundDeals → SoundDeals → ℕ → TradeRecord → Option Finding → Type 0
+KnowsOneMore orders old new place trade finding =
+    (listed : List (ℕ × TradeRecord)) → IsResolved orders listed old
+    → IsKnown orders (listed ++ (place, trade) ∷ []) new finding
+
+-- a trade at a place, if it is one of the symbol
+abbrev pub entry_of : List ℕ → ℕ → TradeRecord → List (ℕ × TradeRecord)
+entry_of symbol place trade = if same_name trade.symbol symbol then (place, trade) ∷ [] else []
+
+-- what is kept after a trade without a finding
+pub record AddsDeal (old new : SoundDeals) (id : List ℕ) (deal : Deal) : Type 0 where
+  pub deals : new.deals.items ≡ old.deals.items ++ deal ∷ []
+  pub numbers : AreDeals old.deals.items → AreDeals new.deals.items
+  pub ids : AddsId old.ids new.ids id deal.place

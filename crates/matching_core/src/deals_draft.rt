@@ -1,0 +1,111 @@
+//! The draft of deals: what is handed the records of a trade log one after another, and keeps what the
+//! deals of its symbol need of them.
+//!
+//! A draft counts every record, since places are counted over all symbols. A record of another symbol is
+//! only counted, and after the first finding so is every record. No room is reserved, since only the end
+//! of the log tells how many deals there are: the deals and the ids grow with them, by doubling.
+ghost use Rattle.std.specs.Prelude.{◌≡◌, ◌<◌, ◌-◌, ◌^◌, [], None, length};
+ghost use Rattle.audit_base.specs.Deals.{IsDealList, AreDeals};
+ghost use Rattle.matching_core.specs.DealsDraft.{IsDealsDraft, ForHanded, IsFindingOf, AreDealsOf};
+ghost use Rattle.log_source.specs.Collectors.{HasPlace};
+
+pub use super::deals_so_far::AuditedHistory;
+use super::deals_so_far::DealsSoFar;
+use audit_base::faults::NoMemory;
+use audit_base::findings::Finding;
+use audit_base::names::Name;
+use audit_base::orders::Deal;
+use audit_base::records::TradeRecord;
+use instruction_history::history::History;
+use log_source::collector::Collector;
+use std::alloc::Global;
+
+/// What is known of the trades of a symbol after some records of a trade log: their deals, or their first
+/// finding.
+#[derive(Drop)]
+pub struct DealsDraft<M> {
+    symbol: Name,
+    history: History,
+    so_far: DealsSoFar<M>,
+}
+
+/// What the trades of a log come to, between the orders of a history.
+#[derive(Drop)]
+pub struct ResolvedTrades {
+    pub history: History,
+    /// How many records the log has, of all symbols.
+    pub count: u32,
+    pub deals: Vec<Deal>,
+    /// The first finding; then the deals say nothing.
+    pub finding: Option<Finding>,
+}
+
+impl<M: AuditedHistory> DealsDraft<M> {
+    /// A draft that has been handed no records. Takes no memory.
+    pub fn new(alloc: Global, symbol: Name, history: History) -> DealsDraft<M>
+        requires symbol { symbol ≡ M.symbol }
+        requires orders { history ≡ M.orders }
+        ensures { IsDealsDraft M.symbol M.orders result [] }
+    {
+        DealsDraft {
+            symbol,
+            history,
+            so_far: DealsSoFar::new(alloc),
+        }
+    }
+
+    /// The deals, where the trades are sound, or their first finding. Takes no memory.
+    pub fn end(self) -> ResolvedTrades
+        requires { HasPlace (IsDealsDraft M.symbol M.orders) self }
+        ensures history { result.history ≡ M.orders }
+        ensures count { ForHanded M.symbol M.orders self (λ trades. result.count ≡ length trades) }
+        ensures finding { IsFindingOf M.symbol M.orders self result.finding }
+        ensures deals { AreDealsOf M.symbol M.orders self result.finding result.deals.items }
+        ensures deal_list { result.finding ≡ None → IsDealList M.orders result.deals.items }
+        ensures numbers { result.finding ≡ None → AreDeals result.deals.items }
+    {
+        let DealsDraft {
+            history,
+            so_far,
+            ..
+        } = self;
+        let DealsSoFar {
+            count,
+            sound,
+            finding,
+            ..
+        } = so_far;
+        ResolvedTrades {
+            history,
+            count,
+            deals: sound.deals,
+            finding,
+        }
+    }
+}
+
+impl<M: AuditedHistory> Collector for DealsDraft<M> {
+    ghost use Rattle.audit_base.specs.Orders.{same_name};
+
+    type Entry = TradeRecord;
+
+    ghost has_taken = { IsDealsDraft M.symbol M.orders };
+
+    ghost wants = { λ draft symbol. same_name symbol draft.symbol };
+
+    fn take(&mut self, trade: TradeRecord) -> Result<(), NoMemory> {
+        self.so_far.take(&self.history, &self.symbol, &trade)
+    }
+
+    fn wants(&self, symbol: &[u8]) -> bool {
+        symbol == self.symbol.bytes()
+    }
+
+    fn pass_over(&mut self) {
+        self.so_far.count += 1;
+    }
+
+    fn count(&self) -> u32 {
+        self.so_far.count
+    }
+}
