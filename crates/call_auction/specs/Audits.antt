@@ -5,7 +5,7 @@ use Rattle.audit_base.specs.declared.orders.Order.{Order}
 use Rattle.audit_base.specs.declared.orders.Deal.{Deal}
 use Rattle.audit_base.specs.declared.orders.Cut.{Cut}
 use Rattle.audit_base.specs.declared.findings.Finding.{Finding}
-use Rattle.audit_base.specs.Deals.{traded, volume}
+use Rattle.audit_base.specs.Deals.{traded, volume, AreDeals}
 use Rattle.audit_base.specs.Bounds.{IsBound}
 use Rattle.audit_base.specs.Rules.{Conforms, Only}
 use Rattle.audit_base.specs.CallOffences.{IsCallOffence}
@@ -14,21 +14,25 @@ use Rattle.matching_core.specs.declared.outcomes.Reached.{Reached}
 use Rattle.matching_core.specs.declared.outcomes.Outcome.{Outcome}
 use Rattle.matching_core.specs.declared.outcomes.Outcome.TheVariants as outcome
 
--- a greatest volume of the rule with its bound: some conforming list of deals has this volume, and the price is the least that
--- shows it
+-- a greatest volume of the rule with its bound: some conforming list of deals has this volume, and the price
+-- is the least that shows it
 pub record IsGreatestOf (the_rule : Rule) (orders : List Order) (most : Cut) : Type 0 where
   pub some : List Deal
+  pub ranges : AreDeals some
   pub conforms : Conforms the_rule orders some
   pub reached : volume some ≡ most.volume
   pub bound : IsBound the_rule orders most.volume most.price
 
 -- a bound of this volume under the rule
-pub record IsBoundOf (the_rule : Rule) (orders : List Order) (reached : ℕ) (bound : Cut) : Type 0 where
+pub record IsBoundOf (the_rule : Rule) (orders : List Order) (reached : ℕ)
+    (bound : Cut) : Type 0 where
   pub volume_is : bound.volume ≡ reached
   pub shows : IsBound the_rule orders reached bound.price
 
--- the deals conform, with what each order traded (in every conforming list of deals the same), the volume and the bound
-pub record IsReached (the_rule : Rule) (orders : List Order) (deals : List Deal) (reached : Reached) : Type 0 where
+-- the deals conform, with what each order traded (in every conforming list of deals the same), the volume
+-- and the bound
+pub record IsConforming (the_rule : Rule) (orders : List Order) (deals : List Deal)
+    (reached : Reached) : Type 0 where
   pub conforms : Conforms the_rule orders deals
   pub totals : AreTotals orders deals reached.traded.0
   pub total_is : reached.traded.1 ≡ volume deals
@@ -37,11 +41,15 @@ pub record IsReached (the_rule : Rule) (orders : List Order) (deals : List Deal)
   pub only : (i : ℕ) → i < length orders → Only the_rule orders i (traded deals i)
 
 -- the deals don't conform, and this is the first offence
-pub record IsBroken (the_rule : Rule) (orders : List Order) (deals : List Deal) (count : ℕ) (finding : Finding) : Type 0 where
+pub record IsBroken (the_rule : Rule) (orders : List Order) (deals : List Deal) (count : ℕ)
+    (finding : Finding) : Type 0 where
   pub offence : IsCallOffence the_rule orders deals count finding
   pub fails : Conforms the_rule orders deals → ⊥
 
--- what an audit answers: that the deals conform, or their first offence. `count` is the number of trades of the whole log
+-- what an audit answers: that the deals conform, or their first offence. `count` is the number of trades of
+-- the whole log
 abbrev pub IsAudited : Rule → List Order → List Deal → ℕ → Outcome → Type 0
-IsAudited the_rule orders deals count (outcome.Conforms reached) = IsReached the_rule orders deals reached
-IsAudited the_rule orders deals count (outcome.Broken finding) = IsBroken the_rule orders deals count finding
+IsAudited the_rule orders deals count (outcome.Conforms reached) =
+    IsConforming the_rule orders deals reached
+IsAudited the_rule orders deals count (outcome.Broken finding) =
+    IsBroken the_rule orders deals count finding

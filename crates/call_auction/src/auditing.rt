@@ -3,6 +3,7 @@
 ghost use Rattle.std.specs.Prelude.{◌≡◌, ◌<◌, ◌-◌, ◌^◌, All, length, IfOk};
 ghost use Rattle.audit_base.specs.Orders.{IsOrderList};
 ghost use Rattle.audit_base.specs.Deals.{IsDealList};
+ghost use Rattle.rank_order.specs.Sides.{AreRanked};
 ghost use Rattle.call_auction.specs.Audits.{IsGreatestOf, IsAudited};
 ghost use Rattle.call_auction.specs.Outcomes.{ShowsShort, ShowsVolume, IsOutcome};
 ghost use Rattle.call_auction.specs.Dues as spec;
@@ -59,8 +60,7 @@ fn short_with_due(
 /// the best short order of both sides with their dues.
 fn volume_finding(orders: &[Order], fair: &FairMatching, count: u32, greatest: u128) -> Finding
     requires few { length orders.now < 2 ^ 32 }
-    requires bids { All (λ i. i < length orders.now) fair.now.bids.items }
-    requires asks { All (λ i. i < length orders.now) fair.now.asks.items }
+    requires ranked { AreRanked orders.now fair.now.sides }
     requires totals { length fair.now.totals.0 ≡ length orders.now }
     requires count { count < 2 ^ 32 - 1 }
     ensures { ShowsVolume orders.now fair.now count greatest result }
@@ -70,8 +70,8 @@ fn volume_finding(orders: &[Order], fair: &FairMatching, count: u32, greatest: u
         property: Property::Volume,
         log: Which::Trades,
         place: count + 1,
-        first: short_with_due(orders, &fair.bids, traded, greatest),
-        second: short_with_due(orders, &fair.asks, traded, greatest),
+        first: short_with_due(orders, &fair.sides.bids, traded, greatest),
+        second: short_with_due(orders, &fair.sides.asks, traded, greatest),
         short: Some(Short {
             reached: fair.totals.volume(),
             greatest,
@@ -82,8 +82,7 @@ fn volume_finding(orders: &[Order], fair: &FairMatching, count: u32, greatest: u
 /// What a fair matching comes to: whether its volume is the greatest.
 fn outcome_of(orders: &[Order], fair: FairMatching, count: u32, most: Cut) -> Outcome
     requires few { length orders.now < 2 ^ 32 }
-    requires bids { All (λ i. i < length orders.now) fair.bids.items }
-    requires asks { All (λ i. i < length orders.now) fair.asks.items }
+    requires ranked { AreRanked orders.now fair.sides }
     requires totals { length fair.totals.0 ≡ length orders.now }
     requires count { count < 2 ^ 32 - 1 }
     ensures { IsOutcome orders.now fair count most result }
@@ -100,7 +99,7 @@ fn outcome_of(orders: &[Order], fair: FairMatching, count: u32, most: Cut) -> Ou
 }
 
 /// The audit of the rule `uniform` or `maximum` against the greatest volume that the rule allows, with
-/// its bound. Conforms exactly where the rule holds, want of memory aside: with what each order traded,
+/// its bound. Conforms exactly where the rule holds, out of memory aside: with what each order traded,
 /// which is then the same in every list of deals that conforms. Else Broken has the first offence. The
 /// number of trades of the whole log is `count`, behind which the finding of the volume stands.
 pub fn audit_call(
@@ -123,9 +122,7 @@ pub fn audit_call(
     lesser_volume_leaves_short_orders();
     match fair_matching(alloc, orders, deals, asks_one_price(rule)) {
         Ok(fair) => Ok(outcome_of(orders, fair, count, most)),
-        Err(fault) => match fault {
-            CheckFault::Found(finding) => Ok(Outcome::Broken(finding)),
-            CheckFault::Memory => Err(NoMemory),
-        },
+        Err(CheckFault::Found(finding)) => Ok(Outcome::Broken(finding)),
+        Err(CheckFault::Memory) => Err(NoMemory),
     }
 }

@@ -1,8 +1,7 @@
 //! The due of an order: what it trades in every list of deals that conforms, by its rank.
-ghost use Rattle.std.specs.Prelude.{◌≡◌, ◌<◌, ◌^◌, ◌&&◌, length};
-ghost use Rattle.audit_base.specs.Orders.{order_at, stands_on};
-ghost use Rattle.audit_base.specs.Priority.{outranks};
-ghost use Rattle.audit_base.specs.Units.{ahead};
+ghost use Rattle.std.specs.Prelude.{◌≡◌, ◌<◌, ◌^◌, length};
+ghost use Rattle.audit_base.specs.Orders.{order_at};
+ghost use Rattle.audit_base.specs.Units as units;
 ghost use Rattle.call_auction.specs.Dues as spec;
 
 use audit_base::orders::Order;
@@ -11,9 +10,9 @@ use rank_order::comparing::better;
 /// Whether no record cancels the order, and it is of the side of the other and better (price-time
 /// priority).
 fn is_ahead(order: &Order, other: &Order) -> bool
-    ensures { result ≡ (stands_on other.now.side order.now && outranks other.now.side order.now other.now) }
+    ensures { result ≡ spec.is_ahead other.now.side order.now other.now }
 {
-    if order.cancelled.is_some() || order.side != other.side {
+    if !order.stands_on(other.side) {
         return false;
     }
     better(order, other)
@@ -21,7 +20,7 @@ fn is_ahead(order: &Order, other: &Order) -> bool
 
 /// The quantity of the order, if it is ahead of the other.
 fn quantity_ahead(order: &Order, other: &Order) -> u64
-    ensures { result ≡ spec.quantity_ahead other.now.side order.now other.now }
+    ensures { result ≡ units.quantity_ahead other.now.side order.now other.now }
 {
     if is_ahead(order, other) {
         order.quantity.value()
@@ -34,7 +33,7 @@ fn quantity_ahead(order: &Order, other: &Order) -> u64
 fn ahead_of(orders: &[Order], index: usize) -> u128
     requires few { length orders.now < 2 ^ 32 }
     requires inside { index < length orders.now }
-    ensures { result ≡ ahead orders.now (order_at orders.now index).side index }
+    ensures { result ≡ units.ahead orders.now (order_at orders.now index).side index }
 {
     let other = &orders[index];
     orders
@@ -48,7 +47,7 @@ fn ahead_of(orders: &[Order], index: usize) -> u128
 pub(crate) fn due_of(orders: &[Order], index: usize, volume: u128) -> u128
     requires few { length orders.now < 2 ^ 32 }
     requires inside { index < length orders.now }
-    ensures { result ≡ spec.due_by_rank orders.now (order_at orders.now index).side volume index }
+    ensures { result ≡ units.due_by_rank orders.now (order_at orders.now index).side volume index }
 {
     let quantity = u128::from(orders[index].quantity.value());
     quantity.min(volume.saturating_sub(ahead_of(orders, index)))

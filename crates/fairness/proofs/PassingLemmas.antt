@@ -12,10 +12,10 @@ use Rattle.audit_base.specs.declared.findings.Finding.{Finding}
 use Rattle.audit_base.specs.Least.{only_if}
 use Rattle.audit_base.specs.Orders.{order_at, quantity_at, stands_on, Stands, IsOrderList}
 use Rattle.audit_base.specs.Priority.{better, Better}
-use Rattle.audit_base.specs.Deals.{deal_at, any_deal, part_of, traded}
+use Rattle.audit_base.specs.Deals.{deal_at, missing_deal, part_of, traded}
 use Rattle.audit_base.specs.Calls.{Matching, Fair}
 use Rattle.audit_base.specs.ContinuousOffences.{priority_of}
-use Rattle.audit_base.specs.CallOffences.{is_short, best_short, is_passed_over, bid_passed_over, ask_passed_over}
+use Rattle.audit_base.specs.CallOffences.{is_short, best_short, is_outranked_by_short, bid_passed_over, ask_passed_over}
 use Rattle.audit_base.specs.Shows.{at_deal, show_order, show_found}
 use Rattle.audit_base.proofs.LeastLemmas.{any-at, any-none, option_or-cases}
 use Rattle.audit_base.proofs.OrderLemmas.{test-stands}
@@ -23,7 +23,7 @@ use Rattle.audit_base.proofs.OffenceLemmas.{get_or-default}
 use Rattle.audit_base.proofs.DealLemmas.{part-bid, part-ask}
 use Rattle.audit_base.proofs.PriorityLemmas.{IsBest, best-is, best-exists, Better-total, Better-onward}
 use Rattle.short_order.specs.Totals.{AreTotals}
-use Rattle.fairness.specs.Passing.{order_of, passed_over, unfair_at}
+use Rattle.fairness.specs.Passing.{order_of_deal, outranked_at, unfair_at}
 
 some-none : {X : Type 0} (o : Option X) (x : X) → o ≡ None → o ≡ Some x → ⊥
 some-none None x e f = cc
@@ -38,9 +38,9 @@ abbrev pub unfair : List Order → List Deal → ℕ → Option Finding
 unfair orders deals k = option_or (bid_passed_over orders deals k) (ask_passed_over orders deals k)
 
 -- the two orders of a deal trade at least its quantity
-traded-least : (deals : List Deal) (side : Side) (k : ℕ) → k < length deals → (deal_at deals k).quantity ≤ traded deals (order_of side (deal_at deals k))
-traded-least deals Buy k lt = let d = deal_at deals k in omega (arith, part-bid d, sum_by_more_le (part_of d.bid) deals k any_deal lt)
-traded-least deals Sell k lt = let d = deal_at deals k in omega (arith, part-ask d, sum_by_more_le (part_of d.ask) deals k any_deal lt)
+traded-least : (deals : List Deal) (side : Side) (k : ℕ) → k < length deals → (deal_at deals k).quantity ≤ traded deals (order_of_deal side (deal_at deals k))
+traded-least deals Buy k lt = let d = deal_at deals k in omega (arith, part-bid d, sum_by_more_le (part_of d.bid) deals k missing_deal lt)
+traded-least deals Sell k lt = let d = deal_at deals k in omega (arith, part-ask d, sum_by_more_le (part_of d.ask) deals k missing_deal lt)
 
 module _ (orders : List Order) (deals : List Deal) (side : Side) where
   -- the best short order is short, and no short order is better
@@ -56,15 +56,15 @@ module _ (orders : List Order) (deals : List Deal) (side : Side) where
   best-stands (Some i) e = let b = short-best i (sym e) in short-stands i b.inside b.passes
 
   -- where no order is short, none is passed over
-  none-passed : best_short orders deals side ≡ None → (i : ℕ) → is_passed_over orders deals side i ≡ false
-  unfolding best_short is_passed_over
+  none-passed : best_short orders deals side ≡ None → (i : ℕ) → is_outranked_by_short orders deals side i ≡ false
+  unfolding best_short is_outranked_by_short
   none-passed none i = any-none (λ j. is_short orders deals side j && better (order_at orders j) (order_at orders i)) (length orders) (λ j lt. false_from_ne_true _ (λ over.
       let found = best-exists orders (is_short orders deals side) j lt ((and_parts (is_short orders deals side j) _ over).0) in
       some-none _ found.0 none found.1))
 
   -- else an order is passed over exactly where the best short order is better: Better is a strict total order on the side
-  best-passes : IsOrderList orders → (b : ℕ) → best_short orders deals side ≡ Some b → (i : ℕ) → is_passed_over orders deals side i ≡ better (order_at orders b) (order_at orders i)
-  unfolding is_passed_over
+  best-passes : IsOrderList orders → (b : ℕ) → best_short orders deals side ≡ Some b → (i : ℕ) → is_outranked_by_short orders deals side i ≡ better (order_at orders b) (order_at orders i)
+  unfolding is_outranked_by_short
   best-passes list b e i = elim (cases_Bool (better (order_at orders b) (order_at orders i))) [
     | inl over ↦ any-at passes (length orders) b is.inside (and_from _ _ is.passes over) ∙ sym over
     | inr under ↦ any-none passes (length orders) (λ j lt. false_from_ne_true _ (λ t. below under j lt (and_parts (is_short orders deals side j) _ t))) ∙ sym under
@@ -88,46 +88,46 @@ module _ (orders : List Order) (deals : List Deal) (side : Side) where
 module _ (orders : List Order) (deals : List Deal) (numbers : List ℕ) (list : IsOrderList orders) (totals : AreTotals orders deals numbers) where
   -- the finding of a side at a deal, as the definition has it
   abbrev defined : Side → Deal → Option Finding
-  defined side d = only_if (is_passed_over orders deals side (order_of side d))
-      (at_deal (priority_of side) d (show_found orders (traded deals) (best_short orders deals side)) (show_order orders (traded deals) (order_of side d)))
+  defined side d = only_if (is_outranked_by_short orders deals side (order_of_deal side d))
+      (at_deal (priority_of side) d (show_found orders (traded deals) (best_short orders deals side)) (show_order orders (traded deals) (order_of_deal side d)))
 
   shown-same : (i : ℕ) → i < length orders → show_order orders (slice_index numbers) i ≡ show_order orders (traded deals) i
   shown-same i lt = ap (λ (n : ℕ). show_order orders (λ k. n) i) (totals.each i lt)
 
-  passed-defined : (side : Side) (short : Option ℕ) → short ≡ best_short orders deals side → (d : Deal) → Stands orders side (order_of side d)
-      → passed_over orders numbers side short d ≡ defined side d
-  passed-defined side None e d s = rw (none-passed orders deals side (sym e) (order_of side d)) refl
+  passed-defined : (side : Side) (short : Option ℕ) → short ≡ best_short orders deals side → (d : Deal) → Stands orders side (order_of_deal side d)
+      → outranked_at orders numbers side short d ≡ defined side d
+  passed-defined side None e d s = rw (none-passed orders deals side (sym e) (order_of_deal side d)) refl
   passed-defined side (Some b) e d s =
-      rw (best-passes orders deals side list b (sym e) (order_of side d), ← e, shown-same b (short-best orders deals side b (sym e)).inside, shown-same (order_of side d) s.inside) refl
+      rw (best-passes orders deals side list b (sym e) (order_of_deal side d), ← e, shown-same b (short-best orders deals side b (sym e)).inside, shown-same (order_of_deal side d) s.inside) refl
 
-  not-fair : (side : Side) (short : Option ℕ) → short ≡ best_short orders deals side → (k : ℕ) → k < length deals → 0 < (deal_at deals k).quantity → Stands orders side (order_of side (deal_at deals k))
-      → (finding : Finding) → passed_over orders numbers side short (deal_at deals k) ≡ Some finding → Fair orders deals → ⊥
+  not-fair : (side : Side) (short : Option ℕ) → short ≡ best_short orders deals side → (k : ℕ) → k < length deals → 0 < (deal_at deals k).quantity → Stands orders side (order_of_deal side (deal_at deals k))
+      → (finding : Finding) → outranked_at orders numbers side short (deal_at deals k) ≡ Some finding → Fair orders deals → ⊥
   not-fair side None e k lt some s finding found fair = cc
   not-fair side (Some b) e k lt some s finding found fair =
       let best = short-best orders deals side b (sym e) in
       let below = ltb-true _ _ ((and_parts (stands_on side (order_at orders b)) (nat_lt (traded deals b) (quantity_at orders b)) best.passes).1) in
       let least = traded-least deals side k lt in
-      let full = fair.fills side b (order_of side (deal_at deals k)) (short-stands orders deals side b best.inside best.passes) s (only-true _ _ _ found) (omega arith) in
+      let full = fair.fills side b (order_of_deal side (deal_at deals k)) (short-stands orders deals side b best.inside best.passes) s (only-true _ _ _ found) (omega arith) in
       absurd (omega arith)
 
   -- what the code finds at the deal at k, from the best short orders
   module _ (bid ask : Option ℕ) (bid_is : bid ≡ best_short orders deals Buy) (ask_is : ask ≡ best_short orders deals Sell) (matching : Matching orders deals)
       (k : ℕ) (lt : k < length deals) (d : Deal) (is : d ≡ get_or deals k d) where
     d_is : d ≡ deal_at deals k
-    d_is = is ∙ get_or-default deals k d any_deal lt
+    d_is = is ∙ get_or-default deals k d missing_deal lt
 
     pub unfair-is : unfair_at orders numbers bid ask d ≡ unfair orders deals k
     unfolding bid_passed_over ask_passed_over
     unfair-is =
-        let kept = matching.kept k any_deal lt in
-        let bids : passed_over orders numbers Buy bid (deal_at deals k) ≡ bid_passed_over orders deals k = passed-defined Buy bid bid_is (deal_at deals k) kept.bid_stands in
-        let asks : passed_over orders numbers Sell ask (deal_at deals k) ≡ ask_passed_over orders deals k = passed-defined Sell ask ask_is (deal_at deals k) kept.ask_stands in
+        let kept = matching.kept k missing_deal lt in
+        let bids : outranked_at orders numbers Buy bid (deal_at deals k) ≡ bid_passed_over orders deals k = passed-defined Buy bid bid_is (deal_at deals k) kept.bid_stands in
+        let asks : outranked_at orders numbers Sell ask (deal_at deals k) ≡ ask_passed_over orders deals k = passed-defined Sell ask ask_is (deal_at deals k) kept.ask_stands in
         ap (unfair_at orders numbers bid ask) d_is ∙ (λ i. option_or (bids i) (asks i))
 
     -- where it finds something, the deals aren't fair
     pub unfair-breaks : (finding : Finding) → unfair_at orders numbers bid ask d ≡ Some finding → 0 < d.quantity → Fair orders deals → ⊥
     unfair-breaks finding found some fair =
-        let kept = matching.kept k any_deal lt in
+        let kept = matching.kept k missing_deal lt in
         let here : unfair_at orders numbers bid ask (deal_at deals k) ≡ Some finding = ap (unfair_at orders numbers bid ask) (sym d_is) ∙ found in
         let positive : 0 < (deal_at deals k).quantity = subst (λ (e : Deal). 0 < e.quantity) d_is some in
         elim (option_or-cases _ _ finding here) [

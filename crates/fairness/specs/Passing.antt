@@ -13,16 +13,20 @@ use Rattle.audit_base.specs.Shows.{at_deal, show_order}
 use Rattle.audit_base.specs.ContinuousOffences.{priority_of}
 
 -- the deal's order of a side
-abbrev pub order_of : Side → Deal → ℕ
-order_of Buy d = d.bid
-order_of Sell d = d.ask
+abbrev pub order_of_deal : Side → Deal → ℕ
+order_of_deal Buy d = d.bid
+order_of_deal Sell d = d.ask
 
--- where the best short order of the side is better than the deal's order, the two are shown with what they trade
-abbrev pub passed_over : List Order → List ℕ → Side → Option ℕ → Deal → Option Finding
-passed_over orders traded side None d = None
-passed_over orders traded side (Some short) d = only_if (better (order_at orders short) (order_at orders (order_of side d)))
-    (at_deal (priority_of side) d (show_order orders (slice_index traded) short) (show_order orders (slice_index traded) (order_of side d)))
+-- where the best short order of the side outranks the deal's order: the two, with what they trade
+abbrev pub outranked_at : List Order → List ℕ → Side → Option ℕ → Deal → Option Finding
+outranked_at orders traded side None d = None
+outranked_at orders traded side (Some short) d =
+    let own = order_of_deal side d in
+    let shown = show_order orders (slice_index traded) in
+    only_if (better (order_at orders short) (order_at orders own))
+    (at_deal (priority_of side) d (shown short) (shown own))
 
 -- this of the bids, or else of the asks
 abbrev pub unfair_at : List Order → List ℕ → Option ℕ → Option ℕ → Deal → Option Finding
-unfair_at orders traded bid ask d = option_or (passed_over orders traded Buy bid d) (passed_over orders traded Sell ask d)
+unfair_at orders traded bid ask d =
+    option_or (outranked_at orders traded Buy bid d) (outranked_at orders traded Sell ask d)

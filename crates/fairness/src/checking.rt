@@ -14,13 +14,13 @@ use audit_base::findings::Finding;
 use audit_base::orders::{Deal, Order};
 use short_order::searching::best_short;
 
-/// Whether a matching is fair: an order that is better by price-time priority than one that trades is fully
-/// traded. Ok exactly where it is, else the first of the findings that a short bid or a short ask is passed
-/// over: of the least deal that passes one over, and of its two the one of the bids. It shows the best short
-/// order of the side and the deal's order, with what they trade in all deals.
+/// Whether a matching is fair: an order that is better by price-time priority than one that trades is
+/// fully traded. Ok exactly where it is, else the first of the findings that a short bid or a short ask
+/// is passed over: of the least deal that passes one over, and of its two the one of the bids. It shows
+/// the best short order of the side and the deal's order, with what they trade in all deals.
 ///
-/// `bids` and `asks` are the ranks of the two sides, and `traded` is what each order trades, by its index. The
-/// deals are gone over once. Takes no memory.
+/// `bids` and `asks` are the ranks of the two sides, and `traded` is what each order trades, by its index.
+/// One pass over the deals. Takes no memory.
 pub fn check_fair(
     orders: &[Order],
     bids: &[usize],

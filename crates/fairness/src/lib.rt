@@ -2,7 +2,5 @@
 #![tactic(auto)]
 
 pub mod checking;
-#[cfg(test)]
-mod checking_tests;
 pub mod laws;
 mod passing;

@@ -4,7 +4,7 @@ ghost use Rattle.audit_base.specs.declared.terms.Side.TheVariants.{Buy, Sell};
 ghost use Rattle.audit_base.specs.Orders.{Stands};
 ghost use Rattle.audit_base.specs.Shows.{show_order};
 ghost use Rattle.audit_base.specs.ContinuousOffences.{priority_of};
-ghost use Rattle.fairness.specs.Passing as passing;
+ghost use Rattle.fairness.specs.Passing as spec;
 
 use audit_base::findings::{Finding, OrderLine, Property, Shown};
 use audit_base::orders::{Deal, Order};
@@ -12,8 +12,8 @@ use audit_base::terms::Side;
 use rank_order::comparing::better;
 
 /// The index of the deal's order of a side.
-fn order_of(side: Side, deal: &Deal) -> usize
-    ensures { result ≡ passing.order_of side deal.now }
+fn order_of_deal(side: Side, deal: &Deal) -> usize
+    ensures { result ≡ spec.order_of_deal side deal.now }
 {
     match side {
         Side::Buy => deal.bid,
@@ -41,7 +41,7 @@ fn show_order(orders: &[Order], traded: &[u128], index: usize) -> Option<Shown>
 }
 
 /// The finding of a deal whose order of this side is outranked by the best short order of the side.
-fn passed_over(
+fn outranked_at(
     orders: &[Order],
     traded: &[u128],
     side: Side,
@@ -50,11 +50,11 @@ fn passed_over(
 ) -> Option<Finding>
     requires count { length traded.now ≡ length orders.now }
     requires short { IfSome short (λ i. Stands orders.now side i) }
-    requires stands { Stands orders.now side (passing.order_of side deal.now) }
-    ensures { result ≡ passing.passed_over orders.now traded.now side short deal.now }
+    requires stands { Stands orders.now side (spec.order_of_deal side deal.now) }
+    ensures { result ≡ spec.outranked_at orders.now traded.now side short deal.now }
 {
     let short = short?;
-    let index = order_of(side, deal);
+    let index = order_of_deal(side, deal);
     if better(&orders[short], &orders[index]) {
         let first = show_order(orders, traded, short);
         let second = show_order(orders, traded, index);
@@ -77,13 +77,13 @@ pub fn unfair_at(
     requires short_ask { IfSome short_ask (λ i. Stands orders.now Sell i) }
     requires bid { Stands orders.now Buy deal.now.bid }
     requires ask { Stands orders.now Sell deal.now.ask }
-    ensures finding { result ≡ passing.unfair_at orders.now traded.now short_bid short_ask deal.now }
+    ensures finding { result ≡ spec.unfair_at orders.now traded.now short_bid short_ask deal.now }
     ensures positive { 0 < deal.now.quantity }
 {
     // A quantity is at least 1, so each of the two orders trades something.
     let _ = deal.quantity.value();
-    match passed_over(orders, traded, Side::Buy, short_bid, deal) {
+    match outranked_at(orders, traded, Side::Buy, short_bid, deal) {
         Some(finding) => Some(finding),
-        None => passed_over(orders, traded, Side::Sell, short_ask, deal),
+        None => outranked_at(orders, traded, Side::Sell, short_ask, deal),
     }
 }

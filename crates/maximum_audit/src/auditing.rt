@@ -25,7 +25,7 @@ fn greatest_of(alloc: Global, orders: &[Order]) -> Result<Cut, NoMemory>
 }
 
 /// The audit of the rule `maximum` over the deals of a log of `count` trades. Conforms exactly where
-/// they are a fair matching and no matching has a greater volume, want of memory aside: with what each
+/// they are a fair matching and no matching has a greater volume, out of memory aside: with what each
 /// order traded, the only quantities that conform, the volume, and the least price whose cut is the
 /// volume. Else Broken has the first offence, of the properties 7, 8 and 10 to 14.
 pub fn audit_maximum(

@@ -7,18 +7,17 @@ ghost use Rattle.audit_base.specs.Expected.{IsExpectedMaximum};
 
 use audit_base::faults::NoMemory;
 use audit_base::orders::{Deal, Order};
-use audit_base::terms::Side;
 use call_laws::optimum::{
     greatest_matching_reaches_the_least_cut, maximum_trades_are_expected, units_suffice,
 };
-use rank_order::ranking::ranked;
+use rank_order::ranking::ranked_sides;
 use std::alloc::Global;
 use unit_pairs::pairing::maximum_pairs;
 use volume_bound::extremes::least_cut;
 
 /// The Expected trades of `maximum`, which are a matching of the greatest volume V: unit V + 1 - j of the
-/// bids meets unit j of the asks, both in rank order, at the ask's limit. They conform to the rule. Err
-/// only for want of memory.
+/// bids meets unit j of the asks, both in rank order, at the ask's limit. They conform to the rule. In
+/// n log n steps for n orders. Err only out of memory.
 pub fn greatest_matching(alloc: Global, orders: &[Order]) -> Result<Vec<Deal>, NoMemory>
     requires { IsOrderList orders.now }
     ensures expected { IfOk result (λ deals. IsExpectedMaximum orders.now deals.items) }
@@ -29,7 +28,6 @@ pub fn greatest_matching(alloc: Global, orders: &[Order]) -> Result<Vec<Deal>, N
     maximum_trades_are_expected();
     units_suffice();
     let most = least_cut(alloc, orders)?;
-    let bids = ranked(alloc, orders, Side::Buy)?;
-    let asks = ranked(alloc, orders, Side::Sell)?;
-    maximum_pairs(alloc, orders, &bids, &asks, most.volume)
+    let sides = ranked_sides(alloc, orders)?;
+    maximum_pairs(alloc, orders, &sides, most.volume)
 }

@@ -13,7 +13,7 @@ use Rattle.std.proofs.lemmas.Map.Keys.{IsDistinct-from_apart, IsDistinct-IsPermu
 use Rattle.audit_base.specs.declared.terms.Side.{Side}
 use Rattle.audit_base.specs.declared.terms.Side.TheVariants.{Buy, Sell}
 use Rattle.audit_base.specs.declared.orders.Order.{Order}
-use Rattle.audit_base.specs.Orders.{any_order, order_at, limit_at, stands_on, Stands, IsOrderList}
+use Rattle.audit_base.specs.Orders.{missing_order, order_at, limit_at, stands_on, Stands, IsOrderList}
 use Rattle.audit_base.specs.Priority.{outranks, Better, IsRanked}
 use Rattle.audit_base.proofs.SumLemmas.{AllPairs-head, AllPairs-tail, AllPairs-cons}
 use Rattle.audit_base.proofs.OrderLemmas.{test-stands, stands-test}
@@ -79,7 +79,7 @@ module _ (orders : List Order) (side : Side) where
   pub ranks-read : (n : ℕ) (ranks : List Rank) → n < length orders → (o : Order) → o ≡ get_or orders n o → o.limit < 10 ^ 18 → AreRanks orders side n ranks
       → AreRanks orders side (n + 1) (ranks ++ rank_if side n o)
   ranks-read n ranks lt o is priced are =
-      let here : o ≡ order_at orders n = is ∙ get_or-default orders n o any_order lt in
+      let here : o ≡ order_at orders n = is ∙ get_or-default orders n o missing_order lt in
       let limit : limit_at orders n < 10 ^ 18 = subst (λ (p : Order). p.limit < 10 ^ 18) here priced in
       subst (λ (p : Order). AreRanks orders side (n + 1) (ranks ++ rank_if side n p)) (sym here) (ranks-more n ranks lt limit are)
 

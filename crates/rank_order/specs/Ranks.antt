@@ -6,7 +6,7 @@ use Rattle.audit_base.specs.declared.orders.Order.{Order}
 use Rattle.audit_base.specs.Orders.{order_at, limit_at, stands_on, Stands}
 use Rattle.rank_order.specs.declared.ranks.Rank.{Rank}
 
--- what a limit weighs, the less the better: for a bid what it is below 10^18, for an ask the limit itself
+-- what a limit weighs, the less the better: of a bid what it is below 10^18, of an ask the limit itself
 abbrev pub weight_of : Side → ℕ → ℕ
 weight_of Buy limit = 10 ^ 18 - limit
 weight_of Sell limit = limit

@@ -1,8 +1,9 @@
 //! The orders of a side from the best to the worst.
 ghost use Rattle.std.specs.Prelude.{◌≡◌, ◌<◌, ◌^◌, ◌++◌, IfOk, OnOk, length, map};
-ghost use Rattle.audit_base.specs.Orders.{IsOrderList, stands_on};
+ghost use Rattle.audit_base.specs.Orders.{IsOrderList};
 ghost use Rattle.audit_base.specs.Priority.{IsRanked};
 ghost use Rattle.rank_order.specs.Ranks.{AreRanks, rank_if, index_of};
+ghost use Rattle.rank_order.specs.Sides.{AreRanked};
 
 use super::ranks::Rank;
 use audit_base::faults::NoMemory;
@@ -10,31 +11,23 @@ use audit_base::orders::Order;
 use audit_base::terms::Side;
 use std::alloc::Global;
 
-/// Whether the order is of the side and no record cancels it.
-fn stands_on(side: Side, order: &Order) -> bool
-    ensures { result ≡ stands_on side order.now }
-{
-    order.cancelled.is_none() && order.side == side
-}
-
-/// Adds the rank of an order, if it stands on the side.
+/// Adds the rank of an order, if it is of the side and no record cancels it.
 fn add_rank(ranks: &mut Vec<Rank>, side: Side, index: usize, order: &Order) -> Result<(), NoMemory>
     ensures ranks { OnOk result (ranks.new.items ≡ ranks.old.items ++ rank_if side index order.now) }
     ensures priced { order.now.limit < 10 ^ 18 }
 {
     let rank = Rank::of(index, order);
-    if stands_on(side, order) {
-        ranks.push(rank).map_err(|_| NoMemory)
-    } else {
-        Ok(())
+    if order.stands_on(side) {
+        ranks.push(rank)?;
     }
+    Ok(())
 }
 
 /// The ranks of the orders of a side that no record cancels, by rising index.
 fn ranks_of(alloc: Global, orders: &[Order], side: Side) -> Result<Vec<Rank>, NoMemory>
     ensures { IfOk result (λ ranks. AreRanks orders.now side (length orders.now) ranks.items) }
 {
-    let mut ranks = Vec::with_capacity(alloc, orders.len()).map_err(|_| NoMemory)?;
+    let mut ranks = Vec::with_capacity(alloc, orders.len())?;
     for (index, order) in orders.iter().enumerate() {
         add_rank(&mut ranks, side, index, order)?;
     }
@@ -45,22 +38,39 @@ fn ranks_of(alloc: Global, orders: &[Order], side: Side) -> Result<Vec<Rank>, No
 fn indices_of(alloc: Global, ranks: &[Rank]) -> Result<Vec<usize>, NoMemory>
     ensures { IfOk result (λ indices. indices.items ≡ map index_of ranks.now) }
 {
-    let mut indices = Vec::with_capacity(alloc, ranks.len()).map_err(|_| NoMemory)?;
+    let mut indices = Vec::with_capacity(alloc, ranks.len())?;
     for rank in ranks {
-        indices.push(rank.index).map_err(|_| NoMemory)?;
+        indices.push(rank.index)?;
     }
     Ok(indices)
 }
 
-/// The orders of a side that no record cancels, by their indices, each once, the best first: by the better
-/// limit, and among equal limits by the smaller place (price-time priority). Err only for want of memory.
+/// The orders of a side that no record cancels, by their indices, each once, the best first: by the
+/// better limit, and among equal limits by the smaller place (price-time priority). In n log n steps for
+/// n orders. Err only out of memory.
 pub fn ranked(alloc: Global, orders: &[Order], side: Side) -> Result<Vec<usize>, NoMemory>
     requires { IsOrderList orders.now }
     ensures { IfOk result (λ ranks. IsRanked orders.now side ranks.items) }
 {
     let mut ranks = ranks_of(alloc, orders, side)?;
-    match ranks.sort() {
-        Ok(()) => indices_of(alloc, &ranks),
-        Err(_) => Err(NoMemory),
-    }
+    ranks.sort()?;
+    indices_of(alloc, &ranks)
+}
+
+/// The orders that no record cancels, by their indices, each side from the best to the worst.
+#[derive(Debug, Drop)]
+pub struct RankedSides {
+    pub bids: Vec<usize>,
+    pub asks: Vec<usize>,
+}
+
+/// Both sides of an order list, each ranked by price-time priority. Err only out of memory.
+pub fn ranked_sides(alloc: Global, orders: &[Order]) -> Result<RankedSides, NoMemory>
+    requires { IsOrderList orders.now }
+    ensures { IfOk result (AreRanked orders.now) }
+{
+    Ok(RankedSides {
+        bids: ranked(alloc, orders, Side::Buy)?,
+        asks: ranked(alloc, orders, Side::Sell)?,
+    })
 }

@@ -10,7 +10,7 @@ use Rattle.audit_base.specs.Priority.{IsRanked}
 use Rattle.audit_base.specs.Deals as deals_of
 use Rattle.audit_base.specs.CallOffences.{best_short}
 use Rattle.audit_base.proofs.RankLemmas.{first-ranked}
-use Rattle.short_order.specs.Totals.{AreTotals, is_left}
+use Rattle.short_order.specs.Totals.{AreTotals, is_short_by}
 
 -- two tests that agree on a list find the same there
 find-same : (p q : ℕ → Bool) (xs : List ℕ) → All (λ i. p i ≡ q i) xs → find p xs ≡ find q xs
@@ -19,9 +19,9 @@ find-same p q (x ∷ xs) same = rw (All-head (λ i. p i ≡ q i) x xs same, find
 
 -- a short order that was found by its totals is the best of its side
 pub best-found : (orders : List Order) (side : Side) (ranks traded : List ℕ) (deals : List Deal) → IsOrderList orders → IsRanked orders side ranks → AreTotals orders deals traded
-    → find (is_left orders traded) ranks ≡ best_short orders deals side
+    → find (is_short_by orders traded) ranks ≡ best_short orders deals side
 unfolding best_short
 best-found orders side ranks traded deals list ranked totals =
-    find-same (is_left orders traded) (λ i. nat_lt (deals_of.traded deals i) (quantity_at orders i)) ranks
+    find-same (is_short_by orders traded) (λ i. nat_lt (deals_of.traded deals i) (quantity_at orders i)) ranks
     (λ k d lt. ap (λ (n : ℕ). nat_lt n (quantity_at orders (get_or ranks k d))) (totals.each (get_or ranks k d) (ranked.only k d lt).inside))
     ∙ first-ranked orders list side ranks ranked (λ i. nat_lt (deals_of.traded deals i) (quantity_at orders i))

@@ -1,8 +1,12 @@
--- What each order of a list trades, by its index, and which orders that leaves short.
-use Rattle.std.specs.Prelude.{◌≡◌, ◌<◌, ℕ, Bool, nat_lt, List, length, slice_index}
+-- What each order of a list trades, by its index, and which orders that leaves short. An order is short
+-- where it isn't fully traded (LeavesQty > 0).
+use Rattle.std.specs.Prelude.{◌≡◌, ◌<◌, ℕ, Bool, nat_lt, List, Option, length, slice_index}
+use Rattle.audit_base.specs.declared.terms.Side.{Side}
 use Rattle.audit_base.specs.declared.orders.Order.{Order}
 use Rattle.audit_base.specs.declared.orders.Deal.{Deal}
-use Rattle.audit_base.specs.Orders.{quantity_at}
+use Rattle.audit_base.specs.Orders.{quantity_at, IsOrderList}
+use Rattle.audit_base.specs.Priority.{IsRanked}
+use Rattle.audit_base.specs.CallOffences.{best_short}
 use Rattle.audit_base.specs.Deals as deals_of
 
 -- the numbers are what each order of the list trades in these deals
@@ -11,5 +15,11 @@ pub record AreTotals (orders : List Order) (deals : List Deal) (traded : List �
   pub each : (i : ℕ) → i < length orders → slice_index traded i ≡ deals_of.traded deals i
 
 -- by these numbers the order at i trades less than its quantity
-abbrev pub is_left : List Order → List ℕ → ℕ → Bool
-is_left orders traded i = nat_lt (slice_index traded i) (quantity_at orders i)
+abbrev pub is_short_by : List Order → List ℕ → ℕ → Bool
+is_short_by orders traded i = nat_lt (slice_index traded i) (quantity_at orders i)
+
+-- whichever side the ranks are of, and whichever deals the numbers: the best short order of that side, if it has one
+abbrev pub IsBestShortOf : List Order → List ℕ → List ℕ → Option ℕ → Type 0
+IsBestShortOf orders ranked traded found =
+    (side : Side) (deals : List Deal) → IsOrderList orders → IsRanked orders side ranked
+    → AreTotals orders deals traded → found ≡ best_short orders deals side

@@ -1,4 +1,4 @@
-//! Short orders: those that trade less than they ask for.
+//! Short orders: those that are not fully traded (LeavesQty > 0).
 #![tactic(auto)]
 
 pub mod searching;

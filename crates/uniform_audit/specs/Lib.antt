@@ -1,0 +1,1 @@
+-- What the public contracts cite stands in audit_base and call_auction. Private functions pass on nothing else.

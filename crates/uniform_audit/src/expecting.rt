@@ -9,9 +9,8 @@ ghost use Rattle.audit_base.specs.Expected.{IsExpectedUniform};
 use audit_base::faults::NoMemory;
 use audit_base::numbers::Price;
 use audit_base::orders::{Cut, Deal, Order};
-use audit_base::terms::Side;
 use call_laws::optimum::{uniform_optimum, uniform_trades_are_expected, units_suffice};
-use rank_order::ranking::ranked;
+use rank_order::ranking::ranked_sides;
 use std::alloc::Global;
 use unit_pairs::pairing::uniform_pairs;
 use volume_bound::extremes::best_uniform;
@@ -30,8 +29,8 @@ fn price_of(orders: &[Order], most: Cut) -> Price
 }
 
 /// The Expected trades of `uniform`: unit j of the bids meets unit j of the asks, both in rank order, up
-/// to the greatest volume of a matching of one price, at the rule's bound. They conform to the rule. Err
-/// only for want of memory.
+/// to the greatest volume of a matching of one price, at the rule's bound. They conform to the rule. In
+/// n log n steps for n orders. Err only out of memory.
 pub fn expected_uniform(alloc: Global, orders: &[Order]) -> Result<Vec<Deal>, NoMemory>
     requires { IsOrderList orders.now }
     ensures expected { IfOk result (λ deals. IsExpectedUniform orders.now deals.items) }
@@ -42,14 +41,6 @@ pub fn expected_uniform(alloc: Global, orders: &[Order]) -> Result<Vec<Deal>, No
     uniform_trades_are_expected();
     units_suffice();
     let most = best_uniform(alloc, orders)?;
-    let bids = ranked(alloc, orders, Side::Buy)?;
-    let asks = ranked(alloc, orders, Side::Sell)?;
-    uniform_pairs(
-        alloc,
-        orders,
-        &bids,
-        &asks,
-        most.volume,
-        price_of(orders, most),
-    )
+    let sides = ranked_sides(alloc, orders)?;
+    uniform_pairs(alloc, orders, &sides, most.volume, price_of(orders, most))
 }

@@ -7,7 +7,7 @@ use Rattle.audit_base.specs.declared.terms.Side.TheVariants.{Buy, Sell}
 use Rattle.audit_base.specs.declared.orders.Order.{Order}
 use Rattle.audit_base.specs.declared.orders.Deal.{Deal}
 use Rattle.audit_base.specs.Orders.{order_at, stands_on, Stands}
-use Rattle.audit_base.specs.Deals.{any_deal, IsDealList, NamesOrders}
+use Rattle.audit_base.specs.Deals.{missing_deal, IsDealList, NamesOrders}
 use Rattle.audit_base.specs.Units.{of_standing}
 use Rattle.audit_base.specs.Expected.{pair_deals}
 use Rattle.audit_base.proofs.OrderLemmas.{test-stands, stands-test}
@@ -74,7 +74,7 @@ module _ (orders : List Order) (units : ℕ → ℕ → ℕ) (price : DealPrice)
       lots-found bid ask k.0 l.0 k.1 l.1 k.2 l.2 (omega arith)
 
   deal-is : (k : ℕ) (d : Deal) → k < length deals → get_or deals k d ≡ deal_of orders price (k + 1) (pair_at pairs k)
-  deal-is k d lt = let count = numbers.count in get_or_default deals k d any_deal lt ∙ numbers.each k (omega arith)
+  deal-is k d lt = let count = numbers.count in get_or_default deals k d missing_deal lt ∙ numbers.each k (omega arith)
 
   pub deals-are : ArePairDeals quantity (λ bid ask. price_of orders price ask) (length orders) deals
   deals-are =
@@ -93,7 +93,7 @@ module _ (orders : List Order) (units : ℕ → ℕ → ℕ) (price : DealPrice)
             let inside : c.0 < length pairs = let lt = c.1 in omega arith in (
               c.0,
               omega (arith, length-map deals ends_of),
-              get_or-map ends_of deals c.0 any_deal (bid, ask) (omega arith) ∙ ap ends_of (deal-is c.0 any_deal (omega arith)) ∙ sym (get_or-map pair_ends pairs c.0 any_pair (bid, ask) inside) ∙ c.2,
+              get_or-map ends_of deals c.0 missing_deal (bid, ask) (omega arith) ∙ ap ends_of (deal-is c.0 missing_deal (omega arith)) ∙ sym (get_or-map pair_ends pairs c.0 any_pair (bid, ask) inside) ∙ c.2,
             );
         numbered = λ n d lt. ap (λ (d : Deal). d.place) (deal-is n d lt);
       }

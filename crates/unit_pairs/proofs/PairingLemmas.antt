@@ -5,17 +5,19 @@ use Rattle.std.proofs.lemmas.List.{get_or_default, length-reverse}
 use Rattle.audit_base.specs.declared.terms.Side.TheVariants.{Buy, Sell}
 use Rattle.audit_base.specs.declared.orders.Order.{Order}
 use Rattle.audit_base.specs.declared.orders.Deal.{Deal}
-use Rattle.audit_base.specs.Orders.{quantity_at, IsOrderList}
-use Rattle.audit_base.specs.Priority.{IsRanked}
+use Rattle.audit_base.specs.Orders.{quantity_at}
 use Rattle.audit_base.specs.Deals.{IsDealList}
 use Rattle.audit_base.specs.Units.{ahead, uniform_units, maximum_units}
 use Rattle.audit_base.specs.Expected.{uniform_deals, maximum_deals}
 use Rattle.call_laws.proofs.UnitLemmas.{uniform-overlap, maximum-overlap}
+use Rattle.rank_order.specs.declared.ranking.RankedSides.{RankedSides}
 use Rattle.unit_pairs.specs.declared.lots.Lot.{Lot}
+use Rattle.unit_pairs.specs.declared.lots.SideLots.{SideLots}
 use Rattle.unit_pairs.specs.declared.numbering.DealPrice.TheVariants.{Same, AskLimit}
-use Rattle.unit_pairs.specs.Lots.{any_lot, lots_total, AreLotsOf}
+use Rattle.unit_pairs.specs.Lots.{any_lot}
 use Rattle.unit_pairs.specs.Meeting.{AreSides}
 use Rattle.unit_pairs.specs.Numbering.{AreLotDeals}
+use Rattle.unit_pairs.specs.Sides.{AreSideLots}
 use Rattle.unit_pairs.proofs.UnitLemmas.{Follow, lots-apart, lots-follow, total-reversed, lots-reversed, follow-reversed, ranks-fit}
 use Rattle.unit_pairs.proofs.DealLemmas.{deals-expected, deals-listed}
 
@@ -28,22 +30,24 @@ down-from v x = omega arith
 mirrored : (v a q b r : ℕ) → min v (min (v - a) (b + r)) - max (v - (a + q)) b ≡ min (v - a) (min v (b + r)) - max (v - min v (a + q)) b
 mirrored v a q b r = rw (up-to v (v - a) (b + r)) (ap (λ (n : ℕ). min (v - a) (min v (b + r)) - max n b) (down-from v (a + q)))
 
--- what is known of the lots of both sides
-pub record AreBothLots (orders : List Order) (bids asks : List ℕ) (volume : ℕ) (bid_lots ask_lots : List Lot) : Type 0 where
-  pub order_list : IsOrderList orders
-  pub bids_ranked : IsRanked orders Buy bids
-  pub asks_ranked : IsRanked orders Sell asks
-  pub of_bids : AreLotsOf orders bids volume bid_lots
-  pub of_asks : AreLotsOf orders asks volume ask_lots
-  pub bids_whole : lots_total bid_lots ≡ volume
-  pub asks_whole : lots_total ask_lots ≡ volume
+module _ (orders : List Order) (sides : RankedSides) (volume : ℕ) (lots : SideLots) (h : AreSideLots orders sides volume lots) where
+  abbrev bids : List ℕ
+  bids = sides.bids.items
 
-module _ (orders : List Order) (bids asks : List ℕ) (volume : ℕ) (bid_lots ask_lots : List Lot) (h : AreBothLots orders bids asks volume bid_lots ask_lots) where
+  abbrev asks : List ℕ
+  asks = sides.asks.items
+
+  abbrev bid_lots : List Lot
+  bid_lots = lots.bids.items
+
+  abbrev ask_lots : List Lot
+  ask_lots = lots.asks.items
+
   bids-follow : Follow orders Buy (ahead orders Buy) (λ i. min volume (ahead orders Buy i + quantity_at orders i)) bid_lots
-  bids-follow = lots-follow orders h.order_list Buy bids h.bids_ranked volume bid_lots h.of_bids h.bids_whole
+  bids-follow = lots-follow orders h.order_list Buy bids h.ranked.bids volume bid_lots h.of_bids h.bids_whole
 
   asks-follow : Follow orders Sell (ahead orders Sell) (λ i. min volume (ahead orders Sell i + quantity_at orders i)) ask_lots
-  asks-follow = lots-follow orders h.order_list Sell asks h.asks_ranked volume ask_lots h.of_asks h.asks_whole
+  asks-follow = lots-follow orders h.order_list Sell asks h.ranked.asks volume ask_lots h.of_asks h.asks_whole
 
   -- the asks are orders
   pub asks-inside : All (λ l. l.order < length orders) ask_lots
@@ -52,10 +56,10 @@ module _ (orders : List Order) (bids asks : List ℕ) (volume : ℕ) (bid_lots a
   -- there are at most as many lots as orders
   pub both-sides : AreSides bid_lots ask_lots
   both-sides = record {
-    bids_are = lots-apart orders h.order_list Buy bids h.bids_ranked volume bid_lots h.of_bids;
-    asks_are = lots-apart orders h.order_list Sell asks h.asks_ranked volume ask_lots h.of_asks;
+    bids_are = lots-apart orders h.order_list Buy bids h.ranked.bids volume bid_lots h.of_bids;
+    asks_are = lots-apart orders h.order_list Sell asks h.ranked.asks volume ask_lots h.of_asks;
     same_volume = h.bids_whole ∙ sym h.asks_whole;
-    few = omega (arith, ranks-fit orders h.order_list bids asks h.bids_ranked h.asks_ranked, h.of_bids.few, h.of_asks.few, h.order_list.few);
+    few = omega (arith, ranks-fit orders h.order_list bids asks h.ranked.bids h.ranked.asks, h.of_bids.few, h.of_asks.few, h.order_list.few);
   }
 
   module _ (price : ℕ) (deals : List Deal) (made : AreLotDeals orders (Same price) bid_lots ask_lots deals) where

@@ -23,7 +23,7 @@ lots_total lots = sum_by (λ l. l.quantity) lots
 abbrev pub ranks_before : List Order → List ℕ → ℕ → ℕ
 ranks_before orders ranks n = sum_by (quantity_at orders) (take n ranks)
 
--- what the order at a rank trades of a volume: its quantity, or what the better ones leave of the volume if that is less
+-- what the order at a rank trades of a volume: what the better ones leave of it, up to its quantity
 abbrev pub lot_of : List Order → List ℕ → ℕ → ℕ → Lot
 lot_of orders ranks volume k = record {
   order = slice_index ranks k;
@@ -41,7 +41,8 @@ pub record AreLots (lots : List Lot) : Type 0 where
   pub apart : AllPairs (λ l m. l.order ≢ m.order) lots
 
 -- the lots are those of the first of these orders
-pub record AreLotsOf (orders : List Order) (ranks : List ℕ) (volume : ℕ) (lots : List Lot) : Type 0 where
+pub record AreLotsOf (orders : List Order) (ranks : List ℕ) (volume : ℕ)
+    (lots : List Lot) : Type 0 where
   pub few : length lots ≤ length ranks
   pub each : All IsLot lots
   pub first : EachIndex lots (λ k. lot_at lots k ≡ lot_of orders ranks volume k)

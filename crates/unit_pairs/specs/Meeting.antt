@@ -5,20 +5,21 @@ use Rattle.unit_pairs.specs.declared.meeting.Pair.{Pair}
 use Rattle.unit_pairs.specs.declared.meeting.Progress.{Progress}
 use Rattle.unit_pairs.specs.Lots.{lot_at, lots_before, lots_total, AreLots}
 
--- the lots of two sides that meet: they have one volume, and are few enough that their pairs can be numbered
+-- the lots of two sides that meet: of one volume, and few enough that their pairs can be numbered
 pub record AreSides (bids asks : List Lot) : Type 0 where
   pub bids_are : AreLots bids
   pub asks_are : AreLots asks
   pub same_volume : lots_total bids ≡ lots_total asks
   pub few : length bids + length asks < 2 ^ 32
 
--- how many units come before the first unit that the bid lot at k and the ask lot at l could have in common
+-- how many units come before the first that the bid lot at k and the ask lot at l could have in common
 abbrev pub overlap_from : List Lot → List Lot → ℕ → ℕ → ℕ
 overlap_from bids asks k l = max (lots_before bids k) (lots_before asks l)
 
 -- how many they have in common, where unit n of the bids meets unit n of the asks
 abbrev pub overlap : List Lot → List Lot → ℕ → ℕ → ℕ
-overlap bids asks k l = min (lots_before bids (k + 1)) (lots_before asks (l + 1)) - overlap_from bids asks k l
+overlap bids asks k l =
+    min (lots_before bids (k + 1)) (lots_before asks (l + 1)) - overlap_from bids asks k l
 
 -- the bid and the ask of a pair
 abbrev pub pair_ends : Pair → ℕ × ℕ

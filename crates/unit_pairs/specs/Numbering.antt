@@ -30,15 +30,23 @@ pub record IsDealt (orders : List Order) (p : Pair) : Type 0 where
 
 -- the deal of a pair, with a number
 abbrev pub deal_of : List Order → DealPrice → ℕ → Pair → Deal
-deal_of orders price number p = record { place = number; bid = p.bid; ask = p.ask; quantity = p.quantity; price = price_of orders price p.ask }
+deal_of orders price number p = record {
+  place = number;
+  bid = p.bid;
+  ask = p.ask;
+  quantity = p.quantity;
+  price = price_of orders price p.ask;
+}
 
 -- one deal for each pair, numbered from 1
-pub record AreNumbered (orders : List Order) (price : DealPrice) (pairs : List Pair) (deals : List Deal) : Type 0 where
+pub record AreNumbered (orders : List Order) (price : DealPrice) (pairs : List Pair)
+    (deals : List Deal) : Type 0 where
   pub count : length deals ≡ length pairs
   pub each : EachIndex pairs (λ k. deal_at deals k ≡ deal_of orders price (k + 1) (pair_at pairs k))
 
 -- the deals of two lists of lots: those of their pairs in order of the bid, and then of the ask
-pub record AreLotDeals (orders : List Order) (price : DealPrice) (bids asks : List Lot) (deals : List Deal) : Type 0 where
+pub record AreLotDeals (orders : List Order) (price : DealPrice) (bids asks : List Lot)
+    (deals : List Deal) : Type 0 where
   pub pairs : List Pair
   pub are : ArePairs bids asks pairs
   pub in_order : AllPairs PairBefore pairs

@@ -1,10 +1,14 @@
 //! Lots: the volume filled along the orders of a side in rank order (price-time priority).
 ghost use Rattle.std.specs.Prelude.{◌≡◌, ◌<◌, ◌≤◌, ◌^◌, IfOk, All, length, min, sum_by};
-ghost use Rattle.audit_base.specs.Orders.{quantity_at};
+ghost use Rattle.audit_base.specs.Orders.{IsOrderList, quantity_at};
+ghost use Rattle.rank_order.specs.Sides.{AreRanked};
 ghost use Rattle.unit_pairs.specs.Lots.{AreLotsOf, lots_total};
+ghost use Rattle.unit_pairs.specs.Sides.{AreSideLots};
+ghost use Rattle.unit_pairs.specs.Volumes.{HaveUnits};
 
 use audit_base::faults::NoMemory;
 use audit_base::orders::Order;
+use rank_order::ranking::RankedSides;
 use std::alloc::Global;
 
 /// What an order trades of a volume.
@@ -32,8 +36,8 @@ fn quantity_within(order: &Order, left: u128) -> u64
 }
 
 /// The lots of the first of these orders, best first, which together are the volume: each is the
-/// order's whole quantity, but for the last, which may be a part of it. Err only for want of memory.
-pub fn lots_of(
+/// order's whole quantity, but for the last, which may be a part of it. Err only out of memory.
+fn lots_of(
     alloc: Global,
     orders: &[Order],
     ranks: &[usize],
@@ -44,7 +48,7 @@ pub fn lots_of(
     ensures lots { IfOk result (λ lots. AreLotsOf orders.now ranks.now volume lots.items) }
     ensures whole { IfOk result (λ lots. lots_total lots.items ≡ volume) }
 {
-    let mut lots = Vec::with_capacity(alloc, ranks.len()).map_err(|_| NoMemory)?;
+    let mut lots = Vec::with_capacity(alloc, ranks.len())?;
     let mut left = volume;
     for rank in ranks {
         if left == 0 {
@@ -55,8 +59,34 @@ pub fn lots_of(
             order: *rank,
             quantity,
         };
-        lots.push(lot).map_err(|_| NoMemory)?;
+        lots.push(lot)?;
         left -= quantity as u128;
     }
     Ok(lots)
+}
+
+/// The lots of both sides.
+#[derive(Debug, Drop)]
+pub struct SideLots {
+    pub bids: Vec<Lot>,
+    pub asks: Vec<Lot>,
+}
+
+/// The lots of both sides that each together are the volume, the best orders first. Err only out of
+/// memory.
+pub fn side_lots(
+    alloc: Global,
+    orders: &[Order],
+    sides: &RankedSides,
+    volume: u128,
+) -> Result<SideLots, NoMemory>
+    requires order_list { IsOrderList orders.now }
+    requires ranked { AreRanked orders.now sides.now }
+    requires enough { HaveUnits orders.now volume }
+    ensures { IfOk result (AreSideLots orders.now sides.now volume) }
+{
+    Ok(SideLots {
+        bids: lots_of(alloc, orders, &sides.bids, volume)?,
+        asks: lots_of(alloc, orders, &sides.asks, volume)?,
+    })
 }

@@ -1,4 +1,4 @@
-//! Unit by unit, the lots of the bids meet those of the asks: one walk along both lists, in which the
+//! Unit by unit, the lots of the bids meet those of the asks: one pass along both lists, in which the
 //! trade is the lesser of what is left of both lots, and each lot that is used up gives way to the next.
 ghost use Rattle.std.specs.Prelude.{◌≡◌, ◌<◌, ◌≤◌, ◌+◌, ◌-◌, ◌^◌, OnOk, IfOk, AllPairs, length};
 ghost use Rattle.unit_pairs.specs.Lots.{AreLots, lot_at};
@@ -64,7 +64,7 @@ fn meet(alloc: Global, bids: &[Lot], asks: &[Lot]) -> Result<Vec<Pair>, NoMemory
     ensures differ { IfOk result (λ pairs. AllPairs PairsDiffer pairs.items) }
     ensures few { IfOk result (λ pairs. length pairs.items ≤ length bids.now + length asks.now) }
 {
-    let mut pairs = Vec::with_capacity(alloc, bids.len() + asks.len()).map_err(|_| NoMemory)?;
+    let mut pairs = Vec::with_capacity(alloc, bids.len() + asks.len())?;
     let mut bid_progress = Progress { lot: 0, met: 0 };
     let mut ask_progress = Progress { lot: 0, met: 0 };
     while bid_progress.lot < bids.len() && ask_progress.lot < asks.len() {
@@ -74,7 +74,7 @@ fn meet(alloc: Global, bids: &[Lot], asks: &[Lot]) -> Result<Vec<Pair>, NoMemory
             ask: asks[ask_progress.lot].order,
             quantity,
         };
-        pairs.push(pair).map_err(|_| NoMemory)?;
+        pairs.push(pair)?;
         bid_progress = progress_after(bids, bid_progress, quantity);
         ask_progress = progress_after(asks, ask_progress, quantity);
     }
@@ -82,7 +82,7 @@ fn meet(alloc: Global, bids: &[Lot], asks: &[Lot]) -> Result<Vec<Pair>, NoMemory
 }
 
 /// The pairs of two lots that have units in common, where unit n of the bids meets unit n of the asks, in
-/// order of the bid's index and then of the ask's. Err only for want of memory.
+/// order of the bid's index and then of the ask's. Err only out of memory.
 pub fn pairs_in_order(alloc: Global, bids: &[Lot], asks: &[Lot]) -> Result<Vec<Pair>, NoMemory>
     requires { AreSides bids.now asks.now }
     ensures pairs { IfOk result (λ pairs. ArePairs bids.now asks.now pairs.items) }
@@ -90,6 +90,6 @@ pub fn pairs_in_order(alloc: Global, bids: &[Lot], asks: &[Lot]) -> Result<Vec<P
     ensures few { IfOk result (λ pairs. length pairs.items ≤ length bids.now + length asks.now) }
 {
     let mut pairs = meet(alloc, bids, asks)?;
-    pairs.sort().map_err(|_| NoMemory)?;
+    pairs.sort()?;
     Ok(pairs)
 }

@@ -40,7 +40,7 @@ fn quantity_of(pair: &Pair) -> Quantity
     }
 }
 
-/// One deal for each pair, numbered from 1 in their order. Err only for want of memory.
+/// One deal for each pair, numbered from 1 in their order. Err only out of memory.
 pub fn number_pairs(
     alloc: Global,
     orders: &[Order],
@@ -51,7 +51,7 @@ pub fn number_pairs(
     requires pairs { All (IsDealt orders.now) pairs.now }
     ensures { IfOk result (λ deals. AreNumbered orders.now price.now pairs.now deals.items) }
 {
-    let mut deals = Vec::with_capacity(alloc, pairs.len()).map_err(|_| NoMemory)?;
+    let mut deals = Vec::with_capacity(alloc, pairs.len())?;
     for (i, pair) in pairs.iter().enumerate() {
         let deal = Deal {
             place: i as u32 + 1,
@@ -60,7 +60,7 @@ pub fn number_pairs(
             quantity: quantity_of(pair),
             price: price_at(orders, price, pair.ask),
         };
-        deals.push(deal).map_err(|_| NoMemory)?;
+        deals.push(deal)?;
     }
     Ok(deals)
 }

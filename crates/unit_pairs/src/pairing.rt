@@ -1,86 +1,76 @@
 //! The Expected trades of a call. Unit j of a side belongs to one order, in rank order: the better
 //! limit before the worse, and of the same limit the smaller place (price-time priority).
 ghost use Rattle.std.specs.Prelude.{◌≡◌, ◌<◌, ◌≤◌, ◌+◌, ◌^◌, IfOk, All, length};
-ghost use Rattle.audit_base.specs.declared.terms.Side.TheVariants.{Buy, Sell};
 ghost use Rattle.audit_base.specs.Orders.{IsOrderList};
-ghost use Rattle.audit_base.specs.Priority.{IsRanked};
-ghost use Rattle.audit_base.specs.Bounds.{demand, supply};
 ghost use Rattle.audit_base.specs.Deals.{IsDealList};
 ghost use Rattle.audit_base.specs.Expected.{uniform_deals, maximum_deals};
+ghost use Rattle.rank_order.specs.Sides.{AreRanked};
 ghost use Rattle.unit_pairs.specs.Meeting.{AreSides};
 ghost use Rattle.unit_pairs.specs.Numbering.{AreLotDeals};
+ghost use Rattle.unit_pairs.specs.Volumes.{HaveUnits};
 
-use super::lots::{Lot, lots_of};
+use super::lots::{SideLots, side_lots};
 use super::meeting::pairs_in_order;
 use super::numbering::{DealPrice, number_pairs};
 use audit_base::faults::NoMemory;
 use audit_base::numbers::Price;
 use audit_base::orders::{Deal, Order};
+use rank_order::ranking::RankedSides;
 use std::alloc::Global;
 
 /// The deals of the lots of both sides, unit n of the bids with unit n of the asks.
 fn deals_of(
     alloc: Global,
     orders: &[Order],
-    bids: Vec<Lot>,
-    asks: Vec<Lot>,
+    lots: SideLots,
     price: &DealPrice,
 ) -> Result<Vec<Deal>, NoMemory>
-    requires inside { All (λ l. l.order < length orders.now) asks.items }
-    requires sides { AreSides bids.items asks.items }
-    ensures { IfOk result (λ deals. AreLotDeals orders.now price.now bids.items asks.items deals.items) }
+    requires inside { All (λ l. l.order < length orders.now) lots.asks.items }
+    requires sides { AreSides lots.bids.items lots.asks.items }
+    ensures { IfOk result (λ deals. AreLotDeals orders.now price.now lots.bids.items lots.asks.items deals.items) }
 {
-    let pairs = pairs_in_order(alloc, &bids, &asks)?;
+    let pairs = pairs_in_order(alloc, &lots.bids, &lots.asks)?;
     number_pairs(alloc, orders, &pairs, price)
 }
 
-/// The Expected trades under `uniform` where this volume trades at this price: unit j of the bids
-/// meets unit j of the asks, for each j from 1 to the volume. `bids` and `asks` are the indices of the
-/// orders of a side that no record cancels, best first. One deal for each bid and ask that have such
-/// units, in order of the bid's index and then of the ask's, numbered from 1. Err only for want of memory.
+/// The Expected trades under `uniform` where this volume trades at this price: unit j of the bids meets
+/// unit j of the asks, for each j from 1 to the volume. `sides` are the orders that no record cancels,
+/// best first. One deal for each bid and ask that have such units, in order of the bid's index and then
+/// of the ask's, numbered from 1. Err only out of memory.
 pub fn uniform_pairs(
     alloc: Global,
     orders: &[Order],
-    bids: &[usize],
-    asks: &[usize],
+    sides: &RankedSides,
     volume: u128,
     price: Price,
 ) -> Result<Vec<Deal>, NoMemory>
     requires order_list { IsOrderList orders.now }
-    requires bids { IsRanked orders.now Buy bids.now }
-    requires asks { IsRanked orders.now Sell asks.now }
-    requires enough_bids { volume ≤ demand orders.now 0 }
-    requires enough_asks { volume ≤ supply orders.now (10 ^ 18) }
+    requires ranked { AreRanked orders.now sides.now }
+    requires enough { HaveUnits orders.now volume }
     ensures expected { IfOk result (λ deals. deals.items ≡ uniform_deals orders.now volume price) }
     ensures deals { IfOk result (λ deals. IsDealList orders.now deals.items) }
 {
-    let bid_lots = lots_of(alloc, orders, bids, volume)?;
-    let ask_lots = lots_of(alloc, orders, asks, volume)?;
-    deals_of(alloc, orders, bid_lots, ask_lots, &DealPrice::Same(price))
+    let lots = side_lots(alloc, orders, sides, volume)?;
+    deals_of(alloc, orders, lots, &DealPrice::Same(price))
 }
 
 /// The Expected trades under `maximum` where this volume trades: unit volume + 1 - j of the bids meets
-/// unit j of the asks at the ask's limit, for each j from 1 to the volume. `bids` and `asks` are the
-/// indices of the orders of a side that no record cancels, best first. One deal for each bid and ask
-/// that have such units, in order of the bid's index and then of the ask's, numbered from 1. Err only for
-/// want of memory.
+/// unit j of the asks at the ask's limit, for each j from 1 to the volume. `sides` are the orders that
+/// no record cancels, best first. One deal for each bid and ask that have such units, in order of the
+/// bid's index and then of the ask's, numbered from 1. Err only out of memory.
 pub fn maximum_pairs(
     alloc: Global,
     orders: &[Order],
-    bids: &[usize],
-    asks: &[usize],
+    sides: &RankedSides,
     volume: u128,
 ) -> Result<Vec<Deal>, NoMemory>
     requires order_list { IsOrderList orders.now }
-    requires bids { IsRanked orders.now Buy bids.now }
-    requires asks { IsRanked orders.now Sell asks.now }
-    requires enough_bids { volume ≤ demand orders.now 0 }
-    requires enough_asks { volume ≤ supply orders.now (10 ^ 18) }
+    requires ranked { AreRanked orders.now sides.now }
+    requires enough { HaveUnits orders.now volume }
     ensures expected { IfOk result (λ deals. deals.items ≡ maximum_deals orders.now volume) }
     ensures deals { IfOk result (λ deals. IsDealList orders.now deals.items) }
 {
-    let mut bid_lots = lots_of(alloc, orders, bids, volume)?;
-    let ask_lots = lots_of(alloc, orders, asks, volume)?;
-    bid_lots.reverse();
-    deals_of(alloc, orders, bid_lots, ask_lots, &DealPrice::AskLimit)
+    let mut lots = side_lots(alloc, orders, sides, volume)?;
+    lots.bids.reverse();
+    deals_of(alloc, orders, lots, &DealPrice::AskLimit)
 }

@@ -1,3 +1,3 @@
 pub mod ExtremeLemmas
-pub mod LevelLemmas
-pub mod StandingLemmas
+pub mod LimitLemmas
+pub mod ActiveLemmas

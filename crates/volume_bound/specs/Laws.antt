@@ -8,4 +8,6 @@ use Rattle.audit_base.specs.Bounds.{cut}
 
 -- no matching has a volume above the cut at any price
 abbrev pub CutBoundsVolume : Type 0
-CutBoundsVolume = (orders : List Order) (deals : List Deal) → Matching orders deals → (p : ℕ) → volume deals ≤ cut orders p
+CutBoundsVolume =
+    (orders : List Order) (deals : List Deal) → Matching orders deals → (p : ℕ)
+    → volume deals ≤ cut orders p

@@ -1,8 +1,7 @@
-//! Demand and supply at one price, by one walk over the orders.
+//! Demand and supply at one price, in one pass over the orders.
 ghost use Rattle.std.specs.Prelude.{◌≡◌, ◌<◌, ◌^◌, length};
 ghost use Rattle.audit_base.specs.Bounds.{wanted, offered, offered_below, demand, supply, supply_below};
 
-use super::standing::stands_on;
 use audit_base::orders::Order;
 use audit_base::terms::Side;
 
@@ -10,7 +9,7 @@ use audit_base::terms::Side;
 fn wanted(order: &Order, price: u64) -> u64
     ensures { result ≡ wanted price order.now }
 {
-    if stands_on(order, Side::Buy) && price <= order.limit.units() {
+    if order.stands_on(Side::Buy) && price <= order.limit.units() {
         order.quantity.value()
     } else {
         0
@@ -21,7 +20,7 @@ fn wanted(order: &Order, price: u64) -> u64
 fn offered(order: &Order, price: u64) -> u64
     ensures { result ≡ offered price order.now }
 {
-    if stands_on(order, Side::Sell) && order.limit.units() <= price {
+    if order.stands_on(Side::Sell) && order.limit.units() <= price {
         order.quantity.value()
     } else {
         0
@@ -32,7 +31,7 @@ fn offered(order: &Order, price: u64) -> u64
 fn offered_below(order: &Order, price: u64) -> u64
     ensures { result ≡ offered_below price order.now }
 {
-    if stands_on(order, Side::Sell) && order.limit.units() < price {
+    if order.stands_on(Side::Sell) && order.limit.units() < price {
         order.quantity.value()
     } else {
         0

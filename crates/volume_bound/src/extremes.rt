@@ -1,14 +1,15 @@
-//! The least cut and the greatest lesser of demand and supply, over all prices from 0 to 10^18.
+//! The least cut and the greatest executable volume, over all prices from 0 to 10^18.
 //!
 //! The cut falls only where a bid drops out, which is one unit above its limit; so the least cut, and
-//! the least price that reaches it, stand among 0 and each bid limit plus 1. What can trade at one
-//! price rises only where an ask comes in, which is at its limit; so the greatest, and the least price
-//! that reaches it, stand among 0 and each ask limit.
-ghost use Rattle.std.specs.Prelude.{◌≡◌, ◌≤◌, ◌<◌, ◌^◌, ◌&&◌, ◌||◌, ◌==◌, nat_lt, if◌then◌else◌, List, IfOk, OnOk, length};
+//! the least price that reaches it, stand among 0 and each bid limit plus 1. The executable volume at a
+//! price, the lesser of demand and supply, rises only where an ask comes in, which is at its limit; so
+//! the greatest, and the least price that reaches it, stand among 0 and each ask limit.
+ghost use Rattle.std.specs.Prelude.{◌≡◌, ◌≤◌, ◌<◌, ◌^◌, List, IfOk, OnOk, length};
 ghost use Rattle.audit_base.specs.Bounds.{IsLeastCut, IsBestUniform};
 ghost use Rattle.audit_base.specs.Orders.{AreOrders};
 ghost use Rattle.audit_base.specs.declared.orders.Order.{Order};
-ghost use Rattle.volume_bound.specs.StandsFor.{StandsFor};
+ghost use Rattle.volume_bound.specs.Extremes as extreme;
+ghost use Rattle.volume_bound.specs.Sides.{ForOrdersOf};
 
 use super::sums::Sums;
 use audit_base::faults::NoMemory;
@@ -17,7 +18,7 @@ use std::alloc::Global;
 
 /// The one with the lesser volume, and of equal volumes the one with the lesser price.
 fn lesser(best: Cut, other: Cut) -> Cut
-    ensures { result ≡ (if nat_lt other.volume best.volume || (other.volume == best.volume && nat_lt other.price best.price) then other else best) }
+    ensures { result ≡ extreme.lesser best other }
 {
     if other.volume < best.volume || (other.volume == best.volume && other.price < best.price) {
         other
@@ -28,7 +29,7 @@ fn lesser(best: Cut, other: Cut) -> Cut
 
 /// The one with the greater volume, and of equal volumes the one with the lesser price.
 fn greater(best: Cut, other: Cut) -> Cut
-    ensures { result ≡ (if nat_lt best.volume other.volume || (other.volume == best.volume && nat_lt other.price best.price) then other else best) }
+    ensures { result ≡ extreme.greater best other }
 {
     if best.volume < other.volume || (other.volume == best.volume && other.price < best.price) {
         other
@@ -37,10 +38,10 @@ fn greater(best: Cut, other: Cut) -> Cut
     }
 }
 
-/// The least cut of the orders that the sums stand for, over all prices from 0 to 10^18, and the least
-/// price that reaches it.
+/// The least cut of the orders that have these sums, over all prices from 0 to 10^18, and the least price
+/// that reaches it.
 pub fn least_cut_of(sums: &Sums) -> Cut
-    ensures least { (orders : List Order) → StandsFor orders sums.now → IsLeastCut orders result }
+    ensures least { ForOrdersOf sums.now (λ orders. IsLeastCut orders result) }
     ensures in_range { result.price ≤ 10 ^ 18 }
 {
     let mut best = sums.cut_at(0);
@@ -50,20 +51,21 @@ pub fn least_cut_of(sums: &Sums) -> Cut
     best
 }
 
-/// The greatest lesser of demand and supply of these orders, over the same prices, and the least price
-/// that reaches it.
+/// The greatest executable volume of these orders, over the same prices, and the least price that reaches
+/// it.
 pub fn best_uniform_of(sums: &Sums) -> Cut
-    ensures best { (orders : List Order) → StandsFor orders sums.now → IsBestUniform orders result }
+    ensures best { ForOrdersOf sums.now (λ orders. IsBestUniform orders result) }
     ensures in_range { result.price ≤ 10 ^ 18 }
 {
-    let mut best = sums.lesser_at(0);
+    let mut best = sums.executable_at(0);
     for ask in sums.asks() {
-        best = greater(best, sums.lesser_at(ask.limit.units()));
+        best = greater(best, sums.executable_at(ask.limit.units()));
     }
     best
 }
 
-/// The least cut over all prices from 0 to 10^18, and the least price that reaches it.
+/// The least cut over all prices from 0 to 10^18, and the least price that reaches it. Err only out of
+/// memory.
 pub fn least_cut(alloc: Global, orders: &[Order]) -> Result<Cut, NoMemory>
     requires few { length orders.now < 2 ^ 32 }
     ensures least { IfOk result (IsLeastCut orders.now) }
@@ -74,7 +76,8 @@ pub fn least_cut(alloc: Global, orders: &[Order]) -> Result<Cut, NoMemory>
     Ok(least_cut_of(&sums))
 }
 
-/// The greatest lesser of demand and supply over these prices, and the least price that reaches it.
+/// The greatest executable volume over these prices, and the least price that reaches it. Err only out of
+/// memory.
 pub fn best_uniform(alloc: Global, orders: &[Order]) -> Result<Cut, NoMemory>
     requires few { length orders.now < 2 ^ 32 }
     ensures best { IfOk result (IsBestUniform orders.now) }

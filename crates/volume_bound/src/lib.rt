@@ -3,21 +3,22 @@
 //! the cut (the demand, and what the asks with limit below it offer). Orders that a record cancels do
 //! not count.
 //!
-//! No matching has a volume above a cut, and none of one price has one above the lesser of demand and
-//! supply at that price. So the least cut bounds every matching, and the greatest of these lessers
-//! every matching of one price.
+//! No matching has a volume above a cut, and none of one price has one above the executable volume at
+//! that price, the lesser of demand and supply. So the least cut bounds every matching, and the
+//! greatest executable volume every matching of one price.
 //!
-//! `direct` adds up the orders for one price, in one walk and with no memory. `sums` sorts both sides
+//! `direct` adds up the orders for one price, in one pass and with no memory. `sums` sorts both sides
 //! once and then answers for any price by a binary search. `extremes` finds the least cut and the
-//! greatest lesser over all prices: they are reached at the limits of one side, so it asks there alone.
+//! greatest executable volume over all prices: they are reached at the limits of one side, so it asks
+//! there alone.
 //! `laws` says what holds of every order list.
 #![tactic(auto)]
 
+mod active_orders;
 pub mod direct;
 pub mod extremes;
 pub mod laws;
-mod levels;
-mod standing;
+mod limits;
 pub mod sums;
 #[cfg(test)]
 mod tests;

@@ -5,7 +5,7 @@ use super::extremes::{best_uniform, least_cut};
 use super::sums::Sums;
 use audit_base::names::{Key, read_name};
 use audit_base::numbers::{Price, Quantity};
-use audit_base::orders::{Cut, Order};
+use audit_base::orders::Order;
 use audit_base::stamps::Stamp;
 use audit_base::terms::{Life, Side};
 use std::process::Abort;
@@ -51,56 +51,57 @@ fn orders<R: AllocGlobal + Abort>(rt: &R, lines: &[&str]) -> Vec<Order> {
     orders
 }
 
-fn cut(price: u64, volume: u128) -> Cut {
-    Cut { price, volume }
-}
+/// What the orders are, their lines, and the price and the volume of their least cut and of their greatest
+/// executable volume.
+type Row = (
+    &'static str,
+    &'static [&'static str],
+    (u64, u128),
+    (u64, u128),
+);
+
+const EXTREMES: [Row; 6] = [
+    ("no orders", &[], (0, 0), (0, 0)),
+    (
+        "three bids and three asks at 1, 2 and 3",
+        &["B 1 1", "B 1 2", "B 1 3", "S 1 1", "S 1 2", "S 1 3"],
+        (0, 3),
+        (2, 2),
+    ),
+    (
+        "a bid of the greatest quantity at the highest limit",
+        &["B 1000000000000 999999999999999999"],
+        (1_000_000_000_000_000_000, 0),
+        (0, 0),
+    ),
+    ("a bid below an ask", &["B 1 5", "S 1 10"], (6, 0), (0, 0)),
+    (
+        "a cancelled bid",
+        &["B 7 5", "B 4 9 cancelled", "S 3 5"],
+        (6, 3),
+        (5, 3),
+    ),
+    (
+        "all orders at one price",
+        &["B 7 5", "S 3 5", "B 2 5", "S 1 5"],
+        (6, 4),
+        (5, 4),
+    ),
+];
 
 #[test]
 fn each_extreme_stands_at_the_least_price_that_reaches_it(rt: HostRuntime) {
-    let rows: [(&str, &[&str], Cut, Cut); 6] = [
-        ("no orders", &[], cut(0, 0), cut(0, 0)),
-        (
-            "three bids and three asks at 1, 2 and 3",
-            &["B 1 1", "B 1 2", "B 1 3", "S 1 1", "S 1 2", "S 1 3"],
-            cut(0, 3),
-            cut(2, 2),
-        ),
-        (
-            "a bid of the greatest quantity at the highest limit",
-            &["B 1000000000000 999999999999999999"],
-            cut(1_000_000_000_000_000_000, 0),
-            cut(0, 0),
-        ),
-        (
-            "a bid below an ask",
-            &["B 1 5", "S 1 10"],
-            cut(6, 0),
-            cut(0, 0),
-        ),
-        (
-            "a cancelled bid",
-            &["B 7 5", "B 4 9 cancelled", "S 3 5"],
-            cut(6, 3),
-            cut(5, 3),
-        ),
-        (
-            "all orders at one price",
-            &["B 7 5", "S 3 5", "B 2 5", "S 1 5"],
-            cut(6, 4),
-            cut(5, 4),
-        ),
-    ];
-    for (label, lines, least, uniform) in rows {
+    for (label, lines, least, executable) in EXTREMES {
         let orders = orders(&rt, lines);
         assert!(rt; orders.len() < 4_294_967_296);
-        assert!(rt;
-            least_cut(rt.alloc(), &orders) == Ok(least),
-            "{label}: least cut"
-        );
-        assert!(rt;
-            best_uniform(rt.alloc(), &orders) == Ok(uniform),
-            "{label}: best uniform"
-        );
+        let Ok(cut) = least_cut(rt.alloc(), &orders) else {
+            panic!(rt; "no memory");
+        };
+        assert_eq!(rt; (cut.price, cut.volume), least, "{label}");
+        let Ok(best) = best_uniform(rt.alloc(), &orders) else {
+            panic!(rt; "no memory");
+        };
+        assert_eq!(rt; (best.price, best.volume), executable, "{label}");
     }
 }
 
@@ -133,7 +134,7 @@ fn sums_at_a_price_are_those_of_the_orders(rt: HostRuntime) {
     };
     for (price, demand, supply, below) in rows {
         let wanted = (demand, supply, below);
-        let walked = (
+        let added = (
             direct::demand_at(&orders, price),
             direct::supply_upto(&orders, price),
             direct::supply_below(&orders, price),
@@ -143,7 +144,7 @@ fn sums_at_a_price_are_those_of_the_orders(rt: HostRuntime) {
             sums.supply_upto(price),
             sums.supply_below(price),
         );
-        assert_eq!(rt; walked, wanted, "walked at {price}");
+        assert_eq!(rt; added, wanted, "added at {price}");
         assert_eq!(rt; searched, wanted, "searched at {price}");
     }
 }

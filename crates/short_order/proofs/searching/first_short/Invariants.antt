@@ -1,7 +1,7 @@
 use Rattle.std.proofs.Common.{◌≡◌, drop}
 use Rattle.std.specs.Prelude.{find}
-use Rattle.short_order.specs.Totals.{is_left}
+use Rattle.short_order.specs.Totals.{is_short_by}
 use Rattle.short_order.proofs.searching.first_short.Given as goal
 
 abbrev pub invariant-loop-index : goal.invariant-loop-index
-invariant-loop-index l = find (is_left l.orders l.traded) l.ranked ≡ find (is_left l.orders l.traded) (drop l.index-index l.ranked)
+invariant-loop-index l = find (is_short_by l.orders l.traded) l.ranked ≡ find (is_short_by l.orders l.traded) (drop l.index-index l.ranked)

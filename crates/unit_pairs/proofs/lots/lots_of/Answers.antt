@@ -1,5 +1,4 @@
-use Rattle.std.proofs.Common.{◌≡◌, ◌<◌, ◌+◌, ◌-◌, ◌++◌, ◌∷◌, [], length, arith, get_or, take, true, ap, sym, subst, sum_by}
-use Rattle.std.specs.Prelude.{is_ok}
+use Rattle.std.proofs.Common.{◌≡◌, ◌<◌, ◌+◌, ◌-◌, ◌++◌, ◌∷◌, [], length, arith, get_or, take, ap, sym, subst, sum_by}
 use Rattle.std.proofs.lemmas.List.{take_all}
 use Rattle.audit_base.specs.Orders.{quantity_at}
 use Rattle.unit_pairs.proofs.LotLemmas.{AreFilled, lot, filled-total, one-filled}
@@ -13,8 +12,7 @@ loop-rank-preserved c =
     let n = c.loop-rank.rank-index in
     let quantity = c.quantity_within-quantity.result in
     let lt : n < length ranks = c.loop-rank-test.true in
-    let ok : is_ok c.push.result ≡ true = sym c.in_ok-map_err.ensures.variant in
-    let items : c.push.new.self.items ≡ c.loop-rank.lots.items ++ lot (get_or ranks n 0) quantity ∷ [] = rw ok at c.push.ensures.items in
+    let items : c.push.new.self.items ≡ c.loop-rank.lots.items ++ lot (get_or ranks n 0) quantity ∷ [] = c.in_ok-push.ensures.items in
     let is = c.quantity_within-quantity.ensures in
     subst (λ lots. AreFilled orders ranks c.args.volume lots (c.loop-rank.left - quantity) (n + 1)) (sym items)
     (one-filled orders ranks c.args.volume c.loop-rank.lots.items c.loop-rank.left n quantity c.index-orders-rank.result lt (c.requires.inside n 0 lt)

@@ -1,5 +1,5 @@
 use Rattle.std.proofs.Common.{◌+◌, take}
-use Rattle.volume_bound.specs.StandsFor.{cut_of}
+use Rattle.volume_bound.specs.Sides.{cut_of}
 use Rattle.volume_bound.proofs.ExtremeLemmas.{IsBest, Less}
 use Rattle.volume_bound.proofs.extremes.least_cut_of.Given as goal
 

@@ -1,0 +1,43 @@
+-- One side of an order list as the limits and the quantities of its orders.
+use Rattle.std.specs.Prelude.{◌≡◌, ◌≤◌, ◌+◌, ◌*◌, ◌^◌, ℕ, List, map, take, length, slice_index, sum_by, nat_lt, nat_le, if◌then◌else◌}
+use Rattle.std.specs.List.{filter}
+use Rattle.std.specs.List.Sorted.{IsNonDecreasingBy}
+use Rattle.audit_base.specs.declared.terms.Side.{Side}
+use Rattle.audit_base.specs.declared.orders.Order.{Order}
+use Rattle.audit_base.specs.Orders.{stands_on}
+use Rattle.volume_bound.specs.declared.limits.LimitQuantity.{LimitQuantity}
+
+-- the limit and the quantity of an order
+abbrev pub limit_quantity_of : Order → LimitQuantity
+limit_quantity_of o = record { limit = o.limit; quantity = o.quantity }
+
+-- those of the orders of a side that no record cancels, in the order of the list
+abbrev pub limits_on : Side → List Order → List LimitQuantity
+limits_on side orders = map limit_quantity_of (filter (stands_on side) orders)
+
+-- the quantities, added
+abbrev pub quantity_of : List LimitQuantity → ℕ
+quantity_of limits = sum_by (λ l. l.quantity) limits
+
+-- the quantities whose limit is below p, added
+abbrev pub quantity_below : List LimitQuantity → ℕ → ℕ
+quantity_below limits p = sum_by (λ l. if nat_lt l.limit p then l.quantity else 0) limits
+
+-- the quantities whose limit is at most p, added
+abbrev pub quantity_upto : List LimitQuantity → ℕ → ℕ
+quantity_upto limits p = sum_by (λ l. if nat_le l.limit p then l.quantity else 0) limits
+
+-- the quantities whose limit is at least p, added
+abbrev pub quantity_from : List LimitQuantity → ℕ → ℕ
+quantity_from limits p = sum_by (λ l. if nat_le p l.limit then l.quantity else 0) limits
+
+-- at each k the first k quantities, added; all together are at most 2^32 times 10^12
+pub record AreSums (limits : List LimitQuantity) (sums : List ℕ) : Type 0 where
+  pub count : length sums ≡ length limits + 1
+  pub each : (k : ℕ) → k ≤ length limits → slice_index sums k ≡ quantity_of (take k limits)
+  pub small : quantity_of limits ≤ 2 ^ 32 * 10 ^ 12
+
+-- rising limits, with these sums
+pub record AreSummed (limits : List LimitQuantity) (sums : List ℕ) : Type 0 where
+  pub rising : IsNonDecreasingBy (λ l. l.limit) limits
+  pub summed : AreSums limits sums

@@ -1,0 +1,53 @@
+//! Which orders count: those of each side that no record cancels.
+ghost use Rattle.std.specs.Prelude.{◌≡◌, ◌++◌, ◌∷◌, [], IfOk, OnOk};
+ghost use Rattle.audit_base.specs.Orders.{IsOrder, AreOrders};
+ghost use Rattle.audit_base.specs.declared.terms.Side.TheVariants as the_side;
+ghost use Rattle.volume_bound.specs.Limits.{limits_on};
+
+use super::limits::LimitQuantity;
+use audit_base::faults::NoMemory;
+use audit_base::orders::Order;
+use audit_base::terms::Side;
+use std::alloc::Global;
+
+/// The limits and the quantities of the orders that count, in the order of the list.
+#[derive(Drop)]
+pub(crate) struct ActiveOrders {
+    pub bids: Vec<LimitQuantity>,
+    pub asks: Vec<LimitQuantity>,
+}
+
+/// Adds the limit and the quantity of an order, if the order counts on the side.
+fn add(limits: &mut Vec<LimitQuantity>, order: &Order, side: Side) -> Result<(), NoMemory>
+    ensures limits { OnOk result (limits.new.items ≡ limits.old.items ++ limits_on side (order.now ∷ [])) }
+    ensures numbers { IsOrder order.now }
+{
+    let limit_quantity = LimitQuantity {
+        limit: order.limit,
+        quantity: order.quantity,
+    };
+    // These calls tell the proof the ranges that the price and the quantity keep.
+    let _ = limit_quantity.limit.units();
+    let _ = limit_quantity.quantity.value();
+    if order.stands_on(side) {
+        limits.push(limit_quantity)?;
+    }
+    Ok(())
+}
+
+impl ActiveOrders {
+    /// Those of these orders. Memory is asked for once a side, before the first order.
+    pub fn of(alloc: Global, orders: &[Order]) -> Result<ActiveOrders, NoMemory>
+        ensures bids { IfOk result (λ active. active.bids.items ≡ limits_on the_side.Buy orders.now) }
+        ensures asks { IfOk result (λ active. active.asks.items ≡ limits_on the_side.Sell orders.now) }
+        ensures numbers { OnOk result (AreOrders orders.now) }
+    {
+        let mut bids = Vec::with_capacity(alloc, orders.len())?;
+        let mut asks = Vec::with_capacity(alloc, orders.len())?;
+        for order in orders {
+            add(&mut bids, order, Side::Buy)?;
+            add(&mut asks, order, Side::Sell)?;
+        }
+        Ok(ActiveOrders { bids, asks })
+    }
+}
