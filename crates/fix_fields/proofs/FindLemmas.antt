@@ -1,5 +1,5 @@
 -- The first place at which a test passes, and the number of such places.
-use Rattle.std.proofs.Common.{◌≡◌, ℕ, ◌+◌, ◌<◌, Bool, true, false, cond, ◌||◌, eqb, ltb, Some, None, List, [], ◌∷◌, length, get_or, drop, ap, sym, refl, ◌∙◌, arith, rules}
+use Rattle.std.proofs.Common.{◌≡◌, ℕ, ◌+◌, ◌<◌, Bool, true, false, cond, ◌||◌, eqb, ltb, Some, List, [], ◌∷◌, length, get_or, drop, ap, sym, refl, ◌∙◌, arith, rules}
 use Rattle.std.specs.List.{All, count_by, list_any, position, position_or_len, before_first, after_first}
 use Rattle.std.proofs.lemmas.Bool.Decides.{nat_tests}
 use Rattle.std.proofs.lemmas.List.{get_or-take, length-take-le}
@@ -7,7 +7,8 @@ use Rattle.std.proofs.lemmas.List.Elements.{All-head, All-tail, All-from_get_or}
 use Rattle.std.proofs.lemmas.List.Sums.{sum_by-append, sum_by-cons, split_at_first, fails_before_first, passes_at_first}
 use Rattle.fix_fields.specs.declared.field.Field.{Field}
 use Rattle.fix_fields.specs.declared.field.Found.TheVariants.{One, Many}
-use Rattle.fix_fields.specs.Finding.{found_of, has_tag}
+use Rattle.fix_fields.specs.TagSearch.{found_of, has_tag}
+use Rattle.fix_fields.proofs.SearchLemmas.{first_is}
 
 -- what fails everywhere is counted nowhere
 count_none : {X : Type 0} (p : X → Bool) (xs : List X) → All (λ x. p x ≡ false) xs → count_by p xs ≡ 0
@@ -20,20 +21,11 @@ any_step : (b : Bool) (m : ℕ) (r : Bool) → r ≡ ltb 0 m → (b || r) ≡ lt
 any_step true m r h = search (rules, nat_tests)
 any_step false m r h = h ∙ ap (ltb 0) (omega arith)
 
-chosen_then : (b : Bool) (x y : ℕ) → cond b (Some x) None ≡ Some y → (b ≡ true) × (x ≡ y)
-chosen_then true x y h = (refl, cc)
-chosen_then false x y h = (cc)
-
 -- an element passes where there is one to count
 any_counts : {X : Type 0} (p : X → Bool) (xs : List X) → list_any p xs ≡ ltb 0 (count_by p xs)
 any_counts p [] = refl
 any_counts p (x ∷ xs) =
     any_step (p x) (count_by p xs) (list_any p xs) (any_counts p xs) ∙ ap (ltb 0) (sym (sum_by-cons (λ y. cond (p y) 1 0) x xs))
-
--- what `position` says
-first_is : {X : Type 0} (p : X → Bool) (xs : List X) (i : ℕ) → position p xs ≡ Some i → (position_or_len p xs < length xs) × (position_or_len p xs ≡ i)
-first_is p xs i h =
-    let c = chosen_then (ltb (position_or_len p xs) (length xs)) (position_or_len p xs) i h in (grind (arith, nat_tests, c.0), c.1)
 
 -- the elements that pass are the first one, and those behind it
 count_from_first : {X : Type 0} (p : X → Bool) (xs : List X) (d : X) (i : ℕ) → position p xs ≡ Some i → count_by p xs ≡ 1 + count_by p (drop (i + 1) xs)

@@ -5,7 +5,7 @@ use Rattle.std.proofs.lemmas.Fmt.{decimal_injective}
 use Rattle.std.proofs.lemmas.List.{append_assoc, length-append, take_at, drop_at}
 use Rattle.fix_fields.specs.Forms.{length_form}
 use Rattle.fix_fields.specs.Pairs.{is_pair}
-use Rattle.fix_fields.specs.Grammar.{TagValue, IsTag, IsPlain, HasForm, IsField, AreFields, NoField, field_bytes, bytes_of, last_of}
+use Rattle.fix_fields.specs.Grammar.{TagValue, IsTag, IsDelimited, HasForm, IsField, AreFields, NoField, field_bytes, bytes_of, last_of}
 use Rattle.fix_fields.proofs.SearchLemmas.{same_until}
 use Rattle.fix_fields.proofs.TagLemmas.{decimal_no_equals}
 
@@ -19,10 +19,10 @@ same_front xs ys x y sizes e =
     let front : xs ≡ ys = sym (take_at xs x (length xs) refl) ∙ ap (take (length xs)) e ∙ take_at ys y (length xs) (sym sizes) in
     let rest : x ≡ y = sym (drop_at xs x (length xs) refl) ∙ ap (drop (length xs)) e ∙ drop_at ys y (length xs) (sym sizes) in (front, rest)
 
-counted_or_plain : (b : Bool) (size : Option ℕ) (v w x y : List ℕ) → MatchBool b (size ≡ Some (length v)) (IsPlain v) → MatchBool b (size ≡ Some (length w)) (IsPlain w)
+counted_or_delimited : (b : Bool) (size : Option ℕ) (v w x y : List ℕ) → MatchBool b (size ≡ Some (length v)) (IsDelimited v) → MatchBool b (size ≡ Some (length w)) (IsDelimited w)
     → v ++ 1 ∷ x ≡ w ++ 1 ∷ y → (v ≡ w) × (x ≡ y)
-counted_or_plain false size v w x y p q e = same_until 1 v w x y p.no_end q.no_end e
-counted_or_plain true size v w x y p q e =
+counted_or_delimited false size v w x y p q e = same_until 1 v w x y p.no_end q.no_end e
+counted_or_delimited true size v w x y p q e =
     let sizes : length v ≡ length w = cc in
     let same = same_front v w (1 ∷ x) (1 ∷ y) sizes e in
     let rest : 1 ∷ x ≡ 1 ∷ y = same.1 in (same.0, cc)
@@ -31,7 +31,7 @@ counted_or_plain true size v w x y p q e =
 same_value : (before : Option TagValue) (tag : ℕ) (v w x y : List ℕ) → HasForm before tag v → HasForm before tag w
     → v ++ 1 ∷ x ≡ w ++ 1 ∷ y → (v ≡ w) × (x ≡ y)
 same_value None tag v w x y p q e = same_until 1 v w x y p.no_end q.no_end e
-same_value (Some before) tag v w x y p q e = counted_or_plain (is_pair before.tag tag) (length_form before.value) v w x y p q e
+same_value (Some before) tag v w x y p q e = counted_or_delimited (is_pair before.tag tag) (length_form before.value) v w x y p q e
 
 -- tags before `=` and equal bytes are equal
 same_tag : (t u : ℕ) (x y : List ℕ) → IsTag t → IsTag u → decimal t ++ 61 ∷ x ≡ decimal u ++ 61 ∷ y → (t ≡ u) × (x ≡ y)

@@ -1,7 +1,7 @@
 pub mod FindLemmas
 pub mod GrammarLemmas
 pub mod LawLemmas
-pub mod NumberLemmas
 pub mod ReadingLemmas
+pub mod RefusalLemmas
 pub mod SearchLemmas
 pub mod TagLemmas

@@ -5,8 +5,8 @@ use Rattle.std.specs.Option.{option_map, ForSome}
 use Rattle.std.proofs.lemmas.List.{append-nil, append_assoc, length-append, length-drop, drop_all, map_push}
 use Rattle.fix_fields.specs.declared.field.Field.{Field}
 use Rattle.fix_fields.specs.Grammar.{TagValue, IsField, AreFields, IsUnreadable, NoField, field_bytes, bytes_of, last_of, begins_with_type}
-use Rattle.fix_fields.specs.Places.{IsWithin, shown, all_shown, place_of, places_of}
-use Rattle.fix_fields.specs.Reading.{BeginsAt, first_is_type}
+use Rattle.fix_fields.specs.Ranges.{HasRangeIn, shown, all_shown, range_of, ranges_of}
+use Rattle.fix_fields.specs.FieldAt.{BeginsAt, first_is_type}
 use Rattle.fix_fields.proofs.GrammarLemmas.{one_reading, no_field_at_end}
 
 -- up to byte `at` the body is these fields, which show these tags and values, and `before` is the last of them
@@ -15,9 +15,9 @@ pub record IsRead (body : List ℕ) (fields : List Field) (seen : List TagValue)
   pub place : at ≡ length (bytes_of seen)
   pub high : at ≤ length body
   pub forms : AreFields None seen
-  pub places : fields ≡ places_of 0 seen
+  pub ranges : fields ≡ ranges_of 0 seen
   pub last : option_map (shown body) before ≡ last_of None seen
-  pub within : ForSome before (λ f. IsWithin body f)
+  pub within : ForSome before (λ f. HasRangeIn body f)
 
 abbrev pub HasRead : List ℕ → List Field → Option Field → ℕ → Type 0
 HasRead body fields before at = IsRead body fields (all_shown body fields) before at
@@ -35,11 +35,11 @@ last_of-push : (before : Option TagValue) (fs : List TagValue) (g : TagValue) �
 last_of-push before [] g = refl
 last_of-push before (f ∷ fs) g = last_of-push (Some f) fs g
 
-places_of-push : (at : ℕ) (fs : List TagValue) (g : TagValue) → places_of at (fs ++ g ∷ []) ≡ places_of at fs ++ place_of (at + length (bytes_of fs)) g ∷ []
-places_of-push at [] g = ap (λ (n : ℕ). place_of n g ∷ []) (omega arith)
-places_of-push at (f ∷ fs) g =
+ranges_of-push : (at : ℕ) (fs : List TagValue) (g : TagValue) → ranges_of at (fs ++ g ∷ []) ≡ ranges_of at fs ++ range_of (at + length (bytes_of fs)) g ∷ []
+ranges_of-push at [] g = ap (λ (n : ℕ). range_of n g ∷ []) (omega arith)
+ranges_of-push at (f ∷ fs) g =
     let sizes : at + length (field_bytes f) + length (bytes_of fs) ≡ at + length (bytes_of (f ∷ fs)) = omega (arith, length-append (field_bytes f) (bytes_of fs)) in
-    ap (λ (ps : List Field). place_of at f ∷ ps) (places_of-push (at + length (field_bytes f)) fs g ∙ ap (λ (n : ℕ). places_of (at + length (field_bytes f)) fs ++ place_of n g ∷ []) sizes)
+    ap (λ (ps : List Field). range_of at f ∷ ps) (ranges_of-push (at + length (field_bytes f)) fs g ∙ ap (λ (n : ℕ). ranges_of (at + length (field_bytes f)) fs ++ range_of n g ∷ []) sizes)
 
 -- the size of a field
 pub length-field_bytes : (f : TagValue) → length (field_bytes f) ≡ length (decimal f.tag) + length f.value + 2
@@ -48,7 +48,7 @@ length-field_bytes f =
 
 -- nothing has been read at first
 pub HasRead-none : (body : List ℕ) → HasRead body [] None 0
-HasRead-none body = record { bytes = refl; place = refl; high = omega arith; forms = tt; places = refl; last = refl; within = λ f e. cc }
+HasRead-none body = record { bytes = refl; place = refl; high = omega arith; forms = tt; ranges = refl; last = refl; within = λ f e. cc }
 
 -- one field further
 pub HasRead-more : (body : List ℕ) (fields : List Field) (before : Option Field) (at : ℕ) (f : Field) → HasRead body fields before at
@@ -61,35 +61,35 @@ HasRead-more body fields before at f h b =
     let bytes : body ≡ bytes_of (gs ++ g ∷ []) ++ drop (f.to + 1) body =
     h.bytes ∙ ap (λ (r : List ℕ). bytes_of gs ++ r) b.bytes ∙ sym (append_assoc (bytes_of gs) (field_bytes g) (drop (f.to + 1) body))
     ∙ ap (λ (r : List ℕ). r ++ drop (f.to + 1) body) (sym (bytes_of-push gs g)) in
-    let to : f.to ≡ at + length (decimal f.tag) + 1 + length g.value = ap (λ (p : Field). p.to) b.place in
+    let to : f.to ≡ at + length (decimal f.tag) + 1 + length g.value = ap (λ (p : Field). p.to) b.range in
     let size : length (bytes_of (gs ++ g ∷ [])) ≡ length (bytes_of gs) + length (field_bytes g) = ap length (bytes_of-push gs g) ∙ length-append (bytes_of gs) (field_bytes g) in
     let place : f.to + 1 ≡ length (bytes_of (gs ++ g ∷ [])) = omega (arith, h.place, length-field_bytes g) in
     let at_is : at ≡ 0 + length (bytes_of gs) = omega (arith, h.place) in
-    let places : fields ++ f ∷ [] ≡ places_of 0 (gs ++ g ∷ []) =
-    ap (λ (ps : List Field). ps ++ f ∷ []) h.places ∙ ap (λ (p : Field). places_of 0 gs ++ p ∷ []) (b.place ∙ ap (λ (n : ℕ). place_of n g) at_is) ∙ sym (places_of-push 0 gs g) in
+    let ranges : fields ++ f ∷ [] ≡ ranges_of 0 (gs ++ g ∷ []) =
+    ap (λ (ps : List Field). ps ++ f ∷ []) h.ranges ∙ ap (λ (p : Field). ranges_of 0 gs ++ p ∷ []) (b.range ∙ ap (λ (n : ℕ). range_of n g) at_is) ∙ sym (ranges_of-push 0 gs g) in
     let read : IsRead body (fields ++ f ∷ []) (gs ++ g ∷ []) (Some f) (f.to + 1) = record {
       bytes = bytes;
       place = place;
       high = omega (arith, b.within.high);
       forms = AreFields-push None gs g h.forms form;
-      places = places;
+      ranges = ranges;
       last = sym (last_of-push None gs g);
-      within = λ x e. (let same : f ≡ x = cc in subst (λ (y : Field). IsWithin body y) same b.within);
+      within = λ x e. (let same : f ≡ x = cc in subst (λ (y : Field). HasRangeIn body y) same b.within);
     } in subst (λ (seen : List TagValue). IsRead body (fields ++ f ∷ []) seen (Some f) (f.to + 1)) (sym shows) read
 
 -- a reading of a body: fields, and then a rest at whose front no field can be read
-record IsReading (body : List ℕ) (fields : List TagValue) (left : List ℕ) : Type 0 where
-  bytes : body ≡ bytes_of fields ++ left
-  forms : AreFields None fields
-  none : NoField (last_of None fields) left
+pub record IsReading (body : List ℕ) (fields : List TagValue) (left : List ℕ) : Type 0 where
+  pub bytes : body ≡ bytes_of fields ++ left
+  pub forms : AreFields None fields
+  pub none : NoField (last_of None fields) left
 
-same_reading : (body : List ℕ) (fs gs : List TagValue) (r s : List ℕ) → IsReading body fs r → IsReading body gs s → (fs ≡ gs) × (r ≡ s)
+pub same_reading : (body : List ℕ) (fs gs : List TagValue) (r s : List ℕ) → IsReading body fs r → IsReading body gs s → (fs ≡ gs) × (r ≡ s)
 same_reading body fs gs r s p q = one_reading None fs gs r s p.forms q.forms p.none q.none (sym p.bytes ∙ q.bytes)
 
-to_the_end : (body : List ℕ) (fs : List TagValue) → body ≡ bytes_of fs → AreFields None fs → IsReading body fs []
+pub to_the_end : (body : List ℕ) (fs : List TagValue) → body ≡ bytes_of fs → AreFields None fs → IsReading body fs []
 to_the_end body fs e forms = record { bytes = e ∙ sym (append-nil (bytes_of fs)); forms = forms; none = no_field_at_end (last_of None fs) }
 
-to_the_fault : (body : List ℕ) (n : ℕ) (u : IsUnreadable body n) → IsReading body u.front u.left
+pub to_the_fault : (body : List ℕ) (n : ℕ) (u : IsUnreadable body n) → IsReading body u.front u.left
 to_the_fault body n u = record { bytes = u.bytes; forms = u.forms; none = u.no_field }
 
 -- the fields that end at the end of the body are all of it

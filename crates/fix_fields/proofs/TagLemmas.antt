@@ -2,18 +2,21 @@
 use Rattle.std.proofs.Common.{◌≡◌, ◌≢◌, ℕ, zero, suc, ◌+◌, ◌^◌, ◌<◌, ◌≤◌, Bool, true, false, cond, ◌&&◌, eqb, leb, Option, Some, None, List, [], ◌∷◌, ◌++◌, length, get_or, take, drop, ap, sym, refl, ◌∙◌, arith, rules}
 use Rattle.std.specs.Char.{is_ascii_digit, digit_value}
 use Rattle.std.specs.Fmt.{decimal}
-use Rattle.std.specs.List.{All, list_all}
+use Rattle.std.specs.List.{All, list_all, position}
 use Rattle.std.specs.Str.Parse.{AllDigits, digits_value}
 use Rattle.std.proofs.lemmas.Bool.Decides.{nat_tests}
+use Rattle.std.proofs.lemmas.List.{get_or_at, length-append}
 use Rattle.std.proofs.lemmas.Fmt.{decimal_is_IsNumeral, decimal_nonempty, decimal_digit, first_decimal, length-decimal-le, decimal-digits_value}
 use Rattle.std.proofs.lemmas.Int.Digits.{digits_value-lt}
 use Rattle.std.proofs.lemmas.List.Elements.{All-from_get_or}
 use Rattle.std.proofs.lemmas.List.Sums.{list_all-from_AllPass}
 use Rattle.std.proofs.lemmas.Str.Parse.{digit_at, numerals_by_value, tells_digits}
 use Rattle.std.proofs.Math.Nat.{pow-le-pow_right}
-use Rattle.fix_fields.specs.Forms.{is_digits, digits_form, tag_form}
+use Rattle.audit_base.specs.Digits.{is_digits, digits_form}
+use Rattle.fix_fields.specs.Forms.{tag_form}
 use Rattle.fix_fields.specs.Grammar.{IsTag}
-use Rattle.fix_fields.proofs.SearchLemmas.{same_until, split_at}
+use Rattle.fix_fields.specs.FieldAt.{is_equals_sign}
+use Rattle.fix_fields.proofs.SearchLemmas.{chosen_number, equals_is_found, same_until, split_at, FirstEquals}
 
 digit_passes : (c : ℕ) → 48 ≤ c → c ≤ 57 → is_ascii_digit c ≡ true
 digit_passes c low high = search (rules, nat_tests)
@@ -39,10 +42,6 @@ decimal_digits tag is =
     (λ k low. let d = decimal_at tag k is low in digit_passes (get_or (decimal tag) k 0) d.0 d.1))
 
 -- an option that a test chooses, read back
-chosen_then : (b : Bool) (x y : ℕ) → cond b (Some x) None ≡ Some y → (b ≡ true) × (x ≡ y)
-chosen_then true x y h = (refl, cc)
-chosen_then false x y h = (cc)
-
 chosen_else : (b : Bool) (x : Option ℕ) (y : ℕ) → cond b None x ≡ Some y → (b ≡ false) × (x ≡ Some y)
 chosen_else true x y h = (cc)
 chosen_else false x y h = (refl, h)
@@ -73,7 +72,7 @@ pub record Digits (most : ℕ) (text : List ℕ) (value : ℕ) : Type 0 where
 
 pub digits_form-some : (most : ℕ) (text : List ℕ) (value : ℕ) → digits_form most text ≡ Some value → Digits most text value
 digits_form-some most text value h =
-    let c = chosen_then (is_digits most text) (digits_value 10 text) value h in
+    let c = chosen_number (is_digits 1 most text) (digits_value 10 text) value h in
     let outer = both_true (leb 1 (length text) && leb (length text) most) (list_all is_ascii_digit text) c.0 in
     let inner = both_true (leb 1 (length text)) (leb (length text) most) outer.0 in
     record { some = grind (arith, nat_tests, inner.0); short = grind (arith, nat_tests, inner.1); digits = outer.1; writes = c.1 }
@@ -108,13 +107,21 @@ tag_form-some text tag h =
     let low : 0 < tag = not_zero text tag is first in (is, record { low = low; high = omega arith })
 
 -- where what stands before the first `=` isn't read as a tag, no tag and `=` stand at the front
-pub no_tag : (bytes : List ℕ) (size : ℕ) → size < length bytes → get_or bytes size 0 ≡ 61 → All (λ b. b ≢ 61) (take size bytes) → tag_form (take size bytes) ≡ None
+pub no_tag : (bytes : List ℕ) (size : ℕ) → FirstEquals bytes size → tag_form (take size bytes) ≡ None
     → (tag : ℕ) (more : List ℕ) → IsTag tag → bytes ≢ decimal tag ++ 61 ∷ more
-no_tag bytes size low here before none tag more is e =
-    let same = same_until 61 (take size bytes) (decimal tag) (drop (size + 1) bytes) more before (decimal_no_equals tag is) (sym (split_at 61 bytes size low here) ∙ e) in
+no_tag bytes size first none tag more is e =
+    let same = same_until 61 (take size bytes) (decimal tag) (drop (size + 1) bytes) more first.before (decimal_no_equals tag is) (sym (split_at 61 bytes size first.low first.here) ∙ e) in
     let some : tag_form (take size bytes) ≡ Some tag = ap tag_form same.0 ∙ tag_form-decimal tag is in cc
 
 -- and where it is, that tag and `=` do
 pub tag_split : (bytes : List ℕ) (size tag : ℕ) → size < length bytes → get_or bytes size 0 ≡ 61 → tag_form (take size bytes) ≡ Some tag → bytes ≡ decimal tag ++ 61 ∷ drop (size + 1) bytes
 tag_split bytes size tag low here some =
     let is = (tag_form-some (take size bytes) tag some).0 in split_at 61 bytes size low here ∙ ap (λ (t : List ℕ). t ++ 61 ∷ drop (size + 1) bytes) is
+
+-- where no `=` stands among the first ten bytes, no tag and `=` stand at the front
+pub no_equals : (bytes : List ℕ) → position is_equals_sign (take 10 bytes) ≡ None → (tag : ℕ) (more : List ℕ) → IsTag tag → bytes ≢ decimal tag ++ 61 ∷ more
+no_equals bytes none tag more is e =
+    let short : length (decimal tag) ≤ 9 = length-decimal-le 9 tag (omega arith) is.high (omega (arith, is.high)) in
+    let size : length bytes ≡ length (decimal tag) + length (61 ∷ more) = ap length e ∙ length-append (decimal tag) (61 ∷ more) in
+    let here : get_or bytes (length (decimal tag)) 0 ≡ 61 = ap (λ (l : List ℕ). get_or l (length (decimal tag)) 0) e ∙ get_or_at (decimal tag) 61 more 0 (length (decimal tag)) refl in
+    equals_is_found bytes (length (decimal tag)) none (omega arith) (omega arith) here

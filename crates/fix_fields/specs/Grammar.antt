@@ -2,6 +2,7 @@
 use Rattle.std.specs.Prelude.{◌≡◌, ◌≢◌, ℕ, Bool, false, ◌<◌, ◌==◌, ◌^◌, Option, Some, None, List, [], ◌∷◌, ◌++◌, length, IsTrue, IsFalse, MatchBool}
 use Rattle.std.specs.Fmt.{decimal}
 use Rattle.std.specs.List.{All, flat_map}
+use Rattle.audit_base.specs.Sizes.{soh}
 use Rattle.fix_fields.specs.Forms.{length_form}
 use Rattle.fix_fields.specs.Pairs.{is_pair}
 
@@ -10,9 +11,9 @@ pub record TagValue : Type 0 where
   pub tag : ℕ
   pub value : List ℕ
 
--- the bytes of a field: the tag, `=` (61), the value, SOH (1)
+-- the bytes of a field: the tag, `=` (61), the value, SOH
 abbrev pub field_bytes : TagValue → List ℕ
-field_bytes field = decimal field.tag ++ 61 ∷ (field.value ++ 1 ∷ [])
+field_bytes field = decimal field.tag ++ 61 ∷ (field.value ++ soh ∷ [])
 
 -- the bytes of fields that follow one another
 abbrev pub bytes_of : List TagValue → List ℕ
@@ -23,16 +24,19 @@ pub record IsTag (tag : ℕ) : Type 0 where
   pub low : 0 < tag
   pub high : tag < 10 ^ 9
 
--- a value that SOH ends is one or more bytes, none of them SOH
-pub record IsPlain (value : List ℕ) : Type 0 where
+-- a value that the next SOH ends is one or more bytes, none of them SOH
+pub record IsDelimited (value : List ℕ) : Type 0 where
   pub nonempty : 0 < length value
-  pub no_end : All (λ b. b ≢ 1) value
+  pub no_end : All (λ b. b ≢ soh) value
 
--- The form of the value of a field with this tag, where `before` is the field right before it. A data field that its length field stands right before
--- has as many bytes as that field says, whatever they are. Any other value is plain.
+-- The form of the value of a field with this tag, where `before` is the field right before it: that
+-- of a data field right behind its length field has as many bytes as that field says, whatever they
+-- are; any other value is ended by the next SOH.
 abbrev pub HasForm : Option TagValue → ℕ → List ℕ → Type 0
-HasForm None tag value = IsPlain value
-HasForm (Some before) tag value = MatchBool (is_pair before.tag tag) (length_form before.value ≡ Some (length value)) (IsPlain value)
+HasForm None tag value = IsDelimited value
+HasForm (Some before) tag value =
+    MatchBool (is_pair before.tag tag)
+    (length_form before.value ≡ Some (length value)) (IsDelimited value)
 
 -- this may stand as a field where `before` is the field right before it
 pub record IsField (before : Option TagValue) (field : TagValue) : Type 0 where
@@ -62,9 +66,11 @@ pub record Fields (body : List ℕ) (fields : List TagValue) : Type 0 where
 
 -- no bytes at the front can be read as a field after `before`
 abbrev pub NoField : Option TagValue → List ℕ → Type 0
-NoField before bytes = (field : TagValue) (more : List ℕ) → IsField before field → bytes ≢ field_bytes field ++ more
+NoField before bytes =
+    (field : TagValue) (more : List ℕ) → IsField before field → bytes ≢ field_bytes field ++ more
 
--- the first field of the body that can't be read begins at byte n: before it stand fields, and what is left is none
+-- the first field of the body that can't be read begins at byte n: before it stand fields, and no
+-- field begins there
 pub record IsUnreadable (body : List ℕ) (n : ℕ) : Type 0 where
   pub front : List TagValue
   pub left : List ℕ

@@ -6,8 +6,9 @@ use Rattle.std.specs.Option.{option_map}
 -- the tag of a length field, and the tag of the data field that it counts
 abbrev pub pairs : List (ℕ × ℕ)
 pairs =
-    (90, 91) ∷ (93, 89) ∷ (95, 96) ∷ (212, 213) ∷ (348, 349) ∷ (350, 351) ∷ (352, 353) ∷ (354, 355)
-    ∷ (356, 357) ∷ (358, 359) ∷ (360, 361) ∷ (362, 363) ∷ (364, 365) ∷ (445, 446) ∷ (618, 619) ∷ (621, 622) ∷ []
+    (90, 91) ∷ (93, 89) ∷ (95, 96) ∷ (212, 213) ∷ (348, 349) ∷ (350, 351) ∷ (352, 353)
+    ∷ (354, 355) ∷ (356, 357) ∷ (358, 359) ∷ (360, 361) ∷ (362, 363) ∷ (364, 365)
+    ∷ (445, 446) ∷ (618, 619) ∷ (621, 622) ∷ []
 
 -- the length tag that stands beside a data tag in the table; None of a tag that is no data tag
 abbrev pub length_tag_of : ℕ → Option ℕ

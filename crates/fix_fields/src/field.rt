@@ -1,4 +1,8 @@
 //! A field, why a body is not read, and where a tag stands.
+ghost use Rattle.std.specs.Prelude.{◌≡◌};
+ghost use Rattle.fix_fields.specs.declared.field.FieldFault.TheVariants.{Memory};
+
+use std::alloc::AllocFailed;
 use thiserror::Error;
 
 /// A field of a body: its tag, and the bytes of the body in which its value stands, from the byte
@@ -21,6 +25,14 @@ pub enum FieldFault {
     MsgType,
     #[error("out of memory")]
     Memory,
+}
+
+impl<T: Drop> From<AllocFailed<T>> for FieldFault {
+    ghost from_gives = { λ _ fault. fault ≡ Memory };
+
+    fn from(_failed: AllocFailed<T>) -> FieldFault {
+        FieldFault::Memory
+    }
 }
 
 /// The index of the first field with a tag, from 0, and whether there are more.

@@ -1,7 +1,7 @@
 //! Looks a tag up among the fields of a body.
 ghost use Rattle.std.specs.Prelude.{◌≡◌, position};
 ghost use Rattle.std.specs.List.{list_any};
-ghost use Rattle.fix_fields.specs.Finding.{found_of, has_tag};
+ghost use Rattle.fix_fields.specs.TagSearch.{found_of, has_tag};
 
 use crate::field::{Field, Found};
 

@@ -1,8 +1,10 @@
 //! The fields of a FIX 4.4 message body: `tag=value` and SOH (0x01), one after another.
 //!
-//! `split` reads a body as its list of fields, each with the range of its value, `find` looks one up,
-//! and `write` appends one. The value of a data field may hold any byte: it is read by the length
-//! field right before it, for the pairs of tags in `pairs`. `laws` says what holds of every body.
+//! `split` reads a body as its list of fields, each with the range of its value: `fields` makes a
+//! list, and `read_fields` uses one again, which is what a log of many messages wants. `find` looks
+//! a tag up, and `write` appends a field. The value of a data field may hold any byte: it is read by
+//! the length field right before it, for the pairs of tags in `pairs`. `laws` says what holds of
+//! every body.
 #![tactic(auto)]
 
 pub mod field;

@@ -1,11 +1,12 @@
 //! Reads a body as its list of fields, in one pass from left to right.
-ghost use Rattle.std.specs.Prelude.{◌≡◌, ◌≤◌, ℕ, List, length, drop, IfOk, IfErr, IfSome, IfNone, IsOkAnd};
+ghost use Rattle.std.specs.Prelude.{◌≡◌, ◌≤◌, ℕ, List, [], length, drop, IfOk, IfErr, IfSome, IfNone, IsOk, IsOkAnd, OnOk, OnErr};
 ghost use Rattle.std.specs.Option.{option_map, ForSome};
 ghost use Rattle.std.specs.Result.{IsErrOf};
-ghost use Rattle.fix_fields.specs.Answers.{Refuses, OrMemory};
+ghost use Rattle.audit_base.specs.Sizes.{longest_body};
+ghost use Rattle.fix_fields.specs.Refusals.{Refuses, OrMemory};
 ghost use Rattle.fix_fields.specs.Grammar.{TagValue, Fields, IsUnreadable, LacksType, NoField};
-ghost use Rattle.fix_fields.specs.Places.{AreFieldsOf, IsWithin, all_shown, shown};
-ghost use Rattle.fix_fields.specs.Reading.{BeginsAt, first_is_type};
+ghost use Rattle.fix_fields.specs.Ranges.{AreFieldsOf, HasRangeIn, all_shown, shown};
+ghost use Rattle.fix_fields.specs.FieldAt.{BeginsAt, first_is_type};
 
 use crate::field::{Field, FieldFault};
 use crate::tags::tag_at;
@@ -24,7 +25,7 @@ const MSG_TYPE: u32 = 35;
 /// `Field` tells the byte at which the first field begins that can't be read in this way. `MsgType`
 /// says that all fields can be read, but there is none or the first has another tag.
 pub fn fields(alloc: Global, body: &[u8]) -> Result<Vec<Field>, FieldFault>
-    requires { length body.now ≤ 1048576 }
+    requires { length body.now ≤ longest_body }
 
     // What each answer says.
     ensures fields { IfOk result (λ v. AreFieldsOf body.now v.items) }
@@ -37,21 +38,58 @@ pub fn fields(alloc: Global, body: &[u8]) -> Result<Vec<Field>, FieldFault>
         → OrMemory result (IsErrOf result (FieldFault.Field n)) }
     ensures untyped { LacksType body.now → OrMemory result (IsErrOf result FieldFault.MsgType) }
 {
-    let mut found = Vec::new(alloc);
+    let mut list = Vec::new(alloc);
+    read_fields(body, &mut list)?;
+    Ok(list)
+}
+
+/// Reads the fields of a body, as `fields` does, into a list that may be used again for the next
+/// body: what it held is dropped, and its room stays. After a fault it is empty.
+pub fn read_fields(body: &[u8], list: &mut Vec<Field>) -> Result<(), FieldFault>
+    requires { length body.now ≤ longest_body }
+
+    // What each answer says.
+    ensures fields { OnOk result (AreFieldsOf body.now list.new.items) }
+    ensures fault { IfErr result (λ e. Refuses body.now e) }
+    ensures empty { OnErr result (list.new.items ≡ []) }
+
+    // Each comes wherever what it says holds, unless memory runs out.
+    ensures reads { (fs : List TagValue) → Fields body.now fs → OrMemory result (IsOk result) }
+    ensures unreadable { (n : ℕ) → IsUnreadable body.now n
+        → OrMemory result (IsErrOf result (FieldFault.Field n)) }
+    ensures untyped { LacksType body.now → OrMemory result (IsErrOf result FieldFault.MsgType) }
+{
+    list.clear();
+    let read = append_fields(body, list);
+    if read.is_err() {
+        list.clear();
+    }
+    read
+}
+
+/// The same into an empty list; after a fault it holds the fields before that.
+fn append_fields(body: &[u8], list: &mut Vec<Field>) -> Result<(), FieldFault>
+    requires size { length body.now ≤ longest_body }
+    requires empty { list.old.items ≡ [] }
+    ensures fields { OnOk result (AreFieldsOf body.now list.new.items) }
+    ensures fault { IfErr result (λ e. Refuses body.now e) }
+    ensures reads { (fs : List TagValue) → Fields body.now fs → OrMemory result (IsOk result) }
+    ensures unreadable { (n : ℕ) → IsUnreadable body.now n
+        → OrMemory result (IsErrOf result (FieldFault.Field n)) }
+    ensures untyped { LacksType body.now → OrMemory result (IsErrOf result FieldFault.MsgType) }
+{
     let mut before = None;
     let mut at = 0;
     while at < body.len() {
         let Some(field) = field_at(body, at, before) else {
             return Err(FieldFault::Field(at as u32));
         };
-        if found.push(field).is_err() {
-            return Err(FieldFault::Memory);
-        }
+        list.push(field)?;
         before = Some(field);
         at = field.to + 1;
     }
-    if begins_with_type(&found) {
-        Ok(found)
+    if begins_with_type(list) {
+        Ok(())
     } else {
         Err(FieldFault::MsgType)
     }
@@ -60,7 +98,7 @@ pub fn fields(alloc: Global, body: &[u8]) -> Result<Vec<Field>, FieldFault>
 /// The field that begins at byte `at`, where `before` is the field right before it; None exactly
 /// where no field can be read there.
 fn field_at(body: &[u8], at: usize, before: Option<Field>) -> Option<Field>
-    requires before { ForSome before (λ f. IsWithin body.now f) }
+    requires before { ForSome before (λ f. HasRangeIn body.now f) }
     requires at { at ≤ length body.now }
     ensures found { IfSome result (BeginsAt body.now at (option_map (shown body.now) before)) }
     ensures none { IfNone result (NoField (option_map (shown body.now) before) (drop at body.now)) }

@@ -1,13 +1,14 @@
 //! The tag of a field: 1 to 9 digits without a leading zero, and `=`.
-ghost use Rattle.std.specs.Prelude.{◌≡◌, ◌≢◌, ◌+◌, ◌≤◌, ◌∷◌, ◌++◌, ℕ, List, length, drop, IfSome, IfNone, IsTrue};
-ghost use Rattle.std.specs.List.{list_all};
-ghost use Rattle.std.specs.Char.{is_ascii_digit};
+ghost use Rattle.std.specs.Prelude.{◌≡◌, ◌≢◌, ◌+◌, ◌∷◌, ◌++◌, ℕ, List, length, take, drop, position, IfSome, IfNone};
 ghost use Rattle.std.specs.Fmt.{decimal};
-ghost use Rattle.std.specs.Str.Parse.{digits_value};
-ghost use Rattle.fix_fields.specs.Forms.{tag_form, digits_form, is_digits};
+ghost use Rattle.fix_fields.specs.Forms.{tag_form};
 ghost use Rattle.fix_fields.specs.Grammar.{IsTag};
+ghost use Rattle.fix_fields.specs.FieldAt.{is_equals_sign};
 
-use memchr::memchr;
+use audit_base::digits::read_digits;
+
+/// The most bytes of a tag with the `=` behind it.
+const MOST_BYTES: usize = 10;
 
 /// The tag at the front of the bytes, and the number of bytes up to the value: those of the tag and
 /// of the `=`. None exactly where no tag and `=` stand at the front.
@@ -18,53 +19,26 @@ pub fn tag_at(bytes: &[u8]) -> Option<(u32, usize)>
     ensures none { IfNone result ((tag : ℕ) (more : List ℕ)
         → IsTag tag → bytes.now ≢ decimal tag ++ 61 ∷ more) }
 {
-    let size = memchr(b'=', bytes)?;
+    let size = equals_sign(bytes)?;
     let tag = tag_of(&bytes[..size])?;
     Some((tag, size + 1))
+}
+
+/// Where the first `=` stands among the bytes that a tag and its `=` may have.
+fn equals_sign(bytes: &[u8]) -> Option<usize>
+    ensures { result ≡ position is_equals_sign (take 10 bytes.now) }
+{
+    let front = &bytes[..bytes.len().min(MOST_BYTES)];
+    front.iter().position(|byte| *byte == b'=')
 }
 
 /// The tag that the text before a `=` is; None exactly of any other text.
 fn tag_of(text: &[u8]) -> Option<u32>
     ensures { result ≡ tag_form text.now }
 {
-    match text.first() {
-        Some(b'0') => None,
-        _ => number_of(text, 9),
+    if text.first() == Some(&b'0') {
+        return None;
     }
-}
-
-/// The number that 1 to `most` digits write; None exactly of any other text.
-pub fn number_of(text: &[u8], most: usize) -> Option<u32>
-    requires { most ≤ 9 }
-    ensures { result ≡ digits_form most text.now }
-{
-    if is_digits(text, most) {
-        Some(value_of(text))
-    } else {
-        None
-    }
-}
-
-fn is_digits(text: &[u8], most: usize) -> bool
-    ensures { result ≡ is_digits most text.now }
-{
-    1 <= text.len() && text.len() <= most && all_digits(text)
-}
-
-fn all_digits(text: &[u8]) -> bool
-    ensures { result ≡ list_all is_ascii_digit text.now }
-{
-    text.iter().all(|b| b.is_ascii_digit())
-}
-
-fn value_of(digits: &[u8]) -> u32
-    requires short { length digits.now ≤ 9 }
-    requires digits { IsTrue (list_all is_ascii_digit digits.now) }
-    ensures { result ≡ digits_value 10 digits.now }
-{
-    let mut value = 0;
-    for digit in digits {
-        value = value * 10 + u32::from(*digit - b'0');
-    }
-    value
+    let tag = read_digits(text, 9)?;
+    Some(tag as u32)
 }

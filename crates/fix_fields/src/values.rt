@@ -2,22 +2,21 @@
 ghost use Rattle.std.specs.Prelude.{◌≡◌, Some, length, take, IfSome, IfNone};
 ghost use Rattle.std.specs.Option.{option_map, ForSome};
 ghost use Rattle.fix_fields.specs.Forms.{length_form};
-ghost use Rattle.fix_fields.specs.Grammar.{IsPlain, HasForm};
-ghost use Rattle.fix_fields.specs.Places.{IsWithin, shown};
-ghost use Rattle.fix_fields.specs.Reading.{EndsAt, NoValue};
+ghost use Rattle.fix_fields.specs.Grammar.{IsDelimited, HasForm};
+ghost use Rattle.fix_fields.specs.Ranges.{HasRangeIn, shown};
+ghost use Rattle.fix_fields.specs.FieldAt.{EndsAt, NoValue};
 
 use crate::field::Field;
 use crate::pairs::length_tag;
-use crate::tags::number_of;
+use audit_base::digits::read_digits;
+use audit_base::sizes::SOH;
 use memchr::memchr;
-
-const SOH: u8 = 1;
 
 /// The number of bytes of the value at the front of the bytes, where `before` is the field of the
 /// body right before the field with this tag. None exactly where no value in its form and SOH stand
 /// at the front.
 pub fn value_size(body: &[u8], before: Option<Field>, tag: u32, bytes: &[u8]) -> Option<usize>
-    requires { ForSome before (λ f. IsWithin body.now f) }
+    requires { ForSome before (λ f. HasRangeIn body.now f) }
     ensures end { IfSome result (EndsAt bytes.now) }
     ensures form { IfSome result (λ n.
         HasForm (option_map (shown body.now) before) tag (take n bytes.now)) }
@@ -28,7 +27,7 @@ pub fn value_size(body: &[u8], before: Option<Field>, tag: u32, bytes: &[u8]) ->
         Some(length) if length_tag(tag) == Some(length.tag) => {
             data_size(&body[length.from..length.to], bytes)
         }
-        _ => plain_size(bytes),
+        _ => delimited_size(bytes),
     }
 }
 
@@ -39,7 +38,7 @@ fn data_size(count: &[u8], bytes: &[u8]) -> Option<usize>
     ensures none { IfNone result
         (NoValue (λ value. length_form count.now ≡ Some (length value)) bytes.now) }
 {
-    let size = number_of(count, 7)? as usize;
+    let size = read_digits(count, 7)? as usize;
     if bytes.get(size) == Some(&SOH) {
         Some(size)
     } else {
@@ -48,10 +47,10 @@ fn data_size(count: &[u8], bytes: &[u8]) -> Option<usize>
 }
 
 /// The same of any other field.
-fn plain_size(bytes: &[u8]) -> Option<usize>
+fn delimited_size(bytes: &[u8]) -> Option<usize>
     ensures end { IfSome result (EndsAt bytes.now) }
-    ensures form { IfSome result (λ n. IsPlain (take n bytes.now)) }
-    ensures none { IfNone result (NoValue IsPlain bytes.now) }
+    ensures form { IfSome result (λ n. IsDelimited (take n bytes.now)) }
+    ensures none { IfNone result (NoValue IsDelimited bytes.now) }
 {
     let size = memchr(SOH, bytes)?;
     if size > 0 { Some(size) } else { None }

@@ -1,13 +1,15 @@
 //! Appends a field to a body.
 ghost use Rattle.std.specs.Prelude.{◌≡◌, ◌∷◌, ◌++◌, [], take, OnOk, OnErr, vec_len};
-ghost use Rattle.fix_fields.specs.Grammar.{IsTag, IsPlain, field_bytes};
+ghost use Rattle.audit_base.specs.Sizes.{soh};
+ghost use Rattle.fix_fields.specs.Grammar.{IsTag, IsDelimited, field_bytes};
 
 use audit_base::faults::NoMemory;
+use audit_base::sizes::SOH;
 use itoa::Buffer;
 use std::alloc::{AllocError, Global};
 
-/// Appends `tag=value` SOH, for a tag from 1 to 999,999,999 and a value of one or more bytes, none of
-/// them SOH. After want of memory `out` is as before. (`out` grows by the allocator that it has.)
+/// Appends `tag=value` SOH, for a tag from 1 to 999,999,999 and a value of one or more bytes, none
+/// of them SOH. Out of memory leaves `out` as before. (`out` grows by the allocator that it has.)
 pub fn write_field(
     _alloc: Global,
     tag: u32,
@@ -15,7 +17,7 @@ pub fn write_field(
     out: &mut Vec<u8>,
 ) -> Result<(), NoMemory>
     requires tag { IsTag tag }
-    requires value { IsPlain value.now }
+    requires value { IsDelimited value.now }
     ensures ok { OnOk result (out.new.items
         ≡ out.old.items ++ field_bytes (record { tag = tag; value = value.now })) }
     ensures err { OnErr result (out.new.items ≡ out.old.items) }
@@ -30,16 +32,16 @@ pub fn write_field(
     Ok(())
 }
 
-/// Appends the parts of a field. After want of memory `out` still begins as before.
+/// Appends the bytes of a field. Out of memory, `out` still begins as before.
 fn append(tag: &[u8], value: &[u8], out: &mut Vec<u8>) -> Result<(), AllocError>
     ensures ok { OnOk result (out.new.items
-        ≡ out.old.items ++ (tag.now ++ 61 ∷ (value.now ++ 1 ∷ []))) }
+        ≡ out.old.items ++ (tag.now ++ 61 ∷ (value.now ++ soh ∷ []))) }
     ensures err { OnErr result (take (vec_len out.old) out.new.items ≡ out.old.items) }
 {
     out.extend_from_slice(tag)?;
     out.push(b'=')?;
     out.extend_from_slice(value)?;
-    out.push(1)?;
+    out.push(SOH)?;
     Ok(())
 }
 
@@ -49,6 +51,7 @@ mod tests {
     use crate::field::Found;
     use crate::find::find_field;
     use crate::split::fields;
+    use audit_base::sizes::LONGEST_BODY;
     use std::test::Fail;
 
     #[test]
@@ -61,7 +64,7 @@ mod tests {
             body.as_slice(),
             b"35=D\x0144=10\x01999999999=a=b\x01".as_slice()
         );
-        assert!(rt; body.len() <= 1_048_576);
+        assert!(rt; body.len() <= LONGEST_BODY);
         let read = fields(rt.alloc(), &body)?;
         assert_eq!(rt; find_field(&read, 44), Found::One(1));
         assert_eq!(rt; body.get(read[1].from..read[1].to), Some(b"10".as_slice()));

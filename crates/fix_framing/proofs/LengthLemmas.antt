@@ -9,7 +9,8 @@ use Rattle.std.proofs.lemmas.List.Sums.{prefix_len-le-length, prefix_len_passes}
 use Rattle.std.proofs.lemmas.Bool.{and_parts, and_cases, or_left, or_right, or_from, not_from_false, not_from_true, lt-ltb, le-ltb, le-leb, lt-leb, eq-eqb, eqb-true, ne_eqb, cases_lt}
 use Rattle.memchr.specs.Find.{Nowhere, NoneBefore, Passes, is_byte}
 use Rattle.fix_framing.specs.declared.frames.FrameFault.TheVariants.{Length, Truncated}
-use Rattle.fix_framing.specs.Frames.{length_digits, length_tests, has_long_length, ends_in_length, has_bad_length, first_failing, body_size, body_place, IsLengthField}
+use Rattle.fix_framing.specs.Frames.{length_digits, length_tests, has_long_length, ends_in_length, has_bad_length, first_failing, body_size, body_place}
+use Rattle.fix_framing.specs.LengthField.{IsLengthField}
 
 -- how many digits follow the header
 abbrev pub count_of : List ℕ → ℕ

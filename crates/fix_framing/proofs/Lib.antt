@@ -1,5 +1,4 @@
 pub mod BreakLemmas
-pub mod DigitLemmas
 pub mod FrameLemmas
 pub mod FramerLemmas
 pub mod LengthLemmas

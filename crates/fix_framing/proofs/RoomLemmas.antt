@@ -6,7 +6,7 @@ use Rattle.fix_framing.specs.declared.framer.Framer.{Framer}
 use Rattle.fix_framing.specs.declared.framer.Step.{Step}
 use Rattle.fix_framing.specs.declared.framer.Step.TheVariants.{Whole, Wait, Fault}
 use Rattle.fix_framing.specs.Breaks.{is_break}
-use Rattle.fix_framing.specs.Framing.{held, reached, HasRoom, Feeds, Keeps, Answers}
+use Rattle.fix_framing.specs.Framing.{held, reached, HasRoom, Feeds, Keeps, StepSays}
 
 -- room for a text is room for its front
 pub room-front : (framer : Framer) (piece rest : List ℕ) → HasRoom framer (piece ++ rest) → HasRoom framer piece
@@ -27,7 +27,7 @@ pub room-kept : (old new : Framer) (piece : List ℕ) → HasRoom old piece → 
 room-kept old new piece room keeps = record { fed = room.fed; frames = room.frames; stands = keeps room.fed room.frames room.stands; most = room.most }
 
 -- no answer takes room
-pub room-answered : (old new : Framer) (step : Step) (piece : List ℕ) → HasRoom old piece → Answers old new step → HasRoom new piece
+pub room-answered : (old new : Framer) (step : Step) (piece : List ℕ) → HasRoom old piece → StepSays old new step → HasRoom new piece
 room-answered old new (Whole start body to) piece room answer =
     record { fed = room.fed; frames = room.frames ++ answer.frame ∷ []; stands = (answer.appends room.fed room.frames room.stands).0; most = room.most }
 room-answered old new Wait piece room answer = room-kept old new piece room answer.keeps

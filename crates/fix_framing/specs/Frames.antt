@@ -4,45 +4,36 @@ use Rattle.std.specs.Prelude.{◌≡◌, ℕ, ◌+◌, ◌-◌, ◌≤◌, ◌<�
 use Rattle.std.specs.List.{list_all, take_while, starts_with, slice_range}
 use Rattle.std.specs.Char.{is_ascii_digit}
 use Rattle.std.specs.Str.Parse.{digits_value}
+use Rattle.audit_base.specs.Digits.{is_digits}
+use Rattle.audit_base.specs.Sizes.{longest_body, soh}
 use Rattle.fix_framing.specs.declared.frames.Frame.{Frame}
 use Rattle.fix_framing.specs.declared.frames.FrameFault.{FrameFault}
 use Rattle.fix_framing.specs.declared.frames.FrameFault.TheVariants.{Begin, Length, Truncated, Trailer, Checksum}
 
 -- `8=FIX.4.4`, SOH, `9=`: what every message begins with
 unfoldable pub header : List ℕ
-header = codes "8=FIX.4.4" ++ 1 ∷ codes "9="
+header = codes "8=FIX.4.4" ++ soh ∷ codes "9="
 
 -- what stands before the checksum field: the header, the digits of the body's length, SOH, the body
 abbrev pub before_checksum : List ℕ → List ℕ → List ℕ
-before_checksum digits body = header ++ digits ++ 1 ∷ body
+before_checksum digits body = header ++ digits ++ soh ∷ body
 
 -- the checksum field: `10=`, its digits, SOH
 abbrev pub checksum_field : List ℕ → List ℕ
-checksum_field digits = codes "10=" ++ digits ++ 1 ∷ []
+checksum_field digits = codes "10=" ++ digits ++ soh ∷ []
 
--- the text is a number of digits from least to most, and nothing else
-abbrev pub is_digits : ℕ → ℕ → List ℕ → Bool
-is_digits least most text = nat_le least (length text) && nat_le (length text) most && list_all is_ascii_digit text
-
--- Frame: the text is a message with this body. Its length's 1 to 9 digits write the number of bytes of the
--- body, at most 1,048,576, and its three last digits the sum of all bytes before `10=`, modulo 256
+-- Frame: the text is a message with this body. Its length's 1 to 9 digits write the number of bytes
+-- of the body, at most 1,048,576, and its three last digits the sum of all bytes before `10=`,
+-- modulo 256
 pub record IsFrame (text body : List ℕ) : Type 0 where
   pub length_digits : List ℕ
   pub sum_digits : List ℕ
   pub whole : text ≡ before_checksum length_digits body ++ checksum_field sum_digits
   pub few : IsTrue (is_digits 1 9 length_digits)
   pub counted : digits_value 10 length_digits ≡ length body
-  pub bounded : length body ≤ 1048576
+  pub bounded : length body ≤ longest_body
   pub three : IsTrue (is_digits 3 3 sum_digits)
   pub summed : digits_value 10 sum_digits ≡ sum (before_checksum length_digits body) % 256
-
--- SOH follows this many digits, from 1 to 9
-pub record IsLengthField (text : List ℕ) (count : ℕ) : Type 0 where
-  pub some : 0 < count
-  pub few : count ≤ 9
-  pub inside : count < length text
-  pub each : IsTrue (list_all is_ascii_digit (take count text))
-  pub ended : slice_index text count ≡ 1
 
 -- Below r is what is left of a log, from the place on where a message is to begin.
 
@@ -94,9 +85,12 @@ has_long_length r = nat_le 10 (length (length_digits r))
 abbrev pub ends_in_length : List ℕ → Bool
 ends_in_length r = length r == 12 + length (length_digits r)
 
--- test 5: no digit follows the header, or the byte after the digits isn't SOH, or the value exceeds 1,048,576
+-- test 5: no digit follows the header, or the byte after the digits isn't SOH, or the value exceeds
+-- 1,048,576
 abbrev pub has_bad_length : List ℕ → Bool
-has_bad_length r = length (length_digits r) == 0 || not (slice_index r (12 + length (length_digits r)) == 1) || nat_lt 1048576 (body_size r)
+has_bad_length r =
+    length (length_digits r) == 0 || not (slice_index r (12 + length (length_digits r)) == soh)
+    || nat_lt longest_body (body_size r)
 
 -- test 6: after that SOH r has fewer than 7 bytes more than the body
 abbrev pub ends_in_body : List ℕ → Bool
@@ -104,7 +98,9 @@ ends_in_body r = nat_lt (length (drop (body_place r) r)) (body_size r + 7)
 
 -- these seven bytes are `10=`, three digits, SOH
 abbrev pub is_trailer : List ℕ → Bool
-is_trailer seven = starts_with nat_eq seven (codes "10=") && list_all is_ascii_digit (slice_range seven 3 6) && slice_index seven 6 == 1
+is_trailer seven =
+    starts_with nat_eq seven (codes "10=") && list_all is_ascii_digit (slice_range seven 3 6)
+    && slice_index seven 6 == soh
 
 -- test 7: the 7 bytes after the body aren't `10=`, three digits, SOH
 abbrev pub has_bad_trailer : List ℕ → Bool
@@ -112,7 +108,8 @@ has_bad_trailer r = not (is_trailer (trailer_of r))
 
 -- test 8: the three digits don't write the sum of all bytes before `10=`, modulo 256
 abbrev pub has_bad_sum : List ℕ → Bool
-has_bad_sum r = not (digits_value 10 (slice_range (trailer_of r) 3 6) == sum (take (trailer_place r) r) % 256)
+has_bad_sum r =
+    not (digits_value 10 (slice_range (trailer_of r) 3 6) == sum (take (trailer_place r) r) % 256)
 
 -- the fault of the first test that fails, in a list of tests with their faults
 abbrev pub first_failing : List (Bool × FrameFault) → Option FrameFault
@@ -124,10 +121,12 @@ abbrev pub header_tests : List ℕ → List (Bool × FrameFault)
 header_tests r = (begins_otherwise r, Begin) ∷ (ends_in_header r, Truncated) ∷ []
 
 abbrev pub length_tests : List ℕ → List (Bool × FrameFault)
-length_tests r = (has_long_length r, Length) ∷ (ends_in_length r, Truncated) ∷ (has_bad_length r, Length) ∷ []
+length_tests r =
+    (has_long_length r, Length) ∷ (ends_in_length r, Truncated) ∷ (has_bad_length r, Length) ∷ []
 
 abbrev pub trailer_tests : List ℕ → List (Bool × FrameFault)
-trailer_tests r = (ends_in_body r, Truncated) ∷ (has_bad_trailer r, Trailer) ∷ (has_bad_sum r, Checksum) ∷ []
+trailer_tests r =
+    (ends_in_body r, Truncated) ∷ (has_bad_trailer r, Trailer) ∷ (has_bad_sum r, Checksum) ∷ []
 
 abbrev pub frame_tests : List ℕ → List (Bool × FrameFault)
 frame_tests r = header_tests r ++ length_tests r ++ trailer_tests r
@@ -142,7 +141,9 @@ pub record IsFrameAt (bytes : List ℕ) (at : ℕ) (frame : Frame) : Type 0 wher
   pub within : frame.end ≤ length bytes
   pub behind : frame.start < frame.body
   pub before : frame.body + 7 ≤ frame.end
-  pub message : IsFrame (slice_range bytes frame.start frame.end) (slice_range bytes frame.body (frame.end - 7))
+  pub message :
+      IsFrame (slice_range bytes frame.start frame.end)
+      (slice_range bytes frame.body (frame.end - 7))
 
 -- three digits of a number below 1,000
 abbrev pub three_digits : ℕ → List ℕ

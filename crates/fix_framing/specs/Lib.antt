@@ -1,3 +1,8 @@
-pub mod Breaks
+-- Part 1. What a reader must believe: the public contracts and laws cite these.
+-- the messages of a log, and the bytes between them
 pub mod Frames
+pub mod Breaks
+-- the messages of a log that comes in pieces
 pub mod Framing
+-- Part 2. What the private functions pass on to one another.
+pub mod LengthField

@@ -17,7 +17,8 @@ pub fn skip_breaks(bytes: &[u8], at: usize) -> usize
     ensures low { at ≤ result }
     ensures high { result ≤ length bytes.now }
     ensures passed { IsTrue (list_all is_break (slice_range bytes.now at result)) }
-    ensures stops { result < length bytes.now → is_break (slice_index bytes.now result) ≡ false }
+    ensures stops { result < length bytes.now
+        → is_break (slice_index bytes.now result) ≡ false }
     ensures rest { drop result bytes.now ≡ after_breaks (drop at bytes.now) }
 {
     let mut place = at;

@@ -1,6 +1,6 @@
-//! The frames of a log that comes in pieces. A `Framer` is fed the pieces as they come and gives one
-//! message after the other. It keeps neither the bytes that it has framed nor the frames that it gave,
-//! so a log is framed in the memory of a piece and a message, however long it is.
+//! The frames of a log that comes in pieces. A `Framer` is fed the pieces as they come and gives
+//! one message after the other. It keeps neither the bytes that it has framed nor the frames that
+//! it gave, so a log is framed in the memory of a piece and a message, however long it is.
 //!
 //! Framed bytes are dropped where a message isn't all there: only the bytes of that message move to
 //! the front then, and they move no second time before it is given.
@@ -16,9 +16,9 @@ use std::alloc::Global;
 /// What a Framer says about the bytes fed that it has not yet framed.
 #[derive(Clone, Copy, Debug, PartialEq, Eq)]
 pub enum Step {
-    /// The next message. `start` is the offset of its first byte in all bytes fed. Its body runs from
-    /// `body` to `to` in the bytes held, and it ends at `to + 7` there. Both places are valid until the
-    /// next `feed` or `next_frame`.
+    /// The next message. `start` is the offset of its first byte in all bytes fed. Its body runs
+    /// from `body` to `to` in the bytes held, and it ends at `to + 7` there. Both places are valid
+    /// until the next `feed` or `next_frame`.
     Whole { start: u64, body: usize, to: usize },
     /// The next message isn't all there, or there is none.
     Wait,
@@ -52,7 +52,7 @@ fn drop_front(bytes: &mut Vec<u8>, count: usize)
 }
 
 impl Framer {
-    ghost use Rattle.fix_framing.specs.Framing.{held, unframed, next_text, next_offset, StandsFor, IsNextOffset, HasRoom, Feeds, Holds, Keeps, IsUnfinished, IsWhole, Answers};
+    ghost use Rattle.fix_framing.specs.Framing.{held, unframed, next_text, next_offset, StandsFor, IsNextOffset, HasRoom, Feeds, AppendsUnframed, Keeps, IsUnfinished, IsWhole, StepSays};
     ghost use Rattle.fix_framing.specs.Frames.{frame_fault};
     ghost use Rattle.fix_framing.specs.declared.frames.FrameFault.{FrameFault};
 
@@ -68,24 +68,22 @@ impl Framer {
         }
     }
 
-    /// Takes the next piece of the bytes, which are at most 67,108,864 in all. Without memory nothing
-    /// changes.
+    /// Takes the next piece of the bytes, which are at most 67,108,864 in all. Out of memory,
+    /// nothing changes.
     pub fn feed(&mut self, piece: &[u8]) -> Result<(), NoMemory>
         requires { HasRoom self.old piece.now }
         ensures ok { OnOk result (Feeds self.old self.new piece.now) }
-        ensures holds { OnOk result (Holds self.old self.new piece.now) }
+        ensures appended { OnOk result (AppendsUnframed self.old self.new piece.now) }
         ensures err { OnErr result (Keeps self.old self.new) }
     {
-        match self.bytes.extend_from_slice(piece) {
-            Ok(()) => Ok(()),
-            Err(_) => Err(NoMemory),
-        }
+        self.bytes.extend_from_slice(piece)?;
+        Ok(())
     }
 
-    /// The next message of the bytes fed, or why there is none. It takes no memory. After `Step::Fault`
-    /// it says the same again, whatever is fed.
+    /// The next message of the bytes fed, or why there is none. It takes no memory. After
+    /// `Step::Fault` it says the same again, whatever is fed.
     pub fn next_frame(&mut self) -> Step
-        ensures answers { Answers self.old self.new result }
+        ensures answers { StepSays self.old self.new result }
         // Each answer comes exactly where the bytes say so.
         ensures whole { IsWhole result ↔ (frame_fault (next_text self.old) ≡ None) }
         ensures waits { (result ≡ Step.Wait) ↔ IsUnfinished self.old }
@@ -103,6 +101,7 @@ impl Framer {
                     to: frame.end - TRAILER,
                 }
             }
+            // One match more than needed: behind it the prover knows that the fault is another.
             Err(fault) => match fault {
                 FrameFault::Truncated => {
                     drop_front(&mut self.bytes, at);
@@ -118,8 +117,8 @@ impl Framer {
         }
     }
 
-    /// Whether all bytes fed are framed, but for CR and LF bytes: else the offset of the first byte of
-    /// the unfinished message, behind these.
+    /// Whether all bytes fed are framed, but for CR and LF bytes: else the offset of the first byte
+    /// of the unfinished message, behind these.
     pub fn finish(&self) -> Result<(), u64>
         ensures ok { IsOk result ↔ IsTrue (list_all is_break (unframed self.now)) }
         ensures err { IfErr result (IsNextOffset self.now) }

@@ -1,15 +1,18 @@
-//! The frames of a log whose bytes are all there: where a message begins and ends, or the first test
-//! that the bytes fail. FIX 4.4, BeginString (8), BodyLength (9) and CheckSum (10).
+//! The frames of a log whose bytes are all there: where a message begins and ends, or the first
+//! test that the bytes fail. FIX 4.4, BeginString (8), BodyLength (9) and CheckSum (10).
 //!
 //! The body's length stands before the body, so a message is found by counting and never by looking
-//! for its end. `frame_at` goes over the bytes of a message once, for the sum.
+//! for its end. `frame_at` reads the bytes of a message in one pass, for the sum.
 ghost use Rattle.std.specs.Prelude.{◌≡◌, ℕ, ◌+◌, ◌-◌, ◌<◌, ◌≤◌, ◌%◌, ◌^◌, [], ◌∷◌, ◌++◌, List, length, take, drop, sum, false, Some, None, IsTrue, IfOk, IfErr, OnOk, MatchResult, IsOkAnd};
 ghost use Rattle.std.specs.List.{slice_range, list_all};
 ghost use Rattle.std.specs.Char.{is_ascii_digit};
 ghost use Rattle.std.specs.Str.Parse.{digits_value};
 ghost use Rattle.std.specs.Result.{result_err};
-ghost use Rattle.fix_framing.specs.Frames.{may_begin, header_tests, length_tests, trailer_tests, first_failing, frame_fault, is_trailer, body_place, trailer_place, frame_size, IsLengthField, IsFrame, IsFrameAt};
+ghost use Rattle.fix_framing.specs.Frames.{may_begin, header_tests, length_tests, trailer_tests, first_failing, frame_fault, is_trailer, body_place, trailer_place, frame_size, IsFrame, IsFrameAt};
+ghost use Rattle.fix_framing.specs.LengthField.{IsLengthField};
 
+use audit_base::digits::{are_digits, value_of};
+use audit_base::sizes::{LONGEST_BODY, SOH};
 use memchr::memchr;
 use thiserror::Error;
 
@@ -47,34 +50,8 @@ pub enum FrameFault {
 /// What every message begins with.
 pub(crate) const HEADER: &[u8; 12] = b"8=FIX.4.4\x019=";
 
-/// The byte that ends each field.
-pub(crate) const SOH: u8 = 1;
-
-/// The greatest length of a body, in bytes.
-const MOST_BODY: usize = 1_048_576;
-
 /// The size of the checksum field, in bytes.
 pub(crate) const TRAILER: usize = 7;
-
-/// Whether each byte is a digit.
-fn are_digits(text: &[u8]) -> bool
-    ensures { result ≡ list_all is_ascii_digit text.now }
-{
-    text.iter().all(|byte| byte.is_ascii_digit())
-}
-
-/// The number that at most nine digits write.
-fn number(digits: &[u8]) -> u32
-    requires short { length digits.now ≤ 9 }
-    requires each { IsTrue (list_all is_ascii_digit digits.now) }
-    ensures { result ≡ digits_value 10 digits.now }
-{
-    let mut value = 0;
-    for digit in digits {
-        value = value * 10 + u32::from(*digit - b'0');
-    }
-    value
-}
 
 /// The sum of the bytes, modulo 256.
 pub(crate) fn checksum(bytes: &[u8]) -> u8
@@ -126,7 +103,8 @@ fn length_window(text: &[u8]) -> &[u8]
     &rest[..rest.len().min(10)]
 }
 
-/// How many digits follow the header, before the SOH that ends them: tests 3 to 5 but for the value.
+/// How many digits follow the header, before the SOH that ends them: tests 3 to 5 but for their
+/// value.
 fn length_field(text: &[u8]) -> Result<usize, FrameFault>
     requires { 12 ≤ length text.now }
     ensures ok { IfOk result (λ digits. IsLengthField (drop 12 text.now) digits) }
@@ -156,8 +134,8 @@ fn find_places(text: &[u8]) -> Result<Places, FrameFault>
     ensures err { IfErr result (λ fault. first_failing (length_tests text.now) ≡ Some fault) }
 {
     let digits = length_field(text)?;
-    let size = number(&text[12..12 + digits]) as usize;
-    if size > MOST_BODY {
+    let size = value_of(&text[12..12 + digits]) as usize;
+    if size > LONGEST_BODY {
         return Err(FrameFault::Length);
     }
     let body = 12 + digits + 1;
@@ -181,7 +159,7 @@ fn check_trailer(text: &[u8], trailer: usize) -> Result<(), FrameFault>
     if !is_checksum_field(field) {
         return Err(FrameFault::Trailer);
     }
-    if number(&field[3..6]) != u32::from(checksum(&text[..trailer])) {
+    if value_of(&field[3..6]) != u64::from(checksum(&text[..trailer])) {
         return Err(FrameFault::Checksum);
     }
     Ok(())
@@ -207,8 +185,9 @@ pub fn frame_at(bytes: &[u8], at: usize) -> Result<Frame, FrameFault>
     // What is found is a message with its body, and begins at `at`.
     ensures found { IfOk result (λ f. IsFrameAt bytes.now at f) }
     // A message that begins at `at` is found.
-    ensures only { (text body more : List ℕ) → IsFrame text body → drop at bytes.now ≡ text ++ more →
-        IsOkAnd result (λ f. (f.end ≡ at + length text) × (f.end ≡ f.body + length body + 7)) }
+    ensures only { (text body more : List ℕ)
+        → IsFrame text body → drop at bytes.now ≡ text ++ more
+        → IsOkAnd result (λ f. (f.end ≡ at + length text) × (f.end ≡ f.body + length body + 7)) }
     // A fault is that of the first test that fails.
     ensures fault { result_err result ≡ frame_fault (drop at bytes.now) }
     // The places, counted from the bytes.

@@ -1,9 +1,11 @@
 //! Writing a message: the frame around a body. FIX 4.4, BodyLength (9) and CheckSum (10).
 ghost use Rattle.std.specs.Prelude.{◌≡◌, ◌≤◌, ◌<◌, ◌++◌, length, IfOk, OnOk, OnErr};
+ghost use Rattle.audit_base.specs.Sizes.{longest_body};
 ghost use Rattle.fix_framing.specs.Frames.{IsFrame, frame_text, three_digits};
 
-use crate::frames::{HEADER, SOH, checksum};
+use crate::frames::{HEADER, checksum};
 use audit_base::faults::NoMemory;
+use audit_base::sizes::SOH;
 use itoa::Buffer;
 use std::alloc::{AllocError, Global};
 
@@ -16,7 +18,7 @@ fn digits_of(sum: u8) -> [u8; 3]
 
 /// The frame of a body.
 #[tactic(auto, unfolding(crate::specs::Frames::header))]
-fn framed(alloc: Global, body: &[u8]) -> Result<Vec<u8>, AllocError>
+fn frame_of(alloc: Global, body: &[u8]) -> Result<Vec<u8>, AllocError>
     ensures { IfOk result (λ text. text.items ≡ frame_text body.now) }
 {
     let mut buffer = Buffer::new();
@@ -31,22 +33,18 @@ fn framed(alloc: Global, body: &[u8]) -> Result<Vec<u8>, AllocError>
     Ok(text)
 }
 
-/// Appends the message with this body. Its length has no leading zero. Without memory `out` stays as
-/// it was.
+/// Appends the message with this body. Its length has no leading zero. Out of memory, `out` stays
+/// as it was.
 #[tactic(auto, using(crate::proofs::WritingLemmas::frame_text_is_frame))]
 pub fn write_frame(alloc: Global, body: &[u8], out: &mut Vec<u8>) -> Result<(), NoMemory>
-    requires { length body.now ≤ 1048576 }
+    requires { length body.now ≤ longest_body }
     ensures ok { OnOk result (out.new.items ≡ out.old.items ++ frame_text body.now) }
     // What is appended is a message with this body.
     ensures message { IsFrame (frame_text body.now) body.now }
     ensures err { OnErr result (out.new.items ≡ out.old.items) }
 {
-    let Ok(text) = framed(alloc, body) else {
-        return Err(NoMemory);
-    };
-    if out.extend_from_slice(&text).is_err() {
-        return Err(NoMemory);
-    }
+    let text = frame_of(alloc, body)?;
+    out.extend_from_slice(&text)?;
     Ok(())
 }
 

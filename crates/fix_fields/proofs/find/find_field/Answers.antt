@@ -1,7 +1,7 @@
 use Rattle.std.proofs.Common.{◌+◌, ap, sym, ◌∙◌}
 use Rattle.std.specs.List.{list_any}
 use Rattle.std.proofs.lemmas.List.{take_rest}
-use Rattle.fix_fields.specs.Finding.{has_tag}
+use Rattle.fix_fields.specs.TagSearch.{has_tag}
 use Rattle.fix_fields.proofs.FindLemmas.{found_many, found_one}
 use Rattle.fix_fields.proofs.find.find_field.Goals as goal
 

@@ -2,7 +2,7 @@ use Rattle.std.proofs.Common.{◌≢◌, ℕ, ◌+◌, ◌-◌, List, ◌∷◌,
 use Rattle.std.specs.Option.{option_map}
 use Rattle.std.proofs.lemmas.List.{take_rest, drop-drop}
 use Rattle.fix_fields.specs.Grammar.{HasForm, NoField}
-use Rattle.fix_fields.specs.Places.{shown}
+use Rattle.fix_fields.specs.Ranges.{shown}
 use Rattle.fix_fields.proofs.GrammarLemmas.{no_value}
 use Rattle.fix_fields.proofs.split.field_at.Goals as goal
 

@@ -1,57 +1,25 @@
-use Rattle.std.proofs.Common.{◌≡◌, ◌+◌, true, not, is_ok, List, [], ◌∷◌, ◌++◌, Some, ap, subst, sym, ◌∙◌}
+use Rattle.std.proofs.Common.{Global, Vec}
+use Rattle.std.proofs.lemmas.Result.{err_from_is_err_and}
 use Rattle.fix_fields.specs.declared.field.Field.{Field}
-use Rattle.fix_fields.proofs.ReadingLemmas.{HasRead, HasRead-more, stuck_not_whole, stuck_here, whole_not_stuck, whole_only, whole_typed}
+use Rattle.fix_fields.specs.declared.field.FieldFault.TheVariants as fault
+use Rattle.fix_fields.proofs.LawLemmas.{Fields-only}
+use Rattle.fix_fields.proofs.RefusalLemmas.{refused_alike, never_refused}
 use Rattle.fix_fields.proofs.split.fields.Goals as goal
 
-pub returns-in_default-clause-reads : goal.returns-in_default-clause-reads
-returns-in_default-clause-reads c =
-    let l = c.loop-at in
-    λ fs is. stuck_not_whole c.args.body.now l.found.items l.before l.at l.invariant c.loop-at-test.true c.in_default.ensures.none fs is.bytes is.forms
+pub returns-in_err-read_fields-clause-reads : goal.returns-in_err-read_fields-clause-reads
+returns-in_err-read_fields-clause-reads c =
+    let p = err_from_is_err_and c.from_residual.result c.from_residual.ensures.1 in
+    rw (p.1, p.2) (λ fs is. never_refused (Unit {0}) (Vec Field Global) c.in_err-read_fields.field-0.0 _ (c.in_err-read_fields.ensures.reads fs is))
 
-pub returns-in_default-clause-unreadable : goal.returns-in_default-clause-unreadable
-returns-in_default-clause-unreadable c =
-    let l = c.loop-at in
-    λ n is. let here : l.at ≡ n = stuck_here c.args.body.now l.found.items l.before l.at l.invariant c.loop-at-test.true c.in_default.ensures.none n is in cc
+pub returns-in_err-read_fields-clause-unreadable : goal.returns-in_err-read_fields-clause-unreadable
+returns-in_err-read_fields-clause-unreadable c =
+    let p = err_from_is_err_and c.from_residual.result c.from_residual.ensures.1 in
+    rw (p.1, p.2) (λ n is. refused_alike _ _ c.in_err-read_fields.field-0.0 (fault.Field n) (c.in_err-read_fields.ensures.unreadable n is))
 
-pub returns-in_default-clause-untyped : goal.returns-in_default-clause-untyped
-returns-in_default-clause-untyped c =
-    let l = c.loop-at in
-    λ is. absurd (stuck_not_whole c.args.body.now l.found.items l.before l.at l.invariant c.loop-at-test.true c.in_default.ensures.none is.fields is.bytes is.forms)
+pub returns-clause-reads : goal.returns-clause-reads
+returns-clause-reads c =
+    λ fs is. Fields-only c.args.body.now _ fs c.in_ok-read_fields.ensures.fields.read is
 
-pub loop-at-preserved : goal.loop-at-preserved
-loop-at-preserved c =
-    let l = c.loop-at in
-    let field = c.in-Some.field in
-    let ok : is_ok c.push.result ≡ true = c.is_err.ensures.negation ∙ ap not c.if-is_err.false in
-    let items : c.push.new.self.items ≡ l.found.items ++ field ∷ [] = rw ok at c.push.ensures.items in
-    subst (λ (fields : List Field). HasRead c.args.body.now fields (Some field) (field.to + 1)) (sym items)
-    (HasRead-more c.args.body.now l.found.items l.before l.at field l.invariant c.in-Some.ensures.found)
-
-pub returns-then-begins_with_type-clause-reads : goal.returns-then-begins_with_type-clause-reads
-returns-then-begins_with_type-clause-reads c =
-    let l = c.loop-at in
-    λ fs is. whole_only c.args.body.now l.found.items l.before l.at l.invariant c.loop-at-test.false fs is.bytes is.forms
-
-pub returns-then-begins_with_type-clause-unreadable : goal.returns-then-begins_with_type-clause-unreadable
-returns-then-begins_with_type-clause-unreadable c =
-    let l = c.loop-at in
-    λ n is. absurd (whole_not_stuck c.args.body.now l.found.items l.before l.at l.invariant c.loop-at-test.false n is)
-
-pub returns-then-begins_with_type-clause-untyped : goal.returns-then-begins_with_type-clause-untyped
-returns-then-begins_with_type-clause-untyped c =
-    let l = c.loop-at in
-    λ is. let typed = whole_typed c.args.body.now l.found.items l.before l.at l.invariant c.loop-at-test.false is.fields is.bytes is.forms in
-    let untyped = is.untyped in
-    let first = rw c.deref.ensures.value at (sym c.begins_with_type.ensures ∙ c.if-begins_with_type.true) in cc
-
-pub returns-else-begins_with_type-clause-reads : goal.returns-else-begins_with_type-clause-reads
-returns-else-begins_with_type-clause-reads c =
-    let l = c.loop-at in
-    λ fs is. let typed = whole_typed c.args.body.now l.found.items l.before l.at l.invariant c.loop-at-test.false fs is.bytes is.forms in
-    let wanted = is.typed in
-    let first = rw c.deref.ensures.value at (sym c.begins_with_type.ensures ∙ c.if-begins_with_type.false) in cc
-
-pub returns-else-begins_with_type-clause-unreadable : goal.returns-else-begins_with_type-clause-unreadable
-returns-else-begins_with_type-clause-unreadable c =
-    let l = c.loop-at in
-    λ n is. absurd (whole_not_stuck c.args.body.now l.found.items l.before l.at l.invariant c.loop-at-test.false n is)
+pub returns-clause-unreadable : goal.returns-clause-unreadable
+returns-clause-unreadable c =
+    λ n is. let e = c.in_ok-read_fields.ensures.unreadable n is in (cc)

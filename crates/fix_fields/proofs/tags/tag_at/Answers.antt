@@ -1,21 +1,24 @@
 use Rattle.std.proofs.Common.{◌≡◌, length, take, ap, sym, ◌∙◌, arith}
 use Rattle.std.specs.Fmt.{decimal}
 use Rattle.std.proofs.lemmas.List.{length-take-le}
-use Rattle.fix_fields.proofs.SearchLemmas.{absent, none_before, is_there}
-use Rattle.fix_fields.proofs.TagLemmas.{no_tag, tag_split, tag_form-some}
+use Rattle.fix_fields.proofs.SearchLemmas.{first_equals}
+use Rattle.fix_fields.proofs.TagLemmas.{no_equals, no_tag, tag_split, tag_form-some}
 use Rattle.fix_fields.proofs.tags.tag_at.Goals as goal
+
+pub overflow_add-result : goal.overflow_add-result
+overflow_add-result c =
+    let first = first_equals c.args.bytes.now c.in_ok-size.size (sym c.equals_sign.ensures ∙ c.in_ok-size.was) in omega (arith, first.ten)
 
 pub returns-in_err-size-clause-none : goal.returns-in_err-size-clause-none
 returns-in_err-size-clause-none c =
-    rw c.from_residual.ensures (λ tag more is. absent 61 c.args.bytes.now c.in_err-size.ensures (decimal tag) more)
+    rw c.from_residual.ensures (no_equals c.args.bytes.now (sym c.equals_sign.ensures ∙ c.in_err-size.was))
 
 pub returns-in_err-tag-clause-none : goal.returns-in_err-tag-clause-none
 returns-in_err-tag-clause-none c =
     let bytes = c.args.bytes.now in
     let size = c.in_ok-size.size in
-    let found = c.in_ok-size.ensures in
-    rw c.from_residual-in_err-tag.ensures
-    (no_tag bytes size found.0.high (is_there 61 bytes size found.1) (none_before 61 bytes size (omega (arith, found.0.high)) found.0.before) (sym c.tag_of.ensures ∙ c.in_err-tag.was))
+    let first = first_equals bytes size (sym c.equals_sign.ensures ∙ c.in_ok-size.was) in
+    rw c.from_residual-in_err-tag.ensures (no_tag bytes size first (sym c.tag_of.ensures ∙ c.in_err-tag.was))
 
 pub returns-clause-tag : goal.returns-clause-tag
 returns-clause-tag c =
@@ -23,13 +26,14 @@ returns-clause-tag c =
 
 pub returns-clause-bytes : goal.returns-clause-bytes
 returns-clause-bytes c =
-    let found = c.in_ok-size.ensures in
-    tag_split c.args.bytes.now c.in_ok-size.size c.in_ok-tag.tag found.0.high (is_there 61 c.args.bytes.now c.in_ok-size.size found.1) (sym c.tag_of.ensures ∙ c.in_ok-tag.was)
+    let first = first_equals c.args.bytes.now c.in_ok-size.size (sym c.equals_sign.ensures ∙ c.in_ok-size.was) in
+    tag_split c.args.bytes.now c.in_ok-size.size c.in_ok-tag.tag first.low first.here (sym c.tag_of.ensures ∙ c.in_ok-tag.was)
 
 pub returns-clause-size : goal.returns-clause-size
 returns-clause-size c =
-    let found = c.in_ok-size.ensures in
-    let text = take c.in_ok-size.size c.args.bytes.now in
-    let same = (tag_form-some text c.in_ok-tag.tag (sym c.tag_of.ensures ∙ c.in_ok-tag.was)).0 in
-    let size : length text ≡ c.in_ok-size.size = length-take-le c.in_ok-size.size c.args.bytes.now (omega (arith, found.0.high)) in
-    let sizes : length text ≡ length (decimal c.in_ok-tag.tag) = ap length same in omega arith
+    let bytes = c.args.bytes.now in
+    let size = c.in_ok-size.size in
+    let first = first_equals bytes size (sym c.equals_sign.ensures ∙ c.in_ok-size.was) in
+    let same = (tag_form-some (take size bytes) c.in_ok-tag.tag (sym c.tag_of.ensures ∙ c.in_ok-tag.was)).0 in
+    let cut : length (take size bytes) ≡ size = length-take-le size bytes (omega (arith, first.low)) in
+    let sizes : length (take size bytes) ≡ length (decimal c.in_ok-tag.tag) = ap length same in omega arith

@@ -1,7 +1,7 @@
 use Rattle.std.proofs.Common.{arith}
 use Rattle.std.proofs.lemmas.List.{length-take-le}
 use Rattle.fix_fields.proofs.SearchLemmas.{absent, none_before}
-use Rattle.fix_fields.proofs.values.plain_size.Goals as goal
+use Rattle.fix_fields.proofs.values.delimited_size.Goals as goal
 
 pub returns-in_err-size-clause-none : goal.returns-in_err-size-clause-none
 returns-in_err-size-clause-none c =

@@ -1,4 +1,4 @@
--- What the answers of `fields` say.
+-- Why a body is refused.
 use Rattle.std.specs.Prelude.{ℕ, List, Result, Ok, Err}
 use Rattle.fix_fields.specs.declared.field.FieldFault.{FieldFault}
 use Rattle.fix_fields.specs.declared.field.FieldFault.TheVariants.{Field, MsgType, Memory}

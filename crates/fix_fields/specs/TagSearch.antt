@@ -1,4 +1,4 @@
--- The first field with a tag, and whether there are more.
+-- A tag looked up among fields: the first field that has it, and whether there are more.
 use Rattle.std.specs.Prelude.{ℕ, Bool, ◌==◌, Option, Some, None, List, position, count_by, if◌then◌else◌}
 use Rattle.fix_fields.specs.declared.field.Field.{Field}
 use Rattle.fix_fields.specs.declared.field.Found.{Found}
@@ -8,7 +8,7 @@ use Rattle.fix_fields.specs.declared.field.Found.TheVariants.{Absent, One, Many}
 abbrev pub has_tag : ℕ → Field → Bool
 has_tag tag field = field.tag == tag
 
--- what there is to say of a first place and a number of places
+-- what is found, where the first index with the tag and the number of these are known
 abbrev pub found_at : Option ℕ → ℕ → Found
 found_at None count = Absent
 found_at (Some first) count = if count == 1 then One first else Many first
