@@ -1,1 +1,10 @@
+pub mod Rows
+pub mod OrderTables
+pub mod ReportTable
+pub mod Bodies
+pub mod Logs
+pub mod Feeds
 pub mod Pairings
+pub mod Drafts
+pub mod BodyFields
+pub mod Steps

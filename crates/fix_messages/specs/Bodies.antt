@@ -1,0 +1,72 @@
+-- What the body of a message says, by what its fields mean in a kind of log.
+use Rattle.std.specs.Prelude.{◌≡◌, ◌⊎◌, ℕ, Option, Some, None, Result, Ok, Err, List, [], ◌∷◌, length, if◌then◌else◌}
+use Rattle.audit_base.specs.declared.faults.Reason.{Reason}
+use Rattle.audit_base.specs.declared.faults.Reason.TheVariants as reason
+use Rattle.audit_base.specs.declared.records.OrderRecord.{OrderRecord}
+use Rattle.fix_fields.specs.Grammar.{TagValue, Fields, IsUnreadable, LacksType, begins_with_type, bytes_of}
+use Rattle.fix_messages.specs.declared.meanings.MessageFault.{MessageFault}
+use Rattle.fix_messages.specs.declared.meanings.MessageFault.TheVariants.{Missing, Repeated, Value, Unsupported}
+use Rattle.fix_messages.specs.declared.meanings.OrderMeaning.{OrderMeaning}
+use Rattle.fix_messages.specs.declared.meanings.OrderMeaning.TheVariants as order
+use Rattle.fix_messages.specs.declared.meanings.Report.{Report}
+use Rattle.fix_messages.specs.declared.meanings.ReportMeaning.{ReportMeaning}
+use Rattle.fix_messages.specs.declared.meanings.ReportMeaning.TheVariants as report
+use Rattle.fix_messages.specs.BodyFields.{split_of}
+use Rattle.fix_messages.specs.OrderTables.{order_meaning}
+use Rattle.fix_messages.specs.ReportTable.{report_meaning}
+
+abbrev pub order_said : Result OrderMeaning MessageFault → Result (Option OrderRecord) MessageFault
+order_said (Ok order.Skip) = Ok None
+order_said (Ok (order.Entry entry)) = Ok (Some entry)
+order_said (Err fault) = Err fault
+
+abbrev pub order_entry : List TagValue → Result (Option OrderRecord) MessageFault
+order_entry fields = order_said (order_meaning fields)
+
+abbrev pub report_said : Result ReportMeaning MessageFault → Result (Option Report) MessageFault
+report_said (Ok report.Skip) = Ok None
+report_said (Ok (report.Entry entry)) = Ok (Some entry)
+report_said (Err fault) = Err fault
+
+abbrev pub report_entry : List TagValue → Result (Option Report) MessageFault
+report_entry fields = report_said (report_meaning fields)
+
+-- a message's fault as the reason of a bad place
+abbrev pub fault_reason : MessageFault → Reason
+fault_reason (Missing tag) = reason.Missing tag
+fault_reason (Repeated tag) = reason.Repeated tag
+fault_reason (Value tag) = reason.Value tag
+fault_reason (Unsupported tag) = reason.Unsupported tag
+
+abbrev pub reasoned : {R : Type 0} → Result (Option R) MessageFault → Result (Option R) Reason
+reasoned (Ok entry) = Ok entry
+reasoned (Err fault) = Err (fault_reason fault)
+
+-- the body has fields, and this is what they mean
+pub record SaysFields {R : Type 0} (meaning : List TagValue → Result (Option R) MessageFault) (body : List ℕ) (said : Result (Option R) Reason) : Type 0 where
+  pub fields : List TagValue
+  pub read : Fields body fields
+  pub means : said ≡ reasoned (meaning fields)
+
+-- a field of the body can't be read, and the first such begins at this byte
+pub record SaysUnreadable {R : Type 0} (body : List ℕ) (said : Result (Option R) Reason) : Type 0 where
+  pub at : ℕ
+  pub unreadable : IsUnreadable body at
+  pub means : said ≡ Err (reason.Field at)
+
+-- the body has no message type
+pub record SaysUntyped {R : Type 0} (body : List ℕ) (said : Result (Option R) Reason) : Type 0 where
+  pub untyped : LacksType body
+  pub means : said ≡ Err reason.MsgType
+
+abbrev pub BodySays : {R : Type 0} → (List TagValue → Result (Option R) MessageFault) → List ℕ → Result (Option R) Reason → Type 0
+BodySays meaning body said = SaysFields meaning body said ⊎ (SaysUnreadable body said ⊎ SaysUntyped body said)
+
+-- what fields say behind which these bytes are left
+abbrev pub says_of : {R : Type 0} → (List TagValue → Result (Option R) MessageFault) → List TagValue → List ℕ → Result (Option R) Reason
+says_of meaning fields [] = if begins_with_type fields then reasoned (meaning fields) else Err reason.MsgType
+says_of meaning fields (byte ∷ left) = Err (reason.Field (length (bytes_of fields)))
+
+-- the same, found from the front of the body: `BodySays` holds of it and of nothing else
+unfoldable pub body_says : {R : Type 0} → (List TagValue → Result (Option R) MessageFault) → List ℕ → Result (Option R) Reason
+body_says meaning body = says_of meaning (split_of body).fields (split_of body).left

@@ -1,0 +1,129 @@
+//! What a kind of log has of its own, what the fields of a message mean, and what a body says by that.
+ghost use Rattle.std.specs.Prelude.{◌≡◌, ◌≤◌, ◌∷◌, [], IfOk, List, OnOk, Option, Result, length};
+ghost use Rattle.fix_fields.specs.Grammar.{TagValue};
+ghost use Rattle.fix_fields.specs.Ranges.{AreFieldsOf, all_shown};
+ghost use Rattle.fix_messages.specs.declared.meanings.MessageFault.{MessageFault};
+ghost use Rattle.fix_messages.specs.Bodies.{body_says, fault_reason, reasoned};
+ghost use Rattle.fix_messages.specs.Steps.{TakesSaid};
+ghost use Rattle.log_source.specs.Collectors.{HasPlace};
+ghost use Rattle.log_source.specs.Handing.{Adds};
+
+use crate::meanings::{MessageFault, OrderMeaning, Report, ReportMeaning};
+use crate::orders::order_of;
+use crate::reports::report_of;
+use audit_base::faults::{NoMemory, Reason};
+use audit_base::records::{OrderRecord, Traded};
+use fix_fields::field::{Field, FieldFault};
+use fix_fields::split::fields;
+use log_source::collector::Collector;
+use std::alloc::Global;
+
+/// A record of a FIX log: an order, or a report of a trade.
+pub trait FixEntry: Traded {
+    // What the fields of a message mean: a record, or nothing.
+    ghost meaning: { List TagValue → Result (Option Self) MessageFault };
+
+    /// The record that the fields of a body mean, or nothing, or the first test that they fail.
+    fn of_fields(body: &[u8], fields: &[Field]) -> Result<Option<Self>, MessageFault>
+        requires { AreFieldsOf body.now fields.now }
+        ensures { result ≡ meaning (all_shown body.now fields.now) };
+}
+
+impl FixEntry for OrderRecord {
+    ghost use Rattle.fix_messages.specs.Bodies.{order_entry};
+
+    ghost meaning = { order_entry };
+
+    fn of_fields(body: &[u8], fields: &[Field]) -> Result<Option<OrderRecord>, MessageFault> {
+        match order_of(body, fields)? {
+            OrderMeaning::Skip => Ok(None),
+            OrderMeaning::Entry(entry) => Ok(Some(entry)),
+        }
+    }
+}
+
+impl FixEntry for Report {
+    ghost use Rattle.fix_messages.specs.Bodies.{report_entry};
+
+    ghost meaning = { report_entry };
+
+    fn of_fields(body: &[u8], fields: &[Field]) -> Result<Option<Report>, MessageFault> {
+        match report_of(body, fields)? {
+            ReportMeaning::Skip => Ok(None),
+            ReportMeaning::Entry(report) => Ok(Some(report)),
+        }
+    }
+}
+
+fn reason_of(fault: MessageFault) -> Reason
+    ensures { result ≡ fault_reason fault }
+{
+    match fault {
+        MessageFault::Missing(tag) => Reason::Missing(tag),
+        MessageFault::Repeated(tag) => Reason::Repeated(tag),
+        MessageFault::Value(tag) => Reason::Value(tag),
+        MessageFault::Unsupported(tag) => Reason::Unsupported(tag),
+    }
+}
+
+fn reasoned<R: FixEntry>(meaning: Result<Option<R>, MessageFault>) -> Result<Option<R>, Reason>
+    ensures { result ≡ reasoned meaning }
+{
+    match meaning {
+        Ok(entry) => Ok(entry),
+        Err(fault) => Err(reason_of(fault)),
+    }
+}
+
+/// What the body of a message says: a record, or nothing, or the first test that it fails.
+fn body_says<R: FixEntry>(alloc: Global, body: &[u8]) -> Result<Result<Option<R>, Reason>, NoMemory>
+    requires { length body.now ≤ 1048576 }
+    ensures { IfOk result (λ said. said ≡ body_says R.meaning body.now) }
+{
+    match fields(alloc, body) {
+        Ok(fields) => Ok(reasoned(R::of_fields(body, &fields))),
+        Err(fault) => match fault {
+            FieldFault::Field(at) => Ok(Err(Reason::Field(at))),
+            FieldFault::MsgType => Ok(Err(Reason::MsgType)),
+            FieldFault::Memory => Err(NoMemory),
+        },
+    }
+}
+
+/// Hands on a record. Where the collector does not look at records of its symbol, it is passed over.
+pub(crate) fn hand_on<R: Traded, K: Collector<Entry = R>>(
+    entries: &mut K,
+    entry: R,
+) -> Result<(), NoMemory>
+    requires { HasPlace K.has_taken entries.old }
+    ensures { OnOk result (Adds (K.has_taken entries.old) (K.has_taken entries.new) (entry ∷ [])) }
+{
+    if entries.wants(entry.symbol().bytes()) {
+        entries.take(entry)
+    } else {
+        entries.pass_over();
+        Ok(())
+    }
+}
+
+/// Hands on the record that the body of a message means, if it means one, and gives the first test that
+/// the body fails.
+pub(crate) fn take_body<R: FixEntry, K: Collector<Entry = R>>(
+    alloc: Global,
+    entries: &mut K,
+    body: &[u8],
+) -> Result<Result<(), Reason>, NoMemory>
+    requires place { HasPlace K.has_taken entries.old }
+    requires short { length body.now ≤ 1048576 }
+    ensures { IfOk result (TakesSaid (body_says R.meaning body.now) (K.has_taken entries.old)
+        (K.has_taken entries.new)) }
+{
+    match body_says(alloc, body)? {
+        Ok(Some(entry)) => {
+            hand_on(entries, entry)?;
+            Ok(Ok(()))
+        }
+        Ok(None) => Ok(Ok(())),
+        Err(why) => Ok(Err(why)),
+    }
+}

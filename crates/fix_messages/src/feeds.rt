@@ -1,0 +1,183 @@
+//! Feeds: what takes a FIX log piece by piece, hands on its records, and stops at the first bad message.
+ghost use Rattle.std.specs.Prelude.{◌≡◌, ◌≤◌, ℕ, List, [], None, Some, Ok, vec_len, IfOk, OnOk, MatchBool, MatchResult};
+ghost use Rattle.log_source.specs.Collectors.{HasFew, HasPlace};
+ghost use Rattle.fix_framing.specs.Framing.{held};
+ghost use Rattle.log_source.specs.Sources.{longest_log};
+ghost use Rattle.fix_messages.specs.Feeds.{StandsFor, IsWithin, IsCause, IsRead};
+ghost use Rattle.fix_messages.specs.Logs.{frame_reason, read_log};
+ghost use Rattle.fix_messages.specs.Steps.{Ends, Goes, HasLog, IsPlace};
+
+use crate::entries::{FixEntry, take_body};
+use crate::meanings::Report;
+use audit_base::faults::{BadPlace, LogFault, NoMemory, Reason};
+use audit_base::records::OrderRecord;
+use fix_framing::framer::{Framer, Step};
+use fix_framing::frames::FrameFault;
+use log_source::collector::Collector;
+use log_source::feed::Feed;
+use std::alloc::Global;
+
+/// What is kept of a log that comes in pieces. A piece may end anywhere. Only the message that isn't all
+/// there is kept as bytes. After a bad message further pieces are taken without being looked at.
+#[derive(Drop)]
+pub struct FixFeed<K> {
+    pub alloc: Global,
+    /// The bytes of the message that isn't all there.
+    pub framer: Framer,
+    /// What has been handed the records of the messages before it, in order.
+    pub entries: K,
+    /// The first bad message.
+    pub bad: Option<BadPlace>,
+}
+
+/// The feed of an order log.
+pub type FixOrderFeed = FixFeed<Vec<OrderRecord>>;
+
+/// The feed of a trade log. Its records are reports, two for each trade.
+pub type FixReportFeed = FixFeed<Vec<Report>>;
+
+fn frame_reason(fault: FrameFault) -> Reason
+    ensures { result ≡ frame_reason fault }
+{
+    match fault {
+        FrameFault::Begin => Reason::Begin,
+        FrameFault::Length => Reason::Length,
+        FrameFault::Truncated => Reason::Truncated,
+        FrameFault::Trailer => Reason::Trailer,
+        FrameFault::Checksum => Reason::Checksum,
+    }
+}
+
+// The place of a bad message that begins at this offset.
+fn bad_at<K: Collector>(entries: &K, offset: u64, reason: Reason) -> BadPlace
+    requires { HasPlace K.has_taken entries.now }
+    ensures { IsPlace (K.has_taken entries.now) offset reason result }
+{
+    BadPlace {
+        place: entries.count() + 1,
+        offset,
+        reason,
+    }
+}
+
+impl<R: FixEntry, K: Collector<Entry = R>> FixFeed<K> {
+    /// A feed that no bytes have come to, over a collector that has been handed nothing.
+    pub fn over(alloc: Global, entries: K) -> Self
+        requires { K.has_taken entries [] }
+        ensures { StandsFor K.has_taken R.meaning result [] }
+    {
+        FixFeed {
+            alloc,
+            framer: Framer::new(alloc),
+            entries,
+            bad: None,
+        }
+    }
+
+    // Drops what is held, at a bad place.
+    fn shut(&mut self, bad: BadPlace)
+        ensures bad { self.new.bad ≡ Some bad }
+        ensures nothing { held self.new.framer ≡ [] }
+    {
+        self.framer = Framer::new(self.alloc);
+        self.bad = Some(bad);
+    }
+
+    // Takes the next message. True says that it was good, and that another may follow.
+    fn take_next(&mut self) -> Result<bool, NoMemory>
+        requires good { self.old.bad ≡ None }
+        requires room { HasLog K.has_taken R.meaning self.old }
+        ensures { IfOk result (λ more. MatchBool more
+            (Goes K.has_taken R.meaning self.old self.new)
+            (Ends K.has_taken R.meaning self.old self.new)) }
+    {
+        match self.framer.next_frame() {
+            Step::Wait => Ok(false),
+            Step::Fault { at, fault } => {
+                let bad = bad_at(&self.entries, at, frame_reason(fault));
+                self.shut(bad);
+                Ok(false)
+            }
+            Step::Whole { start, body, to } => {
+                let body = &self.framer.held()[body..to];
+                match take_body(self.alloc, &mut self.entries, body)? {
+                    Ok(()) => Ok(true),
+                    Err(reason) => {
+                        let bad = bad_at(&self.entries, start, reason);
+                        self.shut(bad);
+                        Ok(false)
+                    }
+                }
+            }
+        }
+    }
+
+    // Takes messages as long as there is one and it is good.
+    fn take_messages(&mut self) -> Result<(), NoMemory>
+        requires good { self.old.bad ≡ None }
+        requires room { HasLog K.has_taken R.meaning self.old }
+        ensures { OnOk result (Ends K.has_taken R.meaning self.old self.new) }
+    {
+        'messages: loop {
+            if !self.take_next()? {
+                return Ok(());
+            }
+        }
+    }
+
+    /// The collector, which has been handed exactly the records of the log that has come, or its first bad
+    /// message: what the reading of the whole log gives, for every log that the feed stands for.
+    pub fn close(mut self) -> Result<K, LogFault>
+        requires { IsWithin K.has_taken R.meaning self }
+        ensures reads { (log : List ℕ) → StandsFor K.has_taken R.meaning self log
+            → MatchResult result (λ collector. IsRead (K.has_taken collector) (read_log R.meaning log)) (IsCause (read_log R.meaning log)) }
+        ensures few { IfOk result (λ collector. HasFew (K.has_taken collector)) }
+    {
+        if let Some(bad) = self.bad {
+            return Err(LogFault::Bad(bad));
+        }
+        if self.take_messages().is_err() {
+            return Err(LogFault::Memory);
+        }
+        if let Some(bad) = self.bad {
+            return Err(LogFault::Bad(bad));
+        }
+        match self.framer.finish() {
+            Ok(()) => Ok(self.entries),
+            Err(at) => Err(LogFault::Bad(bad_at(&self.entries, at, Reason::Truncated))),
+        }
+    }
+}
+
+impl<R: FixEntry> FixFeed<Vec<R>> {
+    /// A feed that no bytes have come to.
+    pub fn new(alloc: Global) -> Self
+        ensures { StandsFor ⟦<Vec<R> as Collector>⟧.has_taken R.meaning result [] }
+    {
+        FixFeed::over(alloc, Vec::new(alloc))
+    }
+
+    /// The records of the log that has come, or its first bad message: what the reading of the whole log
+    /// gives, for every log that the feed stands for.
+    pub fn finish(self) -> Result<Vec<R>, LogFault>
+        requires { IsWithin ⟦<Vec<R> as Collector>⟧.has_taken R.meaning self }
+        ensures reads { (log : List ℕ)
+            → StandsFor ⟦<Vec<R> as Collector>⟧.has_taken R.meaning self log
+            → MatchResult result (λ entries. read_log R.meaning log ≡ Ok entries.items) (IsCause (read_log R.meaning log)) }
+        ensures few { IfOk result (λ entries. vec_len entries ≤ longest_log) }
+    {
+        self.close()
+    }
+}
+
+impl<R: FixEntry, K: Collector<Entry = R>> Feed for FixFeed<K> {
+    ghost stands_for = { StandsFor K.has_taken R.meaning };
+
+    fn feed(&mut self, piece: &[u8]) -> Result<(), NoMemory> {
+        if self.bad.is_some() {
+            return Ok(());
+        }
+        self.framer.feed(piece)?;
+        self.take_messages()
+    }
+}

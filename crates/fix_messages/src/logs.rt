@@ -1,0 +1,57 @@
+//! Reading a log that is there as a whole.
+ghost use Rattle.std.specs.Prelude.{◌≡◌, ◌≤◌, Ok, length, MatchResult};
+ghost use Rattle.fix_messages.specs.Bodies.{order_entry, report_entry};
+ghost use Rattle.fix_messages.specs.Feeds.{IsCause};
+ghost use Rattle.fix_messages.specs.Logs.{read_log, order_log, report_log, IsOnlyReading};
+ghost use Rattle.log_source.specs.Sources.{longest_log};
+
+use crate::entries::FixEntry;
+use crate::feeds::FixFeed;
+use crate::meanings::Report;
+use audit_base::faults::LogFault;
+use audit_base::records::OrderRecord;
+use log_source::feed::Feed;
+use std::alloc::Global;
+
+/// One feed and its end.
+fn entries_of<R: FixEntry>(alloc: Global, bytes: &[u8]) -> Result<Vec<R>, LogFault>
+    requires { length bytes.now ≤ longest_log }
+    ensures reads { MatchResult result (λ entries.
+        read_log R.meaning bytes.now ≡ Ok entries.items) (IsCause (read_log R.meaning bytes.now)) }
+    ensures unique { IsOnlyReading R.meaning bytes.now (read_log R.meaning bytes.now) }
+{
+    let mut feed = FixFeed::new(alloc);
+    match feed.feed(bytes) {
+        Ok(()) => feed.finish(),
+        Err(_) => Err(LogFault::Memory),
+    }
+}
+
+/// The new orders, cancels and replacements of an order log of at most 67,108,864 bytes, in order.
+/// Messages of other types and possible duplicates are passed over.
+///
+/// The answer is `Bad` exactly where the log is bad: its place is one more than the number of records
+/// before the first bad message, over all symbols; its offset is that of the message's first byte,
+/// behind CR and LF bytes; its reason is the first test that the message fails: the tests of its
+/// frame, of its fields, and of the table of its type. Each log is good with one list or bad at one
+/// place, and never both. The answer is `Memory` where there was too little.
+pub fn fix_orders_of(alloc: Global, bytes: &[u8]) -> Result<Vec<OrderRecord>, LogFault>
+    requires { length bytes.now ≤ longest_log }
+    ensures reads { MatchResult result (λ entries. order_log bytes.now ≡ Ok entries.items)
+        (IsCause (order_log bytes.now)) }
+    ensures unique { IsOnlyReading order_entry bytes.now (order_log bytes.now) }
+{
+    entries_of(alloc, bytes)
+}
+
+/// The trade reports of a trade log of at most 67,108,864 bytes, in order: execution reports of
+/// execution type F. Messages of other types, possible duplicates and reports of other execution
+/// types are passed over. `Bad` and `Memory` come as for an order log.
+pub fn fix_reports_of(alloc: Global, bytes: &[u8]) -> Result<Vec<Report>, LogFault>
+    requires { length bytes.now ≤ longest_log }
+    ensures reads { MatchResult result (λ entries. report_log bytes.now ≡ Ok entries.items)
+        (IsCause (report_log bytes.now)) }
+    ensures unique { IsOnlyReading report_entry bytes.now (report_log bytes.now) }
+{
+    entries_of(alloc, bytes)
+}

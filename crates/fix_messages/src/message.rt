@@ -1,0 +1,87 @@
+//! A message as the list of its fields.
+ghost use Rattle.std.specs.Prelude.{◌≡◌, slice_get};
+ghost use Rattle.fix_fields.specs.Ranges.{AreFieldsOf, all_shown};
+ghost use Rattle.fix_messages.specs.Rows.{type_of, value_of, value_in, occurs, has};
+
+use crate::meanings::MessageFault;
+use fix_fields::field::{Field, Found};
+use fix_fields::find::find_field;
+use std::marker::Model;
+
+/// The body of a message, and where its fields stand in it. Contracts see the list of the fields.
+#[derive(Drop)]
+pub(crate) struct Message<'a> {
+    body: &'a [u8],
+    fields: &'a [Field],
+}
+
+impl<'a> Model for Message<'a> {
+    ghost use Rattle.std.specs.Prelude.{List};
+    ghost use Rattle.std.specs.List.{All};
+    ghost use Rattle.fix_fields.specs.Grammar.{TagValue};
+    ghost use Rattle.fix_fields.specs.Ranges.{HasRangeIn, all_shown};
+
+    ghost Value = { List TagValue };
+
+    ghost view = { λ m. all_shown m.body.now m.fields.now };
+
+    ghost invariant = { λ m. All (HasRangeIn m.body.now) m.fields.now };
+}
+
+impl<'a> Message<'a> {
+    /// The message with these fields.
+    pub(crate) fn of(body: &'a [u8], fields: &'a [Field]) -> Message<'a>
+        requires { AreFieldsOf body.now fields.now }
+        ensures { result ≡ all_shown body.now fields.now }
+    {
+        Message { body, fields }
+    }
+
+    /// The value of the first field, which is the message's type.
+    pub(crate) fn kind(&self) -> &[u8]
+        ensures { result.now ≡ type_of self.now }
+    {
+        self.value(0)
+    }
+
+    /// Whether the tag is there; it may not occur more than once.
+    pub(crate) fn occurs(&self, tag: u32) -> Result<bool, MessageFault>
+        ensures { result ≡ occurs tag self.now }
+    {
+        match find_field(self.fields, tag) {
+            Found::Absent => Ok(false),
+            Found::One(_) => Ok(true),
+            Found::Many(_) => Err(MessageFault::Repeated(tag)),
+        }
+    }
+
+    /// Whether the tag is there, once or more often.
+    pub(crate) fn has(&self, tag: u32) -> bool
+        ensures { result ≡ has tag self.now }
+    {
+        match self.occurs(tag) {
+            Ok(there) => there,
+            Err(_) => true,
+        }
+    }
+
+    /// The first value of the tag, and no bytes where the tag is absent.
+    pub(crate) fn first(&self, tag: u32) -> &[u8]
+        ensures { result.now ≡ value_of tag self.now }
+    {
+        match find_field(self.fields, tag) {
+            Found::Absent => &[],
+            Found::One(at) => self.value(at),
+            Found::Many(at) => self.value(at),
+        }
+    }
+
+    fn value(&self, at: usize) -> &[u8]
+        ensures { result.now ≡ value_in (slice_get self.now at) }
+    {
+        match self.fields.get(at) {
+            Some(field) => &self.body[field.from..field.to],
+            None => &[],
+        }
+    }
+}

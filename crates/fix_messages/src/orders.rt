@@ -1,0 +1,234 @@
+//! The messages of an order log: new orders, cancels and replacements, by the table of each.
+ghost use Rattle.std.specs.Prelude.{◌≡◌};
+ghost use Rattle.fix_fields.specs.Ranges.{AreFieldsOf, all_shown};
+ghost use Rattle.fix_messages.specs.OrderTables.{limits_form, limits_at, price_by, life_form, life_at, life_by, limit_form, limit_at, resting_form, resting_at, new_order, cancel, replacement, order_by, order_meaning};
+
+use crate::meanings::{MessageFault, OrderMeaning};
+use crate::message::Message;
+use crate::rows::{
+    absent_at, flag_at, is_copy, is_word, name_at, price_at, quantity_at, required, side_at,
+    stamp_at, supported, word_at,
+};
+use audit_base::names::Key;
+use audit_base::numbers::{Price, market_price};
+use audit_base::records::OrderRecord;
+use audit_base::terms::{Life, Side};
+use fix_fields::field::Field;
+
+/// Whether an order takes any price (tag 40).
+#[derive(Clone, Copy)]
+pub(crate) enum Limits {
+    Market,
+    Limit,
+}
+
+fn read_limits(text: &[u8]) -> Option<Limits>
+    ensures { result ≡ limits_form text.now }
+{
+    if is_word(b"1", text) {
+        Some(Limits::Market)
+    } else if is_word(b"2", text) {
+        Some(Limits::Limit)
+    } else {
+        None
+    }
+}
+
+fn limits_at(tag: u32, message: &Message<'_>) -> Result<Limits, MessageFault>
+    ensures { result ≡ limits_at tag message.now }
+{
+    required(tag, message)?;
+    supported(tag, read_limits(message.first(tag)))
+}
+
+fn price_by(
+    limits: Limits,
+    side: Side,
+    tag: u32,
+    message: &Message<'_>,
+) -> Result<Price, MessageFault>
+    ensures { result ≡ price_by limits side tag message.now }
+{
+    match limits {
+        Limits::Limit => price_at(tag, message),
+        Limits::Market => {
+            message.occurs(tag)?;
+            Ok(market_price(side))
+        }
+    }
+}
+
+fn read_life(text: &[u8]) -> Option<Life>
+    ensures { result ≡ life_form text.now }
+{
+    if is_word(b"0", text) || is_word(b"1", text) {
+        Some(Life::Rests)
+    } else if is_word(b"3", text) {
+        Some(Life::Immediate)
+    } else {
+        None
+    }
+}
+
+fn life_at(tag: u32, message: &Message<'_>) -> Result<Life, MessageFault>
+    ensures { result ≡ life_at tag message.now }
+{
+    if message.occurs(tag)? {
+        supported(tag, read_life(message.first(tag)))
+    } else {
+        Ok(Life::Rests)
+    }
+}
+
+fn life_by(limits: Limits, life: Life) -> Life
+    ensures { result ≡ life_by limits life }
+{
+    match limits {
+        Limits::Limit => life,
+        Limits::Market => Life::Market,
+    }
+}
+
+fn read_limit(text: &[u8]) -> Option<()>
+    ensures { result ≡ limit_form text.now }
+{
+    if is_word(b"2", text) { Some(()) } else { None }
+}
+
+fn limit_at(tag: u32, message: &Message<'_>) -> Result<(), MessageFault>
+    ensures { result ≡ limit_at tag message.now }
+{
+    required(tag, message)?;
+    supported(tag, read_limit(message.first(tag)))
+}
+
+fn read_resting(text: &[u8]) -> Option<()>
+    ensures { result ≡ resting_form text.now }
+{
+    if is_word(b"0", text) || is_word(b"1", text) {
+        Some(())
+    } else {
+        None
+    }
+}
+
+fn resting_at(tag: u32, message: &Message<'_>) -> Result<(), MessageFault>
+    ensures { result ≡ resting_at tag message.now }
+{
+    if message.occurs(tag)? {
+        supported(tag, read_resting(message.first(tag)))
+    } else {
+        Ok(())
+    }
+}
+
+/// Type D, a new order.
+#[tactic(auto, unfolding(crate::specs::OrderTables::new_order))]
+fn new_order(message: &Message<'_>) -> Result<OrderRecord, MessageFault>
+    ensures { result ≡ new_order message.now }
+{
+    word_at(b"D", 35, message)?;
+    flag_at(43, message)?;
+    let firm = name_at(49, message)?;
+    let id = name_at(11, message)?;
+    let time = stamp_at(60, message)?;
+    let symbol = name_at(55, message)?;
+    let side = side_at(54, message)?;
+    let quantity = quantity_at(38, message)?;
+    let limits = limits_at(40, message)?;
+    let price = price_by(limits, side, 44, message)?;
+    let life = life_by(limits, life_at(59, message)?);
+    absent_at(110, message)?;
+    absent_at(111, message)?;
+    let key = Key { firm, id };
+    Ok(OrderRecord::New {
+        key,
+        time,
+        symbol,
+        side,
+        quantity,
+        price,
+        life,
+    })
+}
+
+/// Type F, a cancel.
+#[tactic(auto, unfolding(crate::specs::OrderTables::cancel))]
+fn cancel(message: &Message<'_>) -> Result<OrderRecord, MessageFault>
+    ensures { result ≡ cancel message.now }
+{
+    word_at(b"F", 35, message)?;
+    flag_at(43, message)?;
+    let firm = name_at(49, message)?;
+    let id = name_at(11, message)?;
+    let time = stamp_at(60, message)?;
+    let symbol = name_at(55, message)?;
+    let target = name_at(41, message)?;
+    let key = Key { firm, id };
+    Ok(OrderRecord::Cancel {
+        key,
+        time,
+        symbol,
+        target,
+    })
+}
+
+/// Type G, a replacement.
+#[tactic(auto, unfolding(crate::specs::OrderTables::replacement))]
+fn replacement(message: &Message<'_>) -> Result<OrderRecord, MessageFault>
+    ensures { result ≡ replacement message.now }
+{
+    word_at(b"G", 35, message)?;
+    flag_at(43, message)?;
+    let firm = name_at(49, message)?;
+    let id = name_at(11, message)?;
+    let time = stamp_at(60, message)?;
+    let symbol = name_at(55, message)?;
+    let target = name_at(41, message)?;
+    let side = side_at(54, message)?;
+    let quantity = quantity_at(38, message)?;
+    limit_at(40, message)?;
+    let price = price_at(44, message)?;
+    resting_at(59, message)?;
+    absent_at(110, message)?;
+    absent_at(111, message)?;
+    let key = Key { firm, id };
+    Ok(OrderRecord::Replace {
+        key,
+        time,
+        symbol,
+        target,
+        side,
+        quantity,
+        price,
+    })
+}
+
+fn order_by(kind: &[u8], message: &Message<'_>) -> Result<OrderMeaning, MessageFault>
+    ensures { result ≡ order_by kind.now message.now }
+{
+    if is_word(b"D", kind) {
+        Ok(OrderMeaning::Entry(new_order(message)?))
+    } else if is_word(b"F", kind) {
+        Ok(OrderMeaning::Entry(cancel(message)?))
+    } else if is_word(b"G", kind) {
+        Ok(OrderMeaning::Entry(replacement(message)?))
+    } else {
+        Ok(OrderMeaning::Skip)
+    }
+}
+
+/// What a message of an order log means, by its body and the fields that the body has: nothing, a
+/// record, or the first test that fails of the table of its type. It takes no memory.
+#[tactic(auto, unfolding(crate::specs::OrderTables::order_meaning))]
+pub fn order_of(body: &[u8], fields: &[Field]) -> Result<OrderMeaning, MessageFault>
+    requires { AreFieldsOf body.now fields.now }
+    ensures { result ≡ order_meaning (all_shown body.now fields.now) }
+{
+    let message = Message::of(body, fields);
+    if is_copy(&message) {
+        Ok(OrderMeaning::Skip)
+    } else {
+        order_by(message.kind(), &message)
+    }
+}

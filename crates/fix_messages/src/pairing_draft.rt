@@ -1,0 +1,138 @@
+//! Pairing the trade reports of a log as they come.
+ghost use Rattle.std.specs.Prelude.{◌≡◌, ◌∷◌, ◌+◌, [], List, Err, IfOk, MatchResult, None, length};
+ghost use Rattle.log_source.specs.Collectors.{HasPlace};
+ghost use Rattle.fix_messages.specs.Drafts.{IsKnown, IsPairingDraft, TakesPair};
+ghost use Rattle.fix_messages.specs.Pairings.{HasTrades, pairing};
+ghost use Rattle.fix_messages.specs.declared.meanings.Report.{Report};
+
+use crate::entries::hand_on;
+use crate::meanings::Report;
+use crate::pairs::{FirstReports, PlacedReport, agree, trade_of, unpaired_at};
+use audit_base::faults::NoMemory;
+use audit_base::findings::{Finding, Shown};
+use audit_base::records::TradeRecord;
+use audit_base::terms::Which;
+use log_source::collector::Collector;
+use std::alloc::Global;
+
+/// What is known of the reports of a trade log after some of them: which wait for a second one, and
+/// whether a pair disagrees. The trades of the pairs are handed on in the order of their second reports.
+#[derive(Drop)]
+pub struct PairingDraft<K> {
+    count: u32,
+    firsts: FirstReports,
+    finding: Option<Finding>,
+    trades: K,
+}
+
+// Takes a pair: hands on its trade, unless it or a pair before it disagrees.
+fn take_pair<K: Collector<Entry = TradeRecord>>(
+    trades: &mut K,
+    finding: Option<Finding>,
+    first: &PlacedReport,
+    second: &PlacedReport,
+) -> Result<Option<Finding>, NoMemory>
+    requires { finding ≡ None → HasPlace K.has_taken trades.old }
+    ensures { IfOk result
+        (TakesPair K.has_taken finding first.now second.now trades.old trades.new) }
+{
+    if finding.is_some() {
+        return Ok(finding);
+    }
+    if !agree(&first.report, &second.report) {
+        let shown = Shown::Place {
+            log: Which::Trades,
+            place: first.place,
+        };
+        return Ok(Some(unpaired_at(second.place, Some(shown))));
+    }
+    hand_on(trades, trade_of(first, second))?;
+    Ok(None)
+}
+
+// Takes one more report.
+fn take_report<K: Collector<Entry = TradeRecord>>(
+    firsts: &mut FirstReports,
+    trades: &mut K,
+    finding: Option<Finding>,
+    report: &PlacedReport,
+) -> Result<Option<Finding>, NoMemory>
+    requires { finding ≡ None → HasPlace K.has_taken trades.old }
+    ensures { IfOk result (λ found. (all : List Report) → report.now.place ≡ length all + 1
+        → IsKnown K.has_taken firsts.old finding trades.old all
+        → IsKnown K.has_taken firsts.new found trades.new (report.now.report ∷ all)) }
+{
+    match firsts.take(&report.report.trade) {
+        None => {
+            firsts.add(report.report.trade, *report)?;
+            Ok(finding)
+        }
+        Some(first) => take_pair(trades, finding, &first, report),
+    }
+}
+
+impl<K: Collector<Entry = TradeRecord>> PairingDraft<K> {
+    /// No reports, over a collector of trades that has been handed nothing.
+    pub fn over(alloc: Global, trades: K) -> Self
+        requires { K.has_taken trades [] }
+        ensures { IsPairingDraft K.has_taken result [] }
+    {
+        PairingDraft {
+            count: 0,
+            firsts: FirstReports::new(alloc),
+            finding: None,
+            trades,
+        }
+    }
+
+    /// The collector, which has been handed exactly the trades of the reports, or finding 4 in their
+    /// place: what the pairing of all reports gives, for every list that the draft has been handed.
+    pub fn end(self) -> Result<K, Finding>
+        ensures { (reports : List Report) → IsPairingDraft K.has_taken self reports
+            → MatchResult result (λ trades. HasTrades (K.has_taken trades) (pairing reports)) (λ finding. pairing reports ≡ Err finding) }
+    {
+        let PairingDraft {
+            firsts,
+            finding,
+            trades,
+            ..
+        } = self;
+        if let Some(finding) = finding {
+            return Err(finding);
+        }
+        match firsts.least() {
+            Some(first) => Err(unpaired_at(first.place, None)),
+            None => Ok(trades),
+        }
+    }
+}
+
+impl<K: Collector<Entry = TradeRecord>> Collector for PairingDraft<K> {
+    ghost use Rattle.std.specs.Prelude.{true};
+
+    type Entry = Report;
+
+    ghost has_taken = { IsPairingDraft K.has_taken };
+
+    ghost wants = { λ draft symbol. true };
+
+    fn take(&mut self, report: Report) -> Result<(), NoMemory> {
+        let report = PlacedReport {
+            place: self.count + 1,
+            report,
+        };
+        self.finding = take_report(&mut self.firsts, &mut self.trades, self.finding, &report)?;
+        self.count += 1;
+        Ok(())
+    }
+
+    fn wants(&self, _symbol: &[u8]) -> bool {
+        true
+    }
+
+    fn pass_over(&mut self) {}
+
+    fn count(&self) -> u32 {
+        self.count
+    }
+}
