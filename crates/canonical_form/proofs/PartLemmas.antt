@@ -1,0 +1,184 @@
+-- How one part more changes the shares.
+use Rattle.std.proofs.Common.{◌≡◌, ◌<◌, ◌≤◌, ◌⊎◌, ◌+◌, ◌-◌, ◌*◌, ◌^◌, ℕ, zero, suc, List, [], ◌∷◌, ◌++◌, length, Bool, true, false, cond, refl, sym, ap, ◌∙◌, arith, inl, inr, subst, All, AllPairs, get_or, take, sum_by, is_lt, IsSorted, IsPermutation, add-one}
+use Rattle.std.specs.Prelude.{◌==◌, ◌&&◌}
+use Rattle.std.specs.Cmp.{IsStrictWeakOrder}
+use Rattle.std.proofs.lemmas.Bool.{cases_Bool, cases_lt, cases_eq, and_parts, eqb-true, eq-eqb, and_from, both_ways, cond-true, cond-false}
+use Rattle.std.proofs.lemmas.Bool.Decides.{nat_tests}
+use Rattle.std.proofs.lemmas.Cmp.{nat_cmp_total, on_total, then_total}
+use Rattle.std.proofs.lemmas.List.Elements.{All-nil, All-cons, All-head, All-tail, All-push, All-weaker}
+use Rattle.std.proofs.lemmas.List.Sorted.{sorted_far, ranks_by, All-permutation, sum_by-IsPermutation}
+use Rattle.std.proofs.lemmas.List.Sums.{sum_by-cons, sum_by-append, sum_by_more}
+use Rattle.std.proofs.lemmas.List.{take_all, length_push}
+use Rattle.audit_base.proofs.SumLemmas.{AllPairs-head, AllPairs-tail, AllPairs-cons}
+use Rattle.audit_base.specs.declared.orders.Deal.{Deal}
+use Rattle.audit_base.specs.Deals.{deal_at, missing_deal, pair}
+use Rattle.canonical_form.specs.declared.parts.Part.{Part}
+use Rattle.canonical_form.specs.declared.shares.Share.{Share}
+use Rattle.canonical_form.specs.Parts.{part_cmp, part_of_pair, share_of_pair, share_of, is_of_pair, next_share, shares_before, missing_part, part_at, AreMade, AreMerged, AreParts, HaveParts, IsPartOfDeal, part_of_deal, parts_upto}
+use Rattle.canonical_form.specs.Shares.{StandsBefore}
+
+-- the pair of one part, and the pair of a later one, in order
+weak : IsStrictWeakOrder (λ (p q : Part). is_lt (part_cmp p q))
+weak = ranks_by (then_total (on_total (λ (p : Part). p.bid) nat_cmp_total) (then_total (on_total (λ (p : Part). p.ask) nat_cmp_total) (on_total (λ (p : Part). p.quantity) nat_cmp_total))) (λ (p : Part). p)
+
+-- the share of the pair of p, and a later part of another pair
+apart : (s : Share) (p q : Part) → s.bid ≡ p.bid → s.ask ≡ p.ask → is_lt (part_cmp q p) ≡ false → is_of_pair s q ≡ false → StandsBefore s (share_of q)
+apart s p q b a late other = elim (cases_lt s.bid q.bid) [
+  | inl less ↦ inl less
+  | inr ge ↦
+      let not_less : p.bid ≤ q.bid = grind (arith, nat_tests) in
+      let same : s.bid ≡ q.bid = omega arith in
+      inr (
+        same,
+        elim (cases_lt s.ask q.ask) [
+          | inl less ↦ less
+          | inr more ↦
+              let asks : p.ask ≤ q.ask = grind (arith, nat_tests) in
+              let equal : s.ask ≡ q.ask = omega arith in
+              absurd (both_ways (is_of_pair s q) other (and_from _ _ (eq-eqb s.bid q.bid same) (eq-eqb s.ask q.ask equal)))
+        ],
+      )
+]
+
+onward : (r s t : Share) → StandsBefore r s → StandsBefore s t → StandsBefore r t
+onward r s t (inl a) (inl b) = inl (omega arith)
+onward r s t (inl a) (inr b) = let e = b.0 in inl (omega arith)
+onward r s t (inr a) (inl b) = let e = a.0 in inl (omega arith)
+onward r s t (inr a) (inr b) = let d = a.0 in let e = b.0 in let x = a.1 in let y = b.1 in inr (omega arith, omega arith)
+
+push : (xs : List Share) (y : Share) → AllPairs StandsBefore xs → All (λ s. StandsBefore s y) xs → AllPairs StandsBefore (xs ++ y ∷ [])
+push [] y up under = λ i j d lt below. absurd (omega arith)
+push (x ∷ xs) y up under = AllPairs-cons StandsBefore x (xs ++ y ∷ [])
+    (All-push (StandsBefore x) xs y (AllPairs-head StandsBefore x xs up) (All-head (λ (s : Share). StandsBefore s y) x xs under))
+    (push xs y (AllPairs-tail StandsBefore x xs up) (All-tail (λ (s : Share). StandsBefore s y) x xs under))
+
+same-pair : (bid ask : ℕ) (s : Share) (q : Part) → is_of_pair s q ≡ true → share_of_pair bid ask (record s { quantity = s.quantity + q.quantity }) ≡ share_of_pair bid ask s + part_of_pair bid ask q
+same-pair bid ask s q t =
+    let two = and_parts (s.bid == q.bid) (s.ask == q.ask) t in
+    let b : s.bid ≡ q.bid = eqb-true s.bid q.bid two.0 in
+    let a : s.ask ≡ q.ask = eqb-true s.ask q.ask two.1 in
+    let is : part_of_pair bid ask q ≡ cond ((s.bid == bid) && (s.ask == ask)) q.quantity 0 = (λ i. cond ((sym b i == bid) && (sym a i == ask)) q.quantity 0) in
+    added ((s.bid == bid) && (s.ask == ask)) s.quantity q.quantity ∙ ap (λ (n : ℕ). share_of_pair bid ask s + n) (sym is)
+  where
+    added : (x : Bool) (m n : ℕ) → cond x (m + n) 0 ≡ cond x m 0 + cond x n 0
+    added true m n = refl
+    added false m n = refl
+
+-- with one part more
+module _ (parts : List Part) (each : All IsPartOfDeal parts) (in_order : IsSorted part_cmp parts) (at : ℕ) (from : 1 ≤ at) (inside : at < length parts) where
+  abbrev q : Part
+  q = part_at parts at
+
+  deal : IsPartOfDeal q
+  deal = each at missing_part inside
+
+  late : is_lt (part_cmp q (part_at parts (at - 1))) ≡ false
+  late = sorted_far (λ (r s : Part). is_lt (part_cmp r s)) weak parts in_order (at - 1) at missing_part (omega arith) inside
+
+  step : (bid ask : ℕ) → sum_by (part_of_pair bid ask) (take (at + 1) parts) ≡ sum_by (part_of_pair bid ask) (take at parts) + part_of_pair bid ask q
+  step bid ask = sum_by_more (part_of_pair bid ask) parts at missing_part inside
+
+  last : (i : ℕ) → i + 1 ≡ at + 1 → i ≡ at
+  last i e = omega arith
+
+  made-next : (b : Bool) (shares : List Share) (s : Share) → is_of_pair s q ≡ b → AreMade parts at shares s
+      → AreMade parts (at + 1) (cond b shares (shares ++ s ∷ [])) (cond b (record s { quantity = s.quantity + q.quantity }) (share_of q))
+  made-next true shares s t made =
+      let two = and_parts (s.bid == q.bid) (s.ask == q.ask) t in
+      let fits = made.fits in
+      let most = deal.most in
+      let some = made.some_here in
+      record {
+        bid = λ i e. subst (λ (j : ℕ). s.bid ≡ (part_at parts j).bid) (sym (last i e)) (eqb-true s.bid q.bid two.0);
+        ask = λ i e. subst (λ (j : ℕ). s.ask ≡ (part_at parts j).ask) (sym (last i e)) (eqb-true s.ask q.ask two.1);
+        sums = λ bid ask. omega (arith, made.sums bid ask, step bid ask, same-pair bid ask s q t);
+        some = made.some;
+        some_here = omega arith;
+        ascending = made.ascending;
+        under = All-weaker (λ (t : Share). StandsBefore t s) (λ (t : Share). StandsBefore t (record s { quantity = s.quantity + q.quantity })) (λ t h. h) shares made.under;
+        fits = omega arith;
+      }
+  made-next false shares s f made =
+      let before : (at - 1) + 1 ≡ at = omega arith in
+      let here = apart s (part_at parts (at - 1)) q (made.bid (at - 1) before) (made.ask (at - 1) before) late f in
+      let most = deal.most in
+      record {
+        bid = λ i e. ap (λ (j : ℕ). (part_at parts j).bid) (sym (last i e));
+        ask = λ i e. ap (λ (j : ℕ). (part_at parts j).ask) (sym (last i e));
+        sums = λ bid ask. omega (arith, made.sums bid ask, step bid ask, sum_by-append (share_of_pair bid ask) shares (s ∷ []), sum_by-cons (share_of_pair bid ask) s []);
+        some = All-push (λ (t : Share). 0 < t.quantity) shares s made.some made.some_here;
+        some_here = deal.some;
+        ascending = push shares s made.ascending made.under;
+        under = All-push (λ (t : Share). StandsBefore t (share_of q)) shares s (All-weaker (λ (t : Share). StandsBefore t s) (λ (t : Share). StandsBefore t (share_of q)) (λ t h. onward t s (share_of q) h here) shares made.under) here;
+        fits = omega arith;
+      }
+
+  pub made-more : (shares ys : List Share) (s n : Share) → n ≡ next_share s q → ys ≡ shares_before shares s q → AreMade parts at shares s → AreMade parts (at + 1) ys n
+  made-more shares ys s n n_is ys_is made = subst (λ (x : Share). AreMade parts (at + 1) ys x) (sym n_is) (subst (λ (xs : List Share). AreMade parts (at + 1) xs (next_share s q)) (sym ys_is) (made-next (is_of_pair s q) shares s refl made))
+
+-- the first part
+pub made-first : (parts : List Part) (each : All IsPartOfDeal parts) (shares : List Share) (s : Share) → 0 < length parts → s ≡ share_of (part_at parts 0) → shares ≡ [] → AreMade parts 1 shares s
+made-first parts each shares s inside s_is none =
+    let deal = each 0 missing_part inside in
+    subst (λ (xs : List Share). AreMade parts 1 xs s) (sym none) (subst (AreMade parts 1 []) (sym s_is) (record {
+      bid = λ i e. ap (λ (j : ℕ). (part_at parts j).bid) (zero-is i e);
+      ask = λ i e. ap (λ (j : ℕ). (part_at parts j).ask) (zero-is i e);
+      sums = λ bid ask. let more = sum_by_more (part_of_pair bid ask) parts 0 missing_part inside in omega arith;
+      some = All-nil (λ (t : Share). 0 < t.quantity);
+      some_here = deal.some;
+      ascending = λ i j d lt below. absurd (omega arith);
+      under = All-nil (λ (t : Share). StandsBefore t (share_of (part_at parts 0)));
+      fits = let most = deal.most in omega arith;
+    }))
+  where
+    zero-is : (i : ℕ) → i + 1 ≡ 1 → 0 ≡ i
+    zero-is i e = omega arith
+
+-- with the last share put behind the others
+pub merged : (parts : List Part) (at : ℕ) (shares ys : List Share) (s : Share) → ys ≡ shares ++ s ∷ [] → length parts ≤ at → AreMade parts at shares s → AreMerged parts ys
+merged parts at shares ys s is all made = subst (AreMerged parts) (sym is) (record {
+  sums = λ bid ask. sum_by-append (share_of_pair bid ask) shares (s ∷ []) ∙ ap (λ (n : ℕ). sum_by (share_of_pair bid ask) shares + n) (one bid ask) ∙ made.sums bid ask ∙ ap (sum_by (part_of_pair bid ask)) (take_all at parts all);
+  some = All-push (λ (t : Share). 0 < t.quantity) shares s made.some made.some_here;
+  ascending = push shares s made.ascending made.under;
+})
+  where
+    one : (bid ask : ℕ) → sum_by (share_of_pair bid ask) (s ∷ []) ≡ share_of_pair bid ask s
+    one bid ask = omega (arith, sum_by-cons (share_of_pair bid ask) s [])
+
+-- of no parts there are no shares
+pub merged-none : (parts : List Part) (shares : List Share) → length parts ≡ 0 → shares ≡ [] → AreMerged parts shares
+merged-none [] shares e none = subst (AreMerged []) (sym none) (record { sums = λ bid ask. refl; some = All-nil (λ (t : Share). 0 < t.quantity); ascending = λ i j d lt below. absurd (omega arith) })
+merged-none (p ∷ ps) shares e none = absurd (omega arith)
+
+-- The parts of all deals.
+module _ (deals : List Deal) where
+  upto-each : (n : ℕ) → HaveParts deals n → All IsPartOfDeal (parts_upto deals n)
+  upto-each zero have = All-nil IsPartOfDeal
+  upto-each (suc n) have = All-push IsPartOfDeal (parts_upto deals n) (part_of_deal (deal_at deals n)) (upto-each n (λ i lt. have i (omega arith))) (have n (omega arith))
+
+  upto-sums : (bid ask n : ℕ) → n ≤ length deals → sum_by (part_of_pair bid ask) (parts_upto deals n) ≡ pair (take n deals) bid ask
+  upto-sums bid ask zero inside = refl
+  upto-sums bid ask (suc n) inside =
+      let rest = upto-sums bid ask n (omega arith) in
+      let more = sum_by-append (part_of_pair bid ask) (parts_upto deals n) (part_of_deal (deal_at deals n) ∷ []) in
+      let one = sum_by-cons (part_of_pair bid ask) (part_of_deal (deal_at deals n)) [] in
+      let next = sum_by_more (λ (d : Deal). cond ((d.bid == bid) && (d.ask == ask)) d.quantity 0) deals n missing_deal (omega arith) in
+      let same : pair (take (n + 1) deals) bid ask ≡ pair (take (suc n) deals) bid ask = ap (λ (m : ℕ). pair (take m deals) bid ask) (add-one n) in
+      omega arith
+
+  upto-count : (n : ℕ) → length (parts_upto deals n) ≡ n
+  upto-count zero = refl
+  upto-count (suc n) = omega (arith, upto-count n, length_push (parts_upto deals n) (part_of_deal (deal_at deals n)))
+
+  pub sorted-parts : (parts from : List Part) → from ≡ parts_upto deals (length deals) → HaveParts deals (length deals) → IsPermutation from parts → (length parts ≡ length deals) × All IsPartOfDeal parts × AreParts deals parts
+  sorted-parts parts from is have moved =
+      let moved' : IsPermutation (parts_upto deals (length deals)) parts = subst (λ (xs : List Part). IsPermutation xs parts) is moved in
+      let ones = sum_by-IsPermutation (λ (p : Part). 1) (parts_upto deals (length deals)) parts moved' in (
+        omega (arith, ones, count parts, count (parts_upto deals (length deals)), upto-count (length deals)),
+        All-permutation IsPartOfDeal (parts_upto deals (length deals)) parts moved' (upto-each (length deals) have),
+        λ bid ask. sum_by-IsPermutation (part_of_pair bid ask) (parts_upto deals (length deals)) parts moved' ∙ upto-sums bid ask (length deals) (omega arith) ∙ ap (λ (ds : List Deal). pair ds bid ask) (take_all (length deals) deals (omega arith)),
+      )
+    where
+      count : (xs : List Part) → sum_by (λ (p : Part). 1) xs ≡ length xs
+      count [] = refl
+      count (x ∷ xs) = omega (arith, count xs, sum_by-cons (λ (p : Part). 1) x xs)

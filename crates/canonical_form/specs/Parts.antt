@@ -1,0 +1,81 @@
+-- The parts that deals add to shares.
+use Rattle.std.specs.Prelude.{◌≡◌, ◌<◌, ◌≤◌, ◌+◌, ◌^◌, ℕ, zero, suc, Bool, ◌==◌, ◌&&◌, List, [], ◌∷◌, ◌++◌, All, AllPairs, sum_by, take, slice_index_or, ◌*◌, if◌then◌else◌}
+use Rattle.std.specs.Ordering.{nat_cmp, ordering_then}
+use Rattle.std.specs.declared.cmp.Ordering.{Ordering}
+use Rattle.audit_base.specs.declared.orders.Deal.{Deal}
+use Rattle.audit_base.specs.Deals.{deal_at, pair}
+use Rattle.canonical_form.specs.declared.parts.Part.{Part}
+use Rattle.canonical_form.specs.declared.shares.Share.{Share}
+use Rattle.canonical_form.specs.Shares.{StandsBefore}
+
+-- what stands for a part past the end of a list, and the part at an index
+abbrev pub missing_part : Part
+missing_part = record { bid = 0; ask = 0; quantity = 0 }
+
+abbrev pub part_at : List Part → ℕ → Part
+part_at parts i = slice_index_or parts i missing_part
+
+-- how parts compare
+abbrev pub part_cmp : Part → Part → Ordering
+part_cmp p q = ordering_then (nat_cmp p.bid q.bid) (ordering_then (nat_cmp p.ask q.ask) (nat_cmp p.quantity q.quantity))
+
+-- what a part, or a share, adds to a pair
+abbrev pub part_of_pair : ℕ → ℕ → Part → ℕ
+part_of_pair bid ask p = if (p.bid == bid) && (p.ask == ask) then p.quantity else 0
+
+abbrev pub share_of_pair : ℕ → ℕ → Share → ℕ
+share_of_pair bid ask s = if (s.bid == bid) && (s.ask == ask) then s.quantity else 0
+
+-- a part is of a quantity that a deal may have
+pub record IsPartOfDeal (p : Part) : Type 0 where
+  pub some : 0 < p.quantity
+  pub most : p.quantity ≤ 10 ^ 12
+
+-- the part of a deal, and those of the first n deals, in log order
+abbrev pub part_of_deal : Deal → Part
+part_of_deal d = record { bid = d.bid; ask = d.ask; quantity = d.quantity }
+
+abbrev pub parts_upto : List Deal → ℕ → List Part
+parts_upto deals zero = []
+parts_upto deals (suc n) = parts_upto deals n ++ part_of_deal (deal_at deals n) ∷ []
+
+-- the first n deals have such quantities
+abbrev pub HaveParts : List Deal → ℕ → Type 0
+HaveParts deals n = (i : ℕ) → i < n → IsPartOfDeal (part_of_deal (deal_at deals i))
+
+-- the parts trade with each pair what the deals do
+abbrev pub AreParts : List Deal → List Part → Type 0
+AreParts deals parts = (bid ask : ℕ) → sum_by (part_of_pair bid ask) parts ≡ pair deals bid ask
+
+-- the share of one part
+abbrev pub share_of : Part → Share
+share_of p = record { bid = p.bid; ask = p.ask; quantity = p.quantity }
+
+-- a part is of the pair of a share
+abbrev pub is_of_pair : Share → Part → Bool
+is_of_pair s p = (s.bid == p.bid) && (s.ask == p.ask)
+
+-- the share that is made after a part, and the finished ones before it
+abbrev pub next_share : Share → Part → Share
+next_share s p = if is_of_pair s p then record s { quantity = s.quantity + p.quantity } else share_of p
+
+abbrev pub shares_before : List Share → Share → Part → List Share
+shares_before shares s p = if is_of_pair s p then shares else shares ++ s ∷ []
+
+-- the shares trade with each pair what the parts do, each pair has one at most, and they stand in order
+pub record AreMerged (parts : List Part) (shares : List Share) : Type 0 where
+  pub sums : (bid ask : ℕ) → sum_by (share_of_pair bid ask) shares ≡ sum_by (part_of_pair bid ask) parts
+  pub some : All (λ s. 0 < s.quantity) shares
+  pub ascending : AllPairs StandsBefore shares
+
+-- what is known after the first parts: the finished shares, and the one that is made, which is of the last part's pair
+pub record AreMade (parts : List Part) (at : ℕ) (shares : List Share) (s : Share) : Type 0 where
+  pub bid : (i : ℕ) → i + 1 ≡ at → s.bid ≡ (part_at parts i).bid
+  pub ask : (i : ℕ) → i + 1 ≡ at → s.ask ≡ (part_at parts i).ask
+  pub sums : (bid ask : ℕ) → sum_by (share_of_pair bid ask) shares + share_of_pair bid ask s
+      ≡ sum_by (part_of_pair bid ask) (take at parts)
+  pub some : All (λ t. 0 < t.quantity) shares
+  pub some_here : 0 < s.quantity
+  pub ascending : AllPairs StandsBefore shares
+  pub under : All (λ t. StandsBefore t s) shares
+  pub fits : s.quantity ≤ at * 10 ^ 12

@@ -1,0 +1,122 @@
+-- Before the first order and after the last one.
+use Rattle.std.proofs.Common.{◌≡◌, ◌<◌, ◌≤◌, ◌-◌, ℕ, zero, suc, List, [], length, Bool, true, false, cond, refl, sym, ap, ◌∙◌, arith, inl, inr, subst, get_or}
+use Rattle.std.specs.Prelude.{replicate, nat_lt, ◌&&◌}
+use Rattle.std.proofs.lemmas.Bool.{cases_eq, cases_lt, lt-ltb, le-ltb, cond-false}
+use Rattle.std.proofs.lemmas.List.{length-replicate, get_or-replicate, get_or_past}
+use Rattle.audit_base.specs.declared.terms.Side.{Side}
+use Rattle.audit_base.specs.declared.terms.Side.TheVariants.{Buy, Sell}
+use Rattle.audit_base.specs.declared.orders.Order.{Order}
+use Rattle.audit_base.specs.declared.orders.Deal.{Deal}
+use Rattle.audit_base.specs.Orders.{place_at, IsOrderList}
+use Rattle.audit_base.specs.Deals.{names, traded, part_of, IsDealList}
+use Rattle.audit_base.specs.Continuous.{cause, traded_before}
+use Rattle.audit_base.specs.ContinuousRules.{ConformsAt, ConformsContinuous}
+use Rattle.audit_base.proofs.OrderLemmas.{place-rises}
+use Rattle.audit_base.proofs.SumLemmas.{sum_by-same}
+use Rattle.audit_base.proofs.ContinuousOffenceLemmas.{late-conforms}
+use Rattle.order_book.specs.declared.books.Resting.{Resting}
+use Rattle.continuous_audit.specs.declared.causes.Cause.{Cause}
+use Rattle.continuous_audit.specs.declared.endings.Ending.{Ending}
+use Rattle.continuous_audit.specs.declared.record_audit.Numbers.{Numbers}
+use Rattle.continuous_audit.specs.declared.record_audit.Standing.{Standing}
+use Rattle.continuous_audit.specs.Causes.{AreCauses}
+use Rattle.continuous_audit.specs.Chains.{AreClosed}
+use Rattle.continuous_audit.specs.Holding.{Holds, resting_left}
+use Rattle.continuous_audit.specs.Scans.{number_in, AreRunningTotals, IsSplitAt}
+use Rattle.continuous_audit.specs.Progress.{AreAtStart, AreEmptyBooks, AreBefore, AreSizes, AreLeft, IsCalm, IsReady, ready_place}
+use Rattle.continuous_audit.proofs.NumberLemmas.{traded-at}
+use Rattle.continuous_audit.proofs.RestLemmas.{resting_left-future}
+use Rattle.continuous_audit.proofs.VerdictLemmas.{calm-first}
+
+zero-in : (n x : ℕ) → number_in (replicate n 0) x ≡ 0
+zero-in n x = elim (cases_lt x n) [
+  | inl lt ↦ get_or-replicate {A = ℕ} n x 0 0 lt
+  | inr ge ↦ get_or_past (replicate n 0) x 0 (omega (arith, length-replicate {A = ℕ} n 0))
+]
+
+module _ (orders : List Order) (list : IsOrderList orders) (deals : List Deal) (deal_list : IsDealList orders deals) (causes : List Cause) (are : AreCauses orders deals causes) (endings : List Ending) where
+  first-place : (k : ℕ) → k < length orders → place_at orders 0 ≤ place_at orders k
+  first-place k lt = elim (cases_eq k 0) [
+    | inl e ↦ let same : place_at orders k ≡ place_at orders 0 = ap (place_at orders) e in omega arith
+    | inr ne ↦ let up = place-rises orders list 0 k (omega (arith, ne)) lt in omega arith
+  ]
+
+  nothing-held : (side : Side) (xs : List Resting) → xs ≡ [] → Holds orders side (resting_left orders (traded_before orders deals) (place_at orders 0)) xs
+  nothing-held side xs e = subst (Holds orders side (resting_left orders (traded_before orders deals) (place_at orders 0))) (sym e) (record {
+    only = λ i d lt. absurd (omega arith);
+    each = λ i lt of some. let z = resting_left-future orders (traded_before orders deals) (place_at orders 0) i (first-place i lt) in absurd (omega arith);
+    ranked = λ i j d lt below. absurd (omega arith);
+  })
+
+  pub ready-first : (numbers : Numbers) (standing : Standing) → AreAtStart (length orders) numbers → AreEmptyBooks standing → IsReady orders deals causes endings 0 (ready_place orders 0) numbers standing
+  ready-first numbers standing blank bare = record {
+    calm = calm-first orders deals (place_at orders 0) deal_list.named first-place;
+    before = subst (AreBefore orders deals 0) (sym blank.before) (record {
+      count = length-replicate {A = ℕ} (length orders) 0;
+      is = λ x lt. absurd (omega arith);
+      fits = λ x. let z = zero-in (length orders) x in omega arith;
+      bounded = λ x. let z = zero-in (length orders) x in omega arith;
+    });
+    closed = subst (AreClosed orders 0) (sym blank.closed) (record { count = length-replicate {A = Bool} (length orders) false; is = λ x lt. absurd (omega arith) });
+    sizes = subst (AreSizes orders deals 0) (sym blank.sizes) (record { count = length-replicate {A = ℕ} (length orders) 0; is = λ x lt. absurd (omega arith) });
+    left = subst (AreLeft orders deals 0 (place_at orders 0)) (sym blank.left) (record { count = length-replicate {A = ℕ} (length orders) 0; is = λ x lt. absurd (omega arith) });
+    running_total = subst (λ (at : ℕ). AreRunningTotals orders deals causes at numbers.traded.items) (sym blank.at) (subst (AreRunningTotals orders deals causes 0) (sym blank.traded) (record {
+      inside = omega arith;
+      count = length-replicate {A = ℕ} (length orders) 0;
+      sums = λ x lt. zero-in (length orders) x;
+      fits = λ x lt. let z = zero-in (length orders) x in omega arith;
+    }));
+    split = subst (IsSplitAt causes 0) (sym blank.at) (record { early = λ i lt below. absurd (omega arith); late = λ i le below. omega arith });
+    books = record { bid_side = bare.bid_side; ask_side = bare.ask_side; bids = nothing-held Buy standing.books.bids.resting bare.bids; asks = nothing-held Sell standing.books.asks.resting bare.asks };
+    dropped = record { inside = let e = bare.start in omega arith; early = λ i lt below. let e = bare.start in absurd (omega arith) };
+  }
+
+  -- all places are below that which follows the last order
+  below-ready : (m : ℕ) → m ≡ length orders → (k : ℕ) → k < length orders → place_at orders k < ready_place orders m
+  below-ready zero e k lt = absurd (omega arith)
+  below-ready (suc m) e k lt =
+      let is : ready_place orders (suc m) ≡ suc (place_at orders m) = cond-false (nat_lt (suc m) (length orders)) (place_at orders (suc m)) (suc (place_at orders m)) (le-ltb _ _ (omega arith)) in
+      elim (cases_eq k m) [
+        | inl same ↦ let f : place_at orders k ≡ place_at orders m = ap (place_at orders) same in omega arith
+        | inr ne ↦ let up = place-rises orders list k m (omega (arith, ne)) (omega arith) in omega arith
+      ]
+
+  pub end-conforms : (q : ℕ) → ((k : ℕ) → k < length orders → place_at orders k < q) → IsCalm orders deals q → ConformsContinuous orders deals
+  end-conforms zero top calm = record { named = deal_list.named; each = λ i. (calm-first orders deals (suc i) deal_list.named (λ x lt. let t = top x lt in absurd (omega arith))).conforms i (omega arith) }
+  end-conforms (suc last) top calm = record {
+    named = deal_list.named;
+    each = λ i. elim (cases_lt i (suc last)) [
+      | inl lt ↦ calm.conforms i lt
+      | inr le ↦ subst (λ j. ConformsAt orders deals j) (omega arith) (late-conforms orders deals last deal_list.named (λ x lt. let t = top x lt in omega arith) calm.conforms (i - last))
+    ];
+  }
+
+  -- what is traded before a place that follows all is all that is traded
+  all-traded : (q : ℕ) → ((k : ℕ) → k < length orders → place_at orders k < q) → (x : ℕ) → traded_before orders deals q x ≡ traded deals x
+  unfolding traded_before
+  all-traded q top x = sum_by-same (λ d. cond (names x d && nat_lt (cause orders d) q) d.quantity 0) (part_of x) deals (λ k e lt.
+      let d = get_or deals k e in
+      let is = deal_list.named k e lt in
+      let b = top d.bid is.bid_inside in
+      let a = top d.ask is.ask_inside in
+      let t : nat_lt (cause orders d) q ≡ true = lt-ltb _ _ (omega arith) in
+      ap (λ (c : Bool). cond c d.quantity 0) (ap (λ (c : Bool). names x d && c) t ∙ and-always (names x d)))
+    where
+      and-always : (c : Bool) → (c && true) ≡ c
+      and-always true = refl
+      and-always false = refl
+
+  module _ (numbers : Numbers) (standing : Standing) (ready : IsReady orders deals causes endings (length orders) (ready_place orders (length orders)) numbers standing) where
+    abbrev q : ℕ
+    q = ready_place orders (length orders)
+
+    pub last-conforms : ConformsContinuous orders deals
+    last-conforms = end-conforms q (below-ready (length orders) refl) ready.calm
+
+    pub last-count : length numbers.traded.items ≡ length orders
+    last-count = ready.running_total.count
+
+    pub last-traded : (x : ℕ) → x < length orders → number_in numbers.traded.items x ≡ traded deals x
+    last-traded x lt =
+        let t = traded-at orders list deals deal_list causes are q (length orders) numbers.at numbers.traded.items ready.split ready.running_total (λ k inside below. below-ready (length orders) refl k inside) (λ k inside le. absurd (omega arith)) in
+        t.is x lt ∙ all-traded q (below-ready (length orders) refl) x

@@ -1,0 +1,176 @@
+-- The books without the orders that are ended before a place.
+use Rattle.std.proofs.Common.{◌≡◌, ◌≢◌, ◌<◌, ◌≤◌, ◌+◌, ℕ, zero, suc, List, [], ◌∷◌, length, Bool, true, false, cond, Option, Some, None, refl, sym, ap, ◌∙◌, arith, inl, inr, subst, All, get_or, is_lt, IsPermutation, IsSorted, add-one}
+use Rattle.std.specs.Prelude.{nat_le, ◌==◌, ◌&&◌, ◌||◌, Contains}
+use Rattle.std.specs.Cmp.{IsStrictWeakOrder}
+use Rattle.std.proofs.lemmas.Bool.{cases_eq, cases_lt, both_ways, eq-eqb, ne_eqb, eqb-true, le-leb, leb-true, and_parts, and_from, and_left, and_right, or_right, cond-true, cond-false, false_from_ne_true}
+use Rattle.std.proofs.lemmas.Bool.Decides.{nat_tests}
+use Rattle.std.proofs.lemmas.Cmp.{nat_cmp_total, on_total, then_total}
+use Rattle.std.proofs.lemmas.List.Elements.{All-nil, All-append, All-cons, Contains-append_left, Contains-append_right}
+use Rattle.std.proofs.lemmas.List.Sorted.{All-permutation, Contains-permutation, sorted_far, ranks_by}
+use Rattle.audit_base.specs.declared.terms.Side.{Side}
+use Rattle.audit_base.specs.declared.terms.Side.TheVariants.{Buy, Sell}
+use Rattle.audit_base.specs.declared.orders.Order.{Order}
+use Rattle.audit_base.specs.Orders.{order_at, missing_order, side_at, limit_at}
+use Rattle.audit_base.specs.Continuous.{uncancelled_before}
+use Rattle.audit_base.proofs.SumLemmas.{Contains-front}
+use Rattle.audit_base.proofs.OrderLemmas.{not_both_sides}
+use Rattle.audit_base.proofs.LeastLemmas.{any-at, any-none, cases_Option}
+use Rattle.audit_base.proofs.OffenceLemmas.{get_or-default}
+use Rattle.continuous_audit.specs.declared.endings.Ending.{Ending}
+use Rattle.continuous_audit.specs.declared.endings.Books.{Books}
+use Rattle.continuous_audit.specs.Endings.{ending_at, endings_of, endings_upto, ending_cmp, IsEnding, AreEndings, missing_ending, place_in, index_in, books_without, BooksHold, is_gone, amount_without}
+use Rattle.continuous_audit.proofs.HoldLemmas.{hold-same, hold-without}
+
+-- the books without one order
+module _ (orders : List Order) (amount amount' : ℕ → ℕ) (j : ℕ) (none : amount' j ≡ 0) (same : (k : ℕ) → k ≢ j → amount' k ≡ amount k) where
+  without-one : (s : Side) → side_at orders j ≡ s → (b : Books) → BooksHold orders amount b → BooksHold orders amount' (books_without s j (limit_at orders j) b)
+  without-one Buy e b h = record {
+    bid_side = h.bid_side;
+    ask_side = h.ask_side;
+    bids = hold-without orders Buy amount amount' j (λ k lt of ne. same k ne) b.bids.resting h.bids none;
+    asks = hold-same orders Sell amount amount' b.asks.resting (λ k lt of. same k (λ at. not_both_sides (sym e ∙ ap (side_at orders) (sym at) ∙ of))) h.asks;
+  }
+  without-one Sell e b h = record {
+    bid_side = h.bid_side;
+    ask_side = h.ask_side;
+    bids = hold-same orders Buy amount amount' b.bids.resting (λ k lt of. same k (λ at. not_both_sides (sym of ∙ ap (side_at orders) at ∙ e))) h.bids;
+    asks = hold-without orders Sell amount amount' j (λ k lt of ne. same k ne) b.asks.resting h.asks none;
+  }
+
+pub hold-amounts : (orders : List Order) (amount amount' : ℕ → ℕ) (b : Books) → ((k : ℕ) → k < length orders → amount' k ≡ amount k) → BooksHold orders amount b → BooksHold orders amount' b
+hold-amounts orders amount amount' b same h = record {
+  bid_side = h.bid_side;
+  ask_side = h.ask_side;
+  bids = hold-same orders Buy amount amount' b.bids.resting (λ k lt of. same k lt) h.bids;
+  asks = hold-same orders Sell amount amount' b.asks.resting (λ k lt of. same k lt) h.asks;
+}
+
+-- from the first on, before any
+pub standing-first : (orders : List Order) (endings : List Ending) (from : ℕ) (amount : ℕ → ℕ) (b : Books) → BooksHold orders amount b → BooksHold orders (amount_without endings from from amount) b
+standing-first orders endings from amount b h = hold-amounts orders amount (amount_without endings from from amount) b (λ k lt. cond-false (is_gone endings from from k) 0 (amount k) (any-none (λ i. nat_le from i && (index_in endings i == k)) from (λ i below.
+    and_left (nat_le from i) (index_in endings i == k) (false_from_ne_true _ (λ t. let le = leb-true from i t in omega arith))))) h
+
+-- one further
+pub standing-more : (orders : List Order) (endings : List Ending) (from at : ℕ) (amount : ℕ → ℕ) (b : Books) → from ≤ at → BooksHold orders (amount_without endings from at amount) b
+    → BooksHold orders (amount_without endings from (suc at) amount) (books_without (side_at orders (index_in endings at)) (index_in endings at) (limit_at orders (index_in endings at)) b)
+standing-more orders endings from at amount b le h =
+    let j = index_in endings at in
+    let reached : nat_le from at ≡ true = le-leb from at le in
+    without-one orders (amount_without endings from at amount) (amount_without endings from (suc at) amount) j
+    (cond-true (is_gone endings from (suc at) j) 0 (amount j) (or_right (is_gone endings from at j) (nat_le from at && (j == j)) (and_from _ _ reached (eq-eqb j j refl))))
+    (λ k ne.
+    let off : (nat_le from at && (j == k)) ≡ false = and_right (nat_le from at) (j == k) (ne_eqb j k (λ e. ne (sym e))) in
+    ap (λ (t : Bool). cond t 0 (amount k)) (or-off (is_gone endings from at k) (nat_le from at && (j == k)) off))
+    (side_at orders j) refl b h
+  where
+    or-off : (a b : Bool) → b ≡ false → (a || b) ≡ a
+    or-off true b e = refl
+    or-off false b e = e
+
+-- the same, in the words of the code
+pub standing-read : (orders : List Order) (endings : List Ending) (from at : ℕ) (amount : ℕ → ℕ) (b after : Books) (o : Order) → from ≤ at → index_in endings at < length orders → o ≡ get_or orders (index_in endings at) o
+    → after ≡ books_without o.side (index_in endings at) o.limit b → BooksHold orders (amount_without endings from at amount) b → BooksHold orders (amount_without endings from (at + 1) amount) after
+standing-read orders endings from at amount b after o le inside is e h =
+    let here : o ≡ order_at orders (index_in endings at) = is ∙ get_or-default orders (index_in endings at) o missing_order inside in
+    let same : after ≡ books_without (side_at orders (index_in endings at)) (index_in endings at) (limit_at orders (index_in endings at)) b = e ∙ ap (λ (x : Order). books_without x.side (index_in endings at) x.limit b) here in
+    subst (λ (n : ℕ). BooksHold orders (amount_without endings from n amount) after) (sym (add-one at)) (subst (BooksHold orders (amount_without endings from (suc at) amount)) (sym same) (standing-more orders endings from at amount b le h))
+
+-- All that are ended, sorted.
+
+module _ (orders : List Order) where
+  ending-is : (i : ℕ) (c : Option ℕ) → i < length orders → (order_at orders i).cancelled ≡ c → All (IsEnding orders) (ending_at i c)
+  ending-is i None lt e = All-nil (IsEnding orders)
+  ending-is i (Some place) lt e = All-cons (IsEnding orders) (record { place = place; index = i }) [] (record { inside = lt; is = e }) (All-nil (IsEnding orders))
+
+  upto-only : (n : ℕ) → n ≤ length orders → All (IsEnding orders) (endings_upto orders n)
+  upto-only zero le = All-nil (IsEnding orders)
+  upto-only (suc n) le = All-append (IsEnding orders) (endings_upto orders n) (endings_of n (order_at orders n)) (upto-only n (omega arith)) (ending-is n (order_at orders n).cancelled (omega arith) refl)
+
+  upto-each : (n k c : ℕ) → k < n → (order_at orders k).cancelled ≡ Some c → Contains (endings_upto orders n) (record { place = c; index = k })
+  upto-each zero k c lt e = absurd (omega arith)
+  upto-each (suc n) k c lt e = elim (cases_eq k n) [
+    | inl same ↦
+        let is : endings_of n (order_at orders n) ≡ record { place = c; index = k } ∷ [] = ap (ending_at n) (ap (λ (j : ℕ). (order_at orders j).cancelled) (sym same) ∙ e) ∙ ap (λ (j : ℕ). record { place = c; index = j } ∷ []) (sym same) in
+        Contains-append_right (endings_upto orders n) (endings_of n (order_at orders n)) (record { place = c; index = k }) (subst (λ (xs : List Ending). Contains xs (record { place = c; index = k })) (sym is) (Contains-front (record { place = c; index = k }) []))
+    | inr ne ↦ Contains-append_left (endings_upto orders n) (endings_of n (order_at orders n)) (record { place = c; index = k }) (upto-each n k c (omega (arith, ne)) e)
+  ]
+
+  weak : IsStrictWeakOrder (λ (a b : Ending). is_lt (ending_cmp a b))
+  weak = ranks_by (then_total (on_total (λ (e : Ending). e.place) nat_cmp_total) (on_total (λ (e : Ending). e.index) nat_cmp_total)) (λ (e : Ending). e)
+
+  pub are-endings : (endings : List Ending) → IsPermutation (endings_upto orders (length orders)) endings → IsSorted ending_cmp endings → AreEndings orders endings
+  are-endings endings moved in_order = record {
+    only = All-permutation (IsEnding orders) (endings_upto orders (length orders)) endings moved (upto-only (length orders) (omega arith));
+    each = λ k c lt e. Contains-permutation (endings_upto orders (length orders)) endings (record { place = c; index = k }) moved (upto-each (length orders) k c lt e);
+    rising = λ i j d lt below. not-above (get_or endings i d) (get_or endings j d) (sorted_far (λ (a b : Ending). is_lt (ending_cmp a b)) weak endings in_order i j d (omega arith) below);
+  }
+    where
+      not-above : (a b : Ending) → is_lt (ending_cmp b a) ≡ false → a.place ≤ b.place
+      not-above a b h = elim (cases_lt b.place a.place) [
+        | inr le ↦ le
+        | inl lt ↦ let t : is_lt (ending_cmp b a) ≡ true = grind (arith, nat_tests) in absurd (both_ways _ h t)
+      ]
+
+  -- from the first that is ended at p or later, up to the first that is ended at q or later: what no record below q ends
+  module _ (endings : List Ending) (are : AreEndings orders endings) (from at p q : ℕ) (amount : ℕ → ℕ) where
+    later : (i j : ℕ) → i ≤ j → j < length endings → place_in endings i ≤ place_in endings j
+    later i j le below = elim (cases_eq i j) [
+      | inl e ↦ let same : place_in endings i ≡ place_in endings j = ap (place_in endings) e in omega arith
+      | inr ne ↦ are.rising i j missing_ending (omega (arith, ne)) below
+    ]
+
+    pub standing-is : ((i : ℕ) → i < from → i < length endings → place_in endings i < p) → ((i : ℕ) → from ≤ i → i < at → place_in endings i < q) → at ≤ length endings → (at < length endings → q ≤ place_in endings at)
+        → ((k : ℕ) → k < length orders → uncancelled_before (order_at orders k).cancelled p ≡ false → amount k ≡ 0)
+        → (k : ℕ) → k < length orders → amount_without endings from at amount k ≡ cond (uncancelled_before (order_at orders k).cancelled q) (amount k) 0
+    standing-is early between whole next gone k inside = elim (cases_Option (order_at orders k).cancelled) [
+      | inl free ↦
+          let stays : is_gone endings from at k ≡ false = any-none (λ i. nat_le from i && (index_in endings i == k)) at (λ i below. false_from_ne_true _ (λ t.
+          let parts = and_parts (nat_le from i) (index_in endings i == k) t in
+          let ending = are.only i missing_ending (omega arith) in
+          let index : index_in endings i ≡ k = eqb-true _ _ parts.1 in
+          let some : (order_at orders k).cancelled ≡ Some (place_in endings i) = ap (λ (j : ℕ). (order_at orders j).cancelled) (sym index) ∙ ending.is in
+          absurd (cc))) in
+          cond-false (is_gone endings from at k) 0 (amount k) stays ∙ sym (ap (λ (c : Option ℕ). cond (uncancelled_before c q) (amount k) 0) free)
+      | inr ends ↦
+          let c = ends.0 in
+          let e : (order_at orders k).cancelled ≡ Some c = ends.1 in
+          elim (cases_lt c q) [
+            | inl before ↦
+                let off : uncancelled_before (order_at orders k).cancelled q ≡ false = ap (λ (o : Option ℕ). uncancelled_before o q) e ∙ false_from_ne_true _ (λ t. let le = leb-true q c t in omega arith) in
+                let nothing : cond (uncancelled_before (order_at orders k).cancelled q) (amount k) 0 ≡ 0 = cond-false _ (amount k) 0 off in
+                let has = are.each k c inside e in
+                let i = has.0 in
+                let here : get_or endings i missing_ending ≡ record { place = c; index = k } = get_or-default endings i missing_ending (record { place = c; index = k }) has.1 ∙ has.2 in
+                let place_is : place_in endings i ≡ c = ap (λ (x : Ending). x.place) here in
+                let index_is : index_in endings i ≡ k = ap (λ (x : Ending). x.index) here in
+                let below : i < at = elim (cases_lt i at) [
+                  | inl lt ↦ lt
+                  | inr ge ↦ let in_list = has.1 in let far = next (omega arith) in let up = later at i ge has.1 in absurd (omega arith)
+                ] in
+                elim (cases_lt i from) [
+                  | inl old ↦
+                      let early_place = early i old has.1 in
+                      let was : uncancelled_before (order_at orders k).cancelled p ≡ false = ap (λ (o : Option ℕ). uncancelled_before o p) e ∙ false_from_ne_true _ (λ t. let le = leb-true p c t in omega arith) in
+                      let z = gone k inside was in
+                      both_zero (is_gone endings from at k) (amount k) z ∙ sym nothing
+                  | inr new ↦
+                      let t : is_gone endings from at k ≡ true = any-at (λ i. nat_le from i && (index_in endings i == k)) at i below (and_from _ _ (le-leb from i new) (eq-eqb _ _ index_is)) in
+                      cond-true (is_gone endings from at k) 0 (amount k) t ∙ sym nothing
+                ]
+            | inr after ↦
+                let on : uncancelled_before (order_at orders k).cancelled q ≡ true = ap (λ (o : Option ℕ). uncancelled_before o q) e ∙ le-leb q c after in
+                let stays : is_gone endings from at k ≡ false = any-none (λ i. nat_le from i && (index_in endings i == k)) at (λ i below. false_from_ne_true _ (λ t.
+                let parts = and_parts (nat_le from i) (index_in endings i == k) t in
+                let ending = are.only i missing_ending (omega arith) in
+                let index : index_in endings i ≡ k = eqb-true _ _ parts.1 in
+                let some : Some c ≡ Some (place_in endings i) = sym e ∙ ap (λ (j : ℕ). (order_at orders j).cancelled) (sym index) ∙ ending.is in
+                let same : c ≡ place_in endings i = cc in
+                let early_place = between i (leb-true from i parts.0) below in
+                omega arith)) in
+                cond-false (is_gone endings from at k) 0 (amount k) stays ∙ sym (cond-true _ (amount k) 0 on)
+          ]
+    ]
+      where
+        both_zero : (b : Bool) (m : ℕ) → m ≡ 0 → cond b 0 m ≡ 0
+        both_zero true m e = refl
+        both_zero false m e = e

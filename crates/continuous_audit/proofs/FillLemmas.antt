@@ -1,0 +1,35 @@
+-- What a book holds once its best orders are settled.
+use Rattle.std.proofs.Common.{◌≡◌, ◌<◌, ◌≤◌, ℕ, List, [], ◌∷◌, true, Some, IfSome, refl, sym, ap, ◌∙◌, arith, subst, All}
+use Rattle.std.specs.Prelude.{nat_lt}
+use Rattle.std.proofs.lemmas.Bool.{lt-ltb, le-ltb, cond-true, cond-false}
+use Rattle.order_book.specs.declared.books.Resting.{Resting}
+use Rattle.std.proofs.lemmas.List.Elements.{All-tail}
+use Rattle.order_book.specs.Books.{first}
+use Rattle.continuous_audit.specs.Holding.{with_best_left, after_fills, left_in, IsWithin}
+
+pub same-lessened : (xs : List Resting) (left now : ℕ) → IfSome (first xs) (λ r. r.left ≡ left) → 0 < left → now ≤ left → left ≤ now → xs ≡ with_best_left now xs
+same-lessened [] left now h some le ge = refl
+same-lessened (x ∷ xs) left now h some le ge =
+    let same : x.left ≡ now = h ∙ (omega arith) in
+    let t : nat_lt 0 now ≡ true = lt-ltb 0 now (omega arith) in
+    let is : x ≡ record x { left = now } = ap (λ (n : ℕ). record x { left = n }) same in
+    ap (λ (y : Resting). y ∷ xs) is ∙ sym (cond-true (nat_lt 0 now) (record x { left = now } ∷ xs) xs t)
+
+-- one step of settling
+pub after_fills-more : (left : ℕ → ℕ) (x : Resting) (xs : List Resting) → left x.index ≡ 0 → after_fills left (x ∷ xs) ≡ after_fills left xs
+after_fills-more left x xs e = cond-false (nat_lt 0 (left x.index)) (record x { left = left x.index } ∷ xs) (after_fills left xs) (le-ltb 0 (left x.index) (omega arith))
+
+pub after_fills-end : (left : ℕ → ℕ) (x : Resting) (xs : List Resting) → 0 < left x.index → after_fills left (x ∷ xs) ≡ record x { left = left x.index } ∷ xs
+after_fills-end left x xs lt = cond-true (nat_lt 0 (left x.index)) (record x { left = left x.index } ∷ xs) (after_fills left xs) (lt-ltb 0 (left x.index) lt)
+
+-- where the first order has nothing left, it goes, and the rest settles as before
+pub fill-step : (left : List ℕ) (xs ys : List Resting) (r : Resting) → Some r ≡ first xs → left_in left r.index ≤ 0 → ys ≡ with_best_left (left_in left r.index) xs → All (IsWithin left) xs
+    → All (IsWithin left) ys × (after_fills (left_in left) ys ≡ after_fills (left_in left) xs)
+fill-step left [] ys r e none is within = absurd (cc)
+fill-step left (x ∷ xs) ys r e none is within =
+    let same : r ≡ x = cc in
+    let zero_left : left_in left r.index ≡ 0 = omega arith in
+    let gone : ys ≡ xs = is ∙ cond-false (nat_lt 0 (left_in left r.index)) (record x { left = left_in left r.index } ∷ xs) xs (le-ltb 0 (left_in left r.index) none) in (
+      subst (All (IsWithin left)) (sym gone) (All-tail (IsWithin left) x xs within),
+      ap (after_fills (left_in left)) gone ∙ sym (after_fills-more (left_in left) x xs (ap (λ (y : Resting). left_in left y.index) (sym same) ∙ zero_left)),
+    )

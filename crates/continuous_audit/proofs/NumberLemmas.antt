@@ -1,0 +1,145 @@
+-- The numbers of the audit from one order to the next.
+use Rattle.std.proofs.Common.{◌≡◌, ◌<◌, ◌≤◌, ◌+◌, ◌-◌, ◌*◌, ◌^◌, ℕ, zero, suc, List, [], ◌∷◌, length, Bool, true, false, refl, sym, ap, ◌∙◌, arith, inl, inr, subst, sum_by}
+use Rattle.std.specs.Prelude.{slice_set}
+use Rattle.std.proofs.lemmas.Bool.{cases_eq}
+use Rattle.std.proofs.lemmas.List.{length-set, get_or-set_same, get_or-set_other}
+use Rattle.std.proofs.lemmas.List.Sums.{sum_by-cons, sum_by-append}
+use Rattle.audit_base.specs.declared.orders.Order.{Order}
+use Rattle.audit_base.specs.declared.orders.Deal.{Deal}
+use Rattle.audit_base.specs.Orders.{place_at, IsOrderList}
+use Rattle.audit_base.specs.Deals.{IsDealList}
+use Rattle.audit_base.specs.Continuous.{traded_before, before_of, entered_of, size_of, left_after}
+use Rattle.audit_base.proofs.OrderLemmas.{place-rises}
+use Rattle.audit_base.proofs.OffenceLemmas.{get_or-default}
+use Rattle.continuous_audit.specs.declared.causes.Cause.{Cause}
+use Rattle.continuous_audit.specs.Causes.{AreCauses, causes_upto, cause_of, running_total}
+use Rattle.continuous_audit.specs.Chains.{flag_in, AreClosed, IsClosed, IsOpening}
+use Rattle.continuous_audit.specs.Scans.{number_in, order_in, missing_cause, IsKnown, AreRunningTotals, IsSplitAt, IsRefreshed}
+use Rattle.continuous_audit.specs.Progress.{AreBefore, AreSizes, AreLeft, AreTraded, ConformsBelow}
+use Rattle.continuous_audit.proofs.CauseLemmas.{cause-inside, running-before}
+use Rattle.continuous_audit.proofs.RefreshLemmas.{refreshed-after}
+
+ones : (xs : List Cause) → sum_by (λ (c : Cause). 1) xs ≡ length xs
+ones [] = refl
+ones (x ∷ xs) = omega (arith, ones xs, sum_by-cons (λ (c : Cause). 1) x xs)
+
+ones-upto : (orders : List Order) (deals : List Deal) (n : ℕ) → sum_by (λ (c : Cause). 1) (causes_upto orders deals n) ≡ n
+ones-upto orders deals zero = refl
+ones-upto orders deals (suc n) = omega (arith, ones-upto orders deals n, ones (cause_of orders deals n ∷ []), sum_by-append (λ (c : Cause). 1) (causes_upto orders deals n) (cause_of orders deals n ∷ []))
+
+-- one number more
+module _ (orders : List Order) (deals : List Deal) (n : ℕ) (n_inside : n < length orders) where
+  pub before-more : (before ys : List ℕ) (b : ℕ) → AreBefore orders deals n before → b ≡ before_of orders deals n → b ≤ n * 2 ^ 72 → length orders < 2 ^ 32 → ys ≡ slice_set before n b → AreBefore orders deals (suc n) ys
+  before-more before ys b old is most few made = subst (AreBefore orders deals (suc n)) (sym made) (record {
+    count = length-set {A = ℕ} before n b ∙ old.count;
+    is = λ x lt. elim (cases_eq x n) [
+      | inl e ↦ subst (λ (y : ℕ). number_in (slice_set before n b) y ≡ before_of orders deals y) (sym e) (get_or-set_same {A = ℕ} before n b 0 (omega (arith, old.count)) ∙ is)
+      | inr ne ↦ get_or-set_other {A = ℕ} before n x b 0 ne ∙ old.is x (omega (arith, ne))
+    ];
+    fits = λ x. elim (cases_eq x n) [
+      | inl e ↦ subst (λ (y : ℕ). number_in (slice_set before n b) y ≤ 2 ^ 126) (sym e) (let g = get_or-set_same {A = ℕ} before n b 0 (omega (arith, old.count)) in omega arith)
+      | inr ne ↦ let g = get_or-set_other {A = ℕ} before n x b 0 ne in let f = old.fits x in omega arith
+    ];
+    bounded = λ x. elim (cases_eq x n) [
+      | inl e ↦ subst (λ (y : ℕ). number_in (slice_set before n b) y ≤ y * 2 ^ 72) (sym e) (let g = get_or-set_same {A = ℕ} before n b 0 (omega (arith, old.count)) in omega arith)
+      | inr ne ↦ let g = get_or-set_other {A = ℕ} before n x b 0 ne in let f = old.bounded x in omega arith
+    ];
+  })
+
+  pub closed-more : (closed ys : List Bool) (b : Bool) → AreClosed orders n closed → (b ≡ true → IsClosed orders n) → ys ≡ slice_set closed n b → AreClosed orders (suc n) ys
+  closed-more closed ys b old is made = subst (AreClosed orders (suc n)) (sym made) (record {
+    count = length-set {A = Bool} closed n b ∙ old.count;
+    is = λ x lt t. elim (cases_eq x n) [
+      | inl e ↦ subst (IsClosed orders) (sym e) (is (sym (ap (flag_in (slice_set closed n b)) e ∙ get_or-set_same {A = Bool} closed n b false (omega (arith, old.count))) ∙ t))
+      | inr ne ↦ old.is x (omega (arith, ne)) (sym (get_or-set_other {A = Bool} closed n x b false ne) ∙ t)
+    ];
+  })
+
+  pub sizes-more : (sizes ys : List ℕ) (z : ℕ) → AreSizes orders deals n sizes → z ≡ size_of orders deals n → ys ≡ slice_set sizes n z → AreSizes orders deals (suc n) ys
+  sizes-more sizes ys z old is made = subst (AreSizes orders deals (suc n)) (sym made) (record {
+    count = length-set {A = ℕ} sizes n z ∙ old.count;
+    is = λ x lt. elim (cases_eq x n) [
+      | inl e ↦ subst (λ (y : ℕ). number_in (slice_set sizes n z) y ≡ size_of orders deals y) (sym e) (get_or-set_same {A = ℕ} sizes n z 0 (omega (arith, old.count)) ∙ is)
+      | inr ne ↦ get_or-set_other {A = ℕ} sizes n x z 0 ne ∙ old.is x (omega (arith, ne))
+    ];
+  })
+
+  pub known : (entered : Bool) (before sizes left : List ℕ) → entered ≡ entered_of orders deals n → AreBefore orders deals (suc n) before → AreSizes orders deals (suc n) sizes → AreLeft orders deals n (place_at orders n) left → IsKnown orders deals n entered before sizes left
+  known entered before sizes left arrived b z l = record {
+    before_count = b.count;
+    sizes_count = z.count;
+    left_count = l.count;
+    arrived = arrived;
+    before_is = λ x le. b.is x (omega arith);
+    size_is = λ x le. z.is x (omega arith);
+    left_is = l.is;
+    before_fits = b.fits;
+  }
+
+module _ (orders : List Order) (list : IsOrderList orders) (deals : List Deal) (deal_list : IsDealList orders deals) (causes : List Cause) (are : AreCauses orders deals causes) where
+  few-causes : length causes ≤ length deals
+  few-causes = omega (arith, are.sums (λ c. 1), ones causes, ones-upto orders deals (length deals))
+
+  pub running-fits : (at : ℕ) (traded : List ℕ) → AreRunningTotals orders deals causes at traded → (x : ℕ) → x < length orders → number_in traded x ≤ 2 ^ 72
+  running-fits at traded run x lt =
+      let f = run.fits x lt in
+      let i = run.inside in
+      let few = deal_list.few in
+      omega (arith, few-causes)
+
+  -- the first causes, those of the orders below m, where these are the orders of places below q
+  running-at : (q m at : ℕ) → IsSplitAt causes m at → ((k : ℕ) → k < length orders → k < m → place_at orders k < q) → ((k : ℕ) → k < length orders → m ≤ k → q ≤ place_at orders k) → (x : ℕ) → running_total deals causes at x ≡ traded_before orders deals q x
+  running-at q m at split low high x = running-before orders list deals deal_list.named causes are q at x
+      (λ i d lt below. subst (λ (c : Cause). place_at orders c.order < q) (sym (get_or-default causes i d missing_cause below)) (low (order_in causes i) (cause-inside orders list deals deal_list.named causes are i missing_cause below) (split.early i lt below)))
+      (λ i d le below. subst (λ (c : Cause). q ≤ place_at orders c.order) (sym (get_or-default causes i d missing_cause below)) (high (order_in causes i) (cause-inside orders list deals deal_list.named causes are i missing_cause below) (split.late i le below)))
+
+  pub traded-at : (q m at : ℕ) (traded : List ℕ) → IsSplitAt causes m at → AreRunningTotals orders deals causes at traded → ((k : ℕ) → k < length orders → k < m → place_at orders k < q) → ((k : ℕ) → k < length orders → m ≤ k → q ≤ place_at orders k) → AreTraded orders deals q traded
+  traded-at q m at traded split run low high = record {
+    count = run.count;
+    is = λ x lt. run.sums x lt ∙ running-at q m at split low high x;
+    fits = running-fits at traded run;
+  }
+
+  module _ (n : ℕ) (n_inside : n < length orders) where
+    abbrev p : ℕ
+    p = place_at orders n
+
+    pub traded-then : (at : ℕ) (traded : List ℕ) → IsSplitAt causes n at → AreRunningTotals orders deals causes at traded → AreTraded orders deals p traded
+    traded-then at traded split run = traded-at p n at traded split run (λ k inside lt. place-rises orders list k n lt n_inside) (λ k inside le. elim (cases_eq k n) [
+      | inl e ↦ let same : place_at orders k ≡ p = ap (place_at orders) e in omega arith
+      | inr ne ↦ let up = place-rises orders list n k (omega (arith, ne)) inside in omega arith
+    ])
+
+    pub traded-now : (at : ℕ) (traded : List ℕ) → IsSplitAt causes (n + 1) at → AreRunningTotals orders deals causes at traded → AreTraded orders deals (suc p) traded
+    traded-now at traded split run = traded-at (suc p) (n + 1) at traded split run
+        (λ k inside lt. elim (cases_eq k n) [
+          | inl e ↦ let same : place_at orders k ≡ p = ap (place_at orders) e in omega arith
+          | inr ne ↦ let up = place-rises orders list k n (omega (arith, ne)) n_inside in omega arith
+        ])
+        (λ k inside le. let up = place-rises orders list n k (omega arith) inside in omega arith)
+
+    pub opening : (at : ℕ) (traded left before traded' left' before' : List ℕ) → traded' ≡ traded → left' ≡ left → before' ≡ before → ConformsBelow orders deals p → AreBefore orders deals n before → AreLeft orders deals n p left → IsSplitAt causes n at → AreRunningTotals orders deals causes at traded → IsOpening orders deals n traded' left' before'
+    opening at traded left before traded' left' before' same_traded same_left same_before conforms b l split run =
+        let t = traded-then at traded split run in
+        record {
+          kept = record {
+            conforms = conforms;
+            named = deal_list.named;
+            traded_is = λ x lt. ap (λ (xs : List ℕ). number_in xs x) same_traded ∙ t.is x lt;
+            before_is = λ x lt. ap (λ (xs : List ℕ). number_in xs x) same_before ∙ b.is x lt;
+          };
+          left_is = λ x lt. ap (λ (xs : List ℕ). number_in xs x) same_left ∙ l.is x lt;
+        }
+
+    pub left-after_deals : (start at : ℕ) (sizes traded old new ys : List ℕ) (m : ℕ) → IsSplitAt causes n start → IsSplitAt causes (n + 1) at → AreRunningTotals orders deals causes at traded → AreSizes orders deals (suc n) sizes → AreLeft orders deals n p old
+        → IsRefreshed deals causes start at sizes traded old new → m ≡ number_in sizes n - number_in traded n → ys ≡ slice_set new n m → AreLeft orders deals (suc n) (suc p) ys
+    left-after_deals start at sizes traded old new ys m split later run z l refreshed m_is made =
+        let t = traded-now at traded later run in
+        let long : length new ≡ length orders = refreshed.count ∙ l.count in
+        subst (AreLeft orders deals (suc n) (suc p)) (sym made) (record {
+          count = length-set {A = ℕ} new n m ∙ long;
+          is = λ x lt. elim (cases_eq x n) [
+            | inl e ↦ subst (λ (y : ℕ). number_in (slice_set new n m) y ≡ left_after orders deals p y) (sym e) (get_or-set_same {A = ℕ} new n m 0 (omega (arith, long)) ∙ m_is ∙ (λ i. z.is n (omega arith) i - t.is n n_inside i))
+            | inr ne ↦ get_or-set_other {A = ℕ} new n x m 0 ne ∙ refreshed-after orders list deals deal_list causes are n n_inside start at run.inside split later sizes traded old new refreshed (λ y lt. z.is y (omega arith)) t.is l.is x (omega (arith, ne))
+          ];
+        })

@@ -1,0 +1,126 @@
+-- The first deal of a record that passes the best order over.
+use Rattle.std.proofs.Common.{◌≡◌, ◌<◌, ◌≤◌, ◌+◌, ℕ, List, [], ◌∷◌, length, true, false, Some, None, sym, ap, ◌∙◌, arith, inl, inr, subst, get_or}
+use Rattle.std.proofs.lemmas.Bool.{cases_eq, cases_lt}
+use Rattle.audit_base.specs.declared.orders.Order.{Order}
+use Rattle.audit_base.specs.declared.orders.Deal.{Deal}
+use Rattle.audit_base.specs.Least.{least_answer}
+use Rattle.audit_base.specs.Orders.{order_at, place_at, side_at, other_side, IsOrderList}
+use Rattle.audit_base.specs.Priority.{better}
+use Rattle.audit_base.specs.Deals.{deal_at, missing_deal, IsDealList}
+use Rattle.audit_base.specs.Continuous.{cause, resting, incoming, traded_before}
+use Rattle.audit_base.specs.ContinuousOffences.{priority_finding, priority_of, shown_after}
+use Rattle.audit_base.specs.Shows.{at_deal, show_order}
+use Rattle.audit_base.proofs.LeastLemmas.{least-none, least-at}
+use Rattle.audit_base.proofs.OffenceLemmas.{get_or-default}
+use Rattle.order_book.specs.declared.books.Resting.{Resting}
+use Rattle.order_book.specs.Books.{first}
+use Rattle.continuous_audit.specs.declared.causes.Cause.{Cause}
+use Rattle.continuous_audit.specs.Causes.{cause_of, AreCauses}
+use Rattle.continuous_audit.specs.DealFindings.{outranked_finding}
+use Rattle.continuous_audit.specs.Holding.{IsFilledInFront, resting_left, resting_left_after}
+use Rattle.continuous_audit.specs.Scans.{missing_cause, order_in, deal_in, IsSplitAt}
+use Rattle.continuous_audit.proofs.CauseLemmas.{incoming-cause}
+use Rattle.continuous_audit.proofs.LeftLemmas.{index-below}
+use Rattle.continuous_audit.proofs.RecordLemmas.{IsOfCause, ends, priority-away, priority-clear, priority-found}
+
+module _ (orders : List Order) (list : IsOrderList orders) (deals : List Deal) (deal_list : IsDealList orders deals) (causes : List Cause) (are : AreCauses orders deals causes) (n : ℕ) (n_inside : n < length orders)
+    (start end : ℕ) (within : end ≤ length causes) (split : IsSplitAt causes n start) (later : IsSplitAt causes (n + 1) end) where
+  abbrev p : ℕ
+  p = place_at orders n
+
+  -- where a deal of this cause stands
+  pub located : (j : ℕ) → j < length deals → cause orders (deal_at deals j) ≡ p → (i : ℕ) × (start ≤ i) × (i < end) × (deal_in causes i ≡ j)
+  located j lt here =
+      let has = are.each j lt in
+      let i = has.0 in
+      let is : get_or causes i missing_cause ≡ cause_of orders deals j = get_or-default causes i missing_cause (cause_of orders deals j) has.1 ∙ has.2 in
+      let e = ends orders list deals deal_list.named n n_inside (deal_at deals j) (deal_list.named j missing_deal lt) here in
+      let order_is : order_in causes i ≡ n = ap (λ (c : Cause). c.order) is ∙ e.1.incoming_is in (
+        i,
+        elim (cases_lt i start) [ inr ok ↦ ok | inl early ↦ let l = split.early i early has.1 in absurd (omega arith) ],
+        elim (cases_lt i end) [ inl ok ↦ ok | inr late ↦ let l = later.late i late has.1 in absurd (omega arith) ],
+        ap (λ (c : Cause). c.deal) is,
+      )
+
+  -- the deal at a cause of the order
+  pub of-cause : (i : ℕ) → start ≤ i → i < end → IsOfCause orders list deals deal_list.named n n_inside (deal_in causes i)
+  of-cause i from below =
+      let h = are.only i missing_cause (omega arith) in
+      let low = split.late i from (omega arith) in
+      let high = later.early i below (omega arith) in
+      let same : order_in causes i ≡ n = omega arith in
+      let order_is : order_in causes i ≡ incoming orders (deal_at deals (deal_in causes i)) = ap (λ (c : Cause). c.order) h.1 in
+      record { inside = h.0; at = sym (incoming-cause orders (deal_at deals (deal_in causes i))) ∙ ap (place_at orders) (sym order_is ∙ same) }
+
+  -- and its resting order comes before that of the record
+  pub resting-earlier : (i : ℕ) → start ≤ i → i < end → resting orders (deal_at deals (deal_in causes i)) < n
+  resting-earlier i from below =
+      let of = of-cause i from below in
+      let e = ends orders list deals deal_list.named n n_inside (deal_at deals (deal_in causes i)) (deal_list.named (deal_in causes i) missing_deal of.inside) of.at in
+      let less : e.0 < n = index-below orders list e.0 n e.1.inside n_inside e.1.earlier in
+      let same = e.1.resting_is in
+      omega arith
+
+  module _ (h : Resting) (zs : List Resting) (s : IsFilledInFront orders (other_side (side_at orders n)) (resting_left orders (traded_before orders deals) p) (resting_left_after orders deals p) (h ∷ zs)) where
+    clear-at : (at : ℕ) → at ≤ end → ((i : ℕ) → start ≤ i → i < at → better (order_at orders h.index) (order_at orders (resting orders (deal_at deals (deal_in causes i)))) ≡ false)
+        → (j : ℕ) → j < length deals → ((i : ℕ) → start ≤ i → i < end → deal_in causes i ≡ j → i < at) → priority_finding orders deals p j ≡ None
+    clear-at at le under j lt early = elim (cases_eq (cause orders (deal_at deals j)) p) [
+      | inr away ↦ priority-away orders list deals deal_list.named n n_inside j away
+      | inl here ↦
+          let l = located j lt here in
+          let below = early l.0 l.1 l.2 l.3 in
+          subst (λ m. priority_finding orders deals p m ≡ None) l.3 (priority-clear orders list deals deal_list.named n n_inside (deal_in causes l.0) (of-cause l.0 l.1 l.2) h zs s (under l.0 l.1 below))
+    ]
+
+    pub pass-none : ((i : ℕ) → start ≤ i → i < end → better (order_at orders h.index) (order_at orders (resting orders (deal_at deals (deal_in causes i)))) ≡ false)
+        → least_answer (priority_finding orders deals p) (length deals) ≡ None
+    pass-none under = least-none (priority_finding orders deals p) (length deals) (λ j lt. clear-at end (omega arith) under j lt (λ i from below e. below))
+
+    pub pass-found : (at : ℕ) → start ≤ at → at < end → ((i : ℕ) → start ≤ i → i < at → better (order_at orders h.index) (order_at orders (resting orders (deal_at deals (deal_in causes i)))) ≡ false)
+        → better (order_at orders h.index) (order_at orders (resting orders (deal_at deals (deal_in causes at)))) ≡ true
+        → least_answer (priority_finding orders deals p) (length deals) ≡ Some (at_deal (priority_of (side_at orders (resting orders (deal_at deals (deal_in causes at))))) (deal_at deals (deal_in causes at))
+        (show_order orders (shown_after orders deals p) h.index) (show_order orders (shown_after orders deals p) (resting orders (deal_at deals (deal_in causes at)))))
+    pass-found at from below under over =
+        let of = of-cause at from below in
+        let k = deal_in causes at in
+        least-at (priority_finding orders deals p) (length deals) k _ of.inside
+        (least-none (priority_finding orders deals p) k (λ j lt. clear-at at (omega arith) under j (let inside = of.inside in omega arith) (λ i i_from i_below e. elim (cases_lt i at) [
+          | inl ok ↦ ok
+          | inr ge ↦ elim (cases_eq i at) [
+            | inl same ↦ let f : k ≡ j = ap (deal_in causes) (sym same) ∙ e in absurd (omega arith)
+            | inr ne ↦ elim (are.rising at i missing_cause (omega (arith, ne)) (omega arith)) [
+              | inl less ↦ let a = later.early i i_below (omega arith) in let b = split.late at from (omega arith) in absurd (omega arith)
+              | inr tie ↦ let l = tie.1 in absurd (omega arith)
+            ]
+          ]
+        ])))
+        (priority-found orders list deals deal_list.named n n_inside k of h zs s over)
+
+-- the same of a list with this first order
+pub pass-none-first : (orders : List Order) (list : IsOrderList orders) (deals : List Deal) (deal_list : IsDealList orders deals) (causes : List Cause) (are : AreCauses orders deals causes) (n : ℕ) (n_inside : n < length orders)
+    (start end : ℕ) (within : end ≤ length causes) (split : IsSplitAt causes n start) (later : IsSplitAt causes (n + 1) end) (best : Resting) (ys : List Resting) → first ys ≡ Some best
+    → IsFilledInFront orders (other_side (side_at orders n)) (resting_left orders (traded_before orders deals) (place_at orders n)) (resting_left_after orders deals (place_at orders n)) ys
+    → ((i : ℕ) → start ≤ i → i < end → better (order_at orders best.index) (order_at orders (resting orders (deal_at deals (deal_in causes i)))) ≡ false)
+    → least_answer (priority_finding orders deals (place_at orders n)) (length deals) ≡ None
+pass-none-first orders list deals deal_list causes are n n_inside start end within split later best [] e s under = absurd (cc)
+pass-none-first orders list deals deal_list causes are n n_inside start end within split later best (h ∷ zs) e s under =
+    let is : best ≡ h = cc in
+    pass-none orders list deals deal_list causes are n n_inside start end within split later h zs s
+    (λ i from below. subst (λ (b : Resting). better (order_at orders b.index) (order_at orders (resting orders (deal_at deals (deal_in causes i)))) ≡ false) is (under i from below))
+
+pub pass-found-first : (orders : List Order) (list : IsOrderList orders) (deals : List Deal) (deal_list : IsDealList orders deals) (causes : List Cause) (are : AreCauses orders deals causes) (n : ℕ) (n_inside : n < length orders)
+    (start end : ℕ) (within : end ≤ length causes) (split : IsSplitAt causes n start) (later : IsSplitAt causes (n + 1) end) (best : Resting) (ys : List Resting) → first ys ≡ Some best
+    → IsFilledInFront orders (other_side (side_at orders n)) (resting_left orders (traded_before orders deals) (place_at orders n)) (resting_left_after orders deals (place_at orders n)) ys
+    → (at : ℕ) → start ≤ at → at < end → ((i : ℕ) → start ≤ i → i < at → better (order_at orders best.index) (order_at orders (resting orders (deal_at deals (deal_in causes i)))) ≡ false)
+    → (d : Deal) (over rest : Order) (a b : ℕ) → d ≡ deal_at deals (deal_in causes at) → over ≡ order_at orders best.index → rest ≡ order_at orders (resting orders (deal_at deals (deal_in causes at)))
+    → better over rest ≡ true → a ≡ shown_after orders deals (place_at orders n) best.index → b ≡ shown_after orders deals (place_at orders n) (resting orders (deal_at deals (deal_in causes at)))
+    → least_answer (priority_finding orders deals (place_at orders n)) (length deals) ≡ Some (outranked_finding d over rest a b)
+pass-found-first orders list deals deal_list causes are n n_inside start end within split later best [] e s at from below under d over rest a b d_is o_is r_is t a_is b_is = absurd (cc)
+pass-found-first orders list deals deal_list causes are n n_inside start end within split later best (h ∷ zs) e s at from below under d over rest a b d_is o_is r_is t a_is b_is =
+    let is : best ≡ h = cc in
+    let o : over ≡ order_at orders h.index = o_is ∙ ap (λ (x : Resting). order_at orders x.index) is in
+    let av : a ≡ shown_after orders deals (place_at orders n) h.index = a_is ∙ ap (λ (x : Resting). shown_after orders deals (place_at orders n) x.index) is in
+    let found = pass-found orders list deals deal_list causes are n n_inside start end within split later h zs s at from below
+    (λ i from below. subst (λ (x : Resting). better (order_at orders x.index) (order_at orders (resting orders (deal_at deals (deal_in causes i)))) ≡ false) is (under i from below))
+    (subst (λ (x : Order). better x (order_at orders (resting orders (deal_at deals (deal_in causes at)))) ≡ true) o (subst (λ (x : Order). better over x ≡ true) r_is t)) in
+    found ∙ sym (λ i. Some (outranked_finding (d_is i) (o i) (r_is i) (av i) (b_is i)))

@@ -1,0 +1,70 @@
+-- What is known before the next order.
+use Rattle.std.proofs.Common.{◌≡◌, ◌<◌, ◌≤◌, ◌-◌, ℕ, zero, suc, List, length, refl, sym, ap, ◌∙◌, arith, inl, inr, All}
+use Rattle.std.specs.Prelude.{nat_lt}
+use Rattle.std.proofs.lemmas.Bool.{cases_eq, cases_lt, lt-ltb, le-ltb, cond-true, cond-false}
+use Rattle.audit_base.specs.declared.orders.Order.{Order}
+use Rattle.audit_base.specs.declared.orders.Deal.{Deal}
+use Rattle.audit_base.specs.Orders.{place_at, IsOrderList}
+use Rattle.audit_base.specs.Deals.{NamesOrders}
+use Rattle.audit_base.specs.Continuous.{traded_before, size}
+use Rattle.audit_base.proofs.OrderLemmas.{place-rises}
+use Rattle.continuous_audit.specs.declared.endings.Ending.{Ending}
+use Rattle.continuous_audit.specs.declared.endings.Books.{Books}
+use Rattle.continuous_audit.specs.Endings.{AreEndings, BooksHold, place_in, amount_without}
+use Rattle.continuous_audit.specs.Holding.{resting_left, resting_left_after}
+use Rattle.continuous_audit.specs.Progress.{AreLeft, AreDropped, without_own, ready_place}
+use Rattle.continuous_audit.proofs.BooksLemmas.{after-endings, before-next}
+use Rattle.continuous_audit.proofs.RestLemmas.{traded-gap}
+use Rattle.continuous_audit.proofs.RecordLemmas.{no-cause}
+
+pub ready-here : (orders : List Order) (n : ℕ) → n < length orders → ready_place orders n ≡ place_at orders n
+ready-here orders zero lt = refl
+ready-here orders (suc n) lt = cond-true (nat_lt (suc n) (length orders)) (place_at orders (suc n)) (suc (place_at orders n)) (lt-ltb _ _ lt)
+
+pub dropped-more : (endings : List Ending) (start at p q : ℕ) → AreDropped endings start p → p ≤ q → at ≤ length endings → ((i : ℕ) → start ≤ i → i < at → place_in endings i < q) → AreDropped endings at q
+dropped-more endings start at p q old le inside between = record {
+  inside = inside;
+  early = λ i lt below. elim (cases_lt i start) [
+    | inl less ↦ let e = old.early i less below in omega arith
+    | inr more ↦ between i more lt
+  ];
+}
+
+module _ (orders : List Order) (list : IsOrderList orders) (deals : List Deal) (named : All (NamesOrders orders) deals) (n : ℕ) (n_inside : n < length orders) where
+  abbrev p : ℕ
+  p = place_at orders n
+
+  abbrev q : ℕ
+  q = ready_place orders (suc n)
+
+  pub next-above : suc p ≤ q
+  next-above = elim (cases_lt (suc n) (length orders)) [
+    | inl lt ↦
+        let is : q ≡ place_at orders (suc n) = cond-true (nat_lt (suc n) (length orders)) (place_at orders (suc n)) (suc p) (lt-ltb _ _ lt) in
+        let up = place-rises orders list n (suc n) (omega arith) lt in
+        omega arith
+    | inr le ↦ let is : q ≡ suc p = cond-false (nat_lt (suc n) (length orders)) (place_at orders (suc n)) (suc p) (le-ltb _ _ le) in omega arith
+  ]
+
+  pub next-first : (k : ℕ) → k < length orders → n < k → q ≤ place_at orders k
+  next-first k inside more =
+      let is : q ≡ place_at orders (suc n) = cond-true (nat_lt (suc n) (length orders)) (place_at orders (suc n)) (suc p) (lt-ltb _ _ (omega arith)) in
+      elim (cases_eq k (suc n)) [
+        | inl e ↦ let same : place_at orders k ≡ place_at orders (suc n) = ap (place_at orders) e in omega arith
+        | inr ne ↦ let up = place-rises orders list (suc n) k (omega (arith, ne)) inside in omega arith
+      ]
+
+  pub left-next : (left : List ℕ) → AreLeft orders deals (suc n) (suc p) left → AreLeft orders deals (suc n) q left
+  left-next left l = record {
+    count = l.count;
+    is = λ x lt. l.is x lt ∙ ap (λ (m : ℕ). size orders (traded_before orders deals) x - m) (sym (traded-gap orders deals (suc p) q x next-above (no-cause orders list deals named n n_inside q next-above next-first)));
+  }
+
+  module _ (endings : List Ending) (are : AreEndings orders endings) (start at upto : ℕ) where
+    pub others-hold : upto ≡ suc p → AreDropped endings start p → ((i : ℕ) → start ≤ i → i < at → place_in endings i < upto) → at ≤ length endings → (at < length endings → upto ≤ place_in endings at)
+        → (b : Books) → BooksHold orders (amount_without endings start at (resting_left_after orders deals p)) b → BooksHold orders (without_own orders deals n) b
+    others-hold e old between inside next b hold = after-endings orders list deals named n n_inside endings are start at old.early (λ i le lt. let l = between i le lt in omega arith) inside (λ lt. let l = next lt in omega arith) b hold
+
+    pub next-holds : upto ≡ q → AreDropped endings start (suc p) → ((i : ℕ) → start ≤ i → i < at → place_in endings i < upto) → at ≤ length endings → (at < length endings → upto ≤ place_in endings at)
+        → (b : Books) → BooksHold orders (amount_without endings start at (resting_left orders (traded_before orders deals) (suc p))) b → BooksHold orders (resting_left orders (traded_before orders deals) q) b
+    next-holds e old between inside next b hold = before-next orders list deals named n n_inside q next-above next-first endings are start at old.early (λ i le lt. let l = between i le lt in omega arith) inside (λ lt. let l = next lt in omega arith) b hold

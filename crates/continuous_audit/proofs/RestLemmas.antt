@@ -1,0 +1,118 @@
+-- How what rests of an order changes from one place to another.
+use Rattle.std.proofs.Common.{◌≡◌, ◌<◌, ◌≤◌, ◌+◌, ◌-◌, ◌⊎◌, ℕ, List, Bool, true, false, cond, Option, Some, None, refl, sym, ap, ◌∙◌, arith, inl, inr, All, get_or}
+use Rattle.std.specs.Prelude.{◌==◌, ◌&&◌, nat_lt}
+use Rattle.std.proofs.lemmas.Bool.{cases_Bool, eqb-true, and_parts, and_from, and_left, and_right, ltb-true, lt-ltb, le-ltb, leb-true, le-leb, or_cases, cond-true, cond-false}
+use Rattle.std.proofs.lemmas.Bool.Decides.{nat_tests}
+use Rattle.audit_base.specs.declared.orders.Order.{Order}
+use Rattle.audit_base.specs.declared.orders.Deal.{Deal}
+use Rattle.audit_base.specs.Orders.{order_at, place_at, is_rests}
+use Rattle.audit_base.specs.Deals.{names}
+use Rattle.audit_base.specs.Continuous.{cause, traded_before, uncancelled_before, rests, size, left}
+use Rattle.audit_base.proofs.SumLemmas.{sum_by-none, sum_by-same}
+use Rattle.continuous_audit.specs.Holding.{resting_left}
+
+-- an order that rests before p, in parts
+pub record IsAtRest (orders : List Order) (past : ℕ → ℕ → ℕ) (p k : ℕ) : Type 0 where
+  pub life : is_rests (order_at orders k).life ≡ true
+  pub earlier : place_at orders k < p
+  pub uncancelled : uncancelled_before (order_at orders k).cancelled p ≡ true
+  pub has_left : past p k < size orders past k
+
+pub rests-parts : (orders : List Order) (past : ℕ → ℕ → ℕ) (p k : ℕ) → rests orders past p k ≡ true → IsAtRest orders past p k
+unfolding rests size
+rests-parts orders past p k h =
+    let two = and_parts (is_rests (order_at orders k).life && nat_lt (place_at orders k) p) (uncancelled_before (order_at orders k).cancelled p && nat_lt (past p k) (size orders past k)) h in
+    let a = and_parts (is_rests (order_at orders k).life) (nat_lt (place_at orders k) p) two.0 in
+    let b = and_parts (uncancelled_before (order_at orders k).cancelled p) (nat_lt (past p k) (size orders past k)) two.1 in
+    record { life = a.0; earlier = ltb-true _ _ a.1; uncancelled = b.0; has_left = ltb-true _ _ b.1 }
+
+pub rests-from : (orders : List Order) (past : ℕ → ℕ → ℕ) (p k : ℕ) → IsAtRest orders past p k → rests orders past p k ≡ true
+unfolding rests size
+rests-from orders past p k at = and_from _ _ (and_from _ _ at.life (lt-ltb _ _ at.earlier)) (and_from _ _ at.uncancelled (lt-ltb _ _ at.has_left))
+
+-- what rests of it
+pub resting_left-parts : (orders : List Order) (past : ℕ → ℕ → ℕ) (p k : ℕ) → 0 < resting_left orders past p k → (rests orders past p k ≡ true) × (resting_left orders past p k ≡ left orders past p k)
+unfolding resting_left
+resting_left-parts orders past p k some = elim (cases_Bool (rests orders past p k)) [
+  | inl t ↦ (t, cond-true _ (left orders past p k) 0 t)
+  | inr f ↦ let none : cond (rests orders past p k) (left orders past p k) 0 ≡ 0 = cond-false _ (left orders past p k) 0 f in absurd (omega arith)
+]
+
+pub resting_left-is : (orders : List Order) (past : ℕ → ℕ → ℕ) (p k : ℕ) → rests orders past p k ≡ true → (resting_left orders past p k ≡ left orders past p k) × (0 < resting_left orders past p k)
+unfolding resting_left
+resting_left-is orders past p k t =
+    let e : cond (rests orders past p k) (left orders past p k) 0 ≡ left orders past p k = cond-true _ (left orders past p k) 0 t in
+    let more = (rests-parts orders past p k t).has_left in
+    (e, omega arith)
+
+pub resting_left-none : (orders : List Order) (past : ℕ → ℕ → ℕ) (p k : ℕ) → rests orders past p k ≡ false → resting_left orders past p k ≡ 0
+unfolding resting_left
+resting_left-none orders past p k f = cond-false _ (left orders past p k) 0 f
+
+pub resting_left-future : (orders : List Order) (past : ℕ → ℕ → ℕ) (p k : ℕ) → p ≤ place_at orders k → resting_left orders past p k ≡ 0
+resting_left-future orders past p k later = elim (cases_Bool (rests orders past p k)) [
+  | inr f ↦ resting_left-none orders past p k f
+  | inl t ↦ let l = (rests-parts orders past p k t).earlier in absurd (omega arith)
+]
+
+pub uncancelled-back : (c : Option ℕ) (p q : ℕ) → p ≤ q → uncancelled_before c q ≡ true → uncancelled_before c p ≡ true
+uncancelled-back None p q le h = refl
+uncancelled-back (Some c) p q le h = let l = leb-true q c h in le-leb p c (omega arith)
+
+older : (l e u v : Bool) (s a t : ℕ) → (v ≡ true → u ≡ true) → cond ((l && e) && (v && nat_lt (a + t) s)) (s - (a + t)) 0 ≡ cond v (cond ((l && e) && (u && nat_lt a s)) (s - a) 0 - t) 0
+older false e u false s a t h = refl
+older false e u true s a t h = omega arith
+older true false u false s a t h = refl
+older true false u true s a t h = omega arith
+older true true u false s a t h = refl
+older true true false true s a t h = let x = h refl in absurd (cc)
+older true true true true s a t h = grind (arith, nat_tests)
+
+-- from p to q, where an older order trades t
+pub resting_left-older : (orders : List Order) (past : ℕ → ℕ → ℕ) (p q k t : ℕ) → p ≤ q → place_at orders k < p → past q k ≡ past p k + t
+    → resting_left orders past q k ≡ cond (uncancelled_before (order_at orders k).cancelled q) (resting_left orders past p k - t) 0
+unfolding resting_left rests size
+resting_left-older orders past p q k t le earlier e =
+    let o = order_at orders k in
+    let s = size orders past k in
+    let now : nat_lt o.place p ≡ true = lt-ltb o.place p earlier in
+    let then_on : nat_lt o.place q ≡ true = lt-ltb o.place q (omega arith) in
+    rw (now, then_on, e) (older (is_rests o.life) true (uncancelled_before o.cancelled p) (uncancelled_before o.cancelled q) s (past p k) t (uncancelled-back o.cancelled p q le))
+
+newest : (l v : Bool) (s t : ℕ) → cond ((l && true) && (v && nat_lt t s)) (s - t) 0 ≡ cond (l && v) (s - t) 0
+newest false v s t = refl
+newest true false s t = refl
+newest true true s t = grind (arith, nat_tests)
+
+-- at q, of the order of an earlier place that has traded nothing before
+pub resting_left-newest : (orders : List Order) (past : ℕ → ℕ → ℕ) (q n t : ℕ) → place_at orders n < q → past q n ≡ t
+    → resting_left orders past q n ≡ cond (is_rests (order_at orders n).life && uncancelled_before (order_at orders n).cancelled q) (size orders past n - t) 0
+unfolding resting_left rests size
+resting_left-newest orders past q n t earlier e =
+    let o = order_at orders n in
+    let now : nat_lt o.place q ≡ true = lt-ltb o.place q earlier in
+    rw (now, e) (newest (is_rests o.life) (uncancelled_before o.cancelled q) (size orders past n) t)
+
+-- an order has traded nothing before its place
+pub traded-none : (orders : List Order) (deals : List Deal) (p k : ℕ) → p ≤ place_at orders k → traded_before orders deals p k ≡ 0
+unfolding traded_before
+traded-none orders deals p k later = sum_by-none (λ d. cond (names k d && nat_lt (cause orders d) p) d.quantity 0) deals (λ n e lt.
+    let d = get_or deals n e in
+    cond-false (names k d && nat_lt (cause orders d) p) d.quantity 0 (elim (cases_Bool (names k d)) [
+      | inr f ↦ and_left (names k d) (nat_lt (cause orders d) p) f
+      | inl t ↦ and_right (names k d) (nat_lt (cause orders d) p) (le-ltb (cause orders d) p (elim (or_cases (d.bid == k) (d.ask == k) t) [
+        | inl b ↦ let same : place_at orders d.bid ≡ place_at orders k = ap (place_at orders) (eqb-true d.bid k b) in omega arith
+        | inr a ↦ let same : place_at orders d.ask ≡ place_at orders k = ap (place_at orders) (eqb-true d.ask k a) in omega arith
+      ]))
+    ]))
+
+-- where no deal has a cause from p on and below q, nothing is traded in between
+pub traded-gap : (orders : List Order) (deals : List Deal) (p q k : ℕ) → p ≤ q → All (λ d. cause orders d < p ⊎ q ≤ cause orders d) deals → traded_before orders deals q k ≡ traded_before orders deals p k
+unfolding traded_before
+traded-gap orders deals p q k le gap = sum_by-same (λ d. cond (names k d && nat_lt (cause orders d) q) d.quantity 0) (λ d. cond (names k d && nat_lt (cause orders d) p) d.quantity 0) deals (λ n e lt.
+    let d = get_or deals n e in
+    let same : nat_lt (cause orders d) q ≡ nat_lt (cause orders d) p = elim (gap n e lt) [
+      | inl less ↦ lt-ltb _ _ (omega arith) ∙ sym (lt-ltb _ _ less)
+      | inr more ↦ le-ltb _ _ more ∙ sym (le-ltb _ _ (omega arith))
+    ] in
+    ap (λ (b : Bool). cond (names k d && b) d.quantity 0) same)

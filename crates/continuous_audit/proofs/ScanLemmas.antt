@@ -1,0 +1,250 @@
+-- The deals of one record, one after another.
+use Rattle.std.proofs.Common.{◌≡◌, ◌≢◌, ◌<◌, ◌≤◌, ◌+◌, ◌-◌, ◌^◌, ◌⊎◌, ℕ, List, length, Bool, true, false, Some, None, refl, sym, ap, ◌∙◌, arith, inl, inr, subst, get_or, take, add-one}
+use Rattle.std.specs.Prelude.{nat_lt, ◌==◌, ◌&&◌, slice_set}
+use Rattle.std.proofs.lemmas.List.{length-set, get_or-set_same, get_or-set_other}
+use Rattle.std.proofs.lemmas.List.Sums.{sum_by_more}
+use Rattle.std.proofs.lemmas.Bool.{cases_eq, cases_lt, lt-ltb, le-ltb, eq-eqb, ne_eqb, or_left, or_right, or_from, cond-true, cond-false}
+use Rattle.std.proofs.lemmas.Bool.Decides.{nat_tests}
+use Rattle.audit_base.specs.declared.orders.Order.{Order}
+use Rattle.audit_base.specs.declared.orders.Deal.{Deal}
+use Rattle.audit_base.specs.declared.findings.Finding.{Finding}
+use Rattle.audit_base.specs.Least.{least_answer}
+use Rattle.audit_base.specs.Shows.{with_traded}
+use Rattle.audit_base.specs.Orders.{order_at, place_at, side_at, is_rests, IsOrderList}
+use Rattle.audit_base.specs.Deals.{names, deal_at, missing_deal, part_of, NamesOrders, IsDealList}
+use Rattle.audit_base.specs.Continuous.{cause, resting, incoming, traded_before, traded_at, entered_of, size_of, rests, size, uncancelled_before}
+use Rattle.audit_base.specs.ContinuousOffences.{continuous_inactive, continuous_off_limit, over_size, traded_upto, shown_upto, conservation_finding}
+use Rattle.audit_base.proofs.OrderLemmas.{not_both_sides, place-rises}
+use Rattle.audit_base.proofs.LeastLemmas.{least-none, least-at}
+use Rattle.audit_base.proofs.OffenceLemmas.{get_or-default}
+use Rattle.continuous_audit.specs.declared.causes.Cause.{Cause}
+use Rattle.continuous_audit.specs.Causes.{cause_of, AreCauses, running_total}
+use Rattle.continuous_audit.specs.DealFindings as by_deal
+use Rattle.continuous_audit.specs.Scans.{number_in, missing_cause, order_in, deal_in, IsKnown, AreRunningTotals, IsSplitAt}
+use Rattle.continuous_audit.proofs.CauseLemmas.{incoming-cause, running-upto}
+use Rattle.continuous_audit.proofs.RecordLemmas.{ends}
+
+-- an order that rests before p, from what is left of it
+wait-bools : (l u : Bool) (s a : ℕ) → ((l && u) && nat_lt 0 (s - a)) ≡ ((l && true) && (u && nat_lt a s))
+wait-bools true true s a = grind (arith, nat_tests)
+wait-bools true false s a = refl
+wait-bools false true s a = refl
+wait-bools false false s a = refl
+
+pub waits-is : (orders : List Order) (past : ℕ → ℕ → ℕ) (p r left : ℕ) → place_at orders r < p → left ≡ size orders past r - past p r → by_deal.waits (order_at orders r) p left ≡ rests orders past p r
+unfolding rests size
+waits-is orders past p r left earlier e =
+    let now : nat_lt (place_at orders r) p ≡ true = lt-ltb _ _ earlier in
+    rw (e, now) (wait-bools (is_rests (order_at orders r).life) (uncancelled_before (order_at orders r).cancelled p) (size orders past r) (past p r))
+
+module _ (orders : List Order) (list : IsOrderList orders) (deals : List Deal) (deal_list : IsDealList orders deals) (causes : List Cause) (are : AreCauses orders deals causes) (n : ℕ) (n_inside : n < length orders) where
+  abbrev p : ℕ
+  p = place_at orders n
+
+  abbrev past : ℕ → ℕ → ℕ
+  past = traded_before orders deals
+
+  -- the finding at a deal of this cause, by its resting and its incoming order
+  finding-is : (k : ℕ) → cause orders (deal_at deals k) ≡ p → conservation_finding orders deals p k
+      ≡ by_deal.deal_finding (deal_at deals k) (rests orders past p (resting orders (deal_at deals k))) (entered_of orders deals (incoming orders (deal_at deals k)))
+      (with_traded (order_at orders (resting orders (deal_at deals k))) (shown_upto orders deals p k (resting orders (deal_at deals k)))) (with_traded (order_at orders (incoming orders (deal_at deals k))) (shown_upto orders deals p k (incoming orders (deal_at deals k))))
+      (with_traded (order_at orders (deal_at deals k).bid) (shown_upto orders deals p k (deal_at deals k).bid)) (with_traded (order_at orders (deal_at deals k).ask) (shown_upto orders deals p k (deal_at deals k).ask))
+      (nat_lt (size_of orders deals (deal_at deals k).bid) (traded_upto orders deals p k (deal_at deals k).bid)) (nat_lt (size_of orders deals (deal_at deals k).ask) (traded_upto orders deals p k (deal_at deals k).ask))
+  unfolding continuous_inactive continuous_off_limit over_size
+  finding-is k at = cond-true (cause orders (deal_at deals k) == p) _ None (eq-eqb _ _ at)
+
+  module _ (entered : Bool) (before sizes left : List ℕ) (known : IsKnown orders deals n entered before sizes left) (at : ℕ) (lt : at < length causes) (of : order_in causes at ≡ n) where
+    abbrev k : ℕ
+    k = deal_in causes at
+
+    abbrev d : Deal
+    d = deal_at deals k
+
+    k_inside : k < length deals
+    k_inside = (are.only at missing_cause lt).0
+
+    named_here : NamesOrders orders d
+    named_here = deal_list.named k missing_deal k_inside
+
+    incoming_here : incoming orders d ≡ n
+    incoming_here = sym (ap (λ (c : Cause). c.order) (are.only at missing_cause lt).1) ∙ of
+
+    cause_here : cause orders d ≡ p
+    cause_here = sym (incoming-cause orders d) ∙ ap (place_at orders) incoming_here
+
+    running_here : (x : ℕ) → running_total deals causes (at + 1) x ≡ traded_upto orders deals p k x
+    running_here x = ap (λ (m : ℕ). running_total deals causes m x) (add-one at) ∙ running-upto orders list deals deal_list.named causes are at missing_cause lt x
+        ∙ ap (λ (m : ℕ). traded_before orders deals (place_at orders m) x + traded_at orders (take (k + 1) deals) (place_at orders m) x) of
+
+    upto-n : (x : ℕ) → x < length orders → place_at orders x ≤ p → x ≤ n
+    upto-n x inside le = elim (cases_lt n x) [ inr ok ↦ ok | inl more ↦ let up = place-rises orders list n x more inside in absurd (omega arith) ]
+
+    below-n : (x : ℕ) → x < length orders → place_at orders x < p → x < n
+    below-n x inside less = elim (cases_eq x n) [
+      | inl e ↦ let same : place_at orders x ≡ p = ap (place_at orders) e in absurd (omega arith)
+      | inr ne ↦ let le = upto-n x inside (omega arith) in omega (arith, ne)
+    ]
+
+    pub checked : (bt at' : ℕ) → bt ≡ running_total deals causes (at + 1) d.bid → at' ≡ running_total deals causes (at + 1) d.ask
+        → by_deal.check_deal d (order_at orders d.bid) (order_at orders d.ask) p entered bt at' (number_in before d.bid) (number_in before d.ask) (number_in sizes d.bid) (number_in sizes d.ask) (number_in left d.bid) (number_in left d.ask) ≡ conservation_finding orders deals p k
+    checked bt at' bt_is at_is =
+        let bid_in : d.bid ≤ n = upto-n d.bid named_here.bid_inside (omega (arith, cause_here)) in
+        let ask_in : d.ask ≤ n = upto-n d.ask named_here.ask_inside (omega (arith, cause_here)) in
+        let tb : bt ≡ traded_upto orders deals p k d.bid = bt_is ∙ running_here d.bid in
+        let ta : at' ≡ traded_upto orders deals p k d.ask = at_is ∙ running_here d.ask in
+        let sb : bt + number_in before d.bid ≡ shown_upto orders deals p k d.bid = let e = known.before_is d.bid bid_in in omega arith in
+        let sa : at' + number_in before d.ask ≡ shown_upto orders deals p k d.ask = let e = known.before_is d.ask ask_in in omega arith in
+        let zb = known.size_is d.bid bid_in in
+        let za = known.size_is d.ask ask_in in
+        let e = ends orders list deals deal_list.named n n_inside d named_here cause_here in
+        elim (cases_lt (place_at orders d.bid) (place_at orders d.ask)) [
+          | inl less ↦
+              let t : nat_lt (place_at orders d.bid) (place_at orders d.ask) ≡ true = lt-ltb _ _ less in
+              let r_is : d.bid ≡ resting orders d = sym (cond-true _ d.bid d.ask t) in
+              let n_is : d.ask ≡ incoming orders d = sym (cond-true _ d.ask d.bid t) in
+              let earlier : place_at orders d.bid < p = omega (arith, cause_here) in
+              let w : by_deal.waits (order_at orders d.bid) p (number_in left d.bid) ≡ rests orders past p (resting orders d) = waits-is orders past p d.bid (number_in left d.bid) earlier (known.left_is d.bid (below-n d.bid named_here.bid_inside earlier)) ∙ ap (rests orders past p) r_is in
+              let a : entered ≡ entered_of orders deals (incoming orders d) = known.arrived ∙ ap (entered_of orders deals) (sym incoming_here) in
+              let r_line : with_traded (order_at orders d.bid) (bt + number_in before d.bid) ≡ with_traded (order_at orders (resting orders d)) (shown_upto orders deals p k (resting orders d)) = ap (with_traded (order_at orders d.bid)) sb ∙ ap (λ (x : ℕ). with_traded (order_at orders x) (shown_upto orders deals p k x)) r_is in
+              let n_line : with_traded (order_at orders d.ask) (at' + number_in before d.ask) ≡ with_traded (order_at orders (incoming orders d)) (shown_upto orders deals p k (incoming orders d)) = ap (with_traded (order_at orders d.ask)) sa ∙ ap (λ (x : ℕ). with_traded (order_at orders x) (shown_upto orders deals p k x)) n_is in
+              cond-true (nat_lt (place_at orders d.bid) (place_at orders d.ask)) _ _ t
+              ∙ (λ i. by_deal.deal_finding d (w i) (a i) (r_line i) (n_line i) (with_traded (order_at orders d.bid) (sb i)) (with_traded (order_at orders d.ask) (sa i)) (nat_lt (zb i) (tb i)) (nat_lt (za i) (ta i)))
+              ∙ sym (finding-is k cause_here)
+          | inr le ↦
+              let f : nat_lt (place_at orders d.bid) (place_at orders d.ask) ≡ false = le-ltb _ _ le in
+              let r_is : d.ask ≡ resting orders d = sym (cond-false _ d.bid d.ask f) in
+              let n_is : d.bid ≡ incoming orders d = sym (cond-false _ d.ask d.bid f) in
+              let earlier : place_at orders d.ask < p = subst (λ x. place_at orders x < p) (sym (r_is ∙ e.1.resting_is)) e.1.earlier in
+              let w : by_deal.waits (order_at orders d.ask) p (number_in left d.ask) ≡ rests orders past p (resting orders d) = waits-is orders past p d.ask (number_in left d.ask) earlier (known.left_is d.ask (below-n d.ask named_here.ask_inside earlier)) ∙ ap (rests orders past p) r_is in
+              let a : entered ≡ entered_of orders deals (incoming orders d) = known.arrived ∙ ap (entered_of orders deals) (sym incoming_here) in
+              let r_line : with_traded (order_at orders d.ask) (at' + number_in before d.ask) ≡ with_traded (order_at orders (resting orders d)) (shown_upto orders deals p k (resting orders d)) = ap (with_traded (order_at orders d.ask)) sa ∙ ap (λ (x : ℕ). with_traded (order_at orders x) (shown_upto orders deals p k x)) r_is in
+              let n_line : with_traded (order_at orders d.bid) (bt + number_in before d.bid) ≡ with_traded (order_at orders (incoming orders d)) (shown_upto orders deals p k (incoming orders d)) = ap (with_traded (order_at orders d.bid)) sb ∙ ap (λ (x : ℕ). with_traded (order_at orders x) (shown_upto orders deals p k x)) n_is in
+              cond-false (nat_lt (place_at orders d.bid) (place_at orders d.ask)) _ _ f
+              ∙ (λ i. by_deal.deal_finding d (w i) (a i) (r_line i) (n_line i) (with_traded (order_at orders d.bid) (sb i)) (with_traded (order_at orders d.ask) (sa i)) (nat_lt (zb i) (tb i)) (nat_lt (za i) (ta i)))
+              ∙ sym (finding-is k cause_here)
+        ]
+
+  -- deals of other causes have no finding, and those of this one stand among its causes
+  module _ (start at : ℕ) (split : IsSplitAt causes n start) (clean : (i : ℕ) → start ≤ i → i < at → conservation_finding orders deals p (deal_in causes i) ≡ None) where
+    -- a deal with a finding stands at this cause or later
+    later-cause : (j : ℕ) → j < length deals → (conservation_finding orders deals p j ≡ None) ⊎ ((i : ℕ) × (at ≤ i) × (i < length causes) × (order_in causes i ≡ n) × (deal_in causes i ≡ j))
+    later-cause j lt = elim (cases_eq (cause orders (deal_at deals j)) p) [
+      | inr away ↦ inl (cond-false (cause orders (deal_at deals j) == p) _ None (ne_eqb _ _ away))
+      | inl here ↦
+          let has = are.each j lt in
+          let i = has.0 in
+          let is : get_or causes i missing_cause ≡ cause_of orders deals j = get_or-default causes i missing_cause (cause_of orders deals j) has.1 ∙ has.2 in
+          let deal_is : deal_in causes i ≡ j = ap (λ (c : Cause). c.deal) is in
+          let named_j = deal_list.named j missing_deal lt in
+          let e = ends orders list deals deal_list.named n n_inside (deal_at deals j) named_j here in
+          let order_is : order_in causes i ≡ n = ap (λ (c : Cause). c.order) is ∙ e.1.incoming_is in
+          let from : start ≤ i = elim (cases_lt i start) [ inr ok ↦ ok | inl early ↦ let l = split.early i early has.1 in absurd (omega arith) ] in
+          elim (cases_lt i at) [
+            | inl done ↦ inl (subst (λ m. conservation_finding orders deals p m ≡ None) deal_is (clean i from done))
+            | inr left ↦ inr (i, left, has.1, order_is, deal_is)
+          ]
+    ]
+
+    pub all-clean : (at < length causes → order_in causes at ≢ n) → start ≤ at → least_answer (conservation_finding orders deals p) (length deals) ≡ None
+    all-clean stop from = least-none (conservation_finding orders deals p) (length deals) (λ j lt. elim (later-cause j lt) [
+      | inl none ↦ none
+      | inr found ↦
+          let i = found.0 in
+          let inside : at < length causes = omega (arith, found.1, found.2) in
+          let low = split.late at from inside in
+          elim (cases_eq i at) [
+            | inl e ↦ absurd (stop inside (ap (order_in causes) (sym e) ∙ found.3))
+            | inr ne ↦ elim (are.rising at i missing_cause (omega (arith, ne, found.1)) found.2) [
+              | inl less ↦ let same = found.3 in absurd (omega arith)
+              | inr tie ↦ absurd (stop inside (tie.0 ∙ found.3))
+            ]
+          ]
+    ])
+
+    pub first-finding : (f : Finding) → at < length causes → order_in causes at ≡ n → conservation_finding orders deals p (deal_in causes at) ≡ Some f → least_answer (conservation_finding orders deals p) (length deals) ≡ Some f
+    first-finding f inside of e =
+        let k = deal_in causes at in
+        let k_in : k < length deals = (are.only at missing_cause inside).0 in
+        least-at (conservation_finding orders deals p) (length deals) k f k_in (least-none (conservation_finding orders deals p) k (λ j lt. elim (later-cause j (omega arith)) [
+          | inl none ↦ none
+          | inr found ↦
+              let i = found.0 in
+              elim (cases_eq i at) [
+                | inl same ↦ let d : k ≡ j = ap (deal_in causes) (sym same) ∙ found.4 in absurd (omega arith)
+                | inr ne ↦ elim (are.rising at i missing_cause (omega (arith, ne, found.1)) found.2) [
+                  | inl less ↦ let o = found.3 in absurd (omega arith)
+                  | inr tie ↦ let d = found.4 in let l = tie.1 in absurd (omega arith)
+                ]
+              ]
+        ])) e
+
+-- One deal more is added.
+
+module _ (orders : List Order) (deals : List Deal) (causes : List Cause) (at : ℕ) (lt : at < length causes) (xs : List ℕ) (is : AreRunningTotals orders deals causes at xs)
+    (d : Deal) (d_is : d ≡ deal_at deals (deal_in causes at)) (named : NamesOrders orders d) (q : ℕ) (q_is : q ≡ d.quantity) (q_most : q ≤ 10 ^ 12) where
+  abbrev ys : List ℕ
+  ys = slice_set (slice_set xs d.bid (get_or xs d.bid 0 + q)) d.ask (get_or xs d.ask 0 + q)
+
+  apart : d.bid ≢ d.ask
+  apart same = not_both_sides (sym named.buys ∙ ap (side_at orders) same ∙ named.sells)
+
+  within_bid : d.bid < length xs
+  within_bid = omega (arith, is.count, named.bid_inside)
+
+  within_ask : d.ask < length xs
+  within_ask = omega (arith, is.count, named.ask_inside)
+
+  at_ask : get_or ys d.ask 0 ≡ get_or xs d.ask 0 + q
+  at_ask = get_or-set_same {A = ℕ} (slice_set xs d.bid (get_or xs d.bid 0 + q)) d.ask (get_or xs d.ask 0 + q) 0 (omega (arith, length-set {A = ℕ} xs d.bid (get_or xs d.bid 0 + q), within_ask))
+
+  at_bid : get_or ys d.bid 0 ≡ get_or xs d.bid 0 + q
+  at_bid = get_or-set_other {A = ℕ} (slice_set xs d.bid (get_or xs d.bid 0 + q)) d.ask d.bid (get_or xs d.ask 0 + q) 0 apart ∙ get_or-set_same {A = ℕ} xs d.bid (get_or xs d.bid 0 + q) 0 within_bid
+
+  at_other : (i : ℕ) → i ≢ d.bid → i ≢ d.ask → get_or ys i 0 ≡ get_or xs i 0
+  at_other i not_bid not_ask =
+      get_or-set_other {A = ℕ} (slice_set xs d.bid (get_or xs d.bid 0 + q)) d.ask i (get_or xs d.ask 0 + q) 0 not_ask ∙ get_or-set_other {A = ℕ} xs d.bid i (get_or xs d.bid 0 + q) 0 not_bid
+
+  added-at : (x : ℕ) → (get_or ys x 0 ≡ get_or xs x 0 + part_of x d) × (part_of x d ≤ 10 ^ 12)
+  added-at x = elim (cases_eq x d.bid) [
+    | inl e ↦
+        let on : part_of x d ≡ d.quantity = cond-true (names x d) d.quantity 0 (or_left _ _ (eq-eqb d.bid x (sym e))) in
+        (subst (λ (y : ℕ). get_or ys y 0 ≡ get_or xs y 0 + part_of x d) (sym e) (omega (arith, at_bid)), omega arith)
+    | inr not_bid ↦ elim (cases_eq x d.ask) [
+      | inl e ↦
+          let on : part_of x d ≡ d.quantity = cond-true (names x d) d.quantity 0 (or_right (d.bid == x) _ (eq-eqb d.ask x (sym e))) in
+          (subst (λ (y : ℕ). get_or ys y 0 ≡ get_or xs y 0 + part_of x d) (sym e) (omega (arith, at_ask)), omega arith)
+      | inr not_ask ↦
+          let off : part_of x d ≡ 0 = cond-false (names x d) d.quantity 0 (or_from _ _ (ne_eqb d.bid x (λ e. not_bid (sym e))) (ne_eqb d.ask x (λ e. not_ask (sym e)))) in
+          (omega (arith, at_other x not_bid not_ask), omega arith)
+    ]
+  ]
+
+  more : (x : ℕ) → running_total deals causes (at + 1) x ≡ running_total deals causes at x + part_of x d
+  more x = sum_by_more (λ (c : Cause). part_of x (deal_at deals c.deal)) causes at missing_cause lt ∙ ap (λ (e : Deal). running_total deals causes at x + part_of x e) (sym d_is)
+
+  pub bid-now : get_or xs d.bid 0 + q ≡ running_total deals causes (at + 1) d.bid
+  bid-now = sym at_bid ∙ (added-at d.bid).0 ∙ ap (λ (m : ℕ). m + part_of d.bid d) (is.sums d.bid named.bid_inside) ∙ sym (more d.bid)
+
+  pub ask-now : get_or xs d.ask 0 + q ≡ running_total deals causes (at + 1) d.ask
+  ask-now = sym at_ask ∙ (added-at d.ask).0 ∙ ap (λ (m : ℕ). m + part_of d.ask d) (is.sums d.ask named.ask_inside) ∙ sym (more d.ask)
+
+  pub running-after : (zs : List ℕ) → zs ≡ ys → AreRunningTotals orders deals causes (at + 1) zs
+  running-after zs same = subst (AreRunningTotals orders deals causes (at + 1)) (sym same) (record {
+    inside = omega arith;
+    count = length-set {A = ℕ} (slice_set xs d.bid (get_or xs d.bid 0 + q)) d.ask (get_or xs d.ask 0 + q) ∙ length-set {A = ℕ} xs d.bid (get_or xs d.bid 0 + q) ∙ is.count;
+    sums = λ x inside. (added-at x).0 ∙ ap (λ (m : ℕ). m + part_of x d) (is.sums x inside) ∙ sym (more x);
+    fits = λ x inside. let a = added-at x in let f = is.fits x inside in omega (arith, a.0, a.1);
+  })
+
+-- the same, in the words of the code: the deal and the two orders that it reads
+pub checked-read : (orders : List Order) (list : IsOrderList orders) (deals : List Deal) (deal_list : IsDealList orders deals) (causes : List Cause) (are : AreCauses orders deals causes) (n : ℕ) (n_inside : n < length orders)
+    (entered : Bool) (before sizes left : List ℕ) (known : IsKnown orders deals n entered before sizes left) (at : ℕ) (lt : at < length causes) (of : order_in causes at ≡ n)
+    (d : Deal) (d_is : d ≡ deal_at deals (deal_in causes at)) (bid ask : Order) (b_is : bid ≡ order_at orders d.bid) (a_is : ask ≡ order_at orders d.ask) (place : ℕ) (p_is : place ≡ place_at orders n)
+    (bt at' : ℕ) (bt_is : bt ≡ running_total deals causes (at + 1) d.bid) (at_is : at' ≡ running_total deals causes (at + 1) d.ask)
+    → by_deal.check_deal d bid ask place entered bt at' (number_in before d.bid) (number_in before d.ask) (number_in sizes d.bid) (number_in sizes d.ask) (number_in left d.bid) (number_in left d.ask) ≡ conservation_finding orders deals (place_at orders n) (deal_in causes at)
+checked-read orders list deals deal_list causes are n n_inside entered before sizes left known at lt of d d_is bid ask b_is a_is place p_is bt at' bt_is at_is =
+    let e = deal_at deals (deal_in causes at) in
+    let b : bid ≡ order_at orders e.bid = b_is ∙ ap (λ (x : Deal). order_at orders x.bid) d_is in
+    let a : ask ≡ order_at orders e.ask = a_is ∙ ap (λ (x : Deal). order_at orders x.ask) d_is in
+    (λ i. by_deal.check_deal (d_is i) (b i) (a i) (p_is i) entered bt at' (number_in before (d_is i).bid) (number_in before (d_is i).ask) (number_in sizes (d_is i).bid) (number_in sizes (d_is i).ask) (number_in left (d_is i).bid) (number_in left (d_is i).ask))
+    ∙ checked orders list deals deal_list causes are n n_inside entered before sizes left known at lt of bt at' (bt_is ∙ ap (λ (x : Deal). running_total deals causes (at + 1) x.bid) d_is) (at_is ∙ ap (λ (x : Deal). running_total deals causes (at + 1) x.ask) d_is)

@@ -1,0 +1,89 @@
+-- What the audit knows before an order comes, and what it answers.
+use Rattle.std.proofs.Common.{◌≡◌, ◌<◌, ◌≤◌, ◌-◌, ℕ, suc, List, length, true, Some, None, sym, ap, arith, inl, inr, subst, All}
+use Rattle.std.proofs.lemmas.Bool.{cases_eq, cases_lt}
+use Rattle.audit_base.specs.declared.orders.Order.{Order}
+use Rattle.audit_base.specs.declared.orders.Deal.{Deal}
+use Rattle.audit_base.specs.declared.findings.Finding.{Finding}
+use Rattle.audit_base.specs.Orders.{place_at, IsOrderList}
+use Rattle.audit_base.specs.Deals.{NamesOrders}
+use Rattle.audit_base.specs.Continuous.{traded_before, rests}
+use Rattle.audit_base.specs.ContinuousRules.{ConformsAt, ConformsContinuous}
+use Rattle.audit_base.specs.ContinuousOffences.{finding_at_place, IsContinuousOffence}
+use Rattle.audit_base.proofs.OrderLemmas.{place-rises}
+use Rattle.audit_base.proofs.ContinuousOffenceLemmas.{no_fault-conforms, IsLast, late-conforms}
+use Rattle.continuous_audit.specs.Holding.{IsApart}
+use Rattle.continuous_audit.specs.Progress.{IsCalm}
+use Rattle.continuous_audit.proofs.RestLemmas.{rests-parts, rests-from, uncancelled-back, traded-none, traded-gap}
+use Rattle.continuous_audit.proofs.SpreadLemmas.{active-place}
+use Rattle.continuous_audit.proofs.RecordLemmas.{quiet-until, no-cause}
+
+-- a finding at the next place is the first offence
+pub offence : (orders : List Order) (deals : List Deal) (p : ℕ) (f : Finding) → IsCalm orders deals p → finding_at_place orders deals p ≡ Some f → IsContinuousOffence orders deals f
+offence orders deals p f calm e = record { place = p; before = calm.conforms; here = e }
+
+-- before the first order
+pub calm-first : (orders : List Order) (deals : List Deal) (q : ℕ) → All (NamesOrders orders) deals → ((x : ℕ) → x < length orders → q ≤ place_at orders x) → IsCalm orders deals q
+calm-first orders deals q named none = record {
+  conforms = λ i lt. record {
+    conservation = record {
+      limits = λ k d inside at. let b = none _ (named k d inside).bid_inside in absurd (omega arith);
+      resting = λ k d inside at. let b = none _ (named k d inside).bid_inside in absurd (omega arith);
+      within = λ x inside. let far = none x inside in let z = traded-none orders deals (suc i) x (omega arith) in omega arith;
+    };
+    priority = λ k d inside at. let b = none _ (named k d inside).bid_inside in absurd (omega arith);
+    spread = λ b a hb ha sb sa active_b active_a. let far = none b hb in let at = active-place orders deals i b active_b in absurd (omega arith);
+  };
+  apart = λ b a hb ha sb sa rb ra. let at = (rests-parts orders (traded_before orders deals) q b rb).earlier in let far = none b hb in absurd (omega arith);
+}
+
+-- after a record without a finding, up to a place before which no other order comes
+module _ (orders : List Order) (list : IsOrderList orders) (deals : List Deal) (named : All (NamesOrders orders) deals) (n : ℕ) (n_inside : n < length orders) where
+  abbrev p : ℕ
+  p = place_at orders n
+
+  pub here-conforms : IsCalm orders deals p → finding_at_place orders deals p ≡ None → ConformsAt orders deals p
+  here-conforms calm none = no_fault-conforms orders deals p calm.conforms none
+
+  pub calm-next : (q : ℕ) → suc p ≤ q → ((k : ℕ) → k < length orders → n < k → q ≤ place_at orders k) → IsCalm orders deals p → finding_at_place orders deals p ≡ None → IsApart orders (traded_before orders deals) (suc p) → IsCalm orders deals q
+  calm-next q le next calm none apart = record {
+    conforms = λ i lt. elim (cases_lt i p) [
+      | inl earlier ↦ calm.conforms i earlier
+      | inr later ↦ quiet-until orders list deals named n n_inside q le next (here-conforms calm none) i later lt
+    ];
+    apart = λ b a hb ha sb sa rb ra. apart b a hb ha sb sa (back b hb rb) (back a ha ra);
+  }
+    where
+      back : (x : ℕ) → x < length orders → rests orders (traded_before orders deals) q x ≡ true → rests orders (traded_before orders deals) (suc p) x ≡ true
+      back x inside t =
+          let at = rests-parts orders (traded_before orders deals) q x t in
+          let earlier = at.earlier in
+          let more = at.has_left in
+          let same = traded-gap orders deals (suc p) q x le (no-cause orders list deals named n n_inside q le next) in
+          rests-from orders (traded_before orders deals) (suc p) x (record {
+            life = at.life;
+            earlier = elim (cases_lt n x) [
+              | inl later ↦ let far = next x inside later in absurd (omega arith)
+              | inr no_later ↦ elim (cases_eq x n) [
+                | inl e ↦ let f : place_at orders x ≡ p = ap (place_at orders) e in omega arith
+                | inr ne ↦ let up = place-rises orders list x n (omega (arith, ne)) n_inside in omega arith
+              ]
+            ];
+            uncancelled = uncancelled-back _ (suc p) q le at.uncancelled;
+            has_left = omega arith;
+          })
+
+  -- after the last order the rule holds
+  pub all-conform : IsLast orders p → IsCalm orders deals p → finding_at_place orders deals p ≡ None → ConformsContinuous orders deals
+  all-conform last calm none = record {
+    named = named;
+    each = λ i. elim (cases_lt i (suc p)) [
+      | inl lt ↦ upto i lt
+      | inr le ↦ subst (λ j. ConformsAt orders deals j) (omega arith) (late-conforms orders deals p named last upto (i - p))
+    ];
+  }
+    where
+      upto : (i : ℕ) → i < suc p → ConformsAt orders deals i
+      upto i lt = elim (cases_eq i p) [
+        | inl e ↦ subst (λ j. ConformsAt orders deals j) (sym e) (here-conforms calm none)
+        | inr ne ↦ calm.conforms i (omega (arith, ne))
+      ]

@@ -1,0 +1,22 @@
+use Rattle.std.proofs.Common.{◌≡◌, ◌<◌, ◌∙◌, arith, length, sym, subst}
+use Rattle.std.specs.Prelude.{slice_set}
+use Rattle.audit_base.specs.declared.orders.Deal.{Deal}
+use Rattle.audit_base.specs.Deals.{deal_at, missing_deal}
+use Rattle.audit_base.proofs.OffenceLemmas.{get_or-default}
+use Rattle.continuous_audit.specs.Scans.{deal_in}
+use Rattle.continuous_audit.proofs.LeftLemmas.{refreshed-more}
+use Rattle.continuous_audit.proofs.leaving.refresh_left.Goals as goal
+
+pub loop-at-preserved : goal.loop-at-preserved
+loop-at-preserved c =
+    let deals = c.args.deals.now in
+    let causes = c.args.causes.now in
+    let at = c.loop-at.at in
+    let inside : at < length causes = let e = c.requires.ends in omega arith in
+    let d = c.index-deals-causes.result in
+    let d_is : d ≡ deal_at deals (deal_in causes at) = c.index-deals-causes.is ∙ get_or-default deals (deal_in causes at) d missing_deal (c.requires.deals.deal at inside) in
+    let long = c.loop-at.invariant.count in
+    let bid : d.bid < length c.loop-at.left.items = subst (λ (x : Deal). x.bid < length c.loop-at.left.items) (sym d_is) (let b = c.requires.deals.bid at inside in omega arith) in
+    let ask : d.ask < length c.loop-at.left.items = subst (λ (x : Deal). x.ask < length c.loop-at.left.items) (sym d_is) (let b = c.requires.deals.ask at inside in omega arith) in
+    refreshed-more deals causes c.args.start at c.args.sizes.now c.args.traded.now c.args.left.now.items c.loop-at.left.items c.set_left.new.left.items d d_is bid ask
+    (c.set_left.ensures ∙ (λ i. slice_set (slice_set c.loop-at.left.items d.bid (c.left_of-bid_left.ensures i)) d.ask (c.left_of-ask_left.ensures i))) c.loop-at.invariant

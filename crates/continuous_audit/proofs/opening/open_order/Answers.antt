@@ -1,0 +1,19 @@
+use Rattle.std.proofs.Common.{◌≡◌, ◌∙◌, ap, sym, arith}
+use Rattle.audit_base.specs.declared.orders.Order.{Order}
+use Rattle.audit_base.specs.Orders.{order_at, missing_order}
+use Rattle.audit_base.proofs.OffenceLemmas.{get_or-default}
+use Rattle.audit_base.proofs.ContinuousLemmas.{target-below}
+use Rattle.continuous_audit.proofs.OpenLemmas.{opened}
+use Rattle.continuous_audit.proofs.opening.open_order.Goals as goal
+
+pub target_rests-requires-clause-inside : goal.target_rests-requires-clause-inside
+target_rests-requires-clause-inside c = λ t e.
+    let is : c.index-orders-order.result ≡ order_at c.args.orders.now c.args.order = c.index-orders-order.is ∙ get_or-default c.args.orders.now c.args.order c.index-orders-order.result missing_order c.requires.order in
+    let lt = target-below c.args.orders.now c.requires.list c.args.order c.requires.order t (sym (ap (λ (o : Order). o.target) is) ∙ e) in
+    omega arith
+
+pub returns-clause-opened : goal.returns-clause-opened
+returns-clause-opened c = λ deals is.
+    let o_is : c.index-orders-order.result ≡ order_at c.args.orders.now c.args.order = c.index-orders-order.is ∙ get_or-default c.args.orders.now c.args.order c.index-orders-order.result missing_order c.requires.order in
+    opened c.args.orders.now c.requires.list deals c.args.order c.requires.order c.args.traded.now c.args.left.now c.args.before.now is c.index-orders-order.result o_is c.target_rests.result c.target_rests.ensures.none c.target_rests.ensures.some
+    c.enters-entered.result c.enters-entered.ensures c.chain_before-before.result (c.chain_before-before.ensures.before deals is.kept) c.size_left.result c.size_left.ensures

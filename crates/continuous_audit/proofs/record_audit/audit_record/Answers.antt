@@ -1,0 +1,127 @@
+use Rattle.std.proofs.Common.{◌≡◌, ◌+◌, ◌∙◌, suc, Some, None, inl, inr, sym, ap, subst, arith, get_or}
+use Rattle.audit_base.specs.declared.orders.Order.{Order}
+use Rattle.audit_base.specs.Orders.{missing_order, place_at}
+use Rattle.audit_base.specs.Continuous.{traded_before}
+use Rattle.audit_base.specs.ContinuousOffences.{spread_finding}
+use Rattle.audit_base.proofs.LeastLemmas.{cases_Option}
+use Rattle.audit_base.proofs.OffenceLemmas.{get_or-default}
+use Rattle.continuous_audit.specs.Holding.{resting_left_after, resting_left}
+use Rattle.continuous_audit.specs.Progress.{AreTraded, AreBefore, AreLeft}
+use Rattle.continuous_audit.proofs.BooksLemmas.{earlier-bids, earlier-asks}
+use Rattle.continuous_audit.proofs.ReadyLemmas.{others-hold, next-holds, next-above, next-first, left-next, dropped-more}
+use Rattle.continuous_audit.proofs.StandLemmas.{quiet-apart}
+use Rattle.continuous_audit.proofs.RecordLemmas.{spread-shown, none-shown}
+use Rattle.continuous_audit.proofs.VerdictLemmas.{offence, calm-next}
+use Rattle.continuous_audit.proofs.record_audit.audit_record.Goals as goal
+
+pub spread_of-requires-clause-bids : goal.spread_of-requires-clause-bids
+spread_of-requires-clause-bids c =
+    let orders = c.args.orders.now in
+    let deals = c.args.deals.now in
+    let n = c.args.order in
+    let none : c.trade.result ≡ None = elim (cases_Option c.trade.result) [ inl e ↦ e | inr some ↦ absurd (c.in_default.not-Some some.0 some.1) ] in
+    let after_deals = c.trade.ensures.after_deals none in
+    let place_is : (get_or orders n c.index-orders-order.result).place ≡ place_at orders n = ap (λ (o : Order). o.place) (get_or-default orders n c.index-orders-order.result missing_order c.requires.order) in
+    let upto_is : (get_or orders n c.index-orders-order.result).place + 1 ≡ suc (place_at orders n) = omega arith in
+    let others = others-hold orders c.requires.list deals c.requires.deal_list.named n c.requires.order c.args.endings.now c.requires.endings c.args.standing.now.start c.drop_upto.new.standing.start ((get_or orders n c.index-orders-order.result).place + 1) upto_is c.requires.ready.dropped
+    c.drop_upto.ensures.before c.drop_upto.ensures.inside c.drop_upto.ensures.next c.drop_upto.new.standing.books (c.drop_upto.ensures.holds (resting_left_after orders deals (place_at orders n)) after_deals.holds) in
+    earlier-bids orders c.requires.list deals c.requires.deal_list.named n c.requires.order c.drop_upto.new.standing.books others
+
+pub spread_of-requires-clause-asks : goal.spread_of-requires-clause-asks
+spread_of-requires-clause-asks c =
+    let orders = c.args.orders.now in
+    let deals = c.args.deals.now in
+    let n = c.args.order in
+    let none : c.trade.result ≡ None = elim (cases_Option c.trade.result) [ inl e ↦ e | inr some ↦ absurd (c.in_default.not-Some some.0 some.1) ] in
+    let after_deals = c.trade.ensures.after_deals none in
+    let place_is : (get_or orders n c.index-orders-order.result).place ≡ place_at orders n = ap (λ (o : Order). o.place) (get_or-default orders n c.index-orders-order.result missing_order c.requires.order) in
+    let upto_is : (get_or orders n c.index-orders-order.result).place + 1 ≡ suc (place_at orders n) = omega arith in
+    let others = others-hold orders c.requires.list deals c.requires.deal_list.named n c.requires.order c.args.endings.now c.requires.endings c.args.standing.now.start c.drop_upto.new.standing.start ((get_or orders n c.index-orders-order.result).place + 1) upto_is c.requires.ready.dropped
+    c.drop_upto.ensures.before c.drop_upto.ensures.inside c.drop_upto.ensures.next c.drop_upto.new.standing.books (c.drop_upto.ensures.holds (resting_left_after orders deals (place_at orders n)) after_deals.holds) in
+    earlier-asks orders c.requires.list deals c.requires.deal_list.named n c.requires.order c.drop_upto.new.standing.books others
+
+pub enter_own-requires-clause-bids : goal.enter_own-requires-clause-bids
+enter_own-requires-clause-bids c =
+    let orders = c.args.orders.now in
+    let deals = c.args.deals.now in
+    let n = c.args.order in
+    let none : c.trade.result ≡ None = elim (cases_Option c.trade.result) [ inl e ↦ e | inr some ↦ absurd (c.in_default.not-Some some.0 some.1) ] in
+    let after_deals = c.trade.ensures.after_deals none in
+    let place_is : (get_or orders n c.index-orders-order.result).place ≡ place_at orders n = ap (λ (o : Order). o.place) (get_or-default orders n c.index-orders-order.result missing_order c.requires.order) in
+    let upto_is : (get_or orders n c.index-orders-order.result).place + 1 ≡ suc (place_at orders n) = omega arith in
+    let others = others-hold orders c.requires.list deals c.requires.deal_list.named n c.requires.order c.args.endings.now c.requires.endings c.args.standing.now.start c.drop_upto.new.standing.start ((get_or orders n c.index-orders-order.result).place + 1) upto_is c.requires.ready.dropped
+    c.drop_upto.ensures.before c.drop_upto.ensures.inside c.drop_upto.ensures.next c.drop_upto.new.standing.books (c.drop_upto.ensures.holds (resting_left_after orders deals (place_at orders n)) after_deals.holds) in
+    earlier-bids orders c.requires.list deals c.requires.deal_list.named n c.requires.order c.drop_upto.new.standing.books others
+
+pub enter_own-requires-clause-asks : goal.enter_own-requires-clause-asks
+enter_own-requires-clause-asks c =
+    let orders = c.args.orders.now in
+    let deals = c.args.deals.now in
+    let n = c.args.order in
+    let none : c.trade.result ≡ None = elim (cases_Option c.trade.result) [ inl e ↦ e | inr some ↦ absurd (c.in_default.not-Some some.0 some.1) ] in
+    let after_deals = c.trade.ensures.after_deals none in
+    let place_is : (get_or orders n c.index-orders-order.result).place ≡ place_at orders n = ap (λ (o : Order). o.place) (get_or-default orders n c.index-orders-order.result missing_order c.requires.order) in
+    let upto_is : (get_or orders n c.index-orders-order.result).place + 1 ≡ suc (place_at orders n) = omega arith in
+    let others = others-hold orders c.requires.list deals c.requires.deal_list.named n c.requires.order c.args.endings.now c.requires.endings c.args.standing.now.start c.drop_upto.new.standing.start ((get_or orders n c.index-orders-order.result).place + 1) upto_is c.requires.ready.dropped
+    c.drop_upto.ensures.before c.drop_upto.ensures.inside c.drop_upto.ensures.next c.drop_upto.new.standing.books (c.drop_upto.ensures.holds (resting_left_after orders deals (place_at orders n)) after_deals.holds) in
+    earlier-asks orders c.requires.list deals c.requires.deal_list.named n c.requires.order c.drop_upto.new.standing.books others
+
+pub returns-in-Some-spread_of-clause-found : goal.returns-in-Some-spread_of-clause-found
+returns-in-Some-spread_of-clause-found c =
+    let orders = c.args.orders.now in
+    let deals = c.args.deals.now in
+    let n = c.args.order in
+    let none : c.trade.result ≡ None = elim (cases_Option c.trade.result) [ inl e ↦ e | inr some ↦ absurd (c.in_default.not-Some some.0 some.1) ] in
+    let after_deals = c.trade.ensures.after_deals none in
+    let place_is : (get_or orders n c.index-orders-order.result).place ≡ place_at orders n = ap (λ (o : Order). o.place) (get_or-default orders n c.index-orders-order.result missing_order c.requires.order) in
+    let upto_is : (get_or orders n c.index-orders-order.result).place + 1 ≡ suc (place_at orders n) = omega arith in
+    let others = others-hold orders c.requires.list deals c.requires.deal_list.named n c.requires.order c.args.endings.now c.requires.endings c.args.standing.now.start c.drop_upto.new.standing.start ((get_or orders n c.index-orders-order.result).place + 1) upto_is c.requires.ready.dropped
+    c.drop_upto.ensures.before c.drop_upto.ensures.inside c.drop_upto.ensures.next c.drop_upto.new.standing.books (c.drop_upto.ensures.holds (resting_left_after orders deals (place_at orders n)) after_deals.holds) in
+    let is = c.spread_of.ensures deals (record {
+      traded_is = subst (AreTraded orders deals (suc (place_at orders n))) (sym c.deref.ensures.value) after_deals.traded;
+      before_is = subst (AreBefore orders deals (suc n)) (sym c.deref-2.ensures.value) after_deals.before;
+      left_is = subst (AreLeft orders deals (suc n) (suc (place_at orders n))) (sym c.deref-3.ensures.value) after_deals.left;
+      holds = others;
+      apart = c.requires.ready.calm.apart;
+    }) in
+    λ finding e.
+    let here : c.in-Some-spread_of.finding ≡ finding = cc in
+    offence orders deals (place_at orders n) finding c.requires.ready.calm (spread-shown orders deals (place_at orders n) finding after_deals.conserved after_deals.ranked (sym is ∙ c.in-Some-spread_of.is ∙ ap Some here))
+
+pub returns-clause-ready : goal.returns-clause-ready
+returns-clause-ready c =
+    let orders = c.args.orders.now in
+    let deals = c.args.deals.now in
+    let n = c.args.order in
+    let none : c.trade.result ≡ None = elim (cases_Option c.trade.result) [ inl e ↦ e | inr some ↦ absurd (c.in_default.not-Some some.0 some.1) ] in
+    let after_deals = c.trade.ensures.after_deals none in
+    let place_is : (get_or orders n c.index-orders-order.result).place ≡ place_at orders n = ap (λ (o : Order). o.place) (get_or-default orders n c.index-orders-order.result missing_order c.requires.order) in
+    let upto_is : (get_or orders n c.index-orders-order.result).place + 1 ≡ suc (place_at orders n) = omega arith in
+    let others = others-hold orders c.requires.list deals c.requires.deal_list.named n c.requires.order c.args.endings.now c.requires.endings c.args.standing.now.start c.drop_upto.new.standing.start ((get_or orders n c.index-orders-order.result).place + 1) upto_is c.requires.ready.dropped
+    c.drop_upto.ensures.before c.drop_upto.ensures.inside c.drop_upto.ensures.next c.drop_upto.new.standing.books (c.drop_upto.ensures.holds (resting_left_after orders deals (place_at orders n)) after_deals.holds) in
+    let is = c.spread_of.ensures deals (record {
+      traded_is = subst (AreTraded orders deals (suc (place_at orders n))) (sym c.deref.ensures.value) after_deals.traded;
+      before_is = subst (AreBefore orders deals (suc n)) (sym c.deref-2.ensures.value) after_deals.before;
+      left_is = subst (AreLeft orders deals (suc n) (suc (place_at orders n))) (sym c.deref-3.ensures.value) after_deals.left;
+      holds = others;
+      apart = c.requires.ready.calm.apart;
+    }) in
+    let spread_none : spread_finding orders deals (place_at orders n) ≡ None = sym is ∙ elim (cases_Option c.spread_of.result) [ inl e ↦ e | inr some ↦ absurd (c.in_default-spread_of.not-Some some.0 some.1) ] in
+    let entered = c.in_ok-enter_own.ensures deals (record { list = c.requires.list; deal_list = c.requires.deal_list; left_is = c.own_left-left.ensures ∙ after_deals.left.is n (omega arith); holds = others }) in
+    let old = dropped-more c.args.endings.now c.args.standing.now.start c.drop_upto.new.standing.start (place_at orders n) (suc (place_at orders n)) c.requires.ready.dropped (omega arith) c.drop_upto.ensures.inside (λ i le lt. let l = c.drop_upto.ensures.before i le lt in omega arith) in
+    let above = next-above orders c.requires.list deals c.requires.deal_list.named n c.requires.order in
+    let next = next-first orders c.requires.list deals c.requires.deal_list.named n c.requires.order in
+    λ e. record {
+      calm = calm-next orders c.requires.list deals c.requires.deal_list.named n c.requires.order _ above next c.requires.ready.calm
+          (none-shown orders deals (place_at orders n) after_deals.conserved after_deals.ranked spread_none)
+          (quiet-apart orders c.requires.list deals n c.requires.order c.drop_upto.new.standing.books others c.requires.ready.calm.apart spread_none);
+      before = after_deals.before;
+      closed = after_deals.closed;
+      sizes = after_deals.sizes;
+      left = left-next orders c.requires.list deals c.requires.deal_list.named n c.requires.order c.trade.new.numbers.left.items after_deals.left;
+      running_total = after_deals.running_total;
+      split = after_deals.split;
+      books = next-holds orders c.requires.list deals c.requires.deal_list.named n c.requires.order c.args.endings.now c.requires.endings c.drop_upto.new.standing.start c.drop_upto-2.new.standing.start c.next_place-next.result c.next_place-next.ensures old
+          c.drop_upto-2.ensures.before c.drop_upto-2.ensures.inside c.drop_upto-2.ensures.next c.drop_upto-2.new.standing.books (c.drop_upto-2.ensures.holds (resting_left orders (traded_before orders deals) (suc (place_at orders n))) entered);
+      dropped = dropped-more c.args.endings.now c.drop_upto.new.standing.start c.drop_upto-2.new.standing.start (suc (place_at orders n)) _ old above c.drop_upto-2.ensures.inside (λ i le lt. let l = c.drop_upto-2.ensures.before i le lt in let e = c.next_place-next.ensures in omega arith);
+    }

@@ -1,0 +1,36 @@
+-- What the audit answers.
+use Rattle.std.specs.Prelude.{◌≡◌, ◌<◌, ℕ, List, None, length, slice_index_or}
+use Rattle.audit_base.specs.declared.terms.Rule.TheVariants as rule
+use Rattle.audit_base.specs.declared.orders.Order.{Order}
+use Rattle.audit_base.specs.declared.orders.Deal.{Deal}
+use Rattle.audit_base.specs.declared.findings.Finding.{Finding}
+use Rattle.audit_base.specs.Deals.{pair, traded, volume}
+use Rattle.audit_base.specs.Histories.{Regular}
+use Rattle.audit_base.specs.Rules.{OnlyPair}
+use Rattle.audit_base.specs.ContinuousRules.{ConformsContinuous}
+use Rattle.audit_base.specs.ContinuousOffences.{IsContinuousOffence}
+use Rattle.matching_core.specs.declared.outcomes.Reached.{Reached}
+use Rattle.matching_core.specs.declared.outcomes.Outcome.{Outcome}
+use Rattle.matching_core.specs.declared.outcomes.Outcome.TheVariants as outcome
+
+-- the deals conform, with what each order traded and the volume; on a regular order list what each pair trades is the only
+-- quantity that the rule allows it
+pub record IsConforming (orders : List Order) (deals : List Deal) (reached : Reached) : Type 0 where
+  pub conforms : ConformsContinuous orders deals
+  pub count : length reached.traded.0 ≡ length orders
+  pub totals : (i : ℕ) → i < length orders → slice_index_or reached.traded.0 i 0 ≡ traded deals i
+  pub total_is : reached.traded.1 ≡ volume deals
+  pub volume_is : reached.volume ≡ volume deals
+  pub no_bound : reached.bound ≡ None
+  pub only : Regular orders → (bid ask : ℕ)
+      → OnlyPair rule.Continuous orders bid ask (pair deals bid ask)
+
+-- the deals don't conform, and this is the first offence
+pub record IsOffending (orders : List Order) (deals : List Deal) (finding : Finding) : Type 0 where
+  pub offence : IsContinuousOffence orders deals finding
+  pub fails : ConformsContinuous orders deals → ⊥
+
+-- what the audit answers: that the deals conform, or their first offence
+abbrev pub IsAudited : List Order → List Deal → Outcome → Type 0
+IsAudited orders deals (outcome.Conforms reached) = IsConforming orders deals reached
+IsAudited orders deals (outcome.Broken finding) = IsOffending orders deals finding

@@ -1,0 +1,48 @@
+-- What is kept of the chains of orders, so that none is gone along anew.
+use Rattle.std.specs.Prelude.{◌≡◌, ◌<◌, ◌≤◌, ◌*◌, ◌^◌, ℕ, Bool, true, false, nat_le, List, Option, None, Some, All, length, slice_index_or}
+use Rattle.audit_base.specs.declared.orders.Order.{Order}
+use Rattle.audit_base.specs.declared.orders.Deal.{Deal}
+use Rattle.audit_base.specs.Orders.{order_at, place_at}
+use Rattle.audit_base.specs.Continuous.{chain, traded_before, before_of, left_before}
+use Rattle.audit_base.specs.Deals.{NamesOrders}
+use Rattle.audit_base.specs.ContinuousRules.{ConformsAt}
+use Rattle.continuous_audit.specs.Scans.{number_in}
+
+-- a record up to p ends an order
+abbrev pub ends_by : Option ℕ → ℕ → Bool
+ends_by None p = false
+ends_by (Some c) p = nat_le c p
+
+-- the record of an order ends each order of its chain, or an earlier one does
+abbrev pub IsClosed : List Order → ℕ → Type 0
+IsClosed orders x =
+    All (λ u. ends_by (order_at orders u).cancelled (place_at orders x) ≡ true) (chain orders x)
+
+-- the flag at an index of a list
+abbrev pub flag_in : List Bool → ℕ → Bool
+flag_in flags i = slice_index_or flags i false
+
+-- of the first m orders, those whose flag is set have such a chain
+pub record AreClosed (orders : List Order) (m : ℕ) (closed : List Bool) : Type 0 where
+  pub count : length closed ≡ length orders
+  pub is : (x : ℕ) → x < m → flag_in closed x ≡ true → IsClosed orders x
+
+-- Before of an order is at most 2^72 for each order ahead of it in the list
+abbrev pub AreBounded : List ℕ → Type 0
+AreBounded before = (x : ℕ) → number_in before x ≤ x * 2 ^ 72
+
+-- before the order at n comes, where the rule holds at each earlier place: what the orders have traded, and Before of the
+-- earlier ones
+pub record IsKept (orders : List Order) (deals : List Deal) (n : ℕ)
+    (traded before : List ℕ) : Type 0 where
+  pub conforms : (i : ℕ) → i < place_at orders n → ConformsAt orders deals i
+  pub named : All (NamesOrders orders) deals
+  pub traded_is : (x : ℕ) → x < length orders
+      → number_in traded x ≡ traded_before orders deals (place_at orders n) x
+  pub before_is : (x : ℕ) → x < n → number_in before x ≡ before_of orders deals x
+
+-- the same, with what is left of the earlier ones
+pub record IsOpening (orders : List Order) (deals : List Deal) (n : ℕ)
+    (traded left before : List ℕ) : Type 0 where
+  pub kept : IsKept orders deals n traded before
+  pub left_is : (x : ℕ) → x < n → number_in left x ≡ left_before orders deals (place_at orders n) x

@@ -1,0 +1,99 @@
+-- What is known of the orders so far, and where the deals of an order begin.
+use Rattle.std.specs.Prelude.{◌≡◌, ◌<◌, ◌≤◌, ◌-◌, ◌*◌, ◌^◌, ◌⊎◌, ℕ, suc, Bool, false, List, Option, None, Some, length, slice_index_or, slice_index, slice_set, ◌+◌}
+use Rattle.audit_base.specs.declared.orders.Order.{Order}
+use Rattle.audit_base.specs.declared.orders.Deal.{Deal}
+use Rattle.audit_base.specs.Orders.{place_at}
+use Rattle.audit_base.specs.Deals.{names, deal_at}
+use Rattle.audit_base.specs.Continuous.{traded_before, traded_after, before_of, entered_of, size_of, left_before, left_after}
+use Rattle.continuous_audit.specs.declared.causes.Cause.{Cause}
+use Rattle.continuous_audit.specs.Causes.{running_total}
+
+-- the number at an index of a list
+abbrev pub number_in : List ℕ → ℕ → ℕ
+number_in numbers i = slice_index_or numbers i 0
+
+-- what stands for a cause past the end, and the order of the cause at an index
+abbrev pub missing_cause : Cause
+missing_cause = record { order = 0; deal = 0 }
+
+abbrev pub order_in : List Cause → ℕ → ℕ
+order_in causes i = (slice_index_or causes i missing_cause).order
+
+abbrev pub deal_in : List Cause → ℕ → ℕ
+deal_in causes i = (slice_index_or causes i missing_cause).deal
+
+-- before the deals of the order at n: Before and Size of each order up to it, what is left of the earlier ones, and whether it entered
+pub record IsKnown (orders : List Order) (deals : List Deal) (n : ℕ) (entered : Bool)
+    (before sizes left : List ℕ) : Type 0 where
+  pub before_count : length before ≡ length orders
+  pub sizes_count : length sizes ≡ length orders
+  pub left_count : length left ≡ length orders
+  pub arrived : entered ≡ entered_of orders deals n
+  pub before_is : (x : ℕ) → x ≤ n → number_in before x ≡ before_of orders deals x
+  pub size_is : (x : ℕ) → x ≤ n → number_in sizes x ≡ size_of orders deals x
+  pub left_is : (x : ℕ) → x < n → number_in left x ≡ left_before orders deals (place_at orders n) x
+  pub before_fits : (x : ℕ) → number_in before x ≤ 2 ^ 126
+
+-- what each order has traded in the first causes
+pub record AreRunningTotals (orders : List Order) (deals : List Deal) (causes : List Cause)
+    (at : ℕ) (traded : List ℕ) : Type 0 where
+  pub inside : at ≤ length causes
+  pub count : length traded ≡ length orders
+  pub sums : (x : ℕ) → x < length orders → number_in traded x ≡ running_total deals causes at x
+  pub fits : (x : ℕ) → x < length orders → number_in traded x ≤ at * 10 ^ 12
+
+-- the first causes are those of the orders below n
+pub record IsSplitAt (causes : List Cause) (n at : ℕ) : Type 0 where
+  pub early : (i : ℕ) → i < at → i < length causes → order_in causes i < n
+  pub late : (i : ℕ) → at ≤ i → i < length causes → n ≤ order_in causes i
+
+-- how many steps lead back from a target at most
+abbrev pub steps_of : Option ℕ → ℕ
+steps_of None = 0
+steps_of (Some t) = suc t
+
+-- the causes name deals of the list, and these name orders below a count
+pub record HasDeals (deals : List Deal) (causes : List Cause) (count : ℕ) : Type 0 where
+  pub deal : (i : ℕ) → i < length causes → deal_in causes i < length deals
+  pub bid : (i : ℕ) → i < length causes → (deal_at deals (deal_in causes i)).bid < count
+  pub ask : (i : ℕ) → i < length causes → (deal_at deals (deal_in causes i)).ask < count
+
+-- what is left of the orders of these deals is their size less what they have traded, and of the others what it was
+pub record IsRefreshed (deals : List Deal) (causes : List Cause) (start at : ℕ)
+    (sizes traded old new : List ℕ) : Type 0 where
+  pub count : length new ≡ length old
+  pub each : (x : ℕ) → (number_in new x ≡ number_in sizes x - number_in traded x)
+      ⊎ ((number_in new x ≡ number_in old x) × ((i : ℕ) → start ≤ i → i < at
+      → names x (deal_at deals (deal_in causes i)) ≡ false))
+
+-- what each order has traded fits: it is at most 2^72
+abbrev pub AreSmall : List Order → List ℕ → Type 0
+AreSmall orders traded = (x : ℕ) → x < length orders → number_in traded x ≤ 2 ^ 72
+
+-- after the deals of the order at n: what each order has traded, and what is left of the earlier ones
+abbrev pub AreTradedAfter : List Order → List Deal → ℕ → List ℕ → Type 0
+AreTradedAfter orders deals n traded =
+    (x : ℕ) → x < length orders
+    → number_in traded x ≡ traded_after orders deals (place_at orders n) x
+
+abbrev pub AreLeftAfter : List Order → List Deal → ℕ → List ℕ → Type 0
+AreLeftAfter orders deals n left = (x : ℕ) → x < n
+    → number_in left x ≡ left_after orders deals (place_at orders n) x
+
+-- Before of each order up to the one at n
+abbrev pub AreBeforeUpto : List Order → List Deal → ℕ → List ℕ → Type 0
+AreBeforeUpto orders deals n before = (x : ℕ) → x ≤ n
+    → number_in before x ≡ before_of orders deals x
+
+-- whether the order at n entered, with its Before and its Size
+pub record IsOpened (orders : List Order) (deals : List Deal) (n : ℕ) (entered : Bool)
+    (before size : ℕ) : Type 0 where
+  pub entered_is : entered ≡ entered_of orders deals n
+  pub before_is : before ≡ before_of orders deals n
+  pub size_is : size ≡ size_of orders deals n
+
+-- what the orders have traded, with a deal between two of them
+abbrev pub with_deal : List ℕ → ℕ → ℕ → ℕ → List ℕ
+with_deal traded bid ask quantity =
+    slice_set (slice_set traded bid (slice_index traded bid + quantity)) ask
+    (slice_index traded ask + quantity)

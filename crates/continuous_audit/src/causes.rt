@@ -1,0 +1,60 @@
+//! The deals by their incoming orders, and those of one order as they stand in the log.
+ghost use Rattle.std.specs.Prelude.{◌≡◌, ◌<◌, All, IfOk, length, IsPermutation, IsSorted};
+ghost use Rattle.audit_base.specs.Orders.{order_at, place_at};
+ghost use Rattle.audit_base.specs.Deals.{NamesOrders, IsDealList};
+ghost use Rattle.audit_base.specs.Continuous.{incoming};
+ghost use Rattle.continuous_audit.specs.Causes.{causes_upto, cause_cmp};
+
+use audit_base::faults::NoMemory;
+use audit_base::orders::{Deal, Order};
+use std::alloc::Global;
+
+/// A deal by the index of its incoming order and its own index.
+#[derive(Clone, Copy, Debug, PartialEq, Eq, PartialOrd, Ord)]
+pub struct Cause {
+    pub order: usize,
+    pub deal: usize,
+}
+
+/// The order of a deal whose record is the cause.
+fn incoming(orders: &[Order], deal: &Deal) -> usize
+    requires { NamesOrders orders.now deal.now }
+    ensures same { result ≡ incoming orders.now deal.now }
+{
+    if orders[deal.bid].place < orders[deal.ask].place {
+        deal.ask
+    } else {
+        deal.bid
+    }
+}
+
+/// The deals with their incoming orders, in log order.
+fn collect_causes(alloc: Global, orders: &[Order], deals: &[Deal]) -> Result<Vec<Cause>, NoMemory>
+    requires { All (NamesOrders orders.now) deals.now }
+    ensures { IfOk result (λ causes.
+        causes.items ≡ causes_upto orders.now deals.now (length deals.now)) }
+{
+    let mut causes = Vec::with_capacity(alloc, deals.len()).map_err(|_| NoMemory)?;
+    for (index, deal) in deals.iter().enumerate() {
+        let cause = Cause {
+            order: incoming(orders, deal),
+            deal: index,
+        };
+        causes.push(cause).map_err(|_| NoMemory)?;
+    }
+    Ok(causes)
+}
+
+/// The deals by their incoming orders, and those of one order as they stand in the log.
+pub fn sort_causes(alloc: Global, orders: &[Order], deals: &[Deal]) -> Result<Vec<Cause>, NoMemory>
+    requires { All (NamesOrders orders.now) deals.now }
+    ensures moved { IfOk result (λ causes.
+        IsPermutation (causes_upto orders.now deals.now (length deals.now)) causes.items) }
+    ensures sorted { IfOk result (λ causes. IsSorted cause_cmp causes.items) }
+{
+    let mut causes = collect_causes(alloc, orders, deals)?;
+    match causes.sort() {
+        Ok(()) => Ok(causes),
+        Err(_) => Err(NoMemory),
+    }
+}

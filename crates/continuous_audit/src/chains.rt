@@ -1,0 +1,78 @@
+//! What the chain of an order has traded.
+ghost use Rattle.std.specs.Prelude.{◌≡◌, ◌<◌, ◌≤◌, ◌*◌, ◌^◌, ℕ, List, true, length, sum_by};
+ghost use Rattle.audit_base.specs.declared.orders.Deal.{Deal as ADeal};
+ghost use Rattle.audit_base.specs.Orders.{IsOrderList};
+ghost use Rattle.audit_base.specs.Continuous.{before_of, chain};
+ghost use Rattle.continuous_audit.specs.Chains.{AreBounded, AreClosed, IsClosed, IsKept, ends_by};
+ghost use Rattle.continuous_audit.specs.Scans.{AreSmall, number_in};
+
+use audit_base::orders::Order;
+
+/// What the orders of the chain of an order have traded: its target, the target's target, and so on.
+fn chain_total(orders: &[Order], traded: &[u128], order: usize) -> u128
+    requires list { IsOrderList orders.now }
+    requires order { order < length orders.now }
+    requires count { length traded.now ≡ length orders.now }
+    requires fits { AreSmall orders.now traded.now }
+    ensures total { result ≡ sum_by (number_in traded.now) (chain orders.now order) }
+    ensures bounded { result ≤ order * 2 ^ 72 }
+{
+    let mut total: u128 = 0;
+    let mut target = orders[order].target;
+    while let Some(index) = target {
+        total += traded[index];
+        target = orders[index].target;
+    }
+    total
+}
+
+/// Before of an order: what its chain has traded. Where the records of its target's chain end one another, as in
+/// every history, this is what the target has traded, and the target's own Before.
+pub fn chain_before(
+    orders: &[Order],
+    traded: &[u128],
+    before: &[u128],
+    closed: &[bool],
+    order: usize,
+) -> u128
+    requires list { IsOrderList orders.now }
+    requires order { order < length orders.now }
+    requires count { length traded.now ≡ length orders.now }
+    requires before_count { length before.now ≡ length orders.now }
+    requires fits { AreSmall orders.now traded.now }
+    requires before_bounded { AreBounded before.now }
+    requires closed { AreClosed orders.now order closed.now }
+    ensures before { (deals : List ADeal) → IsKept orders.now deals order traded.now before.now
+        → result ≡ before_of orders.now deals order }
+    ensures bounded { result ≤ order * 2 ^ 72 }
+{
+    if let Some(target) = orders[order].target {
+        if closed[target] {
+            return traded[target] + before[target];
+        }
+    }
+    chain_total(orders, traded, order)
+}
+
+/// Whether a record up to a place ends an order.
+fn ends_by(cancelled: Option<u32>, place: u32) -> bool
+    ensures { result ≡ ends_by cancelled place }
+{
+    match cancelled {
+        Some(end) => end <= place,
+        None => false,
+    }
+}
+
+/// Whether the records of the chain of an order end one another.
+pub fn is_closed(orders: &[Order], closed: &[bool], order: usize) -> bool
+    requires list { IsOrderList orders.now }
+    requires order { order < length orders.now }
+    requires closed { AreClosed orders.now order closed.now }
+    ensures { result ≡ true → IsClosed orders.now order }
+{
+    match orders[order].target {
+        Some(target) => closed[target] && ends_by(orders[target].cancelled, orders[order].place),
+        None => true,
+    }
+}

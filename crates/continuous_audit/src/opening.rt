@@ -1,0 +1,92 @@
+//! What an order brings at its own record.
+ghost use Rattle.std.specs.Prelude.{◌≡◌, ◌<◌, ◌≤◌, ◌*◌, ◌^◌, ℕ, List, None, Some, true, length};
+ghost use Rattle.audit_base.specs.Orders.{IsOrderList};
+ghost use Rattle.audit_base.specs.declared.orders.Deal.{Deal as ADeal};
+ghost use Rattle.continuous_audit.specs.Chains.{AreBounded, AreClosed, IsClosed, IsOpening};
+ghost use Rattle.continuous_audit.specs.DealFindings.{enters, size_left, waits_in};
+ghost use Rattle.continuous_audit.specs.Scans.{AreSmall, IsOpened};
+
+use super::chains::{chain_before, is_closed};
+use super::checking::waits;
+use audit_base::numbers::Quantity;
+use audit_base::orders::Order;
+
+/// Whether an order is placed, where its target rests if it has one.
+fn enters(order: &Order, target_rests: bool) -> bool
+    ensures { result ≡ enters order.now target_rests }
+{
+    match order.cancelled {
+        Some(end) => end != order.place && target_rests,
+        None => target_rests,
+    }
+}
+
+/// Whether the target of an order rests before its place, or there is none.
+fn target_rests(orders: &[Order], left: &[u64], order: &Order) -> bool
+    requires inside { (t : ℕ) → order.now.target ≡ Some t → t < length orders.now }
+    requires count { length left.now ≡ length orders.now }
+    ensures none { order.now.target ≡ None → result ≡ true }
+    ensures some { (t : ℕ) → order.now.target ≡ Some t
+        → result ≡ waits_in orders.now left.now order.now.place t }
+{
+    match order.target {
+        Some(index) => waits(&orders[index], order.place, left[index]),
+        None => true,
+    }
+}
+
+/// What is left of a quantity of which so much is taken, and 0 where the order didn't enter.
+fn size_left(entered: bool, quantity: Quantity, before: u128) -> u64
+    ensures { result ≡ size_left entered quantity before }
+{
+    let quantity = quantity.value();
+    if entered && before < quantity as u128 {
+        quantity - before as u64
+    } else {
+        0
+    }
+}
+
+/// What an order brings at its own record: whether it enters, its Before, whether the records of its chain end one
+/// another, and its Size.
+#[derive(Clone, Copy, Debug, Drop)]
+pub struct Opening {
+    pub entered: bool,
+    pub before: u128,
+    pub closed: bool,
+    pub size: u64,
+}
+
+/// What an order brings at its own record, from what the earlier ones have traded and have left.
+pub fn open_order(
+    orders: &[Order],
+    traded: &[u128],
+    left: &[u64],
+    before: &[u128],
+    closed: &[bool],
+    order: usize,
+) -> Opening
+    requires list { IsOrderList orders.now }
+    requires order { order < length orders.now }
+    requires count { length traded.now ≡ length orders.now }
+    requires left_count { length left.now ≡ length orders.now }
+    requires before_count { length before.now ≡ length orders.now }
+    requires fits { AreSmall orders.now traded.now }
+    requires before_bounded { AreBounded before.now }
+    requires closed { AreClosed orders.now order closed.now }
+    ensures opened { (deals : List ADeal)
+        → IsOpening orders.now deals order traded.now left.now before.now
+        → IsOpened orders.now deals order result.entered result.before result.size }
+    ensures bounded { result.before ≤ order * 2 ^ 72 }
+    ensures closed { result.closed ≡ true → IsClosed orders.now order }
+{
+    let before = chain_before(orders, traded, before, closed, order);
+    let opened = &orders[order];
+    let entered = enters(opened, target_rests(orders, left, opened));
+    Opening {
+        entered,
+        before,
+        closed: is_closed(orders, closed, order),
+        size: size_left(entered, opened.quantity, before),
+    }
+}

@@ -1,0 +1,96 @@
+//! The deals of one record, one after another.
+ghost use Rattle.std.specs.Prelude.{◌≡◌, ◌≢◌, ◌≤◌, ◌<◌, ◌+◌, ◌*◌, ◌^◌, ℕ, None, Some, Ok, Err, IfOk, All, length, slice_index, slice_set, vec_len};
+ghost use Rattle.audit_base.specs.declared.findings.Finding.{Finding};
+ghost use Rattle.audit_base.specs.Orders.{IsOrderList};
+ghost use Rattle.audit_base.specs.Deals.{NamesOrders, IsDealList};
+ghost use Rattle.continuous_audit.specs.Progress.{conservation_at};
+ghost use Rattle.continuous_audit.specs.Causes.{AreCauses};
+ghost use Rattle.continuous_audit.specs.Scans.{AreRunningTotals, IsKnown, IsSplitAt, with_deal};
+
+use super::causes::Cause;
+use super::checking::check_deal;
+use audit_base::findings::Finding;
+use audit_base::orders::{Deal, Order};
+
+/// Adds the quantity of a deal to what its two orders trade, and gives what they then trade.
+fn add_deal(traded: &mut Vec<u128>, bid: usize, ask: usize, quantity: u128) -> (u128, u128)
+    requires bid { bid < vec_len traded.old }
+    requires ask { ask < vec_len traded.old }
+    requires apart { bid ≢ ask }
+    requires bid_fits { slice_index traded.old.items bid + quantity < 2 ^ 128 }
+    requires ask_fits { slice_index traded.old.items ask + quantity < 2 ^ 128 }
+    ensures added { traded.new.items ≡ with_deal traded.old.items bid ask quantity }
+    ensures bid { result.0 ≡ slice_index traded.old.items bid + quantity }
+    ensures ask { result.1 ≡ slice_index traded.old.items ask + quantity }
+{
+    let bid_traded = traded[bid] + quantity;
+    let ask_traded = traded[ask] + quantity;
+    traded[bid] = bid_traded;
+    traded[ask] = ask_traded;
+    (bid_traded, ask_traded)
+}
+
+/// The deals of the order at `order`, whose record is the cause, from those at `start` on: adds what they trade,
+/// and gives where those of later orders begin; or the first finding.
+pub fn check_deals(
+    orders: &[Order],
+    deals: &[Deal],
+    causes: &[Cause],
+    order: usize,
+    entered: bool,
+    start: usize,
+    before: &[u128],
+    sizes: &[u64],
+    left: &[u64],
+    traded: &mut Vec<u128>,
+) -> Result<usize, Finding>
+    requires list { IsOrderList orders.now }
+    requires deal_list { IsDealList orders.now deals.now }
+    requires causes { AreCauses orders.now deals.now causes.now }
+    requires order { order < length orders.now }
+    requires known { IsKnown orders.now deals.now order entered before.now sizes.now left.now }
+    requires running_total { AreRunningTotals orders.now deals.now causes.now start
+        traded.old.items }
+    requires split { IsSplitAt causes.now order start }
+    ensures running_total { IfOk result (λ end.
+        AreRunningTotals orders.now deals.now causes.now end traded.new.items) }
+    ensures split { IfOk result (λ end. IsSplitAt causes.now (order + 1) end) }
+    ensures from { IfOk result (λ end. start ≤ end) }
+    ensures clean { IfOk result (λ end. conservation_at orders.now deals.now order ≡ None) }
+    ensures found { (finding : Finding) → result ≡ Err finding
+        → conservation_at orders.now deals.now order ≡ Some finding }
+{
+    let place = orders[order].place;
+    let mut at = start;
+    while at < causes.len() {
+        let cause = causes[at];
+        if cause.order != order {
+            return Ok(at);
+        }
+        let deal = &deals[cause.deal];
+        let quantity = deal.quantity.value() as u128;
+        let (bid_traded, ask_traded) = add_deal(traded, deal.bid, deal.ask, quantity);
+        let (bid_before, ask_before) = (before[deal.bid], before[deal.ask]);
+        let (bid_size, ask_size) = (sizes[deal.bid], sizes[deal.ask]);
+        let (bid_left, ask_left) = (left[deal.bid], left[deal.ask]);
+        if let Some(finding) = check_deal(
+            deal,
+            &orders[deal.bid],
+            &orders[deal.ask],
+            place,
+            entered,
+            bid_traded,
+            ask_traded,
+            bid_before,
+            ask_before,
+            bid_size,
+            ask_size,
+            bid_left,
+            ask_left,
+        ) {
+            return Err(finding);
+        }
+        at += 1;
+    }
+    Ok(at)
+}

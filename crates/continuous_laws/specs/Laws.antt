@@ -1,0 +1,42 @@
+-- The laws of continuous trading.
+use Rattle.std.specs.Prelude.{◌≡◌, ◌<◌, ℕ, Bool, List}
+use Rattle.audit_base.specs.declared.terms.Rule.TheVariants as rule
+use Rattle.audit_base.specs.declared.orders.Order.{Order}
+use Rattle.audit_base.specs.declared.orders.Deal.{Deal}
+use Rattle.audit_base.specs.Orders.{IsOrderList}
+use Rattle.audit_base.specs.Deals.{AreDeals, pair}
+use Rattle.audit_base.specs.Histories.{Regular}
+use Rattle.audit_base.specs.ContinuousRules.{ConformsContinuous}
+use Rattle.audit_base.specs.Rules.{OnlyPair}
+use Rattle.audit_base.specs.Expected.{IsExpectedContinuous}
+use Rattle.continuous_laws.specs.Fills.{IsRanking, IsFill, share}
+
+-- 'one-step fill': the shares fill the lefts by rank up to the size, and no other numbers do
+abbrev pub OneStepFill : Type 0
+OneStepFill = (count : ℕ) (better : ℕ → ℕ → Bool) (left : ℕ → ℕ) (size : ℕ)
+    → IsRanking count better
+    → IsFill count better left size (share count better left size)
+    × ((number : ℕ → ℕ) → IsFill count better left size number
+    → (i : ℕ) → i < count → number i ≡ share count better left size i)
+
+-- 'continuous uniqueness': on a regular order list all lists of deals that conform have the same Pair for every pair
+abbrev pub ContinuousUniqueness : Type 0
+ContinuousUniqueness = (orders : List Order) (ds es : List Deal) → IsOrderList orders
+    → Regular orders → ConformsContinuous orders ds → ConformsContinuous orders es
+    → (bid ask : ℕ) → pair ds bid ask ≡ pair es bid ask
+
+-- so what a pair trades in a list that conforms is its only quantity
+abbrev pub OnlyPairs : Type 0
+OnlyPairs = (orders : List Order) (deals : List Deal) → IsOrderList orders → Regular orders
+    → AreDeals deals → ConformsContinuous orders deals → (bid ask : ℕ)
+    → OnlyPair rule.Continuous orders bid ask (pair deals bid ask)
+
+-- 'continuous existence': on a regular order list the Expected trades conform
+abbrev pub ExpectedConform : Type 0
+ExpectedConform = (orders : List Order) (deals : List Deal) → IsOrderList orders
+    → Regular orders → IsExpectedContinuous orders deals → ConformsContinuous orders deals
+
+-- each order list has a list of Expected trades
+abbrev pub ExpectedExist : Type 0
+ExpectedExist = (orders : List Order) → IsOrderList orders
+    → (deals : List Deal) × IsExpectedContinuous orders deals
