@@ -1,5 +1,8 @@
-pub mod Lines
-pub mod Parts
-pub mod Reasons
+-- What a reader must believe, in the order in which it is read: the status and the text of a verdict, the lines of a text, and how
+-- the reason of a bad place is written.
 pub mod Statuses
 pub mod Texts
+pub mod Lines
+pub mod Reasons
+-- What private functions pass on to one another.
+pub mod LineParts

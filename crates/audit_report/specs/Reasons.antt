@@ -1,22 +1,12 @@
 -- How the reason of a bad place is written.
-use Rattle.std.specs.Prelude.{ℕ, List, [], ◌∷◌, ◌++◌, codes, decimal, slice_index_or}
+use Rattle.std.specs.Prelude.{ℕ, List, ◌++◌, codes, decimal}
+use Rattle.audit_base.specs.Columns.{column_name}
 use Rattle.audit_base.specs.declared.terms.Which.{Which}
-use Rattle.audit_base.specs.declared.terms.Which.TheVariants.{Orders, Trades}
 use Rattle.audit_base.specs.declared.faults.Reason.{Reason}
 use Rattle.audit_base.specs.declared.faults.Reason.TheVariants.{Header, Break, Columns, Column, Begin, Length, Truncated, Trailer, Checksum, Field, MsgType, Missing, Repeated, Value, Unsupported}
 
--- the names of the columns of a CSV log
-abbrev pub columns : Which → List (List ℕ)
-columns Orders =
-    codes "kind" ∷ codes "firm" ∷ codes "id" ∷ codes "time" ∷ codes "symbol" ∷ codes "side" ∷ codes "quantity" ∷ codes "price" ∷ codes "target" ∷ []
-columns Trades =
-    codes "trade" ∷ codes "time" ∷ codes "symbol" ∷ codes "buy_firm" ∷ codes "buy_id" ∷ codes "sell_firm" ∷ codes "sell_id" ∷ codes "quantity" ∷ codes "price" ∷ []
-
--- the name of a column, which are numbered from 1 to 9; no other number has a name
-abbrev pub column_name : Which → ℕ → List ℕ
-column_name log column = slice_index_or ([] ∷ columns log) column []
-
--- a word that says what is wrong, and, where it is said of a column, a byte or a tag, a colon and this
+-- a word that says what is wrong, and, where it is said of a column, a byte or a tag, a colon and
+-- this
 abbrev pub reason_text : Which → Reason → List ℕ
 reason_text log Header = codes "header"
 reason_text log Break = codes "break"

@@ -34,7 +34,7 @@ verdict_text (verdict.Malformed log bad) = malformed_line log bad
 abbrev pub IsBoundInRange : Cut → Type 0
 IsBoundInRange cut = cut.price ≤ 10 ^ 18
 
--- the price of a bound is at most 10^18 units, and a column that a verdict names is from 1 to 9
+-- the price of a bound that a verdict has is at most 10^18 units
 abbrev pub IsVerdictInRange : Verdict → Type 0
 IsVerdictInRange (verdict.Accepted a) = ForSome a.bound IsBoundInRange
 IsVerdictInRange (verdict.Rejected f) = Unit {0}

@@ -1,9 +1,9 @@
-//! Verdicts and how they are told: the text that a desk reads, line by line, and the status that the
+//! Verdicts and how they are written: the text that a desk reads, line by line, and the status that the
 //! program ends with. The definitions in `specs/` say each line as a function of its parts.
 #![tactic(auto)]
 
+mod line_parts;
 mod lines;
-mod parts;
 mod reasons;
 pub mod reports;
 pub mod statuses;

@@ -4,7 +4,7 @@ ghost use Rattle.std.specs.List.{join_with_byte};
 ghost use Rattle.audit_report.specs.Lines as text;
 ghost use Rattle.audit_report.specs.Texts.{IsBoundInRange};
 
-use super::parts::{Part, append, append_joined, append_line, append_rest};
+use super::line_parts::{Part, append, append_joined, append_line, append_rest};
 use super::reasons::reason_part;
 use super::tables::Line;
 use super::words::{log_word, side_word};
@@ -86,7 +86,8 @@ pub fn append_due_line(
 
 /// The parts of an order line.
 fn append_order(alloc: Global, line: &OrderLine, out: &mut Vec<u8>) -> Result<(), NoMemory>
-    ensures { OnOk result (out.new.items ≡ out.old.items ++ join_with_byte 44 (text.order_parts line.now)) }
+    ensures { OnOk result
+        (out.new.items ≡ out.old.items ++ join_with_byte 44 (text.order_parts line.now)) }
 {
     let parts = [
         Part::Number(u128::from(line.place)),

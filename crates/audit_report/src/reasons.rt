@@ -1,10 +1,10 @@
-//! How the reason of a bad place is told.
+//! How the reason of a bad place is written.
 ghost use Rattle.std.specs.Prelude.{◌≡◌};
-ghost use Rattle.audit_report.specs.Parts.{part_text};
+ghost use Rattle.audit_report.specs.LineParts.{part_text};
 ghost use Rattle.audit_report.specs.Reasons.{reason_text};
 
-use super::parts::Part;
-use super::words::column_name;
+use super::line_parts::Part;
+use audit_base::columns::column_name;
 use audit_base::faults::Reason;
 use audit_base::terms::Which;
 

@@ -18,8 +18,8 @@ use audit_base::terms::Which;
 use std::alloc::Global;
 
 /// The text of the verdict. The bound line stands there where there is a bound, the volume line where
-/// the finding has one, and the lines of the table as they stand. A column in it is from 1 to 9, and
-/// the price of a bound at most 10^18 units.
+/// the finding has one, and the lines of the table as they stand. The price of a bound is at most 10^18
+/// units. A column that a reason names is from 1 to 9; any other has no name in the text.
 pub fn report_text(alloc: Global, verdict: &Verdict) -> Result<Vec<u8>, NoMemory>
     requires { IsVerdictInRange verdict.now }
     ensures { IfOk result (λ text. text.items ≡ verdict_text verdict.now) }
@@ -61,7 +61,8 @@ fn append_accepted(alloc: Global, accepted: &Accepted, out: &mut Vec<u8>) -> Res
 /// Appends the bound line, where there is a bound.
 fn append_bound(alloc: Global, bound: &Option<Cut>, out: &mut Vec<u8>) -> Result<(), NoMemory>
     requires { ForSome bound.now IsBoundInRange }
-    ensures { OnOk result (out.new.items ≡ out.old.items ++ line_if_there text.bound_line bound.now) }
+    ensures { OnOk result
+        (out.new.items ≡ out.old.items ++ line_if_there text.bound_line bound.now) }
 {
     match bound {
         Some(cut) => append_bound_line(alloc, cut, out),
@@ -91,7 +92,8 @@ fn append_rejected(alloc: Global, finding: &Finding, out: &mut Vec<u8>) -> Resul
 
 /// Appends the volume line, where a volume is short.
 fn append_short(alloc: Global, short: &Option<Short>, out: &mut Vec<u8>) -> Result<(), NoMemory>
-    ensures { OnOk result (out.new.items ≡ out.old.items ++ line_if_there text.volume_line short.now) }
+    ensures { OnOk result
+        (out.new.items ≡ out.old.items ++ line_if_there text.volume_line short.now) }
 {
     match short {
         Some(short) => append_volume_line(alloc, short, out),
@@ -101,7 +103,8 @@ fn append_short(alloc: Global, short: &Option<Short>, out: &mut Vec<u8>) -> Resu
 
 /// Appends the line of what shows a finding, where something does.
 fn append_shown(alloc: Global, shown: &Option<Shown>, out: &mut Vec<u8>) -> Result<(), NoMemory>
-    ensures { OnOk result (out.new.items ≡ out.old.items ++ line_if_there text.shown_line shown.now) }
+    ensures { OnOk result
+        (out.new.items ≡ out.old.items ++ line_if_there text.shown_line shown.now) }
 {
     match shown {
         Some(shown) => append_shown_line(alloc, shown, out),
@@ -109,7 +112,7 @@ fn append_shown(alloc: Global, shown: &Option<Shown>, out: &mut Vec<u8>) -> Resu
     }
 }
 
-/// The line that tells that a log could not be read.
+/// The line that says that a log could not be read.
 pub fn read_fault_text(log: Which) -> &'static [u8]
     ensures { result.now ≡ text.read_fault_line log }
 {
@@ -119,7 +122,7 @@ pub fn read_fault_text(log: Which) -> &'static [u8]
     }
 }
 
-/// The line that tells that a log has more than 67,108,864 bytes.
+/// The line that says that a log has more than 67,108,864 bytes.
 pub fn too_long_text(log: Which) -> &'static [u8]
     ensures { result.now ≡ text.too_long_line log }
 {
@@ -129,7 +132,7 @@ pub fn too_long_text(log: Which) -> &'static [u8]
     }
 }
 
-/// The line that tells how the command line is used.
+/// The line that says how the command line is used.
 pub fn usage_text() -> &'static [u8]
     ensures { result.now ≡ text.usage_line }
 {

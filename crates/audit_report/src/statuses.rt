@@ -9,7 +9,7 @@ pub enum Status {
     Accepted,
     /// There is a finding.
     Rejected,
-    /// The words of the command line are not plain.
+    /// The words of the command line are not well-formed.
     Usage,
     /// A log is not in its grammar.
     Malformed,

@@ -10,7 +10,7 @@ use audit_base::names::Name;
 use audit_base::orders::Cut;
 use audit_base::terms::{Rule, Which};
 
-/// What is told of a log that conforms.
+/// What is reported of a log that conforms.
 #[derive(Debug, Drop)]
 pub struct Accepted {
     pub rule: Rule,
@@ -37,7 +37,7 @@ pub enum Verdict {
     Malformed { log: Which, bad: BadPlace },
 }
 
-/// The status that tells the verdict: `Accepted`, `Rejected` or `Malformed`.
+/// The status of the verdict: `Accepted`, `Rejected` or `Malformed`.
 pub fn status_of(verdict: &Verdict) -> Status
     ensures { result ≡ verdict_status verdict.now }
 {

@@ -1,8 +1,7 @@
--- The phases of the verdict, one after another, are the verdict of the rules.
-use Rattle.std.proofs.Common.{◌≡◌, ◌∙◌, sym, ap, subst, refl, ℕ, zero, suc, Bool, true, false, List, [], ◌∷◌, length, Option, None, Some, Result, Ok, Err, arith, ◌<◌, ◌≤◌, ◌^◌, ◌+◌}
-use Rattle.std.specs.Prelude.{MatchOption, IfOk, IsTrue, not, option_map, map, slice_index}
-use Rattle.std.specs.Option.{option_or, ForSome}
-use Rattle.std.specs.List.{range_with_len}
+-- The phases of the verdict on records, one after another, are the verdict of the rules.
+use Rattle.std.proofs.Common.{◌≡◌, ◌∙◌, sym, ap, subst, refl, ℕ, Bool, true, false, List, [], ◌∷◌, length, Option, None, Some, Result, Ok, Err, ◌<◌, ◌≤◌, ◌^◌}
+use Rattle.std.specs.Prelude.{IfOk, IsTrue, not, option_map}
+use Rattle.std.specs.Option.{ForSome}
 use Rattle.audit_base.specs.declared.terms.Rule.{Rule}
 use Rattle.audit_base.specs.declared.terms.Rule.TheVariants as rule
 use Rattle.audit_base.specs.declared.terms.Which.TheVariants as which
@@ -15,62 +14,62 @@ use Rattle.audit_base.specs.declared.orders.Cut.{Cut}
 use Rattle.audit_base.specs.declared.findings.Finding.{Finding}
 use Rattle.audit_base.specs.Shows.{found}
 use Rattle.audit_base.specs.Orders.{is_rests, order_at}
-use Rattle.audit_base.specs.Deals.{volume}
-use Rattle.audit_base.specs.Calls.{Matching as AreMatching, Fair as AreFair}
-use Rattle.audit_base.specs.CallOffences.{matching_offence, fair_offence, IsVolumeOffence}
+use Rattle.audit_base.specs.Deals.{volume, AreDeals}
 use Rattle.audit_base.specs.Histories.{history_finding, order_list, instant_order, WellFormed}
 use Rattle.audit_base.specs.Least.{first_of, least_with}
-use Rattle.audit_base.proofs.VerdictLemmas.{one-verdict}
+use Rattle.audit_base.proofs.VerdictLemmas.{one-verdict, one-verdict-of_deals}
 use Rattle.audit_base.specs.Trades.{AreTrades, deals_of, unsound_trade, Sound}
 use Rattle.audit_base.specs.Verdicts.{IsRuleVerdict, call_finding, pairing_finding, paired_trades}
 use Rattle.audit_base.proofs.LeastLemmas.{with-at, none-with}
-use Rattle.audit_report.specs.declared.tables.Line.{Line}
 use Rattle.audit_report.specs.declared.verdicts.Verdict.{Verdict}
 use Rattle.audit_report.specs.declared.verdicts.Verdict.TheVariants.{Accepted as IsAccepted, Rejected, Malformed}
 use Rattle.audit_report.specs.Texts.{IsVerdictInRange, IsBoundInRange}
-use Rattle.short_order.specs.Totals.{AreTotals}
-use Rattle.matching_core.specs.declared.outcomes.Outcome.{Outcome}
-use Rattle.matching_core.specs.declared.outcomes.Outcome.TheVariants as outcome
-use Rattle.call_auction.specs.Audits.{IsAudited}
-use Rattle.audit_run.specs.Judgements.{is_call, order_line_at, order_lines, table_lines, IsBoundTold, AreOnlyQuantities, IsTold, IsJudged, IsJudgedRecords, IsJudgedHistory, IsJudgedTrades, IsJudgedDeals}
-use Rattle.audit_run.specs.Tables.{line_of, lines_of, call_table, accepted_verdict, IsToldOutcome, HasTotals}
+use Rattle.audit_run.specs.declared.questions.Question.{Question}
+use Rattle.audit_run.specs.Judgements.{is_call, IsBoundShown, IsOutcome, IsJudged}
+use Rattle.audit_run.specs.Phases.{FoundAfter, IsJudgedRecords, IsJudgedHistory, IsJudgedTrades, IsJudgedDeals}
 
 -- what holds of an answer holds of what follows from it
 pub ok-then : {X E : Type 0} (result : Result X E) (P Q : X → Type 0) → ((x : X) → P x → Q x) → IfOk result P → IfOk result Q
 ok-then (Ok x) P Q follows is = follows x is
 ok-then (Err e) P Q follows is = tt
 
--- The phases.
+-- what is found before the rule is looked at, given a finding in the place of one of the phases
+abbrev phases : Question → List Order → Result (List TradeRecord) Finding → Option Finding → Option Finding → Option Finding
+phases q orders trades h i = first_of (h ∷ i ∷ pairing_finding trades ∷ unsound_trade orders q.symbol (paired_trades trades) ∷ [])
+
+abbrev after_phases : Question → List Order → Result (List TradeRecord) Finding → Option Finding → Option Finding → Option Finding → Type 0
+after_phases q orders trades verdict h i =
+    FoundAfter (phases q orders trades h i) q orders (deals_of orders q.symbol (paired_trades trades)) (length (paired_trades trades)) verdict
 
 -- a finding of the history is the verdict
-pub judged_found : (the_rule : Rule) (symbol : List ℕ) (table : Bool) (entries : List OrderRecord) (trades : Result (List TradeRecord) Finding) (finding : Finding) → history_finding symbol entries ≡ Some finding
-    → IsJudgedRecords the_rule symbol table entries trades (Rejected finding)
-judged_found the_rule symbol table entries trades finding is =
-    let orders : List Order = order_list symbol entries in
+pub judged_found : (q : Question) (entries : List OrderRecord) (trades : Result (List TradeRecord) Finding) (finding : Finding) → history_finding q.symbol entries ≡ Some finding
+    → IsJudgedRecords q entries trades (Rejected finding)
+judged_found q entries trades finding is =
+    let orders : List Order = order_list q.symbol entries in
     record {
       found = Some finding;
-      by_the_rules = subst (λ (h : Option Finding). MatchOption (first_of (h ∷ call_finding the_rule orders ∷ pairing_finding trades ∷ unsound_trade orders symbol (paired_trades trades) ∷ [])) (IsRuleVerdict the_rule orders (deals_of orders symbol (paired_trades trades)) (length (paired_trades trades)) (Some finding)) (λ g. Some finding ≡ Some g)) (sym is) refl;
-      tells = refl;
+      by_the_rules = subst (λ (h : Option Finding). after_phases q orders trades (Some finding) h (call_finding q.rule orders)) (sym is) refl;
+      outcome = refl;
     }
 
 -- what is found where the history is well-formed is the verdict
-pub judged_after : (the_rule : Rule) (symbol : List ℕ) (table : Bool) (entries : List OrderRecord) (trades : Result (List TradeRecord) Finding) (told : Verdict) → WellFormed symbol entries
-    → IsJudgedHistory the_rule symbol table (order_list symbol entries) trades told → IsJudgedRecords the_rule symbol table entries trades told
-judged_after the_rule symbol table entries trades told formed is =
-    let orders : List Order = order_list symbol entries in
+pub judged_after : (q : Question) (entries : List OrderRecord) (trades : Result (List TradeRecord) Finding) (the_verdict : Verdict) → WellFormed q.symbol entries
+    → IsJudgedHistory q (order_list q.symbol entries) trades the_verdict → IsJudgedRecords q entries trades the_verdict
+judged_after q entries trades the_verdict formed is =
+    let orders : List Order = order_list q.symbol entries in
     record {
       found = is.found;
-      by_the_rules = subst (λ (h : Option Finding). MatchOption (first_of (h ∷ call_finding the_rule orders ∷ pairing_finding trades ∷ unsound_trade orders symbol (paired_trades trades) ∷ [])) (IsRuleVerdict the_rule orders (deals_of orders symbol (paired_trades trades)) (length (paired_trades trades)) is.found) (λ g. is.found ≡ Some g)) (sym formed) is.by_the_rules;
-      tells = is.tells;
+      by_the_rules = subst (λ (h : Option Finding). after_phases q orders trades is.found h (call_finding q.rule orders)) (sym formed) is.by_the_rules;
+      outcome = is.outcome;
     }
 
 -- the orders are those of the history
-pub judged_of : (the_rule : Rule) (symbol : List ℕ) (table : Bool) (entries : List OrderRecord) (trades : Result (List TradeRecord) Finding) (orders : List Order) (told : Verdict) → WellFormed symbol entries
-    → orders ≡ order_list symbol entries → IsJudgedHistory the_rule symbol table orders trades told → IsJudgedRecords the_rule symbol table entries trades told
-judged_of the_rule symbol table entries trades orders told formed same is =
-    judged_after the_rule symbol table entries trades told formed (subst (λ (os : List Order). IsJudgedHistory the_rule symbol table os trades told) same is)
+pub judged_of : (q : Question) (entries : List OrderRecord) (trades : Result (List TradeRecord) Finding) (orders : List Order) (the_verdict : Verdict) → WellFormed q.symbol entries
+    → orders ≡ order_list q.symbol entries → IsJudgedHistory q orders trades the_verdict → IsJudgedRecords q entries trades the_verdict
+judged_of q entries trades orders the_verdict formed same is =
+    judged_after q entries trades the_verdict formed (subst (λ (os : List Order). IsJudgedHistory q os trades the_verdict) same is)
 
-no_call : IsTrue false → ⊥
+pub no_call : IsTrue false → ⊥
 no_call e = cc
 
 -- under a rule of a call the orders that don't rest are looked for
@@ -81,22 +80,22 @@ call_looks rule.Uniform orders call = refl
 call_looks rule.Maximum orders call = refl
 call_looks rule.Continuous orders call = absurd (no_call call)
 
-module _ (the_rule : Rule) (symbol : List ℕ) (table : Bool) (orders : List Order) where
+module _ (q : Question) (orders : List Order) where
   -- an order that doesn't rest is the verdict
-  pub history_instant : (trades : Result (List TradeRecord) Finding) (finding : Finding) → IsTrue (is_call the_rule) → instant_order orders ≡ Some finding
-      → IsJudgedHistory the_rule symbol table orders trades (Rejected finding)
+  pub history_instant : (trades : Result (List TradeRecord) Finding) (finding : Finding) → IsTrue (is_call q.rule) → instant_order orders ≡ Some finding
+      → IsJudgedHistory q orders trades (Rejected finding)
   history_instant trades finding call is = record {
     found = Some finding;
-    by_the_rules = subst (λ (i : Option Finding). MatchOption (first_of (i ∷ pairing_finding trades ∷ unsound_trade orders symbol (paired_trades trades) ∷ [])) (IsRuleVerdict the_rule orders (deals_of orders symbol (paired_trades trades)) (length (paired_trades trades)) (Some finding)) (λ g. Some finding ≡ Some g)) (sym (call_looks the_rule orders call ∙ is)) refl;
-    tells = refl;
+    by_the_rules = subst (λ (i : Option Finding). after_phases q orders trades (Some finding) None i) (sym (call_looks q.rule orders call ∙ is)) refl;
+    outcome = refl;
   }
 
   -- else a report without its partner is
-  pub history_alone : (finding : Finding) → IsTrue (is_call the_rule) → instant_order orders ≡ None → IsJudgedHistory the_rule symbol table orders (Err finding) (Rejected finding)
+  pub history_alone : (finding : Finding) → IsTrue (is_call q.rule) → instant_order orders ≡ None → IsJudgedHistory q orders (Err finding) (Rejected finding)
   history_alone finding call none = record {
     found = Some finding;
-    by_the_rules = subst (λ (i : Option Finding). MatchOption (first_of (i ∷ Some finding ∷ unsound_trade orders symbol [] ∷ [])) (IsRuleVerdict the_rule orders (deals_of orders symbol []) (length (paired_trades (Err finding))) (Some finding)) (λ g. Some finding ≡ Some g)) (sym (call_looks the_rule orders call ∙ none)) refl;
-    tells = refl;
+    by_the_rules = subst (λ (i : Option Finding). after_phases q orders (Err finding) (Some finding) None i) (sym (call_looks q.rule orders call ∙ none)) refl;
+    outcome = refl;
   }
 
   or_none : (o : Option Finding) → first_of (o ∷ []) ≡ o
@@ -104,156 +103,74 @@ module _ (the_rule : Rule) (symbol : List ℕ) (table : Bool) (orders : List Ord
   or_none (Some f) = refl
 
   -- else the trades decide
-  pub history_trades : (trades : List TradeRecord) (told : Verdict) → IsTrue (is_call the_rule) → instant_order orders ≡ None → IsJudgedTrades the_rule symbol table orders trades told
-      → IsJudgedHistory the_rule symbol table orders (Ok trades) told
-  history_trades trades told call none is = record {
+  pub history_trades : (trades : List TradeRecord) (the_verdict : Verdict) → IsTrue (is_call q.rule) → instant_order orders ≡ None → IsJudgedTrades q orders trades the_verdict
+      → IsJudgedHistory q orders (Ok trades) the_verdict
+  history_trades trades the_verdict call none is = record {
     found = is.found;
-    by_the_rules = subst (λ (i : Option Finding). MatchOption (first_of (i ∷ None ∷ unsound_trade orders symbol trades ∷ [])) (IsRuleVerdict the_rule orders (deals_of orders symbol trades) (length trades) is.found) (λ g. is.found ≡ Some g)) (sym (call_looks the_rule orders call ∙ none))
-        (subst (λ (u : Option Finding). MatchOption u (IsRuleVerdict the_rule orders (deals_of orders symbol trades) (length trades) is.found) (λ g. is.found ≡ Some g)) (sym (or_none (unsound_trade orders symbol trades))) is.by_the_rules);
-    tells = is.tells;
+    by_the_rules = subst (λ (i : Option Finding). after_phases q orders (Ok trades) is.found None i) (sym (call_looks q.rule orders call ∙ none))
+        (subst (λ (u : Option Finding). FoundAfter u q orders (deals_of orders q.symbol trades) (length trades) is.found) (sym (or_none (unsound_trade orders q.symbol trades))) is.by_the_rules);
+    outcome = is.outcome;
   }
 
   -- an unsound trade is the verdict
-  pub trades_unsound : (trades : List TradeRecord) (finding : Finding) → unsound_trade orders symbol trades ≡ Some finding → IsJudgedTrades the_rule symbol table orders trades (Rejected finding)
+  pub trades_unsound : (trades : List TradeRecord) (finding : Finding) → unsound_trade orders q.symbol trades ≡ Some finding → IsJudgedTrades q orders trades (Rejected finding)
   trades_unsound trades finding is = record {
     found = Some finding;
-    by_the_rules = subst (λ (u : Option Finding). MatchOption u (IsRuleVerdict the_rule orders (deals_of orders symbol trades) (length trades) (Some finding)) (λ g. Some finding ≡ Some g)) (sym is) refl;
-    tells = refl;
+    by_the_rules = subst (λ (u : Option Finding). FoundAfter u q orders (deals_of orders q.symbol trades) (length trades) (Some finding)) (sym is) refl;
+    outcome = refl;
   }
 
   -- else their deals decide
-  pub trades_sound : (trades : List TradeRecord) (deals : List Deal) (told : Verdict) → Sound orders symbol trades → deals ≡ deals_of orders symbol trades
-      → IsJudgedDeals the_rule symbol table orders deals (length trades) told → IsJudgedTrades the_rule symbol table orders trades told
-  trades_sound trades deals told sound same is = record {
+  pub trades_sound : (trades : List TradeRecord) (deals : List Deal) (the_verdict : Verdict) → Sound orders q.symbol trades → deals ≡ deals_of orders q.symbol trades
+      → IsJudgedDeals q orders deals (length trades) the_verdict → IsJudgedTrades q orders trades the_verdict
+  trades_sound trades deals the_verdict sound same is = record {
     found = is.found;
-    by_the_rules = subst (λ (u : Option Finding). MatchOption u (IsRuleVerdict the_rule orders (deals_of orders symbol trades) (length trades) is.found) (λ g. is.found ≡ Some g)) (sym sound)
-        (subst (λ (ds : List Deal). IsRuleVerdict the_rule orders ds (length trades) is.found) same is.by_the_rule);
-    tells = subst (λ (ds : List Deal). IsTold the_rule symbol table orders ds is.found told) same is.tells;
+    by_the_rules = subst (λ (u : Option Finding). FoundAfter u q orders (deals_of orders q.symbol trades) (length trades) is.found) (sym sound)
+        (subst (λ (ds : List Deal). IsRuleVerdict q.rule orders ds (length trades) is.found) same is.by_the_rule);
+    outcome = subst (λ (ds : List Deal). IsOutcome q orders ds is.found the_verdict) same is.outcome;
   }
 
--- The rule.
+-- What a verdict says is in its range.
 
-map-same : (f g : ℕ → Line) (a n : ℕ) → ((i : ℕ) → i < a + n → f i ≡ g i) → map f (range_with_len a n) ≡ map g (range_with_len a n)
-map-same f g a zero same = refl
-map-same f g a (suc n) same =
-    ap (λ (x : Line). x ∷ map f (range_with_len (a + 1) n)) (same a (omega arith))
-    ∙ ap (λ (xs : List Line). g a ∷ xs) (map-same f g (a + 1) n (λ i lt. same i (omega arith)))
-
--- the lines of what each order traded are the table of a call
-lines-are : (orders : List Order) (deals : List Deal) (totals : List ℕ) → AreTotals orders deals totals → lines_of orders totals ≡ order_lines orders deals
-lines-are orders deals totals are =
-    map-same (λ i. line_of (order_at orders i) (slice_index totals i)) (order_line_at orders deals) 0 (length orders) (λ i lt. ap (line_of (order_at orders i)) (are.each i (omega arith)))
-
-table-is : (the_rule : Rule) (table : Bool) (orders : List Order) (deals : List Deal) (totals : List ℕ) → IsTrue (is_call the_rule) → AreTotals orders deals totals
-    → call_table table orders totals ≡ table_lines the_rule table orders deals
-table-is the_rule false orders deals totals call are = refl
-table-is rule.Continuous true orders deals totals call are = absurd (no_call call)
-table-is rule.Matching true orders deals totals call are = lines-are orders deals totals are
-table-is rule.Fair true orders deals totals call are = lines-are orders deals totals are
-table-is rule.Uniform true orders deals totals call are = lines-are orders deals totals are
-table-is rule.Maximum true orders deals totals call are = lines-are orders deals totals are
-
-module _ (symbol : List ℕ) (table : Bool) (orders : List Order) (deals : List Deal) (count : ℕ) where
-  -- what a log comes to that conforms
-  conforming : (the_rule : Rule) (totals : List ℕ) (reached : ℕ) (bound : Option Cut) → IsTrue (is_call the_rule) → IsRuleVerdict the_rule orders deals count None → AreTotals orders deals totals → reached ≡ volume deals
-      → IsBoundTold the_rule orders (volume deals) bound → AreOnlyQuantities the_rule orders deals
-      → IsJudgedDeals the_rule symbol table orders deals count (accepted_verdict the_rule symbol (length orders) (length deals) reached bound (call_table table orders totals))
-  conforming the_rule totals reached bound call conforms are same shown only = record {
-    found = None;
-    by_the_rule = conforms;
-    tells = record {
-      rule_is = refl;
-      symbol_is = refl;
-      orders_are = refl;
-      trades_are = refl;
-      volume_is = same;
-      bound_is = shown;
-      table_is = table-is the_rule table orders deals totals call are;
-      only = only;
-    };
-  }
-
-  pub matching_accepted : (totals : List ℕ) (reached : ℕ) (told : Verdict) → AreMatching orders deals → AreTotals orders deals totals → reached ≡ volume deals
-      → told ≡ accepted_verdict rule.Matching symbol (length orders) (length deals) reached None (call_table table orders totals) → IsJudgedDeals rule.Matching symbol table orders deals count told
-  matching_accepted totals reached told matching are same is = rw is (conforming rule.Matching totals reached None refl matching are same refl tt)
-
-  pub matching_rejected : (finding : Finding) → matching_offence false orders deals ≡ Some finding → IsJudgedDeals rule.Matching symbol table orders deals count (Rejected finding)
-  matching_rejected finding is = record {
-    found = Some finding;
-    by_the_rule = subst (λ (o : Option Finding). MatchOption o (IsVolumeOffence rule.Matching orders deals count finding) (λ f. finding ≡ f)) (sym is) refl;
-    tells = refl;
-  }
-
-  pub fair_accepted : (totals : List ℕ) (reached : ℕ) (told : Verdict) → AreMatching orders deals → AreFair orders deals → AreTotals orders deals totals → reached ≡ volume deals
-      → told ≡ accepted_verdict rule.Fair symbol (length orders) (length deals) reached None (call_table table orders totals) → IsJudgedDeals rule.Fair symbol table orders deals count told
-  fair_accepted totals reached told matching fair are same is = rw is (conforming rule.Fair totals reached None refl (record { matching = matching; fair = fair }) are same refl tt)
-
-  pub fair_rejected : (finding : Finding) → option_or (matching_offence false orders deals) (fair_offence orders deals) ≡ Some finding → IsJudgedDeals rule.Fair symbol table orders deals count (Rejected finding)
-  fair_rejected finding is = record {
-    found = Some finding;
-    by_the_rule = subst (λ (o : Option Finding). MatchOption o (IsVolumeOffence rule.Fair orders deals count finding) (λ f. finding ≡ f)) (sym is) refl;
-    tells = refl;
-  }
-
-  -- what an audit answers is the verdict of its rule
-  pub uniform_told : (answer : Outcome) (told : Verdict) → IsAudited rule.Uniform orders deals count answer → IsToldOutcome rule.Uniform symbol table orders (length deals) answer told
-      → IsJudgedDeals rule.Uniform symbol table orders deals count told
-  uniform_told (outcome.Conforms reached) told audited is =
-      rw is (conforming rule.Uniform reached.traded.0 reached.volume reached.bound refl audited.conforms audited.totals audited.volume_is audited.bound_is audited.only)
-  uniform_told (outcome.Broken finding) told audited is = rw is (record { found = Some finding; by_the_rule = audited.offence; tells = refl })
-
-  pub maximum_told : (answer : Outcome) (told : Verdict) → IsAudited rule.Maximum orders deals count answer → IsToldOutcome rule.Maximum symbol table orders (length deals) answer told
-      → IsJudgedDeals rule.Maximum symbol table orders deals count told
-  maximum_told (outcome.Conforms reached) told audited is =
-      rw is (conforming rule.Maximum reached.traded.0 reached.volume reached.bound refl audited.conforms audited.totals audited.volume_is audited.bound_is audited.only)
-  maximum_told (outcome.Broken finding) told audited is = rw is (record { found = Some finding; by_the_rule = audited.offence; tells = refl })
-
--- an audit of a rule that reached something has a number for each order
-pub has_totals : (the_rule : Rule) (orders : List Order) (deals : List Deal) (count : ℕ) (answer : Outcome) → IsAudited the_rule orders deals count answer → HasTotals (length orders) answer
-has_totals the_rule orders deals count (outcome.Conforms reached) audited = audited.totals.count
-has_totals the_rule orders deals count (outcome.Broken finding) audited = tt
-
--- What is told is in its range.
-
-none-told : (bound : Option Cut) → bound ≡ None → ForSome bound IsBoundInRange
-none-told bound is x e = absurd (none-some bound x is e)
+none-shown : (bound : Option Cut) → bound ≡ None → ForSome bound IsBoundInRange
+none-shown bound is x e = absurd (none-some bound x is e)
   where
     none-some : (o : Option Cut) (x : Cut) → o ≡ None → o ≡ Some x → ⊥
     none-some o x e f = cc
 
-some-told : (c : Cut) → c.price ≤ 10 ^ 18 → ForSome (Some c) IsBoundInRange
-some-told c le x e = subst (λ (y : Cut). y.price ≤ 10 ^ 18) (same c x e) le
+some-shown : (c : Cut) → c.price ≤ 10 ^ 18 → ForSome (Some c) IsBoundInRange
+some-shown c le x e = subst (λ (y : Cut). y.price ≤ 10 ^ 18) (same c x e) le
   where
     same : (c x : Cut) → Some c ≡ Some x → c ≡ x
     same c x e = cc
 
-bound-in_range : (the_rule : Rule) (orders : List Order) (reached : ℕ) (bound : Option Cut) → IsBoundTold the_rule orders reached bound → ForSome bound IsBoundInRange
+bound-in_range : (the_rule : Rule) (orders : List Order) (reached : ℕ) (bound : Option Cut) → IsBoundShown the_rule orders reached bound → ForSome bound IsBoundInRange
 bound-in_range rule.Uniform orders reached None is = absurd is
-bound-in_range rule.Uniform orders reached (Some c) is = some-told c is.shows.holds.0
+bound-in_range rule.Uniform orders reached (Some c) is = some-shown c is.shows.holds.0
 bound-in_range rule.Maximum orders reached None is = absurd is
-bound-in_range rule.Maximum orders reached (Some c) is = some-told c is.shows.holds.0
-bound-in_range rule.Matching orders reached bound is = none-told bound is
-bound-in_range rule.Fair orders reached bound is = none-told bound is
-bound-in_range rule.Continuous orders reached bound is = none-told bound is
+bound-in_range rule.Maximum orders reached (Some c) is = some-shown c is.shows.holds.0
+bound-in_range rule.Matching orders reached bound is = none-shown bound is
+bound-in_range rule.Fair orders reached bound is = none-shown bound is
+bound-in_range rule.Continuous orders reached bound is = none-shown bound is
 
-told-in_range : (the_rule : Rule) (symbol : List ℕ) (table : Bool) (orders : List Order) (deals : List Deal) (found : Option Finding) (told : Verdict) → IsTold the_rule symbol table orders deals found told → IsVerdictInRange told
-told-in_range the_rule symbol table orders deals None (IsAccepted a) is = bound-in_range the_rule orders (volume deals) a.bound is.bound_is
-told-in_range the_rule symbol table orders deals None (Rejected f) is = absurd is
-told-in_range the_rule symbol table orders deals None (Malformed log bad) is = absurd is
-told-in_range the_rule symbol table orders deals (Some finding) told is = rw is tt
+outcome-in_range : (q : Question) (orders : List Order) (deals : List Deal) (found : Option Finding) (the_verdict : Verdict) → IsOutcome q orders deals found the_verdict → IsVerdictInRange the_verdict
+outcome-in_range q orders deals None (IsAccepted a) is = bound-in_range q.rule orders (volume deals) a.bound is.bound_is
+outcome-in_range q orders deals None (Rejected f) is = absurd is
+outcome-in_range q orders deals None (Malformed log bad) is = absurd is
+outcome-in_range q orders deals (Some finding) the_verdict is = rw is tt
 
-pub judged-in_range : (the_rule : Rule) (symbol : List ℕ) (table : Bool) (entries : List OrderRecord) (trades : Result (List TradeRecord) Finding) (told : Verdict) → IsJudgedRecords the_rule symbol table entries trades told → IsVerdictInRange told
-judged-in_range the_rule symbol table entries trades told is =
-    told-in_range the_rule symbol table (order_list symbol entries) (deals_of (order_list symbol entries) symbol (paired_trades trades)) is.found told is.tells
+pub judged-in_range : (q : Question) (entries : List OrderRecord) (trades : Result (List TradeRecord) Finding) (the_verdict : Verdict) → IsJudgedRecords q entries trades the_verdict → IsVerdictInRange the_verdict
+judged-in_range q entries trades the_verdict is =
+    outcome-in_range q (order_list q.symbol entries) (deals_of (order_list q.symbol entries) q.symbol (paired_trades trades)) is.found the_verdict is.outcome
 
 -- trades whose numbers are in range have one verdict
-pub judged_once : (the_rule : Rule) (symbol : List ℕ) (table : Bool) (entries : List OrderRecord) (trades : Result (List TradeRecord) Finding) (told : Verdict) → AreTrades (paired_trades trades)
-    → IsJudgedRecords the_rule symbol table entries trades told → IsJudged the_rule symbol table entries trades told
-judged_once the_rule symbol table entries trades told ranges is = record {
+pub judged_once : (q : Question) (entries : List OrderRecord) (trades : Result (List TradeRecord) Finding) (the_verdict : Verdict) → AreTrades (paired_trades trades)
+    → IsJudgedRecords q entries trades the_verdict → IsJudged q entries trades the_verdict
+judged_once q entries trades the_verdict ranges is = record {
   found = is.found;
   by_the_rules = is.by_the_rules;
-  one = λ other others. one-verdict the_rule symbol entries trades other is.found ranges others is.by_the_rules;
-  tells = is.tells;
+  one = λ other others. one-verdict q.rule q.symbol entries trades other is.found ranges others is.by_the_rules;
+  outcome = is.outcome;
 }
 
 -- the first order that does not rest is the finding
@@ -265,3 +182,62 @@ instant_at orders i o same lt before away =
     let first : least_with test (length orders) ≡ Some i = with-at test (length orders) i lt here (none-with test i before) in
     ap (λ (x : Order). Some (found property.InstantOrder which.Orders x.place None None)) same
     ∙ ap (option_map (λ (k : ℕ). found property.InstantOrder which.Orders (order_at orders k).place None None)) (sym first)
+
+-- what the trades come to is the verdict, which is the only one
+pub judged_whole : (q : Question) (entries : List OrderRecord) (trades : List TradeRecord) (orders : List Order) (the_verdict : Verdict) → IsTrue (is_call q.rule) → WellFormed q.symbol entries
+    → orders ≡ order_list q.symbol entries → instant_order orders ≡ None → (unsound_trade orders q.symbol trades ≡ None → AreDeals (deals_of orders q.symbol trades))
+    → IsJudgedTrades q orders trades the_verdict → IsJudged q entries (Ok trades) the_verdict
+judged_whole q entries trades orders the_verdict call formed same none ranges is =
+    let whole = judged_of q entries (Ok trades) orders the_verdict formed same (history_trades q orders trades the_verdict call none is) in
+    record {
+      found = whole.found;
+      by_the_rules = whole.by_the_rules;
+      one = λ other others. one-verdict-of_deals q.rule q.symbol entries (Ok trades) other whole.found
+          (subst (λ (os : List Order). unsound_trade os q.symbol trades ≡ None → AreDeals (deals_of os q.symbol trades)) same ranges) others whole.by_the_rules;
+      outcome = whole.outcome;
+    }
+
+-- a finding of the history is the only verdict
+pub judged_by_history : (q : Question) (entries : List OrderRecord) (trades : Result (List TradeRecord) Finding) (finding : Finding) → history_finding q.symbol entries ≡ Some finding
+    → IsJudged q entries trades (Rejected finding)
+unfolding judged_found
+judged_by_history q entries trades finding is =
+    let orders : List Order = order_list q.symbol entries in
+    record {
+      found = Some finding;
+      by_the_rules = (judged_found q entries trades finding is).by_the_rules;
+      one = λ other others. subst (λ (h : Option Finding). after_phases q orders trades other h (call_finding q.rule orders)) is others;
+      outcome = refl;
+    }
+
+-- an order that doesn't rest is the only verdict
+pub judged_by_instant : (q : Question) (entries : List OrderRecord) (trades : Result (List TradeRecord) Finding) (finding : Finding) → IsTrue (is_call q.rule) → WellFormed q.symbol entries
+    → instant_order (order_list q.symbol entries) ≡ Some finding → IsJudged q entries trades (Rejected finding)
+unfolding judged_after history_instant
+judged_by_instant q entries trades finding call formed is =
+    let orders : List Order = order_list q.symbol entries in
+    let history = history_instant q orders trades finding call is in
+    record {
+      found = Some finding;
+      by_the_rules = (judged_after q entries trades (Rejected finding) formed history).by_the_rules;
+      one = λ other others.
+          subst (λ (i : Option Finding). after_phases q orders trades other None i) (call_looks q.rule orders call ∙ is)
+          (subst (λ (h : Option Finding). after_phases q orders trades other h (call_finding q.rule orders)) formed others);
+      outcome = refl;
+    }
+
+-- a report without its partner is the only verdict where the history has none
+pub judged_alone : (q : Question) (entries : List OrderRecord) (orders : List Order) (finding : Finding) → IsTrue (is_call q.rule) → WellFormed q.symbol entries
+    → orders ≡ order_list q.symbol entries → instant_order orders ≡ None → IsJudged q entries (Err finding) (Rejected finding)
+unfolding judged_after history_alone
+judged_alone q entries orders finding call formed same none =
+    let those : List Order = order_list q.symbol entries in
+    let quiet : instant_order those ≡ None = ap instant_order (sym same) ∙ none in
+    record {
+      found = Some finding;
+      by_the_rules = (judged_after q entries (Err finding) (Rejected finding) formed (history_alone q those finding call quiet)).by_the_rules;
+      one = λ other others.
+          subst (λ (i : Option Finding). after_phases q those (Err finding) other None i) (call_looks q.rule those call ∙ quiet)
+          (subst (λ (h : Option Finding). after_phases q those (Err finding) other h (call_finding q.rule those)) formed others);
+      outcome = refl;
+    }

@@ -1,7 +1,17 @@
-pub mod Answers
-pub mod Judgements
-pub mod Readings
+-- What a reader must believe, in the order in which it is read: what `run` answers and writes; what well-formed words ask for; what
+-- each command reads and reports; the steps of a reading; the verdict on two logs, and on their records.
 pub mod Runs
-pub mod Tables
-pub mod Tellings
 pub mod Words
+pub mod Options
+pub mod Requests
+pub mod Steps
+pub mod LogVerdicts
+pub mod Judgements
+pub mod Laws
+pub mod InMemory
+-- What private functions pass on to one another.
+pub mod Collecting
+pub mod Auditing
+pub mod Phases
+pub mod Tables
+pub mod Writing

@@ -1,150 +1,142 @@
 -- What the top call answers and writes.
-use Rattle.std.specs.Prelude.{◌≡◌, ◌⊎◌, ℕ, true, List, Option, None, Some, IsSome, length, ◌≤◌, IsOk}
+use Rattle.std.specs.Prelude.{◌≡◌, ◌≤◌, ◌⊎◌, ℕ, true, List, [], ◌∷◌, ◌++◌, Option, None, Some, IsSome, length}
+use Rattle.std.specs.Io.KnownBytes.{Appends}
 use Rattle.audit_base.specs.declared.terms.Which.{Which}
-use Rattle.audit_base.specs.declared.terms.Which.TheVariants.{Orders, Trades}
-use Rattle.audit_report.specs.declared.verdicts.Verdict.{Verdict}
 use Rattle.audit_report.specs.declared.statuses.Status.{Status}
 use Rattle.audit_report.specs.declared.statuses.Status.TheVariants.{Accepted, Rejected, Usage, Malformed, ReadFault, WriteFault, TooLong, Memory}
-use Rattle.audit_report.specs.Statuses.{verdict_status}
-use Rattle.audit_report.specs.Texts.{verdict_text}
 use Rattle.audit_report.specs.Lines.{usage_line, read_fault_line, too_long_line}
-use Rattle.log_source.specs.Sinks.{Held, AppendsPart, MayFail}
+use Rattle.log_source.specs.Sinks.{SinkState, AppendsPart, MayFail}
 use Rattle.log_source.specs.Sources.{Rose, longest_log}
-use Rattle.std.specs.Io.KnownBytes.{Appends}
-use Rattle.csv_logs.specs.Logs.{order_log}
 use Rattle.audit_run.specs.declared.requests.Request.{Request}
-use Rattle.audit_run.specs.Readings.{Reading, BeginsWithin, EndsWithin}
-use Rattle.audit_run.specs.Answers.{name_of, IsVerdictOn, StopsAtFault, StopsAtLength}
+use Rattle.audit_run.specs.Requests.{next_log, IsReport}
+use Rattle.audit_run.specs.Steps.{Reading, Step, IsRead, IsReadFault, IsTooLong, Lead, BeginsWithin, EndsWithin}
 
--- a verdict's status and text
-pub record TellsVerdict (r : Reading) (request : Request) (status : Status) (text : List ℕ) : Type 0 where
-  pub verdict : Verdict
-  pub verdict_on : IsVerdictOn r request verdict
-  pub status_is : status ≡ verdict_status verdict
-  pub text_is : text ≡ verdict_text verdict
+-- The next log that the command needs is this one, which was started, read to its end, and has these bytes.
+pub record ReadsNext (r : Reading) (request : Request) (earlier : List (List ℕ)) (step : Step)
+    (bytes : List ℕ) : Type 0 where
+  pub next : next_log request earlier ≡ Some (step.log, step.name)
+  pub read : IsRead r step bytes
 
--- the line of a log that could not be read
-pub record TellsFault (r : Reading) (request : Request) (text : List ℕ) : Type 0 where
-  pub log : Which
-  pub stops : StopsAtFault r request log
-  pub text_is : text ≡ read_fault_line log
+-- these steps read, one after another, the logs that the command needs: `earlier` are the bytes of those read before, `logs` of all
+abbrev pub ReadsOn : Reading → Request → List (List ℕ) → List Step → List (List ℕ) → Type 0
+ReadsOn r request earlier [] logs = logs ≡ earlier
+ReadsOn r request earlier (step ∷ steps) logs = (bytes : List ℕ)
+    × ReadsNext r request earlier step bytes × ReadsOn r request (earlier ++ bytes ∷ []) steps logs
 
--- the line of a log that is too long
-pub record TellsLength (r : Reading) (request : Request) (text : List ℕ) : Type 0 where
-  pub log : Which
-  pub stops : StopsAtLength r request log
-  pub text_is : text ≡ too_long_line log
+-- All the logs that the command needs were read, each to its end, and no others were started; this is what it reports of them.
+pub record ReportsLogs (r : Reading) (request : Request) (status : Status)
+    (text : List ℕ) : Type 0 where
+  pub steps : List Step
+  pub logs : List (List ℕ)
+  pub lead : Lead r.before steps r.after
+  pub read : ReadsOn r request [] steps logs
+  pub all : next_log request logs ≡ None
+  pub report : IsReport request logs status text
 
--- what there is to write before the sink is asked: a verdict's text, or a line with its cause
-abbrev pub IsAnswer : Reading → Request → Status → List ℕ → Type 0
-IsAnswer r request Accepted text = TellsVerdict r request Accepted text
-IsAnswer r request Rejected text = TellsVerdict r request Rejected text
-IsAnswer r request Malformed text = TellsVerdict r request Malformed text
-IsAnswer r request ReadFault text = TellsFault r request text
-IsAnswer r request TooLong text = TellsLength r request text
-IsAnswer r request Usage text = ⊥
-IsAnswer r request WriteFault text = ⊥
-IsAnswer r request Memory text = ⊥
+-- The next log that the command needs was started, and reading stopped there for a cause, which the line tells.
+pub record StopsAtLog (why : Reading → Step → Type 0) (line : Which → List ℕ) (r : Reading)
+    (request : Request) (text : List ℕ) : Type 0 where
+  pub steps : List Step
+  pub logs : List (List ℕ)
+  pub last : Step
+  pub lead : Lead r.before (steps ++ last ∷ []) r.after
+  pub read : ReadsOn r request [] steps logs
+  pub next : next_log request logs ≡ Some (last.log, last.name)
+  pub cause : why r last
+  pub text_is : text ≡ line last.log
 
--- nothing was written, and no fault was counted
-abbrev pub WritesNothing : Held → Held → Type 0
-WritesNothing old new = new ≡ old
+-- what there is to write: the report on the logs, or the line of the log at which reading stopped
+abbrev pub IsText : Reading → Request → Status → List ℕ → Type 0
+IsText r request Accepted text = ReportsLogs r request Accepted text
+IsText r request Rejected text = ReportsLogs r request Rejected text
+IsText r request Malformed text = ReportsLogs r request Malformed text
+IsText r request ReadFault text = StopsAtLog IsReadFault read_fault_line r request text
+IsText r request TooLong text = StopsAtLog IsTooLong too_long_line r request text
+IsText r request Usage text = ⊥
+IsText r request WriteFault text = ⊥
+IsText r request Memory text = ⊥
 
--- the whole text was written, and nothing else
-pub record WritesAnswer (r : Reading) (request : Request) (old new : Held) (status : Status) : Type 0 where
+-- A text of this kind was written, whole, and nothing else.
+pub record WritesText (is_text : List ℕ → Type 0) (old new : SinkState) : Type 0 where
   pub text : List ℕ
-  pub answer : IsAnswer r request status text
+  pub is : is_text text
   pub wrote : Appends old.wrote new.wrote text
 
--- the sink's faults rose, and a front of the text was written that is not all of it
-pub record FailsToWrite (r : Reading) (request : Request) (old new : Held) : Type 0 where
-  pub status : Status
+-- The sink's faults rose, and a proper prefix of a text that was to be written was.
+pub record WritesPart (is_text : List ℕ → Type 0) (old new : SinkState) : Type 0 where
   pub text : List ℕ
-  pub answer : IsAnswer r request status text
+  pub is : is_text text
   pub wrote : AppendsPart old.wrote new.wrote text
   pub cause : MayFail old new
 
--- on plain words: each status with its cause and with what was written
-abbrev pub RunsOn : Reading → Request → Held → Held → Status → Type 0
-RunsOn r request old new Usage = ⊥
-RunsOn r request old new Memory = WritesNothing old new
-RunsOn r request old new WriteFault = FailsToWrite r request old new
-RunsOn r request old new Accepted = WritesAnswer r request old new Accepted
-RunsOn r request old new Rejected = WritesAnswer r request old new Rejected
-RunsOn r request old new Malformed = WritesAnswer r request old new Malformed
-RunsOn r request old new ReadFault = WritesAnswer r request old new ReadFault
-RunsOn r request old new TooLong = WritesAnswer r request old new TooLong
+-- a text with some status
+abbrev pub IsSomeText : Reading → Request → List ℕ → Type 0
+IsSomeText r request text = (status : Status) × IsText r request status text
 
--- the sink's faults rose, and a front of the usage line was written
-pub record FailsToTellUsage (old new : Held) : Type 0 where
-  pub wrote : AppendsPart old.wrote new.wrote usage_line
-  pub cause : MayFail old new
+-- on well-formed words: each status with its cause and with what was written
+abbrev pub Answers : Reading → Request → SinkState → SinkState → Status → Type 0
+Answers r request old new Accepted = WritesText (IsText r request Accepted) old new
+Answers r request old new Rejected = WritesText (IsText r request Rejected) old new
+Answers r request old new Malformed = WritesText (IsText r request Malformed) old new
+Answers r request old new ReadFault = WritesText (IsText r request ReadFault) old new
+Answers r request old new TooLong = WritesText (IsText r request TooLong) old new
+Answers r request old new WriteFault = WritesPart (IsSomeText r request) old new
+Answers r request old new Memory = new ≡ old
+Answers r request old new Usage = ⊥
 
--- on words that are not plain: the usage line, unless the sink fails or memory is wanted
-abbrev pub TellsUsage : Held → Held → Status → Type 0
-TellsUsage old new Usage = Appends old.wrote new.wrote usage_line
-TellsUsage old new WriteFault = FailsToTellUsage old new
-TellsUsage old new Memory = WritesNothing old new
-TellsUsage old new Accepted = ⊥
-TellsUsage old new Rejected = ⊥
-TellsUsage old new Malformed = ⊥
-TellsUsage old new ReadFault = ⊥
-TellsUsage old new TooLong = ⊥
+-- on words that are not well-formed: the usage line, unless the sink fails
+abbrev pub AnswersUsage : SinkState → SinkState → Status → Type 0
+AnswersUsage old new Usage = WritesText (λ text. text ≡ usage_line) old new
+AnswersUsage old new WriteFault = WritesPart (λ text. text ≡ usage_line) old new
+AnswersUsage old new Accepted = ⊥
+AnswersUsage old new Rejected = ⊥
+AnswersUsage old new Malformed = ⊥
+AnswersUsage old new ReadFault = ⊥
+AnswersUsage old new TooLong = ⊥
+AnswersUsage old new Memory = ⊥
 
--- what the words ask for, or that they are not plain
-abbrev pub Runs : Option Request → Reading → Held → Held → Status → Type 0
-Runs None r old new status = TellsUsage old new status × (r.after ≡ r.before)
-Runs (Some request) r old new status = RunsOn r request old new status
+-- what `run` does: by what its words ask for, or, where they are not well-formed, with the shelf left alone
+abbrev pub Runs : Option Request → Reading → SinkState → SinkState → Status → Type 0
+Runs (Some request) r old new status = Answers r request old new status
+Runs None r old new status =
+    AnswersUsage old new status × ((log : Which) → r.after log ≡ r.before log)
 
--- the shelf holds the log of this name, and it isn't longer than a log may be
-pub record IsHeldWithin (r : Reading) (log : Which) (name : List ℕ) : Type 0 where
-  pub bytes : List ℕ
-  pub holds : r.log_of log name ≡ Some bytes
-  pub within : length bytes ≤ longest_log
+-- the shelf holds this log, which is no longer than a log may be
+abbrev pub Holds : Reading → Option (Which × List ℕ) → List ℕ → Type 0
+Holds r None bytes = ⊥
+Holds r (Some log) bytes = (r.log_of log.0 log.1 ≡ Some bytes) × (length bytes ≤ longest_log)
 
--- the shelf holds the order log, and where that is in its grammar the trade log, neither longer than a log may be
-pub record HoldsLogs (r : Reading) (request : Request) : Type 0 where
-  pub orders : List ℕ
-  pub holds_orders : r.log_of Orders (name_of request Orders) ≡ Some orders
-  pub orders_within : length orders ≤ longest_log
-  pub holds_trades : IsOk (order_log orders) → IsHeldWithin r Trades (name_of request Trades)
+-- these are, one after another, the logs that the command needs after those read, and the shelf holds each
+abbrev pub HoldsLogs : Reading → Request → List (List ℕ) → List (List ℕ) → Type 0
+HoldsLogs r request earlier [] = next_log request earlier ≡ None
+HoldsLogs r request earlier (bytes ∷ logs) =
+    Holds r (next_log request earlier) bytes × HoldsLogs r request (earlier ++ bytes ∷ []) logs
 
--- all is there for a verdict: shelf and sink tell, the logs are held, and no fault rises in the call
-pub record IsReady (r : Reading) (request : Request) (old new : Held) : Type 0 where
-  pub tells : r.tells ≡ true
+-- All is there for a report on these logs: shelf and sink tell, the shelf holds the logs, and no fault was counted in the call.
+pub record IsReady (r : Reading) (request : Request) (logs : List (List ℕ))
+    (old new : SinkState) : Type 0 where
+  pub shelf_tells : r.tells ≡ true
   pub sink_tells : IsSome old.wrote
-  pub holds : HoldsLogs r request
-  pub no_orders_fault : ¬ Rose (r.before Orders).faults (r.after Orders).faults
-  pub no_trades_fault : ¬ Rose (r.before Trades).faults (r.after Trades).faults
-  pub no_sink_fault : ¬ Rose old.faults new.faults
+  pub held : HoldsLogs r request [] logs
+  pub no_fault_of_shelf : (log : Which) → ¬ Rose (r.before log).faults (r.after log).faults
+  pub no_fault_of_sink : ¬ Rose old.faults new.faults
 
--- the words are plain, and all is there for a verdict
-abbrev pub IsReadyFor : Option Request → Reading → Held → Held → Type 0
-IsReadyFor None r old new = ⊥
-IsReadyFor (Some request) r old new = IsReady r request old new
+-- the answer is the status of a report on these logs, and exactly its text was written; or memory ran out, and nothing was
+abbrev pub WritesReport : Request → List (List ℕ) → SinkState → SinkState → Status → Type 0
+WritesReport request logs old new status =
+    WritesText (IsReport request logs status) old new ⊎ ((status ≡ Memory) × (new ≡ old))
 
--- a log is too long, or what tells it could not be written
-abbrev pub MayTellLength : Status → Type 0
-MayTellLength TooLong = Unit {0}
-MayTellLength WriteFault = Unit {0}
-MayTellLength Accepted = ⊥
-MayTellLength Rejected = ⊥
-MayTellLength Usage = ⊥
-MayTellLength Malformed = ⊥
-MayTellLength ReadFault = ⊥
-MayTellLength Memory = ⊥
+-- the headline: on well-formed words, where all is there, exactly the report on the logs is written and its status is answered
+abbrev pub ReportsHeldLogs : Option Request → Reading → SinkState → SinkState → Status → Type 0
+ReportsHeldLogs None r old new status = Unit {0}
+ReportsHeldLogs (Some request) r old new status =
+    (logs : List (List ℕ)) → IsReady r request logs old new
+    → WritesReport request logs old new status
 
--- where both slots begin within the longest log and one ends outside it, the length is told
-abbrev pub TellsLengthOutside : Reading → Status → Type 0
-TellsLengthOutside r status = BeginsWithin r → EndsWithin r ⊎ MayTellLength status
+-- a log is too long, or the line that says so could not be written
+abbrev pub MayBeTooLong : Status → Type 0
+MayBeTooLong status = (status ≡ TooLong) ⊎ (status ≡ WriteFault)
 
--- the status of a verdict, or want of memory
-abbrev pub IsVerdictOrMemory : Status → Type 0
-IsVerdictOrMemory Accepted = Unit {0}
-IsVerdictOrMemory Rejected = Unit {0}
-IsVerdictOrMemory Malformed = Unit {0}
-IsVerdictOrMemory Memory = Unit {0}
-IsVerdictOrMemory Usage = ⊥
-IsVerdictOrMemory ReadFault = ⊥
-IsVerdictOrMemory WriteFault = ⊥
-IsVerdictOrMemory TooLong = ⊥
+-- where both slots begin within the longest log and one ends outside it, the length is what is answered
+abbrev pub AnswersLength : Reading → Status → Type 0
+AnswersLength r status = BeginsWithin r → EndsWithin r ⊎ MayBeTooLong status

@@ -1,25 +1,34 @@
--- What is told of a call that conforms, from what each order traded.
-use Rattle.std.specs.Prelude.{◌≡◌, ℕ, Bool, List, [], Option, length, map, slice_index, if◌then◌else◌}
+-- What is reported of a call that conforms, from what each order traded.
+use Rattle.std.specs.Prelude.{◌≡◌, ℕ, Bool, List, [], None, Some, length, map, slice_index, if◌then◌else◌}
 use Rattle.std.specs.List.{range_with_len}
 use Rattle.audit_base.specs.declared.orders.Order.{Order}
-use Rattle.audit_base.specs.declared.orders.Cut.{Cut}
+use Rattle.audit_base.specs.declared.orders.Deal.{Deal}
 use Rattle.audit_base.specs.declared.terms.Rule.{Rule}
+use Rattle.audit_base.specs.Deals.{volume}
+use Rattle.audit_base.specs.Verdicts.{IsRuleVerdict}
+use Rattle.short_order.specs.Totals.{AreTotals}
 use Rattle.audit_base.specs.Orders.{order_at}
-use Rattle.audit_base.specs.Shows.{order_line}
+use Rattle.audit_base.specs.Shows.{with_traded}
 use Rattle.audit_report.specs.declared.tables.Line.{Line}
 use Rattle.audit_report.specs.declared.tables.Line.TheVariants as line
 use Rattle.audit_report.specs.declared.verdicts.Verdict.{Verdict}
 use Rattle.audit_report.specs.declared.verdicts.Verdict.TheVariants as verdict
 use Rattle.matching_core.specs.declared.outcomes.Outcome.{Outcome}
 use Rattle.matching_core.specs.declared.outcomes.Outcome.TheVariants as outcome
+use Rattle.matching_core.specs.declared.outcomes.CheckFault.{CheckFault}
+use Rattle.matching_core.specs.declared.outcomes.CheckFault.TheVariants as fault
+use Rattle.matching_core.specs.declared.outcomes.Reached.{Reached}
+use Rattle.audit_run.specs.declared.questions.Question.{Question}
+use Rattle.audit_run.specs.Judgements.{AreOnlyQuantities, IsBoundShown}
 
 -- the line of an order with what it traded
 abbrev pub line_of : Order → ℕ → Line
-line_of o traded = line.Order (order_line o traded)
+line_of o traded = line.Order (with_traded o traded)
 
 -- one line for each of the first n orders, in log order
 abbrev pub lines_below : List Order → List ℕ → ℕ → List Line
-lines_below orders traded n = map (λ i. line_of (order_at orders i) (slice_index traded i)) (range_with_len 0 n)
+lines_below orders traded n =
+    map (λ i. line_of (order_at orders i) (slice_index traded i)) (range_with_len 0 n)
 
 -- one line for each order
 abbrev pub lines_of : List Order → List ℕ → List Line
@@ -29,18 +38,40 @@ lines_of orders traded = lines_below orders traded (length orders)
 abbrev pub call_table : Bool → List Order → List ℕ → List Line
 call_table table orders traded = if table then lines_of orders traded else []
 
--- an accepted log with these numbers
-abbrev pub accepted_verdict : Rule → List ℕ → ℕ → ℕ → ℕ → Option Cut → List Line → Verdict
-accepted_verdict the_rule symbol orders trades volume bound table =
-    verdict.Accepted (record { rule = the_rule; symbol = symbol; orders = orders; trades = trades; volume = volume; bound = bound; table = table })
+-- the verdict that a log of so many trades is accepted, with what its deals reached
+abbrev pub accepted_verdict : Question → List Order → ℕ → Reached → Verdict
+accepted_verdict q orders trades reached = verdict.Accepted (record {
+  rule = q.rule;
+  symbol = q.symbol;
+  orders = length orders;
+  trades = trades;
+  volume = reached.volume;
+  bound = reached.bound;
+  table = call_table q.table orders reached.traded.0;
+})
 
--- what an audit reached has a number for each order
-abbrev pub HasTotals : ℕ → Outcome → Type 0
-HasTotals count (outcome.Conforms reached) = length reached.traded.0 ≡ count
-HasTotals count (outcome.Broken finding) = Unit {0}
+-- The deals conform to the rule, with what each order traded, the volume and the bound; the quantities are the only ones.
+pub record IsRuleConforming (the_rule : Rule) (orders : List Order) (deals : List Deal)
+    (count : ℕ) (reached : Reached) : Type 0 where
+  pub conforms : IsRuleVerdict the_rule orders deals count None
+  pub totals : AreTotals orders deals reached.traded.0
+  pub volume_is : reached.volume ≡ volume deals
+  pub bound_is : IsBoundShown the_rule orders (volume deals) reached.bound
+  pub only : AreOnlyQuantities the_rule orders deals
 
--- what an audit answers is told: its finding, or what it reached
-abbrev pub IsToldOutcome : Rule → List ℕ → Bool → List Order → ℕ → Outcome → Verdict → Type 0
-IsToldOutcome the_rule symbol table orders trades (outcome.Conforms reached) told =
-    told ≡ accepted_verdict the_rule symbol (length orders) trades reached.volume reached.bound (call_table table orders reached.traded.0)
-IsToldOutcome the_rule symbol table orders trades (outcome.Broken finding) told = told ≡ verdict.Rejected finding
+-- what the audit of a rule answers: that the deals conform, or their first offence
+abbrev pub IsRuleAudited : Rule → List Order → List Deal → ℕ → Outcome → Type 0
+IsRuleAudited the_rule orders deals count (outcome.Conforms reached) =
+    IsRuleConforming the_rule orders deals count reached
+IsRuleAudited the_rule orders deals count (outcome.Broken finding) =
+    IsRuleVerdict the_rule orders deals count (Some finding)
+
+-- what deals come to that conform to a rule without a bound
+abbrev pub conforming_outcome : List ℕ × ℕ → Outcome
+conforming_outcome totals =
+    outcome.Conforms (record { traded = totals; volume = totals.1; bound = None })
+
+-- what deals come to in which a check found this
+abbrev pub IsOutcomeOfFault : CheckFault → Outcome → Type 0
+IsOutcomeOfFault (fault.Found finding) the_outcome = the_outcome ≡ outcome.Broken finding
+IsOutcomeOfFault fault.Memory the_outcome = ⊥

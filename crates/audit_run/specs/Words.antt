@@ -1,38 +1,38 @@
--- The words of a command line, and which of them are plain. The code of `-` is 45.
-use Rattle.std.specs.Prelude.{ℕ, Bool, true, false, not, ◌==◌, ◌&&◌, Option, None, Some, option_map, option_and_then, List, [], ◌∷◌, length, slice_index, slice_index_or, codes, nat_le, if◌then◌else◌}
-use Rattle.std.specs.Cmp.Lexicographic.{pointwise}
+-- The words of a command line without the program's name, and what they ask for where they are well-formed. The code of `-` is 45.
+use Rattle.std.specs.Prelude.{ℕ, Bool, true, false, not, ◌==◌, ◌&&◌, ◌||◌, Option, None, option_map, option_and_then, unwrap_or, List, [], ◌∷◌, length, drop, slice_index, slice_index_or, codes, nat_le, if◌then◌else◌}
 use Rattle.audit_base.specs.Names.{is_name}
 use Rattle.audit_base.specs.Least.{first_of, only_if}
 use Rattle.audit_base.specs.Words.{rule_word}
 use Rattle.audit_base.specs.declared.terms.Rule.{Rule}
 use Rattle.audit_base.specs.declared.terms.Rule.TheVariants as rule
-use Rattle.audit_base.specs.declared.terms.Form.TheVariants as form
+use Rattle.audit_base.specs.declared.terms.Form.TheVariants.{Csv}
+use Rattle.audit_run.specs.declared.options.Options.{Options}
 use Rattle.audit_run.specs.declared.requests.Request.{Request}
 use Rattle.audit_run.specs.declared.requests.Request.TheVariants.{Audit}
+use Rattle.audit_run.specs.Options.{is_word, options_in}
 
 -- the word at a place, from 0
 abbrev pub word_at : List (List ℕ) → ℕ → List ℕ
 word_at words place = slice_index_or words place []
 
-abbrev pub is_word : List ℕ → List ℕ → Bool
-is_word word text = pointwise ◌==◌ word text
-
 -- a word that begins with `-` is read as an option
 abbrev pub is_option : List ℕ → Bool
 is_option word = slice_index word 0 == 45
 
--- a symbol is a name that is not read as an option
+-- SYMBOL is a name that is not read as an option
 abbrev pub is_symbol : List ℕ → Bool
 is_symbol word = is_name word && not (is_option word)
 
--- a path is a word of one byte or more that is not read as an option
+-- ORDERS and TRADES are paths: words of one byte or more that are not read as options
 abbrev pub is_path : List ℕ → Bool
 is_path word = not (length word == 0) && not (is_option word)
 
--- the rule of a call that a word names
-abbrev pub call_rule : List ℕ → Option Rule
-call_rule word =
-    first_of (only_if (is_word word (rule_word rule.Matching)) rule.Matching ∷ only_if (is_word word (rule_word rule.Fair)) rule.Fair ∷ only_if (is_word word (rule_word rule.Uniform)) rule.Uniform ∷ only_if (is_word word (rule_word rule.Maximum)) rule.Maximum ∷ [])
+-- RULE is the word of a rule of a call; for the rule `continuous` there is no audit yet, and no word names it
+abbrev pub rule_named : List ℕ → Option Rule
+rule_named word = first_of (only_if (is_word word (rule_word rule.Matching)) rule.Matching
+    ∷ only_if (is_word word (rule_word rule.Fair)) rule.Fair
+    ∷ only_if (is_word word (rule_word rule.Uniform)) rule.Uniform
+    ∷ only_if (is_word word (rule_word rule.Maximum)) rule.Maximum ∷ [])
 
 -- the rules whose quantities are determined: a table of them may be asked for
 abbrev pub has_table : Rule → Bool
@@ -42,27 +42,36 @@ has_table rule.Uniform = true
 has_table rule.Maximum = true
 has_table rule.Continuous = true
 
--- there are five words or more, and the first five are `audit`, a word for the rule, SYMBOL, ORDERS and TRADES
+-- `audit RULE SYMBOL ORDERS TRADES`: the first five words, but that RULE may be any word
 abbrev pub is_audit : List (List ℕ) → Bool
-is_audit words =
-    nat_le 5 (length words) && is_word (word_at words 0) (codes "audit") && is_symbol (word_at words 2) && is_path (word_at words 3) && is_path (word_at words 4)
+is_audit words = nat_le 5 (length words) && is_word (word_at words 0) (codes "audit")
+    && is_symbol (word_at words 2) && is_path (word_at words 3) && is_path (word_at words 4)
 
--- whether a table is asked for: no word more is no, `--table` alone is yes under a rule that has one, and all else is not plain
-abbrev pub table_option : Rule → List (List ℕ) → Option Bool
-table_option the_rule words =
-    if length words == 5 then Some false else only_if (length words == 6 && is_word (word_at words 5) (codes "--table") && has_table the_rule) true
+-- `--table` may stand under a rule that has a table alone
+abbrev pub fits_rule : Rule → Options → Bool
+fits_rule the_rule options = not options.table || has_table the_rule
 
--- the rule that the second word names, and whether a table is asked for, where the words are plain
-abbrev pub choice_under : List (List ℕ) → Rule → Option (Rule × Bool)
-choice_under words the_rule = option_map (λ table. (the_rule, table)) (table_option the_rule words)
+-- the rule that the second word names, with the options after the fifth
+abbrev pub options_under : List (List ℕ) → Rule → Option (Rule × Options)
+options_under words the_rule =
+    option_and_then (λ options. only_if (fits_rule the_rule options) (the_rule, options))
+    (options_in (drop 5 words))
 
-abbrev pub plain_choice : List (List ℕ) → Option (Rule × Bool)
-plain_choice words = if is_audit words then option_and_then (choice_under words) (call_rule (word_at words 1)) else None
+abbrev pub audit_choice : List (List ℕ) → Option (Rule × Options)
+audit_choice words =
+    if is_audit words
+    then option_and_then (options_under words) (rule_named (word_at words 1))
+    else None
 
--- what such words ask for
-abbrev pub audit_request : List (List ℕ) → Rule × Bool → Request
-audit_request words choice = Audit choice.0 (word_at words 2) (word_at words 3) (word_at words 4) form.Csv form.Csv choice.1
+-- the request of such words; a form that is not given is csv
+abbrev pub audit_with : List (List ℕ) → Rule × Options → Request
+audit_with words choice = Audit choice.0 (word_at words 2) (word_at words 3) (word_at words 4)
+    (unwrap_or choice.1.orders_form Csv) (unwrap_or choice.1.trades_form Csv) choice.1.table
 
--- Plain: what a list of words asks for, or nothing where it is not plain
-abbrev pub plain_request : List (List ℕ) → Option Request
-plain_request words = option_map (audit_request words) (plain_choice words)
+-- `audit RULE SYMBOL ORDERS TRADES` with its options
+abbrev pub audit_request : List (List ℕ) → Option Request
+audit_request words = option_map (audit_with words) (audit_choice words)
+
+-- what words ask for, one row a command; nothing where they are not well-formed
+abbrev pub request_of : List (List ℕ) → Option Request
+request_of words = audit_request words

@@ -79,9 +79,18 @@ const CROSSED: [Row; 4] = [
     (Side::Sell, 1, 9),
 ];
 
+/// Orders whose last lot is cut, with asks that rank 3, 2, 4.
+const SPLIT: [Row; 5] = [
+    (Side::Buy, 5, 10),
+    (Side::Buy, 4, 9),
+    (Side::Sell, 2, 3),
+    (Side::Sell, 3, 2),
+    (Side::Sell, 9, 4),
+];
+
 /// The volume and the bound with which the audit of the Expected trades accepts them, once they are the
 /// trades of the case.
-fn accepted<R: AllocGlobal + Abort>(
+fn bound_of_expected<R: AllocGlobal + Abort>(
     rt: &R,
     uniform: bool,
     rows: &[Row],
@@ -118,10 +127,17 @@ type Case = (bool, &'static [Row], &'static [Trade], u128, u64);
 
 #[test]
 fn the_expected_trades_are_accepted(rt: HostRuntime) {
-    let cases: [Case; 6] = [
+    let cases: [Case; 8] = [
         (true, &[], &[], 0, 0),
         (true, &LADDER, &[(1, 4, 1, 2), (2, 3, 1, 2)], 2, 2),
         (true, &CROSSED, &[(0, 2, 1, 5)], 1, 5),
+        (
+            true,
+            &SPLIT,
+            &[(0, 2, 2, 4), (0, 3, 3, 4), (1, 4, 4, 4)],
+            9,
+            4,
+        ),
         (false, &[], &[], 0, 0),
         (
             false,
@@ -131,8 +147,18 @@ fn the_expected_trades_are_accepted(rt: HostRuntime) {
             0,
         ),
         (false, &CROSSED, &[(0, 3, 1, 9), (1, 2, 1, 5)], 2, 0),
+        (
+            false,
+            &SPLIT,
+            &[(0, 2, 1, 3), (0, 4, 4, 4), (1, 2, 1, 3), (1, 3, 3, 2)],
+            9,
+            0,
+        ),
     ];
     for (uniform, rows, trades, volume, bound) in cases {
-        assert_eq!(rt; accepted(&rt, uniform, rows, trades), (volume, bound));
+        assert_eq!(rt;
+            bound_of_expected(&rt, uniform, rows, trades),
+            (volume, bound)
+        );
     }
 }

@@ -2,20 +2,21 @@
 //! it.
 ghost use Rattle.std.specs.Prelude.{◌≡◌, ◌<◌, ◌-◌, ◌^◌, length, IfOk, IsTrue};
 ghost use Rattle.audit_base.specs.Histories.{instant_order};
-ghost use Rattle.audit_base.specs.Orders.{is_rests, order_at};
 ghost use Rattle.audit_base.specs.Verdicts.{paired_trades};
 ghost use Rattle.audit_report.specs.Texts.{IsVerdictInRange};
 ghost use Rattle.fix_messages.specs.Pairings.{pairing_of};
-ghost use Rattle.audit_run.specs.Judgements.{is_call, IsJudged, IsJudgedRecords, IsJudgedHistory, IsJudgedTrades};
+ghost use Rattle.audit_run.specs.Judgements.{is_call, question, IsJudged};
+ghost use Rattle.audit_run.specs.Phases.{IsJudgedRecords, IsJudgedHistory, IsJudgedTrades};
 
-use super::ranges::number_paired;
+use super::questions::Question;
+use super::ranges::trades_in_range;
 use super::rules::judge_deals;
 use audit_base::faults::NoMemory;
 use audit_base::findings::{Finding, Property};
 use audit_base::names::Name;
 use audit_base::orders::Order;
 use audit_base::records::{OrderRecord, TradeRecord};
-use audit_base::terms::{Life, Rule, Which};
+use audit_base::terms::{Rule, Which};
 use audit_report::verdicts::Verdict;
 use fix_messages::pairing::Paired;
 use instruction_history::faults::HistoryFault;
@@ -24,22 +25,12 @@ use matching_core::outcomes::CheckFault;
 use matching_core::resolving::resolve;
 use std::alloc::Global;
 
-/// Whether what is left of an order may wait for others.
-fn rests(life: Life) -> bool
-    ensures { result ≡ is_rests life }
-{
-    match life {
-        Life::Rests => true,
-        Life::Immediate | Life::Market => false,
-    }
-}
-
 /// Finding 16: the least order that is not one that rests.
-fn first_instant(orders: &[Order]) -> Option<Finding>
+pub(crate) fn first_instant(orders: &[Order]) -> Option<Finding>
     ensures { result ≡ instant_order orders.now }
 {
     for order in orders {
-        if !rests(order.life) {
+        if !order.life.rests() {
             return Some(Finding {
                 property: Property::InstantOrder,
                 log: Which::Orders,
@@ -53,25 +44,21 @@ fn first_instant(orders: &[Order]) -> Option<Finding>
     None
 }
 
-/// The verdict of a rule of a call where the history is well-formed and has no finding.
+/// The verdict where the history is well-formed and has no finding: its trades decide.
 fn judge_trades(
     alloc: Global,
-    rule: Rule,
-    symbol: &Name,
-    table: bool,
+    question: &Question,
     history: &History,
     trades: &[TradeRecord],
 ) -> Result<Verdict, NoMemory>
-    requires call { IsTrue (is_call rule) }
+    requires call { IsTrue (is_call question.now.rule) }
     requires few { length trades.now < 2 ^ 32 - 1 }
-    ensures { IfOk result (IsJudgedTrades rule symbol.now table history.now trades.now) }
+    ensures { IfOk result (IsJudgedTrades question.now history.now trades.now) }
 {
-    match resolve(alloc, history, trades, symbol) {
+    match resolve(alloc, history, trades, &question.symbol) {
         Ok(deals) => judge_deals(
             alloc,
-            rule,
-            symbol,
-            table,
+            question,
             history.orders(),
             &deals,
             trades.len() as u32,
@@ -83,45 +70,42 @@ fn judge_trades(
     }
 }
 
-/// The verdict of a rule of a call where the history is well-formed.
+/// The verdict where the history is well-formed.
 fn judge_history(
     alloc: Global,
-    rule: Rule,
-    symbol: &Name,
-    table: bool,
+    question: &Question,
     history: &History,
     trades: &Paired,
 ) -> Result<Verdict, NoMemory>
-    requires call { IsTrue (is_call rule) }
+    requires call { IsTrue (is_call question.now.rule) }
     requires few { length (paired_trades (pairing_of trades.now)) < 2 ^ 32 - 1 }
-    ensures { IfOk result (IsJudgedHistory rule symbol.now table history.now (pairing_of trades.now)) }
+    ensures { IfOk result (IsJudgedHistory question.now history.now (pairing_of trades.now)) }
 {
     if let Some(finding) = first_instant(history.orders()) {
         return Ok(Verdict::Rejected(finding));
     }
     match trades {
-        Paired::Trades(list) => judge_trades(alloc, rule, symbol, table, history, list.as_slice()),
+        Paired::Trades(list) => judge_trades(alloc, question, history, list.as_slice()),
         Paired::Alone(finding) => Ok(Verdict::Rejected(*finding)),
     }
 }
 
-/// The verdict of a rule of a call on the records of two logs.
+/// The verdict on the records of two logs.
 fn judge_records(
     alloc: Global,
-    rule: Rule,
-    symbol: &Name,
-    table: bool,
+    question: &Question,
     entries: &[OrderRecord],
     trades: &Paired,
 ) -> Result<Verdict, NoMemory>
-    requires call { IsTrue (is_call rule) }
+    requires call { IsTrue (is_call question.now.rule) }
     requires few_entries { length entries.now < 2 ^ 32 - 1 }
     requires few_trades { length (paired_trades (pairing_of trades.now)) < 2 ^ 32 - 1 }
-    ensures judged { IfOk result (IsJudgedRecords rule symbol.now table entries.now (pairing_of trades.now)) }
+    ensures judged { IfOk result
+        (IsJudgedRecords question.now entries.now (pairing_of trades.now)) }
     ensures in_range { IfOk result IsVerdictInRange }
 {
-    match History::build(alloc, entries, symbol) {
-        Ok(history) => judge_history(alloc, rule, symbol, table, &history, trades),
+    match History::build(alloc, entries, &question.symbol) {
+        Ok(history) => judge_history(alloc, question, &history, trades),
         Err(fault) => match fault {
             HistoryFault::Found(finding) => Ok(Verdict::Rejected(finding)),
             HistoryFault::Memory => Err(NoMemory),
@@ -147,9 +131,15 @@ pub fn judge(
     requires call { IsTrue (is_call rule) }
     requires few_entries { length entries.now < 2 ^ 32 - 1 }
     requires few_trades { length (paired_trades (pairing_of trades.now)) < 2 ^ 32 - 1 }
-    ensures judged { IfOk result (IsJudged rule symbol.now table entries.now (pairing_of trades.now)) }
+    ensures judged { IfOk result
+        (IsJudged (question rule symbol.now table) entries.now (pairing_of trades.now)) }
     ensures in_range { IfOk result IsVerdictInRange }
 {
-    number_paired(trades);
-    judge_records(alloc, rule, symbol, table, entries, trades)
+    trades_in_range(trades);
+    let question = Question {
+        rule,
+        symbol: *symbol,
+        table,
+    };
+    judge_records(alloc, &question, entries, trades)
 }

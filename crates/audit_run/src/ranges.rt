@@ -8,7 +8,7 @@ use audit_base::records::TradeRecord;
 use fix_messages::pairing::Paired;
 
 /// The numbers of a trade are in their ranges.
-fn number(trade: &TradeRecord)
+fn trade_in_range(trade: &TradeRecord)
     ensures { IsTrade trade.now }
 {
     let _quantity = trade.quantity.value();
@@ -16,20 +16,20 @@ fn number(trade: &TradeRecord)
 }
 
 /// The numbers of all trades are in their ranges, as their types say.
-fn number_all(trades: &[TradeRecord])
+fn each_in_range(trades: &[TradeRecord])
     ensures { AreTrades trades.now }
 {
     for trade in trades {
-        number(trade);
+        trade_in_range(trade);
     }
 }
 
 /// The same of the trades of a log.
-pub(crate) fn number_paired(trades: &Paired)
+pub(crate) fn trades_in_range(trades: &Paired)
     ensures { AreTrades (paired_trades (pairing_of trades.now)) }
 {
     match trades {
-        Paired::Trades(list) => number_all(list.as_slice()),
+        Paired::Trades(list) => each_in_range(list.as_slice()),
         Paired::Alone(_) => {}
     }
 }

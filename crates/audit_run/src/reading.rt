@@ -1,14 +1,17 @@
 //! Reading a log from a slot of a shelf into records, piece by piece.
-ghost use Rattle.std.specs.Prelude.{◌≡◌, ◌≤◌, ◌≢◌, ℕ, List, IfOk, vec_len};
+ghost use Rattle.std.specs.Prelude.{◌≡◌, ◌≤◌, ◌≢◌, ℕ, List, [], IfOk};
 ghost use Rattle.audit_base.specs.declared.terms.Which.{Which};
-ghost use Rattle.log_source.specs.Sources.{other_of, longest_log};
+ghost use Rattle.log_source.specs.Sources.{longest_log};
+ghost use Rattle.log_source.specs.Collectors.{HasPlace};
 ghost use Rattle.csv_logs.specs.Logs.{read_log};
-ghost use Rattle.audit_run.specs.Readings.{reading, ReadsLog};
+ghost use Rattle.audit_run.specs.Collecting.{CollectsLog, TouchesOnly};
+ghost use Rattle.audit_run.specs.Steps.{reading, KeepsLogs};
 
 use audit_base::faults::{BadPlace, LogFault};
 use audit_base::terms::Which;
 use csv_logs::entries::LogEntry;
 use csv_logs::feeds::CsvFeed;
+use log_source::collector::Collector;
 use log_source::pump::pump;
 use log_source::shelf::Shelf;
 use log_source::take::TakeFault;
@@ -27,7 +30,7 @@ pub enum Unread {
 }
 
 impl From<TakeFault> for Unread {
-    ghost use Rattle.audit_run.specs.Readings.{of_take};
+    ghost use Rattle.audit_run.specs.Collecting.{of_take};
 
     ghost from_gives = { λ fault made. made ≡ of_take fault };
 
@@ -40,28 +43,40 @@ impl From<TakeFault> for Unread {
     }
 }
 
-/// Reads the log of this name from the slot into records. Where it is not in its grammar it is still
-/// read to its end.
-pub fn read_records<F: Shelf, R: LogEntry>(
+impl From<LogFault> for Unread {
+    ghost use Rattle.audit_run.specs.Collecting.{of_log};
+
+    ghost from_gives = { λ fault made. made ≡ of_log fault };
+
+    fn from(fault: LogFault) -> Unread {
+        match fault {
+            LogFault::Bad(bad) => Unread::Bad(bad),
+            LogFault::Memory => Unread::Memory,
+        }
+    }
+}
+
+/// Hands the records of the CSV log of this name to a collector. Where the log is not in its grammar it
+/// is still read to its end.
+pub(crate) fn collect_csv<F: Shelf, R: LogEntry, K: Collector<Entry = R>>(
     alloc: Global,
     shelf: &mut F,
     which: Which,
     name: &str,
-) -> Result<Vec<R>, Unread>
-    ensures tells { F.tells shelf.new ≡ F.tells shelf.old }
-    ensures logs { (w : Which) (n : List ℕ) → F.log_of shelf.new w n ≡ F.log_of shelf.old w n }
-    ensures other { F.slot shelf.new (other_of which) ≡ F.slot shelf.old (other_of which) }
-    ensures read { ReadsLog (read_log R.names R.meaning) (reading (F.tells shelf.old) (F.log_of shelf.old) (F.slot shelf.old) (F.slot shelf.new)) which name.now result }
+    collector: K,
+) -> Result<K, Unread>
+    requires { K.has_taken collector [] }
+    ensures logs { KeepsLogs F.Shelf shelf.old shelf.new }
+    ensures only { TouchesOnly (reading F.Shelf shelf.old shelf.new) which }
+    ensures read { CollectsLog K.has_taken (read_log R.names R.meaning)
+        (reading F.Shelf shelf.old shelf.new) which name.now result }
     ensures within { result ≢ Err Unread.TooLong → (F.slot shelf.new which).taken ≤ longest_log }
-    ensures few { IfOk result (λ entries. vec_len entries ≤ longest_log) }
+    ensures few { IfOk result (HasPlace K.has_taken) }
 {
-    let mut feed: CsvFeed<R> = CsvFeed::new(alloc);
+    let mut feed: CsvFeed<K> = CsvFeed::over(alloc, collector);
     pump(shelf, which, name, &mut feed)?;
-    match feed.finish() {
-        Ok(entries) => Ok(entries),
-        Err(fault) => match fault {
-            LogFault::Bad(bad) => Err(Unread::Bad(bad)),
-            LogFault::Memory => Err(Unread::Memory),
-        },
+    match feed.close() {
+        Ok(collector) => Ok(collector),
+        Err(fault) => Err(Unread::from(fault)),
     }
 }

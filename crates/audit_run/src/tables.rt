@@ -19,7 +19,8 @@ fn order_line(order: &Order, traded: u128) -> Line
 fn push_line(lines: &mut Vec<Line>, order: &Order, traded: u128) -> Result<(), NoMemory>
     ensures { OnOk result (lines.new.items ≡ lines.old.items ++ spec.line_of order.now traded ∷ []) }
 {
-    lines.push(order_line(order, traded)).map_err(|_| NoMemory)
+    lines.push(order_line(order, traded))?;
+    Ok(())
 }
 
 /// The lines of all orders, in log order.
@@ -27,7 +28,7 @@ fn order_lines(alloc: Global, orders: &[Order], traded: &[u128]) -> Result<Vec<L
     requires { length traded.now ≡ length orders.now }
     ensures { IfOk result (λ lines. lines.items ≡ spec.lines_of orders.now traded.now) }
 {
-    let mut lines = Vec::with_capacity(alloc, orders.len()).map_err(|_| NoMemory)?;
+    let mut lines = Vec::with_capacity(alloc, orders.len())?;
     for index in 0..orders.len() {
         push_line(&mut lines, &orders[index], traded[index])?;
     }

@@ -1,4 +1,4 @@
-//! Rows of whole audits, from the words and the bytes of two logs to the status and the report.
+//! Whole runs: in pieces of every size, on words that are not well-formed, and where source or sink fails.
 use crate::running::run;
 use audit_report::reports::usage_text;
 use audit_report::statuses::Status;
@@ -10,19 +10,19 @@ use log_source::shelf::Shelf;
 use std::alloc::Global;
 use std::test::Fail;
 
-pub(crate) const ORDER_HEADER: &str = "kind,firm,id,time,symbol,side,quantity,price,target\n";
+pub(crate) const ORDER_HEADER: &str = "kind,firm,id,time,symbol,side,quantity,price,target";
 
 pub(crate) const TRADE_HEADER: &str =
-    "trade,time,symbol,buy_firm,buy_id,sell_firm,sell_id,quantity,price\n";
+    "trade,time,symbol,buy_firm,buy_id,sell_firm,sell_id,quantity,price";
 
-const ORDERS: &str = "N,A,b1,20240102-09:00:00,Z,B,100,10,\nN,B,s1,20240102-09:00:00,Z,S,100,9,\n";
+const ORDERS: &str = "N,A,b1,20240102-09:00:00,Z,B,100,10,
+N,B,s1,20240102-09:00:00,Z,S,100,9,
+";
 
-const TRADES: &str = "T1,20240102-09:00:01,Z,A,b1,B,s1,100,9.5\n";
+const TRADES: &str = "T1,20240102-09:00:01,Z,A,b1,B,s1,100,9.5
+";
 
 const ACCEPTED: &str = "accepted,matching,Z\ntotals,2,1,100\n";
-
-/// A bid for 10 and an ask of 20.
-const SMALL_BID: &str = "N,A,b1,20240102-09:00:00,Z,B,10,10,\nN,B,s1,20240102-09:00:00,Z,S,20,9,\n";
 
 /// The words of a command line.
 pub(crate) fn words_of(alloc: Global, words: &[&str]) -> Result<Vec<String>, Fail> {
@@ -33,9 +33,21 @@ pub(crate) fn words_of(alloc: Global, words: &[&str]) -> Result<Vec<String>, Fai
     Ok(made)
 }
 
+/// The words of a command line, which spaces part.
+pub(crate) fn split_words(alloc: Global, line: &str) -> Result<Vec<String>, Fail> {
+    let mut words = Vec::new(alloc);
+    for word in line.split(' ') {
+        if !word.is_empty() {
+            words.push(String::from_str(alloc, word)?)?;
+        }
+    }
+    Ok(words)
+}
+
 /// The bytes of a log with this header and these lines.
 pub(crate) fn log_of(alloc: Global, header: &str, lines: &str) -> Result<Vec<u8>, Fail> {
     let mut log = Vec::from_slice(alloc, header.as_bytes())?;
+    log.push(b'\n')?;
     log.extend_from_slice(lines.as_bytes())?;
     Ok(log)
 }
@@ -61,119 +73,6 @@ fn one_trade(alloc: Global, fails: u32) -> Result<MemoryShelf, Fail> {
         log_of(alloc, TRADE_HEADER, TRADES)?,
     )?;
     Ok(shelf)
-}
-
-#[test]
-fn rows_from_two_logs(rt: HostRuntime) -> Result<(), Fail> {
-    let rows = [
-        ("one trade", ORDERS, TRADES, 0, ACCEPTED),
-        (
-            "another symbol's trade is passed over",
-            ORDERS,
-            "T0,20240102-09:00:01,Y,A,b9,B,s9,1,1\nT1,20240102-09:00:01,Z,A,b1,B,s1,100,9.5\n",
-            0,
-            ACCEPTED,
-        ),
-        (
-            "buyer overfilled",
-            SMALL_BID,
-            "T1,20240102-09:00:01,Z,A,b1,B,s1,5,9\nT2,20240102-09:00:01,Z,A,b1,B,s1,5,9\nT3,20240102-09:00:01,Z,A,b1,B,s1,1,9\n",
-            1,
-            "rejected,buy-quantity,trades,3\norder,1,buy,A,b1,10,10,11\n",
-        ),
-        (
-            "buyer overfilled and more",
-            SMALL_BID,
-            "T1,20240102-09:00:01,Z,A,b1,B,s1,5,9\nT2,20240102-09:00:01,Z,A,b1,B,s1,5,9\nT3,20240102-09:00:01,Z,A,b1,B,s1,1,9\nT4,20240102-09:00:01,Z,A,b1,B,s1,1,9\n",
-            1,
-            "rejected,buy-quantity,trades,3\norder,1,buy,A,b1,10,10,11\n",
-        ),
-        (
-            "seller overfilled",
-            "N,A,b1,20240102-09:00:00,Z,B,100,10,\nN,B,s1,20240102-09:00:00,Z,S,10,9,\n",
-            "T1,20240102-09:00:01,Z,A,b1,B,s1,11,9\n",
-            1,
-            "rejected,sell-quantity,trades,1\norder,2,sell,B,s1,10,9,11\n",
-        ),
-        (
-            "price over the limit",
-            ORDERS,
-            "T1,20240102-09:00:01,Z,A,b1,B,s1,100,10.00000001\n",
-            1,
-            "rejected,limit,trades,1\norder,1,buy,A,b1,100,10,100\norder,2,sell,B,s1,100,9,100\n",
-        ),
-        (
-            "unknown sell order",
-            ORDERS,
-            "T1,20240102-09:00:01,Z,A,b1,B,s9,100,9.5\n",
-            1,
-            "rejected,unknown-order,trades,1\nunknown,sell,B,s9\n",
-        ),
-        (
-            "duplicate trade",
-            ORDERS,
-            "T1,20240102-09:00:01,Z,A,b1,B,s1,50,9.5\nT1,20240102-09:00:01,Z,A,b1,B,s1,50,9.5\n",
-            1,
-            "rejected,duplicate-trade,trades,2\nsee,trades,1\n",
-        ),
-        (
-            "cancelled bid",
-            "N,A,b1,20240102-09:00:00,Z,B,100,10,\nN,B,s1,20240102-09:00:00,Z,S,100,9,\nX,A,x1,20240102-09:00:00,Z,,,,b1\n",
-            TRADES,
-            1,
-            "rejected,inactive,trades,1\norder,1,buy,A,b1,100,10,100\n",
-        ),
-        (
-            "duplicate id",
-            "N,A,b1,20240102-09:00:00,Z,B,5,10,\nN,A,b1,20240102-09:00:00,Z,B,6,11,\n",
-            "",
-            1,
-            "rejected,duplicate-id,orders,2\nsee,orders,1\n",
-        ),
-        (
-            "time back",
-            "N,A,b1,20240102-09:00:01,Z,B,5,10,\nN,A,b2,20240102-09:00:00,Z,B,5,10,\n",
-            "",
-            1,
-            "rejected,time-back,orders,2\nsee,orders,1\n",
-        ),
-        (
-            "unknown target",
-            "X,A,x1,20240102-09:00:00,Z,,,,b9\n",
-            "",
-            1,
-            "rejected,unknown-target,orders,1\n",
-        ),
-        (
-            "immediate order in a call",
-            "I,A,i1,20240102-09:00:00,Z,B,5,10,\nN,B,s1,20240102-09:00:00,Z,S,5,9,\n",
-            "",
-            1,
-            "rejected,instant-order,orders,1\n",
-        ),
-        (
-            "quantity too great",
-            "N,A,b1,20240102-09:00:00,Z,B,1000000000001,10,\n",
-            "",
-            3,
-            "malformed,orders,1,52,value:quantity\n",
-        ),
-        (
-            "a trade line with a field too many",
-            ORDERS,
-            "T1,20240102-09:00:01,Z,A,b1,B,s1,100,9.5,\n",
-            3,
-            "malformed,trades,1,67,columns\n",
-        ),
-    ];
-    for (name, orders, trades, status, text) in rows {
-        let orders = log_of(rt.alloc(), ORDER_HEADER, orders)?;
-        let trades = log_of(rt.alloc(), TRADE_HEADER, trades)?;
-        let (answered, out) = audit(rt.alloc(), &mut QuietShelf::new(orders, trades, 65_536))?;
-        assert_eq!(rt; answered.number(), status, "{name}");
-        assert_eq!(rt; out.bytes(), text.as_bytes(), "{name}");
-    }
-    Ok(())
 }
 
 // The header alone is a log, and no bytes are none.
@@ -217,32 +116,45 @@ fn mark_and_crlf_in_every_piece_size(rt: HostRuntime) -> Result<(), Fail> {
 }
 
 #[test]
-fn words_that_are_not_plain(rt: HostRuntime) -> Result<(), Fail> {
-    let lines: [&[&str]; 13] = [
-        &[],
-        &["audit", "best", "Z", "orders", "trades"],
-        &["audit", "matching", "Z"],
-        &["audit", "matching", "Z", "orders", "trades", "more"],
-        &["audit", "matching", "-Z", "orders", "trades"],
-        &["audit", "matching", "Z", "", "trades"],
-        &["audit", "matching", "Z", "orders", "--table"],
-        &["audit", "matching", "Z", "orders", "trades", "--table"],
-        &["audit", "fair", "Z", "orders", "trades", "--table"],
-        &["audit", "maximum", "Z", "orders", "trades", "--tables"],
-        &[
-            "audit", "uniform", "Z", "orders", "trades", "--table", "--table",
-        ],
-        &["audit", "continuous", "Z", "orders", "trades"],
-        &["--help"],
+fn words_that_are_not_well_formed(rt: HostRuntime) -> Result<(), Fail> {
+    let lines: [&str; 24] = [
+        "",
+        "--help",
+        "--version",
+        "audit best Z orders trades",
+        "audit matching Z",
+        "audit matching Z orders trades more",
+        "audit matching -Z orders trades",
+        "audit matching Z orders --table",
+        "audit matching Z orders trades --table",
+        "audit fair Z orders trades --table",
+        "audit maximum Z orders trades --tables",
+        "audit uniform Z orders trades --table --table",
+        "audit continuous Z orders trades",
+        "audit matching Z orders trades --orders-form=csv",
+        "audit matching Z orders trades --orders-form",
+        "audit matching Z orders trades --trades-form csv --orders-form",
+        "audit matching Z orders trades --orders-form csv --orders-form csv",
+        "audit maximum Z orders trades --trades-form csv --table --trades-form csv",
+        "audit --orders-form csv matching Z orders trades",
+        "audit matching Z --orders-form csv orders trades",
+        "audit matching Z orders trades --orders-form fix",
+        "audit matching Z orders trades --orders-form --trades-form csv",
+        "audit matching Z orders trades csv",
+        "audit matching Z orders trades --form csv",
     ];
-    for words in lines {
-        let words = words_of(rt.alloc(), words)?;
+    for line in lines {
+        let words = split_words(rt.alloc(), line)?;
         let mut shelf = one_trade(rt.alloc(), 0)?;
         let mut out = MemorySink::new(rt.alloc(), 4096, 4096, Vec::new(rt.alloc()))?;
         let status = run(rt.alloc(), &words, &mut shelf, &mut out);
-        assert_eq!(rt; status, Status::Usage);
-        assert_eq!(rt; out.bytes(), usage_text());
+        assert_eq!(rt; status, Status::Usage, "{line}");
+        assert_eq!(rt; out.bytes(), usage_text(), "{line}");
     }
+    let words = words_of(rt.alloc(), &["audit", "matching", "Z", "", "trades"])?;
+    let mut out = MemorySink::new(rt.alloc(), 4096, 4096, Vec::new(rt.alloc()))?;
+    let status = run(rt.alloc(), &words, &mut one_trade(rt.alloc(), 0)?, &mut out);
+    assert_eq!(rt; status, Status::Usage);
     Ok(())
 }
 

@@ -1,0 +1,18 @@
+-- Lines and their parts, as functions that append them pass them on.
+use Rattle.std.specs.Prelude.{ℕ, List, ◌∷◌, ◌++◌, decimal}
+use Rattle.std.specs.List.{flat_map}
+use Rattle.audit_base.specs.Numbers.{price_text}
+use Rattle.audit_report.specs.declared.line_parts.Part.{Part}
+use Rattle.audit_report.specs.declared.line_parts.Part.TheVariants.{Word, Number, Price, Named, Numbered}
+
+-- what a part writes; the code of `:` is 58
+abbrev pub part_text : Part → List ℕ
+part_text (Word word) = word.now
+part_text (Number number) = decimal number
+part_text (Price price) = price_text price
+part_text (Named kind name) = kind.now ++ 58 ∷ name.now
+part_text (Numbered kind number) = kind.now ++ 58 ∷ decimal number
+
+-- the parts of a line after its first, each with a comma before it
+abbrev pub rest_text : List (List ℕ) → List ℕ
+rest_text parts = flat_map (λ part. 44 ∷ part) parts

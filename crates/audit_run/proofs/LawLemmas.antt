@@ -1,0 +1,111 @@
+-- Two logs have one verdict, and logs of the same records have the same.
+use Rattle.std.proofs.Common.{◌≡◌, ◌∙◌, sym, ap, subst, ℕ, ◌<◌, List, Option, None, Some, Result, Ok, Err, arith}
+use Rattle.std.specs.Prelude.{MatchResult, IsSomeAnd}
+use Rattle.audit_base.specs.declared.faults.BadPlace.{BadPlace}
+use Rattle.audit_base.specs.declared.findings.Finding.{Finding}
+use Rattle.audit_base.specs.declared.orders.Cut.{Cut}
+use Rattle.audit_base.specs.declared.orders.Deal.{Deal}
+use Rattle.audit_base.specs.declared.orders.Order.{Order}
+use Rattle.audit_base.specs.declared.records.OrderRecord.{OrderRecord}
+use Rattle.audit_base.specs.declared.records.TradeRecord.{TradeRecord}
+use Rattle.audit_base.specs.declared.terms.Rule.{Rule}
+use Rattle.audit_base.specs.declared.terms.Rule.TheVariants as rule
+use Rattle.audit_base.specs.declared.terms.Which.TheVariants.{Orders, Trades}
+use Rattle.audit_base.specs.Bounds.{IsBound}
+use Rattle.audit_base.specs.Deals.{volume}
+use Rattle.audit_base.specs.Histories.{order_list}
+use Rattle.audit_base.specs.Least.{IsLeast}
+use Rattle.audit_base.specs.Trades.{deals_of}
+use Rattle.audit_base.specs.Verdicts.{paired_trades}
+use Rattle.audit_report.specs.declared.tables.Line.{Line}
+use Rattle.audit_report.specs.declared.verdicts.Accepted.{Accepted}
+use Rattle.audit_report.specs.declared.verdicts.Verdict.{Verdict}
+use Rattle.audit_report.specs.declared.verdicts.Verdict.TheVariants as verdict
+use Rattle.call_auction.specs.Audits.{IsBoundOf}
+use Rattle.audit_run.specs.declared.questions.Question.{Question}
+use Rattle.audit_run.specs.Judgements.{IsAcceptance, IsAcceptedLog, IsBoundShown, IsJudged, IsOutcome}
+use Rattle.audit_run.specs.Laws.{FormsAgree, OneVerdict}
+use Rattle.audit_run.specs.LogVerdicts.{order_log, trade_log}
+
+-- there is one least number with a property
+one-least : (P : ℕ → Type 0) (a b : ℕ) → IsLeast P a → IsLeast P b → a ≡ b
+one-least P a b x y =
+    let at_least : a < b → ⊥ = λ lt. y.none_below a lt x.holds in
+    let at_most : b < a → ⊥ = λ lt. x.none_below b lt y.holds in
+    omega arith
+
+one-price : (the_rule : Rule) (orders : List Order) (reached a b : ℕ) → IsBound the_rule orders reached a → IsBound the_rule orders reached b → a ≡ b
+one-price rule.Uniform orders reached a b x y = one-least _ a b x y
+one-price rule.Maximum orders reached a b x y = one-least _ a b x y
+one-price rule.Matching orders reached a b x y = absurd x
+one-price rule.Fair orders reached a b x y = absurd x
+one-price rule.Continuous orders reached a b x y = absurd x
+
+same-cut : (c d : Cut) → c.price ≡ d.price → c.volume ≡ d.volume → c ≡ d
+same-cut c d price volume =
+    ap (λ (p : ℕ). record { price = p; volume = c.volume }) price ∙ ap (λ (v : ℕ). record { price = d.price; volume = v }) volume
+
+one-cut : (the_rule : Rule) (orders : List Order) (reached : ℕ) (a b : Option Cut) → IsSomeAnd a (IsBoundOf the_rule orders reached) → IsSomeAnd b (IsBoundOf the_rule orders reached) → a ≡ b
+one-cut the_rule orders reached (Some c) (Some d) x y =
+    ap (λ (z : Cut). Some z) (same-cut c d (one-price the_rule orders reached c.price d.price x.shows y.shows) (x.volume_is ∙ sym y.volume_is))
+one-cut the_rule orders reached (Some c) None x y = absurd y
+one-cut the_rule orders reached None b x y = absurd x
+
+one-bound : (the_rule : Rule) (orders : List Order) (reached : ℕ) (a b : Option Cut) → IsBoundShown the_rule orders reached a → IsBoundShown the_rule orders reached b → a ≡ b
+one-bound rule.Uniform orders reached a b x y = one-cut rule.Uniform orders reached a b x y
+one-bound rule.Maximum orders reached a b x y = one-cut rule.Maximum orders reached a b x y
+one-bound rule.Matching orders reached a b x y = x ∙ sym y
+one-bound rule.Fair orders reached a b x y = x ∙ sym y
+one-bound rule.Continuous orders reached a b x y = x ∙ sym y
+
+same-accepted : (a b : Accepted) → a.rule ≡ b.rule → a.symbol ≡ b.symbol → a.orders ≡ b.orders → a.trades ≡ b.trades → a.volume ≡ b.volume → a.bound ≡ b.bound → a.table ≡ b.table → a ≡ b
+same-accepted a b r s o t v c l =
+    ap (λ (x : Rule). record { rule = x; symbol = a.symbol; orders = a.orders; trades = a.trades; volume = a.volume; bound = a.bound; table = a.table }) r
+    ∙ ap (λ (x : List ℕ). record { rule = b.rule; symbol = x; orders = a.orders; trades = a.trades; volume = a.volume; bound = a.bound; table = a.table }) s
+    ∙ ap (λ (x : ℕ). record { rule = b.rule; symbol = b.symbol; orders = x; trades = a.trades; volume = a.volume; bound = a.bound; table = a.table }) o
+    ∙ ap (λ (x : ℕ). record { rule = b.rule; symbol = b.symbol; orders = b.orders; trades = x; volume = a.volume; bound = a.bound; table = a.table }) t
+    ∙ ap (λ (x : ℕ). record { rule = b.rule; symbol = b.symbol; orders = b.orders; trades = b.trades; volume = x; bound = a.bound; table = a.table }) v
+    ∙ ap (λ (x : Option Cut). record { rule = b.rule; symbol = b.symbol; orders = b.orders; trades = b.trades; volume = b.volume; bound = x; table = a.table }) c
+    ∙ ap (λ (x : List Line). record { rule = b.rule; symbol = b.symbol; orders = b.orders; trades = b.trades; volume = b.volume; bound = b.bound; table = x }) l
+
+module _ (q : Question) (orders : List Order) (deals : List Deal) where
+  one-accepted : (a b : Accepted) → IsAcceptedLog q orders deals a → IsAcceptedLog q orders deals b → a ≡ b
+  one-accepted a b x y =
+      same-accepted a b (x.rule_is ∙ sym y.rule_is) (x.symbol_is ∙ sym y.symbol_is) (x.orders_are ∙ sym y.orders_are) (x.trades_are ∙ sym y.trades_are)
+      (x.volume_is ∙ sym y.volume_is) (one-bound q.rule orders (volume deals) a.bound b.bound x.bound_is y.bound_is) (x.table_is ∙ sym y.table_is)
+
+  one-acceptance : (a b : Verdict) → IsAcceptance q orders deals a → IsAcceptance q orders deals b → a ≡ b
+  one-acceptance (verdict.Accepted x) (verdict.Accepted y) is same = ap (λ (z : Accepted). verdict.Accepted z) (one-accepted x y is same)
+  one-acceptance (verdict.Accepted x) (verdict.Rejected f) is same = absurd same
+  one-acceptance (verdict.Accepted x) (verdict.Malformed log bad) is same = absurd same
+  one-acceptance (verdict.Rejected f) b is same = absurd is
+  one-acceptance (verdict.Malformed log bad) b is same = absurd is
+
+  one-outcome : (found : Option Finding) (a b : Verdict) → IsOutcome q orders deals found a → IsOutcome q orders deals found b → a ≡ b
+  one-outcome None a b x y = one-acceptance a b x y
+  one-outcome (Some f) a b x y = x ∙ sym y
+
+-- two records of logs have one verdict
+one-judged : (q : Question) (entries : List OrderRecord) (paired : Result (List TradeRecord) Finding) (a b : Verdict) → IsJudged q entries paired a → IsJudged q entries paired b → a ≡ b
+one-judged q entries paired a b x y =
+    let orders : List Order = order_list q.symbol entries in
+    let deals : List Deal = deals_of orders q.symbol (paired_trades paired) in
+    one-outcome q orders deals x.found a b x.outcome
+    (subst (λ (f : Option Finding). IsOutcome q orders deals f b) (x.one y.found y.by_the_rules) y.outcome)
+
+one-said : (q : Question) (orders : Result (List OrderRecord) BadPlace) (trades : Result (Result (List TradeRecord) Finding) BadPlace) (a b : Verdict)
+    → MatchResult orders (λ entries. MatchResult trades (λ paired. IsJudged q entries paired a) (λ bad. a ≡ verdict.Malformed Trades bad)) (λ bad. a ≡ verdict.Malformed Orders bad)
+    → MatchResult orders (λ entries. MatchResult trades (λ paired. IsJudged q entries paired b) (λ bad. b ≡ verdict.Malformed Trades bad)) (λ bad. b ≡ verdict.Malformed Orders bad)
+    → a ≡ b
+one-said q (Ok entries) (Ok paired) a b x y = one-judged q entries paired a b x y
+one-said q (Ok entries) (Err bad) a b x y = x ∙ sym y
+one-said q (Err bad) trades a b x y = x ∙ sym y
+
+pub one-verdict : OneVerdict
+one-verdict q orders trades a b x y = one-said q (order_log orders.form orders.bytes) (trade_log trades.form trades.bytes) a b x y
+
+pub forms-agree : FormsAgree
+forms-agree q orders trades orders' trades' entries paired a b have have' x y =
+    let here : IsJudged q entries paired a = rw (have.records, have.trades_are) at x in
+    let there : IsJudged q entries paired b = rw (have'.records, have'.trades_are) at y in
+    one-judged q entries paired a b here there

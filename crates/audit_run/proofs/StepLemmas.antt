@@ -1,0 +1,87 @@
+-- The steps of a call, one after another: what they leave, what they read, and whose faults rise.
+use Rattle.std.proofs.Common.{◌≡◌, ◌∙◌, sym, ap, subst, refl, inl, inr, ℕ, ◌≤◌, List, [], ◌∷◌, ◌++◌, length, Option, None, Some, true, append_assoc, append-nil, arith}
+use Rattle.audit_base.specs.declared.terms.Which.{Which}
+use Rattle.audit_base.specs.declared.terms.Which.TheVariants.{Orders, Trades}
+use Rattle.log_source.specs.Sources.{Slot, Rose, longest_log}
+use Rattle.audit_run.specs.declared.requests.Request.{Request}
+use Rattle.audit_run.specs.Requests.{next_log}
+use Rattle.audit_run.specs.Runs.{ReadsNext, ReadsOn, Holds, HoldsLogs}
+use Rattle.audit_run.specs.Steps.{Reading, Step, Lead, with_slot}
+
+-- what stands in a slot after it was changed
+with_slot-same : (slots : Which → Slot) (log : Which) (slot : Slot) → with_slot slots log slot log ≡ slot
+with_slot-same slots Orders slot = refl
+with_slot-same slots Trades slot = refl
+
+-- a change that leaves the faults of its slot no lesser leaves none lesser
+with_slot-later : (slots : Which → Slot) (log : Which) (slot : Slot) (other : Which) → (slots log).faults ≤ slot.faults
+    → (slots other).faults ≤ (with_slot slots log slot other).faults
+with_slot-later slots Orders slot Orders later = later
+with_slot-later slots Orders slot Trades later = omega arith
+with_slot-later slots Trades slot Orders later = omega arith
+with_slot-later slots Trades slot Trades later = later
+
+rose-earlier : (a b c : ℕ) → a ≤ b → Rose b c → Rose a c
+rose-earlier a b c le (inl lt) = inl (omega arith)
+rose-earlier a b c le (inr top) = inr top
+
+-- faults that rise at the last step rise in the call
+pub rose-in : (slots : Which → Slot) (steps : List Step) (last : Step) (after : Which → Slot) → Lead slots (steps ++ last ∷ []) after
+    → Rose last.before.faults last.after.faults → Rose (slots last.log).faults (after last.log).faults
+rose-in slots [] last after lead rose =
+    let ends : after last.log ≡ last.after = lead.1 last.log ∙ with_slot-same slots last.log last.after in
+    subst (λ (s : Slot). Rose (slots last.log).faults s.faults) (sym ends)
+    (subst (λ (s : Slot). Rose s.faults last.after.faults) lead.0.at rose)
+rose-in slots (step ∷ steps) last after lead rose =
+    let begins : (slots step.log).faults ≤ step.after.faults = subst (λ (s : Slot). s.faults ≤ step.after.faults) lead.0.at lead.0.later in
+    rose-earlier (slots last.log).faults ((with_slot slots step.log step.after) last.log).faults (after last.log).faults
+    (with_slot-later slots step.log step.after last.log begins)
+    (rose-in (with_slot slots step.log step.after) steps last after lead.1 rose)
+
+some-none : {A : Type 0} (o : Option A) (x : A) → o ≡ None → o ≡ Some x → ⊥
+some-none o x none some = cc
+
+same-bytes : (log : Option (List ℕ)) (a b : List ℕ) → log ≡ Some a → log ≡ Some b → a ≡ b
+same-bytes log a b x y = cc
+
+-- the log that is held is the log that was read
+held-read : (r : Reading) (request : Request) (read : List (List ℕ)) (step : Step) (bytes held : List ℕ) → r.tells ≡ true → ReadsNext r request read step bytes
+    → Holds r (next_log request read) held → bytes ≡ held
+held-read r request read step bytes held tells reads holds =
+    let there = subst (λ (o : Option (Which × List ℕ)). Holds r o held) reads.next holds in
+    same-bytes (r.log_of step.log step.name) bytes held (reads.read.known tells) there.0
+
+-- after logs that were read the shelf holds those that the command needs still
+pub held-after : (r : Reading) (request : Request) (read : List (List ℕ)) (steps : List Step) (logs held : List (List ℕ)) → r.tells ≡ true
+    → ReadsOn r request read steps logs → HoldsLogs r request read held → (next : Which × List ℕ) → next_log request logs ≡ Some next
+    → (rest : List (List ℕ)) × HoldsLogs r request logs rest
+held-after r request read [] logs held tells reads holds next is =
+    (held, subst (λ (x : List (List ℕ)). HoldsLogs r request x held) (sym reads) holds)
+held-after r request read (step ∷ steps) logs [] tells reads holds next is =
+    absurd (some-none (next_log request read) (step.log, step.name) holds reads.1.next)
+held-after r request read (step ∷ steps) logs (bytes ∷ held) tells reads holds next is =
+    let same : reads.0 ≡ bytes = held-read r request read step reads.0 bytes tells reads.1 holds.0 in
+    held-after r request (read ++ reads.0 ∷ []) steps logs held tells reads.2
+    (subst (λ (x : List ℕ). HoldsLogs r request (read ++ x ∷ []) held) (sym same) holds.1) next is
+
+-- the next log is held
+pub held-next : (r : Reading) (request : Request) (logs rest : List (List ℕ)) (next : Which × List ℕ) → next_log request logs ≡ Some next → HoldsLogs r request logs rest
+    → (bytes : List ℕ) × (r.log_of next.0 next.1 ≡ Some bytes) × (length bytes ≤ longest_log)
+held-next r request logs [] next is holds = absurd (some-none (next_log request logs) next holds is)
+held-next r request logs (bytes ∷ rest) next is holds =
+    let there = subst (λ (o : Option (Which × List ℕ)). Holds r o bytes) is holds.0 in (bytes, there.0, there.1)
+
+-- the logs that were read are those that the shelf holds
+pub held-all : (r : Reading) (request : Request) (read : List (List ℕ)) (steps : List Step) (logs held : List (List ℕ)) → r.tells ≡ true
+    → ReadsOn r request read steps logs → next_log request logs ≡ None → HoldsLogs r request read held → logs ≡ read ++ held
+held-all r request read [] logs [] tells reads all holds = reads ∙ sym (append-nil read)
+held-all r request read [] logs (bytes ∷ held) tells reads all holds =
+    let none : next_log request read ≡ None = subst (λ (x : List (List ℕ)). next_log request x ≡ None) reads all in
+    absurd (subst (λ (o : Option (Which × List ℕ)). Holds r o bytes) none holds.0)
+held-all r request read (step ∷ steps) logs [] tells reads all holds =
+    absurd (some-none (next_log request read) (step.log, step.name) holds reads.1.next)
+held-all r request read (step ∷ steps) logs (bytes ∷ held) tells reads all holds =
+    let same : reads.0 ≡ bytes = held-read r request read step reads.0 bytes tells reads.1 holds.0 in
+    let rest : logs ≡ (read ++ reads.0 ∷ []) ++ held = held-all r request (read ++ reads.0 ∷ []) steps logs held tells reads.2 all
+    (subst (λ (x : List ℕ). HoldsLogs r request (read ++ x ∷ []) held) (sym same) holds.1) in
+    rest ∙ ap (λ (x : List ℕ). (read ++ x ∷ []) ++ held) same ∙ append_assoc read (bytes ∷ []) held

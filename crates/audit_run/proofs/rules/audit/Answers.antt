@@ -1,0 +1,11 @@
+use Rattle.audit_run.proofs.JudgeLemmas.{ok-then}
+use Rattle.audit_run.proofs.RuleLemmas.{uniform_audited, maximum_audited}
+use Rattle.audit_run.proofs.rules.audit.Goals as goal
+
+pub returns-in-Uniform : goal.returns-in-Uniform
+returns-in-Uniform c =
+    rw c.in-Uniform.is (ok-then c.audit_uniform.result _ _ (λ answer is. uniform_audited c.args.orders.now c.args.deals.now c.args.count answer is) c.audit_uniform.ensures)
+
+pub returns-in-Maximum : goal.returns-in-Maximum
+returns-in-Maximum c =
+    rw c.in-Maximum.is (ok-then c.audit_maximum.result _ _ (λ answer is. maximum_audited c.args.orders.now c.args.deals.now c.args.count answer is) c.audit_maximum.ensures)

@@ -1,0 +1,183 @@
+-- The audit of two logs, as its functions pass it on: the verdict, or why there is none.
+use Rattle.std.specs.Prelude.{◌≡◌, ◌≤◌, ◌⊎◌, Bool, ◌&&◌, List, None, Result, Ok, Err, IsOk, length, unwrap_or, MatchResult}
+use Rattle.audit_base.specs.declared.terms.Which.{Which}
+use Rattle.audit_base.specs.declared.terms.Which.TheVariants.{Orders, Trades}
+use Rattle.audit_base.specs.declared.faults.BadPlace.{BadPlace}
+use Rattle.audit_base.specs.declared.findings.Finding.{Finding}
+use Rattle.audit_base.specs.declared.records.OrderRecord.{OrderRecord}
+use Rattle.audit_base.specs.declared.records.TradeRecord.{TradeRecord}
+use Rattle.audit_base.specs.declared.orders.Order.{Order}
+use Rattle.audit_base.specs.Histories.{instant_order, order_list, WellFormed}
+use Rattle.audit_base.specs.Trades.{deals_of, unsound_trade}
+use Rattle.matching_core.specs.declared.deals_draft.ResolvedTrades.{ResolvedTrades}
+use Rattle.audit_report.specs.declared.statuses.Status.TheVariants as status
+use Rattle.audit_report.specs.declared.verdicts.Verdict.{Verdict}
+use Rattle.audit_report.specs.declared.verdicts.Verdict.TheVariants.{Malformed}
+use Rattle.audit_report.specs.Lines.{read_fault_line, too_long_line}
+use Rattle.audit_report.specs.Statuses.{verdict_status}
+use Rattle.audit_report.specs.Texts.{verdict_text}
+use Rattle.audit_base.specs.declared.terms.Form.TheVariants.{Csv}
+use Rattle.audit_run.specs.declared.options.Options.{Options}
+use Rattle.audit_run.specs.declared.stops.Stop.{Stop}
+use Rattle.audit_run.specs.declared.stops.Stop.TheVariants as stop
+use Rattle.audit_run.specs.declared.reading.Unread.{Unread}
+use Rattle.audit_run.specs.declared.reading.Unread.TheVariants as unread
+use Rattle.audit_run.specs.declared.questions.Question.{Question}
+use Rattle.audit_run.specs.declared.questions.Source.{Source}
+use Rattle.audit_run.specs.declared.reports.Report.{Report}
+use Rattle.audit_run.specs.declared.requests.Request.{Request}
+use Rattle.audit_run.specs.declared.requests.Request.TheVariants.{Audit}
+use Rattle.audit_run.specs.Collecting.{step_of, IsReadAs}
+use Rattle.audit_run.specs.Judgements.{is_call, IsJudged}
+use Rattle.audit_run.specs.LogVerdicts.{is_read_form, order_log, trade_log}
+use Rattle.audit_run.specs.Runs.{IsText}
+use Rattle.log_source.specs.Sources.{longest_log}
+use Rattle.audit_run.specs.Steps.{Reading, IsReadFault, IsTooLong, BeginsWithin, EndsWithin}
+
+-- the rule is one of a call, and both forms are read
+abbrev pub is_audited : Question → Source → Source → Bool
+is_audited q orders trades = is_call q.rule && is_read_form orders.form && is_read_form trades.form
+
+-- nothing was done to the slot
+abbrev pub IsUntouched : Reading → Which → Type 0
+IsUntouched r log = r.after log ≡ r.before log
+
+-- a trade log out of its grammar has its first bad place as the verdict; else what was read is judged
+abbrev pub IsTradesVerdict : Question → List OrderRecord
+    → Result (Result (List TradeRecord) Finding) BadPlace → Verdict → Type 0
+IsTradesVerdict q entries said verdict =
+    MatchResult said (λ paired. IsJudged q entries paired verdict)
+    (λ bad. verdict ≡ Malformed Trades bad)
+
+-- the trade log was read to its end, and the verdict is that of its bytes
+abbrev pub IsAfterOrders : Reading → Question → Source → List OrderRecord → Verdict → Type 0
+IsAfterOrders r q trades entries verdict =
+    IsReadAs r Trades trades.name.now
+    (λ bytes. IsTradesVerdict q entries (trade_log trades.form bytes) verdict)
+
+-- an order log out of its grammar has its first bad place as the verdict, and the trade log is not started
+abbrev pub IsOrdersVerdict : Reading → Question → Source → Result (List OrderRecord) BadPlace
+    → Verdict → Type 0
+IsOrdersVerdict r q trades (Err bad) verdict =
+    (verdict ≡ Malformed Orders bad) × IsUntouched r Trades
+IsOrdersVerdict r q trades (Ok entries) verdict = IsAfterOrders r q trades entries verdict
+
+-- the order log was read to its end, and the verdict is that of its bytes and of the trade log's
+abbrev pub IsVerdictOn : Reading → Question → Source → Source → Verdict → Type 0
+IsVerdictOn r q orders trades verdict =
+    IsReadAs r Orders orders.name.now
+    (λ bytes. IsOrdersVerdict r q trades (order_log orders.form bytes) verdict)
+
+-- the trade log is started only after an order log that was read to its end and is in its grammar
+abbrev pub IsAfterGoodOrders : Reading → Source → Type 0
+IsAfterGoodOrders r orders =
+    IsReadAs r Orders orders.name.now (λ bytes. IsOk (order_log orders.form bytes))
+
+-- the log of these two that a slot is for
+abbrev pub source_of : Source → Source → Which → Source
+source_of orders trades Orders = orders
+source_of orders trades Trades = trades
+
+-- the order log is the first that is started
+abbrev pub IsStarted : Reading → Source → Which → Type 0
+IsStarted r orders Orders = IsUntouched r Trades
+IsStarted r orders Trades = IsAfterGoodOrders r orders
+
+-- A log was started and could not be read.
+pub record StopsAtFault (r : Reading) (orders trades : Source) (log : Which) : Type 0 where
+  pub is_started : IsStarted r orders log
+  pub fault : IsReadFault r (step_of r log (source_of orders trades log).name.now)
+
+-- A log was started and is too long.
+pub record StopsAtLength (r : Reading) (orders trades : Source) (log : Which) : Type 0 where
+  pub is_started : IsStarted r orders log
+  pub long : IsTooLong r (step_of r log (source_of orders trades log).name.now)
+
+-- why there is no verdict
+abbrev pub IsAuditStop : Reading → Source → Source → Stop → Type 0
+IsAuditStop r orders trades (stop.ReadFault log) = StopsAtFault r orders trades log
+IsAuditStop r orders trades (stop.TooLong log) = StopsAtLength r orders trades log
+IsAuditStop r orders trades stop.Memory = Unit {0}
+
+-- what is answered where a log was not read into records
+abbrev pub without_log : Which → Unread → Result Verdict Stop
+without_log log (unread.Bad bad) = Ok (Malformed log bad)
+without_log log unread.ReadFault = Err (stop.ReadFault log)
+without_log log unread.TooLong = Err (stop.TooLong log)
+without_log log unread.Memory = Err stop.Memory
+
+-- reading stopped at a log that is too long
+abbrev pub IsLengthStop : {T : Type 0} → Result T Stop → Type 0
+IsLengthStop (Ok verdict) = ⊥
+IsLengthStop (Err (stop.ReadFault log)) = ⊥
+IsLengthStop (Err (stop.TooLong log)) = Unit {0}
+IsLengthStop (Err stop.Memory) = ⊥
+
+-- why there is no verdict after the order log
+abbrev pub IsTradesStop : Reading → Source → Stop → Type 0
+IsTradesStop r trades (stop.ReadFault log) =
+    (log ≡ Trades) × IsReadFault r (step_of r Trades trades.name.now)
+IsTradesStop r trades (stop.TooLong log) =
+    (log ≡ Trades) × IsTooLong r (step_of r Trades trades.name.now)
+IsTradesStop r trades stop.Memory = Unit {0}
+
+-- the verdict after the order log, or why there is none
+abbrev pub DecidesTrades : Reading → Question → Source → List OrderRecord → Result Verdict Stop
+    → Type 0
+DecidesTrades r q trades entries result =
+    MatchResult result (IsAfterOrders r q trades entries) (IsTradesStop r trades)
+
+-- the verdict, or why there is none
+abbrev pub Decides : Reading → Question → Source → Source → Result Verdict Stop → Type 0
+Decides r q orders trades result =
+    MatchResult result (IsVerdictOn r q orders trades) (IsAuditStop r orders trades)
+
+-- where no log was too long, both slots end within the longest log if they began so
+abbrev pub StaysWithin : {T : Type 0} → Reading → Result T Stop → Type 0
+StaysWithin r result = BeginsWithin r → IsLengthStop result ⊎ EndsWithin r
+
+-- the same of the slot of one log
+abbrev pub StaysWithinAt : {T : Type 0} → Reading → Which → Result T Stop → Type 0
+StaysWithinAt r log result = IsLengthStop result ⊎ ((r.after log).taken ≤ longest_log)
+
+-- the line of a stop
+abbrev pub IsStop : Reading → Request → Stop → Type 0
+IsStop r request (stop.ReadFault log) = IsText r request status.ReadFault (read_fault_line log)
+IsStop r request (stop.TooLong log) = IsText r request status.TooLong (too_long_line log)
+IsStop r request stop.Memory = Unit {0}
+
+-- the request of an audit of these logs
+abbrev pub audit_of : Question → Source → Source → Request
+audit_of q orders trades =
+    Audit q.rule q.symbol orders.name.now trades.name.now orders.form trades.form q.table
+
+-- the report of a command, or why there is none
+abbrev pub DecidesReport : Reading → Request → Result Report Stop → Type 0
+DecidesReport r request result =
+    MatchResult result (λ report. IsText r request report.status report.text.items)
+    (IsStop r request)
+
+-- the report is that of a verdict
+pub record IsReportOf (verdict : Verdict) (report : Report) : Type 0 where
+  pub status_is : report.status ≡ verdict_status verdict
+  pub text_is : report.text.items ≡ verdict_text verdict
+
+-- The history of these records is well-formed and has these orders, all of which may rest.
+pub record IsCallHistory (q : Question) (entries : List OrderRecord)
+    (history : List Order) : Type 0 where
+  pub formed : WellFormed q.symbol entries
+  pub orders : history ≡ order_list q.symbol entries
+  pub instant : instant_order history ≡ None
+
+-- What was gathered of these trades came to this end.
+pub record IsEndOf (q : Question) (trades : List TradeRecord)
+    (ended : ResolvedTrades) : Type 0 where
+  pub count : ended.count ≡ length trades
+  pub finding : unsound_trade ended.history q.symbol trades ≡ ended.finding
+  pub deals : ended.finding ≡ None → ended.deals.items ≡ deals_of ended.history q.symbol trades
+
+-- the forms that options give are read
+abbrev pub reads_forms : Options → Bool
+reads_forms options =
+    is_read_form (unwrap_or options.orders_form Csv)
+    && is_read_form (unwrap_or options.trades_form Csv)

@@ -1,0 +1,65 @@
+-- What a log says in its form, and the verdict on two logs.
+use Rattle.std.specs.Prelude.{◌≡◌, ℕ, Bool, true, false, List, Result, Ok, Err, MatchResult}
+use Rattle.audit_base.specs.declared.terms.Which.TheVariants.{Orders, Trades}
+use Rattle.audit_base.specs.declared.terms.Form.{Form}
+use Rattle.audit_base.specs.declared.terms.Form.TheVariants.{Csv, Fix}
+use Rattle.audit_base.specs.declared.faults.Reason.TheVariants as reason
+use Rattle.audit_base.specs.declared.faults.BadPlace.{BadPlace}
+use Rattle.audit_base.specs.declared.faults.LogFault.{LogFault}
+use Rattle.audit_base.specs.declared.faults.LogFault.TheVariants as fault
+use Rattle.audit_base.specs.declared.findings.Finding.{Finding}
+use Rattle.audit_base.specs.declared.records.OrderRecord.{OrderRecord}
+use Rattle.audit_base.specs.declared.records.TradeRecord.{TradeRecord}
+use Rattle.audit_report.specs.declared.verdicts.Verdict.{Verdict}
+use Rattle.audit_report.specs.declared.verdicts.Verdict.TheVariants.{Malformed}
+use Rattle.csv_logs.specs.Logs as csv
+use Rattle.audit_run.specs.declared.questions.Question.{Question}
+use Rattle.audit_run.specs.Judgements.{IsJudged}
+
+-- A log: its bytes, and the form that they are read in.
+pub record Log : Type 0 where
+  pub form : Form
+  pub bytes : List ℕ
+
+abbrev pub log_in : Form → List ℕ → Log
+log_in form bytes = record { form = form; bytes = bytes }
+
+-- the forms that are read; a log in the form `Fix` is not read yet, and no words ask for it
+abbrev pub is_read_form : Form → Bool
+is_read_form Csv = true
+is_read_form Fix = false
+
+-- what stands for the reading of a log whose form is not read yet
+abbrev unread_form : BadPlace
+unread_form = record { place = 1; offset = 0; reason = reason.Begin }
+
+-- what an order log says: its records, or its first bad place
+abbrev pub order_log : Form → List ℕ → Result (List OrderRecord) BadPlace
+order_log Csv bytes = csv.order_log bytes
+order_log Fix bytes = Err unread_form
+
+-- each record of a CSV log is a trade
+abbrev pub all_paired : Result (List TradeRecord) BadPlace
+    → Result (Result (List TradeRecord) Finding) BadPlace
+all_paired (Ok trades) = Ok (Ok trades)
+all_paired (Err bad) = Err bad
+
+-- what a trade log says: its trades, or finding 4 in their place where its reports do not pair; or its first bad place
+abbrev pub trade_log : Form → List ℕ → Result (Result (List TradeRecord) Finding) BadPlace
+trade_log Csv bytes = all_paired (csv.trade_log bytes)
+trade_log Fix bytes = Err unread_form
+
+-- Verdict: an order log out of its grammar has its first bad place as the verdict, and the trade log is not looked at; else a trade
+-- log out of its grammar has its own; else the records of both are judged
+abbrev pub IsLogVerdict : Question → Log → Log → Verdict → Type 0
+IsLogVerdict question orders trades verdict =
+    MatchResult (order_log orders.form orders.bytes)
+    (λ entries. MatchResult (trade_log trades.form trades.bytes)
+    (λ paired. IsJudged question entries paired verdict)
+    (λ bad. verdict ≡ Malformed Trades bad))
+    (λ bad. verdict ≡ Malformed Orders bad)
+
+-- why a log is not decoded: it is bad there, or memory ran out
+abbrev pub IsDecodeFault : {R : Type 0} → Result R BadPlace → LogFault → Type 0
+IsDecodeFault said (fault.Bad bad) = said ≡ Err bad
+IsDecodeFault said fault.Memory = Unit {0}

@@ -1,0 +1,33 @@
+//! A run over logs in memory, into a sink in memory.
+ghost use Rattle.std.specs.Prelude.{◌≡◌, ◌≢◌, [], map};
+ghost use Rattle.std.specs.String.{string_bytes};
+ghost use Rattle.log_source.specs.MemorySinks.{failing_writes, length_of, memory_state, room_of};
+ghost use Rattle.audit_run.specs.InMemory.{ReportsInRoom};
+ghost use Rattle.audit_run.specs.Steps.{reading};
+ghost use Rattle.audit_run.specs.Words.{request_of};
+
+use super::running::run;
+use audit_report::statuses::Status;
+use log_source::memory_sink::MemorySink;
+use log_source::quiet_shelf::QuietShelf;
+use log_source::shelf::Shelf;
+use std::alloc::Global;
+
+/// Runs a command over two logs in memory, into a sink in memory: the clauses of `run` without a fault.
+/// `ReadFault` never comes. Where no write of the sink is to fail, the logs are no longer than a log may
+/// be and the sink has room for the report, the answer is the report's status, with the report written,
+/// or `Memory`.
+pub fn run_in_memory(
+    alloc: Global,
+    words: &[String],
+    shelf: &mut QuietShelf,
+    out: &mut MemorySink,
+) -> Status
+    ensures read { result ≢ Status.ReadFault }
+    ensures report { failing_writes out.old ≡ []
+        → ReportsInRoom (request_of (map string_bytes words.now))
+        (reading ⟦<QuietShelf as Shelf>⟧ shelf.old shelf.new) (length_of out.old) (room_of out.old)
+        (memory_state out.old) (memory_state out.new) result }
+{
+    run(alloc, words, shelf, out)
+}

@@ -1,0 +1,19 @@
+//! What is asked of two logs, and where they are.
+use audit_base::names::Name;
+use audit_base::terms::{Form, Rule};
+
+/// What is asked of two logs: whether the trades of a symbol conform to a rule.
+#[derive(Clone, Copy, Debug)]
+pub struct Question {
+    pub rule: Rule,
+    pub symbol: Name,
+    /// Whether a table of quantities is wanted.
+    pub table: bool,
+}
+
+/// Where a log is: the name that a shelf finds it under, and the form that it is read in.
+#[derive(Clone, Copy, Debug)]
+pub struct Source<'a> {
+    pub name: &'a str,
+    pub form: Form,
+}
