@@ -13,6 +13,10 @@ is_digits least most text =
 abbrev pub digits_form : ℕ → List ℕ → Option ℕ
 digits_form most text = if is_digits 1 most text then Some (digits_value 10 text) else None
 
+-- the number that digits write, none or more; nothing where another byte is among them
+abbrev pub number_form : List ℕ → Option ℕ
+number_form text = if list_all is_ascii_digit text then Some (digits_value 10 text) else None
+
 -- exactly this many digits, for a number from `low` to `high`
 abbrev pub is_digits_between : ℕ → ℕ → ℕ → List ℕ → Bool
 is_digits_between width low high text =

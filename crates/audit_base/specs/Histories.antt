@@ -1,5 +1,5 @@
 -- The history of a symbol, when it is well-formed, and its order list.
-use Rattle.std.specs.Prelude.{◌≡◌, ◌<◌, ◌≤◌, ℕ, zero, suc, Bool, true, false, ◌==◌, ◌||◌, ◌&&◌, not, nat_lt, List, [], ◌∷◌, Option, None, Some, is_some, is_none, option_map, filter, filter_map, count_by, take, length, slice_index_or, if◌then◌else◌}
+use Rattle.std.specs.Prelude.{◌≡◌, ⊤, ◌<◌, ◌≤◌, ℕ, zero, suc, Bool, true, false, ◌==◌, ◌||◌, ◌&&◌, not, nat_lt, List, [], ◌∷◌, Option, None, Some, is_some, is_none, option_map, filter, filter_map, count_by, take, length, slice_index_or, if◌then◌else◌}
 use Rattle.std.specs.List.{enumerate_from}
 use Rattle.audit_base.specs.Moments.{Moment}
 use Rattle.audit_base.specs.declared.names.Key.{Key}
@@ -12,7 +12,7 @@ use Rattle.audit_base.specs.declared.orders.Order.{Order}
 use Rattle.audit_base.specs.declared.findings.Property.TheVariants as property
 use Rattle.audit_base.specs.declared.findings.Finding.{Finding}
 use Rattle.audit_base.specs.Least.{least_answer, least_with, any_below, first_of, only_if}
-use Rattle.audit_base.specs.Orders.{same_name, same_key, same_side, order_at, place_at, side_at, is_rests, missing_order}
+use Rattle.audit_base.specs.Orders.{same_name, same_key, same_side, order_at, place_at, side_at, is_rests, missing_order, IsMarketPriced}
 use Rattle.audit_base.specs.Shows.{found, show_place}
 
 -- What one record says.
@@ -58,6 +58,12 @@ abbrev pub side_of : OrderRecord → Option Side
 side_of (New key time symbol side quantity price life) = Some side
 side_of (Cancel key time symbol target) = None
 side_of (Replace key time symbol target side quantity price) = Some side
+
+-- a new order of life Market has the market price of its side; no other record is of that life
+abbrev pub HasMarketPrice : OrderRecord → Type 0
+HasMarketPrice (New key time symbol side quantity price life) = IsMarketPriced life side price
+HasMarketPrice (Cancel key time symbol target) = ⊤
+HasMarketPrice (Replace key time symbol target side quantity price) = ⊤
 
 -- the side that a record has, if it has one, is that of its target
 abbrev pub fits_side : Option Side → Option Side → Bool

@@ -13,13 +13,6 @@ pub fn are_digits(text: &[u8]) -> bool
     text.iter().all(|byte| byte.is_ascii_digit())
 }
 
-/// Whether the text is from `least` to `most` decimal digits, and nothing else.
-pub fn is_digits(text: &[u8], least: usize, most: usize) -> bool
-    ensures { result ≡ form.is_digits least most text.now }
-{
-    least <= text.len() && text.len() <= most && are_digits(text)
-}
-
 /// The number that at most 19 decimal digits write; 0 where there are none. It is below 10^n, where
 /// n is how many they are.
 pub fn value_of(text: &[u8]) -> u64
@@ -35,6 +28,23 @@ pub fn value_of(text: &[u8]) -> u64
     value
 }
 
+/// The number that at most 19 decimal digits write, in one pass over them. None exactly where a byte is
+/// no digit.
+fn number_of(text: &[u8]) -> Option<u64>
+    requires { length text.now ≤ 19 }
+    ensures value { result ≡ form.number_form text.now }
+    ensures in_range { IfSome result (λ value. value < 10 ^ length text.now) }
+{
+    let mut value: u64 = 0;
+    for byte in text {
+        if !byte.is_ascii_digit() {
+            return None;
+        }
+        value = value * 10 + (*byte - b'0') as u64;
+    }
+    Some(value)
+}
+
 /// The number that 1 to `most` digits write, below 10^n, where n is how many they are. None exactly
 /// where the text is anything else.
 pub fn read_digits(text: &[u8], most: usize) -> Option<u64>
@@ -43,11 +53,10 @@ pub fn read_digits(text: &[u8], most: usize) -> Option<u64>
     ensures some { IfSome result (λ _. (1 ≤ length text.now) × (length text.now ≤ most)) }
     ensures in_range { IfSome result (λ value. value < 10 ^ length text.now) }
 {
-    if is_digits(text, 1, most) {
-        Some(value_of(text))
-    } else {
-        None
+    if text.is_empty() || text.len() > most {
+        return None;
     }
+    number_of(text)
 }
 
 /// The number from `low` to `high` that exactly `width` digits write. None exactly where the text is
@@ -57,10 +66,10 @@ pub fn read_digits_between(text: &[u8], width: usize, low: u64, high: u64) -> Op
     ensures value { result ≡ form.digits_between width low high text.now }
     ensures in_range { IfSome result (λ v. (low ≤ v) × (v ≤ high)) }
 {
-    if text.len() != width || !are_digits(text) {
+    if text.len() != width {
         return None;
     }
-    let value = value_of(text);
+    let value = number_of(text)?;
     if low <= value && value <= high {
         Some(value)
     } else {

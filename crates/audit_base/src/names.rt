@@ -155,16 +155,45 @@ fn block_of(text: &[u8]) -> [u8; 64]
     bytes
 }
 
+/// The name of this text.
+fn name_of(text: &[u8]) -> Name
+    requires { IsTrue (form.is_name text.now) }
+    ensures { result ≡ text.now }
+{
+    Name {
+        bytes: block_of(text),
+        size: text.len() as u8,
+    }
+}
+
 /// The name that the text writes, which is the text itself. None exactly where it is empty, has more
 /// than 64 bytes, or holds a byte outside 0x20 to 0x7E, a `,` or a `"`.
 pub fn read_name(text: &[u8]) -> Option<Name>
     ensures { result ≡ form.name_form text.now }
 {
     if is_name(text) {
-        Some(Name {
-            bytes: block_of(text),
-            size: text.len() as u8,
-        })
+        Some(name_of(text))
+    } else {
+        None
+    }
+}
+
+/// Whether a text is a name whose bytes are known to be such as a name may hold. Only its size is asked.
+pub fn is_name_by_size(text: &[u8]) -> bool
+    requires { IsTrue (list_all form.is_name_byte text.now) }
+    ensures { result ≡ form.is_name text.now }
+{
+    1 <= text.len() && text.len() <= 64
+}
+
+/// The name that a text writes whose bytes are known to be such as a name may hold. None exactly where
+/// it is empty or has more than 64 bytes.
+pub fn read_name_by_size(text: &[u8]) -> Option<Name>
+    requires { IsTrue (list_all form.is_name_byte text.now) }
+    ensures { result ≡ form.name_form text.now }
+{
+    if is_name_by_size(text) {
+        Some(name_of(text))
     } else {
         None
     }

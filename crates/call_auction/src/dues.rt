@@ -47,7 +47,8 @@ fn ahead_of(orders: &[Order], index: usize) -> u128
 pub(crate) fn due_of(orders: &[Order], index: usize, volume: u128) -> u128
     requires few { length orders.now < 2 ^ 32 }
     requires inside { index < length orders.now }
-    ensures { result ≡ units.due_by_rank orders.now (order_at orders.now index).side volume index }
+    ensures { let side = (order_at orders.now index).side in
+        result ≡ units.due_by_rank orders.now side volume index }
 {
     let quantity = u128::from(orders[index].quantity.value());
     quantity.min(volume.saturating_sub(ahead_of(orders, index)))

@@ -5,3 +5,4 @@ pub mod ReadingLemmas
 pub mod RefusalLemmas
 pub mod SearchLemmas
 pub mod TagLemmas
+pub mod PlaceLemmas

@@ -1,6 +1,8 @@
 //! The value of a field, and the SOH behind it.
 ghost use Rattle.std.specs.Prelude.{◌≡◌, Some, length, take, IfSome, IfNone};
 ghost use Rattle.std.specs.Option.{option_map, ForSome};
+ghost use Rattle.audit_base.specs.Sizes.{soh};
+ghost use Rattle.memchr.specs.Find.{IsFirstByte, is_byte};
 ghost use Rattle.fix_fields.specs.Forms.{length_form};
 ghost use Rattle.fix_fields.specs.Grammar.{IsDelimited, HasForm};
 ghost use Rattle.fix_fields.specs.Ranges.{HasRangeIn, shown};
@@ -10,7 +12,7 @@ use crate::field::Field;
 use crate::pairs::length_tag;
 use audit_base::digits::read_digits;
 use audit_base::sizes::SOH;
-use memchr::memchr;
+use memchr::memchr_iter;
 
 /// The number of bytes of the value at the front of the bytes, where `before` is the field of the
 /// body right before the field with this tag. None exactly where no value in its form and SOH stand
@@ -46,12 +48,20 @@ fn data_size(count: &[u8], bytes: &[u8]) -> Option<usize>
     }
 }
 
+/// Where the first SOH stands. It is mostly near, and there the iterator of `memchr` looks first.
+fn first_soh(bytes: &[u8]) -> Option<usize>
+    ensures { IsFirstByte (is_byte soh) bytes.now result }
+{
+    let mut places = memchr_iter(SOH, bytes);
+    places.next()
+}
+
 /// The same of any other field.
 fn delimited_size(bytes: &[u8]) -> Option<usize>
     ensures end { IfSome result (EndsAt bytes.now) }
     ensures form { IfSome result (λ n. IsDelimited (take n bytes.now)) }
     ensures none { IfNone result (NoValue IsDelimited bytes.now) }
 {
-    let size = memchr(SOH, bytes)?;
+    let size = first_soh(bytes)?;
     if size > 0 { Some(size) } else { None }
 }

@@ -85,10 +85,12 @@ pub(crate) fn read_cursor(
     requires piece { 1 ≤ piece }
     requires started { cursor.old.started ≡ true }
     requires room { 0 < length buf.old }
-    ensures slot { let state = cursor_state logs.now in Reads (state cursor.old) (state cursor.new) result buf.new }
+    ensures slot { let state = cursor_state logs.now in
+        Reads (state cursor.old) (state cursor.new) result buf.new }
     ensures log { cursor.new.log ≡ cursor.old.log }
     ensures failing { is_err result ≡ fails }
-    ensures count { IfOk result (λ n. n ≡ cursor_read_size logs.now cursor.old piece (length buf.old)) }
+    ensures count { let size = cursor_read_size logs.now cursor.old piece (length buf.old) in
+        IfOk result (λ n. n ≡ size) }
     ensures faults { cursor.new.faults ≡ faults_after fails cursor.old.faults }
 {
     if fails {

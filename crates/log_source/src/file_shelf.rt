@@ -53,7 +53,8 @@ impl<X: Read + Drop> FileSlot<X> {
         requires room { 0 < length buf.old }
         requires started { (file_state X.remaining self.old).started ≡ true }
         requires within { self.old.taken ≤ longest_log }
-        ensures { let state = file_state X.remaining in Reads (state self.old) (state self.new) result buf.new }
+        ensures { let state = file_state X.remaining in
+            Reads (state self.old) (state self.new) result buf.new }
     {
         let Some(file) = &mut self.file else {
             unreachable!()

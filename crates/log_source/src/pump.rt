@@ -10,9 +10,9 @@ use crate::take::TakeFault;
 use audit_base::sizes::LONGEST_LOG;
 use audit_base::terms::Which;
 
-/// The bytes of one read: few enough to stay near the processor, and enough that a read's own cost
-/// is small beside that of its bytes.
-const PIECE: usize = 65_536;
+/// The bytes of one read, 256 KiB: few enough to stay near the processor, and enough that what a read
+/// and a piece cost a feed is small beside their bytes.
+const PIECE: usize = 262_144;
 
 /// Hands the log of this name to the feed, piece by piece up to its end. The causes of failure are
 /// those of `take_log`.

@@ -5,3 +5,5 @@
 pub mod comparing;
 pub mod ranking;
 mod ranks;
+#[cfg(test)]
+mod tests;

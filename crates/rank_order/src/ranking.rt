@@ -13,7 +13,8 @@ use std::alloc::Global;
 
 /// Adds the rank of an order, if it is of the side and no record cancels it.
 fn add_rank(ranks: &mut Vec<Rank>, side: Side, index: usize, order: &Order) -> Result<(), NoMemory>
-    ensures ranks { OnOk result (ranks.new.items ≡ ranks.old.items ++ rank_if side index order.now) }
+    ensures ranks { let more = rank_if side index order.now in
+        OnOk result (ranks.new.items ≡ ranks.old.items ++ more) }
     ensures priced { order.now.limit < 10 ^ 18 }
 {
     let rank = Rank::of(index, order);

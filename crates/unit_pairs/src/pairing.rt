@@ -27,7 +27,8 @@ fn deals_of(
 ) -> Result<Vec<Deal>, NoMemory>
     requires inside { All (λ l. l.order < length orders.now) lots.asks.items }
     requires sides { AreSides lots.bids.items lots.asks.items }
-    ensures { IfOk result (λ deals. AreLotDeals orders.now price.now lots.bids.items lots.asks.items deals.items) }
+    ensures { let are_deals = AreLotDeals orders.now price.now lots.bids.items lots.asks.items in
+        IfOk result (λ deals. are_deals deals.items) }
 {
     let pairs = pairs_in_order(alloc, &lots.bids, &lots.asks)?;
     number_pairs(alloc, orders, &pairs, price)
@@ -47,7 +48,8 @@ pub fn uniform_pairs(
     requires order_list { IsOrderList orders.now }
     requires ranked { AreRanked orders.now sides.now }
     requires enough { HaveUnits orders.now volume }
-    ensures expected { IfOk result (λ deals. deals.items ≡ uniform_deals orders.now volume price) }
+    ensures expected { let deals = uniform_deals orders.now volume price in
+        IfOk result (λ made. made.items ≡ deals) }
     ensures deals { IfOk result (λ deals. IsDealList orders.now deals.items) }
 {
     let lots = side_lots(alloc, orders, sides, volume)?;

@@ -19,7 +19,8 @@ pub(crate) struct ActiveOrders {
 
 /// Adds the limit and the quantity of an order, if the order counts on the side.
 fn add(limits: &mut Vec<LimitQuantity>, order: &Order, side: Side) -> Result<(), NoMemory>
-    ensures limits { OnOk result (limits.new.items ≡ limits.old.items ++ limits_on side (order.now ∷ [])) }
+    ensures limits { let more = limits_on side (order.now ∷ []) in
+        OnOk result (limits.new.items ≡ limits.old.items ++ more) }
     ensures numbers { IsOrder order.now }
 {
     let limit_quantity = LimitQuantity {
@@ -38,8 +39,10 @@ fn add(limits: &mut Vec<LimitQuantity>, order: &Order, side: Side) -> Result<(),
 impl ActiveOrders {
     /// Those of these orders. Memory is asked for once a side, before the first order.
     pub fn of(alloc: Global, orders: &[Order]) -> Result<ActiveOrders, NoMemory>
-        ensures bids { IfOk result (λ active. active.bids.items ≡ limits_on the_side.Buy orders.now) }
-        ensures asks { IfOk result (λ active. active.asks.items ≡ limits_on the_side.Sell orders.now) }
+        ensures bids { let bids = limits_on the_side.Buy orders.now in
+            IfOk result (λ active. active.bids.items ≡ bids) }
+        ensures asks { let asks = limits_on the_side.Sell orders.now in
+            IfOk result (λ active. active.asks.items ≡ asks) }
         ensures numbers { OnOk result (AreOrders orders.now) }
     {
         let mut bids = Vec::with_capacity(alloc, orders.len())?;
