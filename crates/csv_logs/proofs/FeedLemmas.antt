@@ -2,7 +2,7 @@
 use Rattle.std.proofs.Common.{◌≡◌, ℕ, zero, suc, Bool, true, false, not, ◌==◌, ◌<◌, ◌+◌, ◌≤◌, List, [], ◌∷◌, ◌++◌, length, drop, refl, sym, ap, subst, ◌∙◌, inl, inr, Some, None, Ok, Err, Option, Result, append_assoc, length-append, add_assoc, arith}
 use Rattle.std.specs.Prelude.{All, IfErr, IfOk, OnOk, filter, is_some}
 use Rattle.std.specs.Global.{Vec}
-use Rattle.std.specs.List.{list_all, list_any}
+use Rattle.std.specs.List.{list_any}
 use Rattle.std.specs.Option.{option_to_list}
 use Rattle.std.proofs.lemmas.Bool.{both_ways, cases_Bool, or_parts, or_from}
 use Rattle.std.proofs.lemmas.List.{append-nil, drop_all}
@@ -19,8 +19,9 @@ use Rattle.csv_logs.specs.Steps.{EndsLine, Goes, HasLine, Moves, TakesFields, fi
 use Rattle.csv_logs.specs.Logs.{is_header, line_entry, read_lines, read_log}
 use Rattle.csv_logs.specs.Feeds.{IsHandedAs, IsPassed, IsOpen, IsReadAs, HasRead, IsShut, StandsAt, StandsFor, StandsWith, is_lf, is_whole}
 use Rattle.csv_logs.specs.declared.feeds.CsvFeed.{CsvFeed}
-use Rattle.csv_logs.specs.Columns.{line_fields, is_unquoted_byte}
-use Rattle.csv_logs.proofs.UnquotedLemmas.{unquoted-unbroken}
+use Rattle.csv_logs.specs.Columns.{line_fields, is_broken}
+use Rattle.csv_logs.specs.Readers.{is_closed}
+use Rattle.csv_logs.proofs.ClosedLemmas.{closed-unbroken}
 use Rattle.csv_logs.proofs.LineLemmas.{mark_size-le, whole-line, no-lf-drop, after-some, full-count, full_lines-line, full_lines-last}
 use Rattle.csv_logs.proofs.LogLemmas.{passed-line, passed-bad, passed-log, passed-count, read_lines-cases, read_log-count}
 
@@ -352,23 +353,23 @@ module _ {R : Type 0} (names : List (List ℕ)) (entry : List (List ℕ) → Res
         stands = taken-records (Err why) start size entries offset entries offset' header' bad' t.1 header line log at long says full is;
       }
 
-  -- what a line without quotes says, by its fields
-  unquoted-says : (header : Bool) (text : List ℕ) → list_all is_unquoted_byte text ≡ true → line_says names entry header text ≡ fields_say names entry header (line_fields text)
+  -- what a line that is not broken says, by its fields
+  unbroken-says : (header : Bool) (text : List ℕ) → is_broken text ≡ false → line_says names entry header text ≡ fields_say names entry header (line_fields text)
   unfolding is_header line_entry
-  unquoted-says true text unquoted = rw (unquoted-unbroken text unquoted) refl
-  unquoted-says false text unquoted = rw (unquoted-unbroken text unquoted) refl
+  unbroken-says true text unbroken = rw unbroken refl
+  unbroken-says false text unbroken = rw unbroken refl
 
   -- what is left after a line that was read by its fields
   pub after-read : (says : Result (Option R) Reason) (start size : ℕ) (before : List R → Type 0) (offset : ℕ) (after : List R → Type 0) (offset' : ℕ) (header' : Bool) (bad' : Option BadPlace)
       → TakesLine says start size before offset after offset' header' bad'
-      → (header : Bool) (line : List ℕ) → 0 < offset → start ≡ offset → size ≡ length line + 1 → list_all is_unquoted_byte (without_cr line) ≡ true
+      → (header : Bool) (line : List ℕ) → 0 < offset → start ≡ offset → size ≡ length line + 1 → is_closed (without_cr line) ≡ true
       → (length (without_cr line) == 0) ≡ false → says ≡ fields_say names entry header (line_fields (without_cr line))
       → EndsLine names entry before line offset header after [] offset' header' bad'
-  after-read says start size before offset after offset' header' bad' taken header line later at long unquoted full is_said =
+  after-read says start size before offset after offset' header' bad' taken header line later at long closed full is_said =
       let stands : line_at offset line ≡ record { start = offset; text = without_cr line } = later-line offset line later in
       let text : (line_at offset line).text ≡ without_cr line = ap (λ (l : Line). l.text) stands in
       after-taken says start size before offset after offset' header' bad' taken header line (at ∙ sym (ap (λ (l : Line). l.start) stands)) long
-      (is_said ∙ sym (unquoted-says header (without_cr line) unquoted) ∙ ap (line_says names entry header) (sym text))
+      (is_said ∙ sym (unbroken-says header (without_cr line) (closed-unbroken (without_cr line) closed)) ∙ ap (line_says names entry header) (sym text))
       (ap is_full stands ∙ ap not full)
 
 -- a line was taken and then gone behind

@@ -1,10 +1,14 @@
 -- Fields that are compared with names one by one.
-use Rattle.std.proofs.Common.{◌≡◌, ℕ, zero, suc, ◌<◌, ◌==◌, true, false, List, [], ◌∷◌, length, get_or, map, Some, refl, sym, ap, subst, inl, inr, arith}
+use Rattle.std.proofs.Common.{◌≡◌, ℕ, zero, suc, ◌<◌, ◌==◌, ◌-◌, true, false, List, [], ◌∷◌, length, get_or, map, Some, refl, sym, ap, subst, ◌∙◌, inl, inr, arith}
 use Rattle.std.specs.Borrow.{Bor}
 use Rattle.std.specs.Cmp.Lexicographic.{pointwise}
 use Rattle.std.proofs.lemmas.Bool.{cases_Bool, and_parts, and_from, and_left, and_right, eqb-true, eq-eqb}
 use Rattle.csv.specs.Records.{field_at}
+use Rattle.audit_base.specs.Names.{is_name_byte}
+use Rattle.csv_logs.specs.Columns.{column_text}
 use Rattle.csv_logs.specs.Logs.{same_fields}
+use Rattle.std.specs.List.{list_all}
+use Rattle.std.specs.Prelude.{unwrap_or}
 
 pub bytes-same : (xs ys : List ℕ) → pointwise ◌==◌ xs ys ≡ true → xs ≡ ys
 bytes-same [] [] e = refl
@@ -62,3 +66,13 @@ names-differ (field ∷ fields) (name ∷ names) zero d h differ = elim (cases_B
 ]
 names-differ (field ∷ fields) (name ∷ names) (suc k) d h differ =
     sym (and_right (pointwise ◌==◌ field name.now) (same_fields fields (map (λ name. name.now) names)) (sym (names-differ fields names k d (omega (arith, h)) differ)))
+
+-- the text of a column holds bytes of names where all fields do
+field-names : (fields : List (List ℕ)) (i : ℕ) → list_all (list_all is_name_byte) fields ≡ true → list_all is_name_byte (unwrap_or (field_at fields i) []) ≡ true
+unfolding field_at
+field-names [] i all = refl
+field-names (field ∷ fields) zero all = (and_parts (list_all is_name_byte field) (list_all (list_all is_name_byte) fields) all).0
+field-names (field ∷ fields) (suc i) all = field-names fields i (and_parts (list_all is_name_byte field) (list_all (list_all is_name_byte) fields) all).1
+
+pub column-names : (number : ℕ) (fields : List (List ℕ)) (text : List ℕ) → list_all (list_all is_name_byte) fields ≡ true → text ≡ column_text number fields → list_all is_name_byte text ≡ true
+column-names number fields text all is = ap (list_all is_name_byte) is ∙ field-names fields (number - 1) all

@@ -9,3 +9,4 @@ pub mod RecordLemmas
 pub mod ReaderLemmas
 pub mod PricedLemmas
 pub mod SymbolLemmas
+mod ClosedLemmas

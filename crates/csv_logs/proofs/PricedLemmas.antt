@@ -11,7 +11,7 @@ use Rattle.csv_logs.specs.declared.orders.Kind.TheVariants as kind
 use Rattle.csv_logs.specs.Columns.{◌>>=◌, column_text, in_column, name_at, side_at, quantity_at, price_at, empty_at}
 use Rattle.audit_base.specs.Numbers.{market_price}
 use Rattle.csv_logs.specs.OrderLines.{kind_form, head_at, limit_order, market_order, cancel, replacement, order_of_kind, order_entry}
-use Rattle.csv_logs.specs.Written.{HasMarketPrice}
+use Rattle.audit_base.specs.Histories.{HasMarketPrice}
 
 same : (a b : OrderRecord) → HasMarketPrice a → ◌≡◌ {A = Result OrderRecord Reason} (Ok a) (Ok b) → HasMarketPrice b
 same a b has e = let eq : a ≡ b = cc in subst HasMarketPrice eq has

@@ -1,9 +1,11 @@
 -- What one reader reads of many lines: for each unquoted line, what would be read of it alone.
-use Rattle.std.proofs.Common.{◌≡◌, ◌⊎◌, ℕ, true, false, ◌==◌, List, [], ◌∷◌, ◌++◌, ◌-◌, length, take, drop, refl, sym, ap, subst, ◌∙◌, inl, inr, Some, None, Option, append_assoc, arith}
+use Rattle.std.proofs.Common.{◌≡◌, ◌⊎◌, ℕ, Bool, true, false, not, ◌==◌, ◌&&◌, List, [], ◌∷◌, ◌++◌, ◌-◌, length, take, drop, refl, sym, ap, subst, ◌∙◌, inl, inr, Some, None, Option, append_assoc, arith}
 use Rattle.std.specs.List.{list_all, ends_with}
 use Rattle.std.specs.Prelude.{if◌then◌else◌}
-use Rattle.std.proofs.lemmas.Bool.{cases_Bool, and_parts, not-true, eqb-true, ne_eqb}
+use Rattle.std.proofs.lemmas.Bool.{cases_Bool, and_from, and_parts, not-true, eqb-true, ne_eqb}
 use Rattle.std.proofs.lemmas.List.{take-append-drop}
+use Rattle.std.proofs.lemmas.List.Folds.{list_all-append}
+use Rattle.audit_base.specs.Names.{is_name_byte}
 use Rattle.csv.specs.Machine.{Read, next_record, after_end}
 use Rattle.csv.specs.Reading.{default_config, has_failed, is_flexible, names_headers, pending_of, reader_config, reader_headers, reader_state, reader_trim, source_of, strip_bom, took_first, NextIs, ReadRecord, ReadsNext}
 use Rattle.csv.specs.declared.parser.Config.{Config}
@@ -14,9 +16,11 @@ use Rattle.csv.specs.declared.parser.State.TheVariants as st
 use Rattle.csv.specs.declared.parser.Terminator.TheVariants as term
 use Rattle.csv_logs.specs.Columns.{line_fields}
 use Rattle.csv_logs.specs.Lines.{without_cr}
-use Rattle.csv_logs.specs.Columns.{is_unquoted_byte}
+use Rattle.csv_logs.specs.Columns.{is_printable, is_unquoted_byte}
 use Rattle.csv_logs.specs.Readers.{IsReading}
-use Rattle.csv_logs.proofs.UnquotedLemmas.{unquoted-low, unquoted-bom, unquoted-bom_before}
+use Rattle.csv_logs.specs.Readers.{is_closed}
+use Rattle.csv_logs.proofs.ClosedLemmas.{IsEnd, closed-alone, closed-printable, in-closed}
+use Rattle.csv_logs.proofs.UnquotedLemmas.{unquoted-low, unquoted-bom, printable-bom, printable-bom_before}
 use Rattle.csv_logs.proofs.FieldLemmas.{bytes-same}
 
 -- a text, cut at its commas
@@ -29,10 +33,6 @@ unquoted-byte : (byte : ℕ) → is_unquoted_byte byte ≡ true → ((byte == 34
 unquoted-byte byte unquoted =
     let low = unquoted-low byte unquoted in
     (not-true (byte == 34) (and_parts _ _ unquoted).1, ne_eqb byte 13 (λ e. omega (arith, e, low)), ne_eqb byte 10 (λ e. omega (arith, e, low)))
-
--- the bytes that may end a line
-abbrev IsEnd : ℕ → Type 0
-IsEnd byte = (byte ≡ 10) ⊎ (byte ≡ 13)
 
 -- a unquoted text within a field, and from the start of one
 in-field : (fields : List (List ℕ)) (field text : List ℕ) (end : ℕ) (tail : List ℕ) → IsEnd end → list_all is_unquoted_byte text ≡ true
@@ -69,6 +69,27 @@ alone : (byte : ℕ) (rest : List ℕ) → list_all is_unquoted_byte (byte ∷ r
 unfolding line_fields
 alone byte rest unquoted = rw (unquoted-bom (byte ∷ rest) [] unquoted, in-line byte rest 10 [] (inl refl) unquoted) refl
 
+-- the fields of an unquoted text hold bytes of names: its bytes but the commas
+name-byte : (byte : ℕ) → is_unquoted_byte byte ≡ true → (byte == 44) ≡ false → is_name_byte byte ≡ true
+name-byte byte unquoted other = and_from (is_unquoted_byte byte) (not (byte == 44)) unquoted (ap not other)
+
+pushed-all : {X : Type 0} (p : X → Bool) (xs : List X) (x : X) → list_all p xs ≡ true → p x ≡ true → list_all p (xs ++ x ∷ []) ≡ true
+pushed-all p xs x all one = list_all-append p xs (x ∷ []) ∙ and_from (list_all p xs) (p x && true) all (and_from (p x) true one refl)
+
+cut-names : (fields : List (List ℕ)) (field text : List ℕ) → list_all (list_all is_name_byte) fields ≡ true → list_all is_name_byte field ≡ true → list_all is_unquoted_byte text ≡ true
+    → list_all (list_all is_name_byte) (cut_fields fields field text) ≡ true
+cut-names fields field [] before here unquoted = pushed-all (list_all is_name_byte) fields field before here
+cut-names fields field (byte ∷ rest) before here unquoted =
+    let p = and_parts (is_unquoted_byte byte) (list_all is_unquoted_byte rest) unquoted in
+    elim (cases_Bool (byte == 44)) [
+      | inl comma ↦ rw comma (cut-names (fields ++ field ∷ []) [] rest (pushed-all (list_all is_name_byte) fields field before here) refl p.1)
+      | inr other ↦ rw other (cut-names fields (field ++ byte ∷ []) rest before (pushed-all is_name_byte field byte here (name-byte byte p.0 other)) p.1)
+    ]
+
+pub line-names : (line : List ℕ) → list_all is_unquoted_byte line ≡ true → (length line == 0) ≡ false → list_all (list_all is_name_byte) (line_fields line) ≡ true
+line-names [] unquoted full = absurd (cc full)
+line-names (byte ∷ rest) unquoted full = ap (list_all (list_all is_name_byte)) (alone byte rest unquoted) ∙ cut-names [] [] (byte ∷ rest) refl refl unquoted
+
 -- a line is its text, or its text and a CR
 cr-cases : (line : List ℕ) → (line ≡ without_cr line) ⊎ (line ≡ without_cr line ++ 13 ∷ [])
 cr-cases line = elim (cases_Bool (ends_with ◌==◌ line (13 ∷ []))) [
@@ -85,24 +106,24 @@ pub record GivesLine (line later : List ℕ) (fields : List (List ℕ)) : Type 0
   pub gives : next_record default_config st.StartRecord [] [] (line ++ 10 ∷ later) ≡ Some (fields, state, rest)
   pub next : next_record default_config state [] [] rest ≡ next_record default_config st.StartRecord [] [] later
 
-gives-text : (line text later : List ℕ) → (line ≡ text) ⊎ (line ≡ text ++ 13 ∷ []) → list_all is_unquoted_byte text ≡ true → (length text == 0) ≡ false → GivesLine line later (line_fields text)
+gives-text : (line text later : List ℕ) → (line ≡ text) ⊎ (line ≡ text ++ 13 ∷ []) → is_closed text ≡ true → (length text == 0) ≡ false → GivesLine line later (line_fields text)
 unfolding next_record
-gives-text line [] later is unquoted full = absurd (cc full)
-gives-text line (byte ∷ rest) later (inl same) unquoted full = record {
+gives-text line [] later is closed full = absurd (cc full)
+gives-text line (byte ∷ rest) later (inl same) closed full = record {
   state = st.StartRecord;
   rest = later;
-  gives = rw (same, alone byte rest unquoted) (in-line byte rest 10 later (inl refl) unquoted);
+  gives = rw (same, closed-alone byte rest closed) (in-closed byte rest 10 later (inl refl) closed);
   next = refl;
 }
-gives-text line (byte ∷ rest) later (inr cr) unquoted full = record {
+gives-text line (byte ∷ rest) later (inr cr) closed full = record {
   state = st.AfterCr;
   rest = 10 ∷ later;
-  gives = rw (cr, alone byte rest unquoted) (ap (next_record default_config st.StartRecord [] []) (append_assoc (byte ∷ rest) (13 ∷ []) (10 ∷ later)) ∙ in-line byte rest 13 (10 ∷ later) (inr refl) unquoted);
+  gives = rw (cr, closed-alone byte rest closed) (ap (next_record default_config st.StartRecord [] []) (append_assoc (byte ∷ rest) (13 ∷ []) (10 ∷ later)) ∙ in-closed byte rest 13 (10 ∷ later) (inr refl) closed);
   next = refl;
 }
 
-pub gives-line : (line later : List ℕ) → list_all is_unquoted_byte (without_cr line) ≡ true → (length (without_cr line) == 0) ≡ false → GivesLine line later (line_fields (without_cr line))
-gives-line line later unquoted full = gives-text line (without_cr line) later (cr-cases line) unquoted full
+pub gives-line : (line later : List ℕ) → is_closed (without_cr line) ≡ true → (length (without_cr line) == 0) ≡ false → GivesLine line later (line_fields (without_cr line))
+gives-line line later closed full = gives-text line (without_cr line) later (cr-cases line) closed full
 
 -- `csv` passes over an empty line
 passes-text : (line text later : List ℕ) → (line ≡ text) ⊎ (line ≡ text ++ 13 ∷ []) → (length text == 0) ≡ true
@@ -149,13 +170,13 @@ reads-line remaining old new line later fields found gives is reads first goes l
       },
     )
 
--- a text whose first line is unquoted has no mark
-no-bom : (line text later : List ℕ) → (line ≡ text) ⊎ (line ≡ text ++ 13 ∷ []) → list_all is_unquoted_byte text ≡ true → strip_bom (line ++ 10 ∷ later) ≡ line ++ 10 ∷ later
-no-bom line text later (inl same) unquoted = rw same (unquoted-bom text later unquoted)
-no-bom line text later (inr cr) unquoted = rw (cr, append_assoc text (13 ∷ []) (10 ∷ later)) (unquoted-bom_before text 13 (10 ∷ later) unquoted refl)
+-- a text whose first line is printable has no mark
+no-bom : (line text later : List ℕ) → (line ≡ text) ⊎ (line ≡ text ++ 13 ∷ []) → list_all is_printable text ≡ true → strip_bom (line ++ 10 ∷ later) ≡ line ++ 10 ∷ later
+no-bom line text later (inl same) printable = rw same (printable-bom text later printable)
+no-bom line text later (inr cr) printable = rw (cr, append_assoc text (13 ∷ []) (10 ∷ later)) (printable-bom_before text 13 (10 ∷ later) printable refl)
 
-pub line-bom : (text line later : List ℕ) → text ≡ line ++ 10 ∷ later → list_all is_unquoted_byte (without_cr line) ≡ true → strip_bom text ≡ text
-line-bom text line later is unquoted = rw is (no-bom line (without_cr line) later (cr-cases line) unquoted)
+pub line-bom : (text line later : List ℕ) → text ≡ line ++ 10 ∷ later → is_closed (without_cr line) ≡ true → strip_bom text ≡ text
+line-bom text line later is closed = rw is (no-bom line (without_cr line) later (cr-cases line) (closed-printable (without_cr line) closed))
 
 -- a new reader stands at the start of its text
 pub new-reading : {R : Type 0} (remaining : R → Option (List ℕ)) (reader : Reader R) (text : List ℕ) → reader_config reader ≡ default_config → reader_trim reader ≡ trim.None → is_flexible reader ≡ true

@@ -19,7 +19,8 @@ use Rattle.csv_logs.specs.declared.written_lines.Terms.{Terms}
 use Rattle.csv_logs.specs.Columns.{side_form}
 use Rattle.csv_logs.specs.OrderLines.{kind_form, order_entry}
 use Rattle.csv_logs.specs.TradeLines.{trade_entry}
-use Rattle.csv_logs.specs.Written.{HasMarketPrice, limit_text, order_fields, trade_fields, side_text, kind_text}
+use Rattle.audit_base.specs.Histories.{HasMarketPrice}
+use Rattle.csv_logs.specs.Written.{limit_text, order_fields, trade_fields, side_text, kind_text}
 use Rattle.csv_logs.specs.WrittenLines.{IsLineOf, have_name_bytes, cancel_order, new_order, replace_order}
 
 pub name-unquoted : (text name : List ℕ) → text ≡ name → is_name name ≡ true → list_all is_name_byte text ≡ true

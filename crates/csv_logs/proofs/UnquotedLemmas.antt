@@ -29,9 +29,6 @@ unquoted-unbroken line unquoted = rw (unquoted-printable line unquoted, unquoted
 pub unquoted-low : (byte : ℕ) → is_unquoted_byte byte ≡ true → 32 ≤ byte
 unquoted-low byte unquoted = leb-true 32 byte (and_parts _ _ (and_parts (is_printable byte) (not (is_quote byte)) unquoted).0).0
 
-unquoted-high : (byte : ℕ) → is_unquoted_byte byte ≡ true → byte ≤ 126
-unquoted-high byte unquoted = leb-true byte 126 (and_parts _ _ (and_parts (is_printable byte) (not (is_quote byte)) unquoted).0).1
-
 pub unquoted-no_lf : (line : List ℕ) → list_all is_unquoted_byte line ≡ true → list_any is_lf line ≡ false
 unquoted-no_lf [] unquoted = refl
 unquoted-no_lf (byte ∷ rest) unquoted =
@@ -74,22 +71,25 @@ unquoted-line_at zero line unquoted =
     ∙ ap (λ (t : List ℕ). let l : Line = record { start = 0; text = t } in l) (unquoted-cr line unquoted)
 unquoted-line_at (suc start) line unquoted = ap (λ (t : List ℕ). let l : Line = record { start = suc start; text = t } in l) (unquoted-cr line unquoted)
 
--- `csv` finds no mark at its start either
-not-bom : (byte next third : ℕ) → is_unquoted_byte byte ≡ true → is_bom byte next third ≡ false
-not-bom byte next third unquoted =
-    let high = unquoted-high byte unquoted in
+-- `csv` finds no mark at the start of a printable line
+not-bom : (byte next third : ℕ) → is_printable byte ≡ true → is_bom byte next third ≡ false
+not-bom byte next third printable =
+    let high : byte ≤ 126 = leb-true byte 126 (and_parts _ _ printable).1 in
     let other : (byte == 0xEF) ≡ false = ne_eqb byte 0xEF (λ e. omega (arith, e, high)) in
     rw other refl
 
-pub unquoted-bom_before : (line : List ℕ) (end : ℕ) (tail : List ℕ) → list_all is_unquoted_byte line ≡ true → (end == 0xEF) ≡ false → strip_bom (line ++ end ∷ tail) ≡ line ++ end ∷ tail
+pub printable-bom_before : (line : List ℕ) (end : ℕ) (tail : List ℕ) → list_all is_printable line ≡ true → (end == 0xEF) ≡ false → strip_bom (line ++ end ∷ tail) ≡ line ++ end ∷ tail
 unfolding strip_bom
-unquoted-bom_before [] end [] unquoted other = refl
-unquoted-bom_before [] end (a ∷ []) unquoted other = refl
-unquoted-bom_before [] end (a ∷ b ∷ tail) unquoted other = rw other refl
-unquoted-bom_before (a ∷ []) end [] unquoted other = refl
-unquoted-bom_before (a ∷ []) end (b ∷ tail) unquoted other = let p = and_parts (is_unquoted_byte a) true unquoted in rw (not-bom a end b p.0) refl
-unquoted-bom_before (a ∷ b ∷ []) end tail unquoted other = let p = and_parts (is_unquoted_byte a) (list_all is_unquoted_byte (b ∷ [])) unquoted in rw (not-bom a b end p.0) refl
-unquoted-bom_before (a ∷ b ∷ c ∷ rest) end tail unquoted other = let p = and_parts (is_unquoted_byte a) (list_all is_unquoted_byte (b ∷ c ∷ rest)) unquoted in rw (not-bom a b c p.0) refl
+printable-bom_before [] end [] printable other = refl
+printable-bom_before [] end (a ∷ []) printable other = refl
+printable-bom_before [] end (a ∷ b ∷ tail) printable other = rw other refl
+printable-bom_before (a ∷ []) end [] printable other = refl
+printable-bom_before (a ∷ []) end (b ∷ tail) printable other = let p = and_parts (is_printable a) true printable in rw (not-bom a end b p.0) refl
+printable-bom_before (a ∷ b ∷ []) end tail printable other = let p = and_parts (is_printable a) (list_all is_printable (b ∷ [])) printable in rw (not-bom a b end p.0) refl
+printable-bom_before (a ∷ b ∷ c ∷ rest) end tail printable other = let p = and_parts (is_printable a) (list_all is_printable (b ∷ c ∷ rest)) printable in rw (not-bom a b c p.0) refl
+
+pub printable-bom : (line tail : List ℕ) → list_all is_printable line ≡ true → strip_bom (line ++ 10 ∷ tail) ≡ line ++ 10 ∷ tail
+printable-bom line tail printable = printable-bom_before line 10 tail printable refl
 
 pub unquoted-bom : (line tail : List ℕ) → list_all is_unquoted_byte line ≡ true → strip_bom (line ++ 10 ∷ tail) ≡ line ++ 10 ∷ tail
-unquoted-bom line tail unquoted = unquoted-bom_before line 10 tail unquoted refl
+unquoted-bom line tail unquoted = printable-bom line tail (unquoted-printable line unquoted)

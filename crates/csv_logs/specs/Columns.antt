@@ -1,7 +1,7 @@
 -- The fields of a line of CSV, and how a column is read. The code of `"` is 34.
 use Rattle.std.specs.Prelude.{ℕ, Bool, not, ◌+◌, ◌-◌, ◌%◌, ◌==◌, ◌||◌, ◌&&◌, nat_le, Option, Some, None, option_map, unwrap_or, Result, Ok, Err, List, [], ◌∷◌, ◌++◌, count_by, if◌then◌else◌}
 use Rattle.std.specs.List.{list_all}
-use Rattle.csv.specs.Machine.{next_record}
+use Rattle.csv.specs.Machine.{Read, next_record}
 use Rattle.csv.specs.Reading.{default_config, strip_bom}
 use Rattle.csv.specs.Records.{field_at}
 use Rattle.csv.specs.declared.parser.State.TheVariants as st
@@ -15,10 +15,21 @@ use Rattle.audit_base.specs.Names.{name_form}
 use Rattle.audit_base.specs.Numbers.{price_form, quantity_form}
 use Rattle.audit_base.specs.Stamps.{stamp_form}
 
--- the fields of a line: those of the first record that `csv` reads, by its defaults, from the line and one LF
-unfoldable pub line_fields : List ℕ → List (List ℕ)
-line_fields line =
-    unwrap_or (option_map (λ read. read.0) (next_record default_config st.StartRecord [] [] (strip_bom (line ++ 10 ∷ [])))) []
+-- the fields of a line, from left to right
+abbrev pub Row : Type 0
+Row = List (List ℕ)
+
+-- what nine fields mean: a record, or why they mean none
+abbrev pub Meaning : Type 0 → Type 0
+Meaning R = Row → Result R Reason
+
+-- the first record that `csv` reads, by its defaults, from a line and one LF
+abbrev pub first_read : List ℕ → Option Read
+first_read line = next_record default_config st.StartRecord [] [] (strip_bom (line ++ 10 ∷ []))
+
+-- the fields of a line: those of that record
+unfoldable pub line_fields : List ℕ → Row
+line_fields line = unwrap_or (option_map (λ read. read.0) (first_read line)) []
 
 abbrev pub is_printable : ℕ → Bool
 is_printable byte = nat_le 0x20 byte && nat_le byte 0x7E
@@ -35,7 +46,7 @@ abbrev pub is_broken : List ℕ → Bool
 is_broken line = not (list_all is_printable line) || (count_by is_quote line % 2 == 1)
 
 -- the text of a column, from 1 on
-abbrev pub column_text : ℕ → List (List ℕ) → List ℕ
+abbrev pub column_text : ℕ → Row → List ℕ
 column_text number fields = unwrap_or (field_at fields (number - 1)) []
 
 -- a column's value, or that it is the column which is not in its form
@@ -66,26 +77,26 @@ side_form (byte ∷ []) = if byte == 66 then Some side.Buy else if byte == 83 th
 side_form (byte ∷ next ∷ rest) = None
 
 -- the values of a column
-abbrev pub name_at : ℕ → List (List ℕ) → Result (List ℕ) Reason
+abbrev pub name_at : ℕ → Row → Result (List ℕ) Reason
 name_at number fields = in_column number (name_form (column_text number fields))
 
-abbrev pub stamp_at : ℕ → List (List ℕ) → Result Moment Reason
+abbrev pub stamp_at : ℕ → Row → Result Moment Reason
 stamp_at number fields = in_column number (stamp_form (column_text number fields))
 
-abbrev pub side_at : ℕ → List (List ℕ) → Result Side Reason
+abbrev pub side_at : ℕ → Row → Result Side Reason
 side_at number fields = in_column number (side_form (column_text number fields))
 
-abbrev pub quantity_at : ℕ → List (List ℕ) → Result ℕ Reason
+abbrev pub quantity_at : ℕ → Row → Result ℕ Reason
 quantity_at number fields = in_column number (quantity_form (column_text number fields))
 
-abbrev pub price_at : ℕ → List (List ℕ) → Result ℕ Reason
+abbrev pub price_at : ℕ → Row → Result ℕ Reason
 price_at number fields = in_column number (price_form (column_text number fields))
 
-abbrev pub empty_at : ℕ → List (List ℕ) → Result (Unit {0}) Reason
+abbrev pub empty_at : ℕ → Row → Result (Unit {0}) Reason
 empty_at number fields = in_column number (empty_form (column_text number fields))
 
 -- a firm, and in the next column its id
-abbrev pub key_at : ℕ → List (List ℕ) → Result Key Reason
+abbrev pub key_at : ℕ → Row → Result Key Reason
 key_at number fields = do
   firm ← name_at number fields
   id ← name_at (number + 1) fields

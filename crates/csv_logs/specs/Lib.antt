@@ -8,7 +8,8 @@ pub mod Logs
 pub mod Feeds
 pub mod Written
 -- What private functions pass on: one line of a feed, lines that are read by one reader, one written
--- line.
+-- line, and what is known of the bytes of fields.
 pub mod Steps
 pub mod Readers
+pub mod FieldBytes
 pub mod WrittenLines

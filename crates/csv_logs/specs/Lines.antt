@@ -32,7 +32,8 @@ without_cr line = if ends_with ◌==◌ line (13 ∷ []) then take (length line 
 -- lines with their offsets, where the first one starts at `start` and each is followed by an LF
 abbrev pub placed : ℕ → List (List ℕ) → List Line
 placed start [] = []
-placed start (line ∷ lines) = record { start = start; text = without_cr line } ∷ placed (start + length line + 1) lines
+placed start (line ∷ lines) =
+    record { start = start; text = without_cr line } ∷ placed (start + length line + 1) lines
 
 abbrev pub is_full : Line → Bool
 is_full line = not (length line.text == 0)

@@ -9,11 +9,13 @@ use Rattle.audit_base.specs.Numbers.{market_price}
 use Rattle.csv_logs.specs.declared.orders.Kind.{Kind}
 use Rattle.csv_logs.specs.declared.orders.Kind.TheVariants as kind
 use Rattle.csv_logs.specs.declared.orders.Head.{Head}
-use Rattle.csv_logs.specs.Columns.{column_text, in_column, ◌>>=◌, name_at, stamp_at, side_at, quantity_at, price_at, empty_at, key_at}
+use Rattle.csv_logs.specs.Columns.{Row, column_text, in_column, ◌>>=◌, name_at, stamp_at, side_at, quantity_at, price_at, empty_at, key_at}
 
 abbrev pub kind_of : ℕ → Option Kind
 kind_of letter =
-    if letter == 78 then Some kind.New else if letter == 88 then Some kind.Cancel else if letter == 82 then Some kind.Replace else if letter == 73 then Some kind.Immediate else if letter == 77 then Some kind.Market else None
+    if letter == 78 then Some kind.New else if letter == 88 then Some kind.Cancel
+    else if letter == 82 then Some kind.Replace else if letter == 73 then Some kind.Immediate
+    else if letter == 77 then Some kind.Market else None
 
 -- the kind of an order line is one letter
 abbrev pub kind_form : List ℕ → Option Kind
@@ -22,7 +24,7 @@ kind_form (letter ∷ []) = kind_of letter
 kind_form (letter ∷ next ∷ rest) = None
 
 -- columns 2 to 5, which every kind has: firm and id, time, symbol
-abbrev pub head_at : List (List ℕ) → Result Head Reason
+abbrev pub head_at : Row → Result Head Reason
 head_at fields = do
   key ← key_at 2 fields
   time ← stamp_at 4 fields
@@ -30,7 +32,7 @@ head_at fields = do
   Ok (record { key = key; time = time; symbol = symbol })
 
 -- a new order with a limit has a side, a quantity and a price, and no target
-abbrev pub limit_order : Head → Life → List (List ℕ) → Result OrderRecord Reason
+abbrev pub limit_order : Head → Life → Row → Result OrderRecord Reason
 limit_order head life fields = do
   side ← side_at 6 fields
   quantity ← quantity_at 7 fields
@@ -39,7 +41,7 @@ limit_order head life fields = do
   Ok (record_of.New head.key head.time head.symbol side quantity price life)
 
 -- a market order has a side and a quantity, and no price and no target
-abbrev pub market_order : Head → List (List ℕ) → Result OrderRecord Reason
+abbrev pub market_order : Head → Row → Result OrderRecord Reason
 market_order head fields = do
   side ← side_at 6 fields
   quantity ← quantity_at 7 fields
@@ -48,7 +50,7 @@ market_order head fields = do
   Ok (record_of.New head.key head.time head.symbol side quantity (market_price side) life.Market)
 
 -- a cancel has a target alone
-abbrev pub cancel : Head → List (List ℕ) → Result OrderRecord Reason
+abbrev pub cancel : Head → Row → Result OrderRecord Reason
 cancel head fields = do
   no_side ← empty_at 6 fields
   no_quantity ← empty_at 7 fields
@@ -57,7 +59,7 @@ cancel head fields = do
   Ok (record_of.Cancel head.key head.time head.symbol target)
 
 -- a replacement has a side, a quantity, a price and a target
-abbrev pub replacement : Head → List (List ℕ) → Result OrderRecord Reason
+abbrev pub replacement : Head → Row → Result OrderRecord Reason
 replacement head fields = do
   side ← side_at 6 fields
   quantity ← quantity_at 7 fields
@@ -66,7 +68,7 @@ replacement head fields = do
   Ok (record_of.Replace head.key head.time head.symbol target side quantity price)
 
 -- columns 6 to 9, by the kind
-abbrev pub order_of_kind : Kind → Head → List (List ℕ) → Result OrderRecord Reason
+abbrev pub order_of_kind : Kind → Head → Row → Result OrderRecord Reason
 order_of_kind kind.New head fields = limit_order head life.Rests fields
 order_of_kind kind.Immediate head fields = limit_order head life.Immediate fields
 order_of_kind kind.Market head fields = market_order head fields
@@ -74,7 +76,7 @@ order_of_kind kind.Cancel head fields = cancel head fields
 order_of_kind kind.Replace head fields = replacement head fields
 
 -- what nine fields mean in an order log: a record, or the first column that is not in its form
-unfoldable pub order_entry : List (List ℕ) → Result OrderRecord Reason
+unfoldable pub order_entry : Row → Result OrderRecord Reason
 order_entry fields = do
   kind ← in_column 1 (kind_form (column_text 1 fields))
   head ← head_at fields

@@ -7,7 +7,8 @@ use Rattle.audit_base.specs.declared.faults.BadPlace.{BadPlace}
 use Rattle.log_source.specs.Handing.{Adds}
 use Rattle.log_source.specs.Sources.{longest_log}
 use Rattle.csv_logs.specs.declared.feeds.CsvFeed.{CsvFeed}
-use Rattle.csv_logs.specs.Feeds.{IsOpen, StandsFor, StandsWith}
+use Rattle.csv_logs.specs.Columns.{Meaning, Row}
+use Rattle.csv_logs.specs.Feeds.{IsOpen, StandsFor, StandsWith, Taken, TakenBy}
 use Rattle.csv_logs.specs.Lines.{Line, mark_size, without_cr}
 use Rattle.csv_logs.specs.Logs.{fields_entry, is_header, line_entry, same_fields}
 
@@ -16,43 +17,60 @@ abbrev pub line_at : ℕ → List ℕ → Line
 line_at zero line = record { start = mark_size line; text = without_cr (drop (mark_size line) line) }
 line_at (suc start) line = record { start = suc start; text = without_cr line }
 
+-- what a line says: a record, or nothing, as the header; or the first test that it fails
+abbrev pub Says : Type 0 → Type 0
+Says R = Result (Option R) Reason
+
+-- what becomes of a line: it is good, or fails this test
+abbrev pub Outcome : Type 0
+Outcome = Result (Unit {0}) Reason
+
 -- what the fields of a record's line say: the record, or the first test that they fail
-abbrev pub entry_says : {R : Type 0} → Result R Reason → Result (Option R) Reason
+abbrev pub entry_says : {R : Type 0} → Result R Reason → Says R
 entry_says (Ok entry) = Ok (Some entry)
 entry_says (Err why) = Err why
 
 -- what the first line that is not empty says: nothing, where it is the header
-abbrev pub header_says : {R : Type 0} → Bool → Result (Option R) Reason
+abbrev pub header_says : {R : Type 0} → Bool → Says R
 header_says test = if test then Ok None else Err reason.Header
 
 -- what the fields of a line say, where the header has come or is to come
-abbrev pub fields_say : {R : Type 0} → List (List ℕ) → (List (List ℕ) → Result R Reason) → Bool → List (List ℕ) → Result (Option R) Reason
+abbrev pub fields_say : {R : Type 0} → Row → Meaning R → Bool → Row → Says R
 fields_say names entry true fields = entry_says (fields_entry entry fields)
 fields_say names entry false fields = header_says (same_fields fields names)
 
--- what a line that is not empty says: nothing but the header as the first one, then a record; or the first test that it fails
-abbrev pub line_says : {R : Type 0} → List (List ℕ) → (List (List ℕ) → Result R Reason) → Bool → List ℕ → Result (Option R) Reason
+-- what a line that is not empty says: nothing but the header as the first one, then a record; or the
+-- first test that it fails
+abbrev pub line_says : {R : Type 0} → Row → Meaning R → Bool → List ℕ → Says R
 line_says names entry true text = entry_says (line_entry entry text)
 line_says names entry false text = header_says (is_header names text)
 
--- Fields that say this were taken: a record that they mean was handed on, and the outcome is the first test that they fail, if any.
-abbrev pub TakesFields : {R : Type 0} → Result (Option R) Reason → (List R → Type 0) → (List R → Type 0) → Result (Unit {0}) Reason → Type 0
+-- Fields that say this were taken: a record that they mean was handed on, and the outcome is the first
+-- test that they fail, if any.
+abbrev pub TakesFields : {R : Type 0} → Says R → Taken R → Taken R → Outcome → Type 0
 TakesFields (Ok new) before after outcome = Adds before after (option_to_list new) × (outcome ≡ Ok tt)
 TakesFields (Err why) before after outcome = Adds before after [] × (outcome ≡ Err why)
 
 -- the feed has gone behind a line of `size` bytes that starts at `start`, whose outcome was this
-abbrev pub Moves : {R : Type 0} → Result (Unit {0}) Reason → ℕ → ℕ → (List R → Type 0) → ℕ → ℕ → Bool → Option BadPlace → Type 0
-Moves (Ok done) start size has_taken offset offset' header' bad' = (offset' ≡ offset + size) × (header' ≡ true) × (bad' ≡ None)
+abbrev pub Moves : {R : Type 0} → Outcome → ℕ → ℕ → Taken R → ℕ → ℕ → Bool → Option BadPlace
+    → Type 0
+Moves (Ok done) start size has_taken offset offset' header' bad' =
+    (offset' ≡ offset + size) × (header' ≡ true) × (bad' ≡ None)
 Moves (Err why) start size has_taken offset offset' header' bad' =
-    (entries : List _) → has_taken entries → bad' ≡ Some (record { place = length entries + 1; offset = start; reason = why })
+    (entries : List _) → has_taken entries
+    → bad' ≡ Some (record { place = length entries + 1; offset = start; reason = why })
 
 -- what stood for a log with a line that has not ended stands for it with that line ended
-abbrev pub EndsLine : {R : Type 0} → List (List ℕ) → (List (List ℕ) → Result R Reason) → (List R → Type 0) → List ℕ → ℕ → Bool → (List R → Type 0) → List ℕ → ℕ → Bool → Option BadPlace → Type 0
+abbrev pub EndsLine : {R : Type 0} → Row → Meaning R → Taken R → List ℕ → ℕ → Bool → Taken R → List ℕ
+    → ℕ → Bool → Option BadPlace → Type 0
 EndsLine names entry before line offset header after rest' offset' header' bad' =
-    (entries : List _) (log : List ℕ) → before entries → IsOpen names entry entries line offset header log → StandsWith after names entry rest' offset' header' bad' (log ++ 10 ∷ [])
+    (entries : List _) (log : List ℕ) → before entries
+    → IsOpen names entry entries line offset header log
+    → StandsWith after names entry rest' offset' header' bad' (log ++ 10 ∷ [])
 
 -- Some log that ends with this line, not ended, is no longer than a log may be.
-pub record HasLine {R : Type 0} (names : List (List ℕ)) (entry : List (List ℕ) → Result R Reason) (has_taken : List R → Type 0) (line : List ℕ) (offset : ℕ) (header : Bool) : Type 0 where
+pub record HasLine {R : Type 0} (names : Row) (entry : Meaning R) (has_taken : Taken R)
+    (line : List ℕ) (offset : ℕ) (header : Bool) : Type 0 where
   pub entries : List R
   pub has : has_taken entries
   pub log : List ℕ
@@ -68,26 +86,31 @@ pub record Goes (old new : List ℕ → Type 0) (piece left : List ℕ) : Type 0
 -- The same, said of a feed before and after, where `has_taken` is its collector's meaning.
 
 -- the feed has gone behind a line of `size` bytes that starts at `start`, whose outcome was this
-abbrev pub FeedMoves : {K R : Type 0} → (K → List R → Type 0) → Result (Unit {0}) Reason → ℕ → ℕ → CsvFeed K → CsvFeed K → Type 0
+abbrev pub FeedMoves : {K R : Type 0} → TakenBy K R → Outcome → ℕ → ℕ → CsvFeed K → CsvFeed K → Type 0
 FeedMoves has_taken outcome start size old new =
     Moves outcome start size (has_taken new.entries) old.offset new.offset new.header new.bad
 
--- some log that the feed stands for, ended with this line in place of its rest, is no longer than a log may be
-abbrev pub FeedHasLine : {K R : Type 0} → (K → List R → Type 0) → List (List ℕ) → (List (List ℕ) → Result R Reason) → CsvFeed K → List ℕ → Type 0
+-- some log that the feed stands for, ended with this line in place of its rest, is no longer than a
+-- log may be
+abbrev pub FeedHasLine : {K R : Type 0} → TakenBy K R → Row → Meaning R → CsvFeed K → List ℕ → Type 0
 FeedHasLine has_taken names entry feed line =
     HasLine names entry (has_taken feed.entries) line feed.offset feed.header
 
 -- the feed has taken the end of this line, and keeps this rest
-abbrev pub FeedEndsLine : {K R : Type 0} → (K → List R → Type 0) → List (List ℕ) → (List (List ℕ) → Result R Reason) → CsvFeed K → CsvFeed K → List ℕ → List ℕ → Type 0
+abbrev pub FeedEndsLine : {K R : Type 0} → TakenBy K R → Row → Meaning R → CsvFeed K → CsvFeed K
+    → List ℕ → List ℕ → Type 0
 FeedEndsLine has_taken names entry old new line rest =
-    EndsLine names entry (has_taken old.entries) line old.offset old.header (has_taken new.entries) rest new.offset new.header new.bad
+    EndsLine names entry (has_taken old.entries) line old.offset old.header
+    (has_taken new.entries) rest new.offset new.header new.bad
 
 -- the feed has taken a piece up to what is left of it
-abbrev pub FeedGoes : {K R : Type 0} → (K → List R → Type 0) → List (List ℕ) → (List (List ℕ) → Result R Reason) → CsvFeed K → CsvFeed K → List ℕ → List ℕ → Type 0
+abbrev pub FeedGoes : {K R : Type 0} → TakenBy K R → Row → Meaning R → CsvFeed K → CsvFeed K → List ℕ
+    → List ℕ → Type 0
 FeedGoes has_taken names entry old new =
     Goes (StandsFor has_taken names entry old) (StandsFor has_taken names entry new)
 
 -- nothing of the feed but its rest has changed
 abbrev pub KeepsAllButRest : {K : Type 0} → CsvFeed K → CsvFeed K → Type 0
 KeepsAllButRest old new =
-    (new.entries ≡ old.entries) × (new.offset ≡ old.offset) × (new.header ≡ old.header) × (new.bad ≡ old.bad)
+    (new.entries ≡ old.entries) × (new.offset ≡ old.offset) × (new.header ≡ old.header)
+    × (new.bad ≡ old.bad)

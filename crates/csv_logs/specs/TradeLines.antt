@@ -1,19 +1,19 @@
 -- What a line of a trade log means.
-use Rattle.std.specs.Prelude.{ℕ, Result, Ok, List}
+use Rattle.std.specs.Prelude.{Result, Ok}
 use Rattle.audit_base.specs.declared.faults.Reason.{Reason}
 use Rattle.audit_base.specs.declared.names.Key.{Key}
 use Rattle.audit_base.specs.declared.records.TradeRecord.{TradeRecord}
-use Rattle.csv_logs.specs.Columns.{◌>>=◌, name_at, stamp_at, quantity_at, price_at, key_at}
+use Rattle.csv_logs.specs.Columns.{Row, ◌>>=◌, name_at, stamp_at, quantity_at, price_at, key_at}
 
 -- columns 4 to 7: the bid's key and the ask's
-abbrev pub parties_at : List (List ℕ) → Result (Key × Key) Reason
+abbrev pub parties_at : Row → Result (Key × Key) Reason
 parties_at fields = do
   buy ← key_at 4 fields
   sell ← key_at 6 fields
   Ok (buy, sell)
 
 -- what nine fields mean in a trade log: a record, or the first column that is not in its form
-unfoldable pub trade_entry : List (List ℕ) → Result TradeRecord Reason
+unfoldable pub trade_entry : Row → Result TradeRecord Reason
 trade_entry fields = do
   trade ← name_at 1 fields
   time ← stamp_at 2 fields
@@ -21,4 +21,12 @@ trade_entry fields = do
   parties ← parties_at fields
   quantity ← quantity_at 8 fields
   price ← price_at 9 fields
-  Ok (record { trade = trade; time = time; symbol = symbol; buy = parties.0; sell = parties.1; quantity = quantity; price = price })
+  Ok (record {
+    trade = trade;
+    time = time;
+    symbol = symbol;
+    buy = parties.0;
+    sell = parties.1;
+    quantity = quantity;
+    price = price;
+  })

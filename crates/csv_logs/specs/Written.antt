@@ -1,6 +1,6 @@
--- How logs are written: the header, then a line for each record, of canonical texts joined by commas. The codes of `,` and LF are 44
--- and 10.
-use Rattle.std.specs.Prelude.{◌≡◌, ⊤, ℕ, All, Result, Ok, List, [], ◌∷◌, ◌++◌, codes, decimal}
+-- How logs are written: the header, then a line for each record, of canonical texts joined by commas.
+-- The codes of `,` and LF are 44 and 10.
+use Rattle.std.specs.Prelude.{◌≡◌, ℕ, All, Ok, List, [], ◌∷◌, ◌++◌, codes, decimal}
 use Rattle.std.specs.List.{flat_map, join_with_byte}
 use Rattle.audit_base.specs.Numbers.{price_text}
 use Rattle.audit_base.specs.Stamps.{stamp_text}
@@ -12,16 +12,16 @@ use Rattle.audit_base.specs.declared.terms.Life.TheVariants as life
 use Rattle.audit_base.specs.declared.terms.Side.{Side}
 use Rattle.audit_base.specs.declared.terms.Side.TheVariants as side
 use Rattle.audit_base.specs.Columns.{order_columns, trade_columns}
-use Rattle.audit_base.specs.Orders.{IsMarketPriced}
-use Rattle.audit_base.specs.declared.faults.Reason.{Reason}
+use Rattle.audit_base.specs.Histories.{HasMarketPrice}
+use Rattle.csv_logs.specs.Columns.{Meaning, Row}
 use Rattle.csv_logs.specs.Logs.{order_log, read_log}
 
 -- fields joined by commas, and an LF
-abbrev pub line_text : List (List ℕ) → List ℕ
+abbrev pub line_text : Row → List ℕ
 line_text fields = join_with_byte 44 fields ++ 10 ∷ []
 
 -- the header and a line for each record
-abbrev pub log_text : {R : Type 0} → List (List ℕ) → (R → List (List ℕ)) → List R → List ℕ
+abbrev pub log_text : {R : Type 0} → Row → (R → Row) → List R → List ℕ
 log_text names fields entries = line_text names ++ flat_map (λ entry. line_text (fields entry)) entries
 
 abbrev pub side_text : Side → List ℕ
@@ -40,18 +40,21 @@ limit_text life.Immediate price = price_text price
 limit_text life.Market price = []
 
 -- the nine fields of an order's line
-abbrev pub order_fields : OrderRecord → List (List ℕ)
+abbrev pub order_fields : OrderRecord → Row
 order_fields (record_of.New key time symbol side quantity price life) =
-    kind_text life ∷ key.firm ∷ key.id ∷ stamp_text time ∷ symbol ∷ side_text side ∷ decimal quantity ∷ limit_text life price ∷ [] ∷ []
+    kind_text life ∷ key.firm ∷ key.id ∷ stamp_text time ∷ symbol ∷ side_text side ∷ decimal quantity
+    ∷ limit_text life price ∷ [] ∷ []
 order_fields (record_of.Cancel key time symbol target) =
     codes "X" ∷ key.firm ∷ key.id ∷ stamp_text time ∷ symbol ∷ [] ∷ [] ∷ [] ∷ target ∷ []
 order_fields (record_of.Replace key time symbol target side quantity price) =
-    codes "R" ∷ key.firm ∷ key.id ∷ stamp_text time ∷ symbol ∷ side_text side ∷ decimal quantity ∷ price_text price ∷ target ∷ []
+    codes "R" ∷ key.firm ∷ key.id ∷ stamp_text time ∷ symbol ∷ side_text side ∷ decimal quantity
+    ∷ price_text price ∷ target ∷ []
 
 -- the nine fields of a trade's line
-abbrev pub trade_fields : TradeRecord → List (List ℕ)
+abbrev pub trade_fields : TradeRecord → Row
 trade_fields trade =
-    trade.trade ∷ stamp_text trade.time ∷ trade.symbol ∷ trade.buy.firm ∷ trade.buy.id ∷ trade.sell.firm ∷ trade.sell.id ∷ decimal trade.quantity ∷ price_text trade.price ∷ []
+    trade.trade ∷ stamp_text trade.time ∷ trade.symbol ∷ trade.buy.firm ∷ trade.buy.id ∷ trade.sell.firm
+    ∷ trade.sell.id ∷ decimal trade.quantity ∷ price_text trade.price ∷ []
 
 -- the canonical order log and trade log of a list
 abbrev pub orders_text : List OrderRecord → List ℕ
@@ -60,14 +63,8 @@ orders_text entries = log_text order_columns order_fields entries
 abbrev pub trades_text : List TradeRecord → List ℕ
 trades_text trades = log_text trade_columns trade_fields trades
 
--- a record of life Market has the market price of its side
-abbrev pub HasMarketPrice : OrderRecord → Type 0
-HasMarketPrice (record_of.New key time symbol side quantity price life) = IsMarketPriced life side price
-HasMarketPrice (record_of.Cancel key time symbol target) = ⊤
-HasMarketPrice (record_of.Replace key time symbol target side quantity price) = ⊤
-
 -- the log that is written of these records says these records, where each of them is sound
-abbrev pub IsReadAgain : {R : Type 0} → List (List ℕ) → (List (List ℕ) → Result R Reason) → (R → Type 0) → (R → List (List ℕ)) → List R → Type 0
+abbrev pub IsReadAgain : {R : Type 0} → Row → Meaning R → (R → Type 0) → (R → Row) → List R → Type 0
 IsReadAgain names entry sound fields records =
     All sound records → read_log names entry (log_text names fields records) ≡ Ok records
 

@@ -1,16 +1,19 @@
 -- What the private functions of the writers say of one line.
-use Rattle.std.specs.Prelude.{◌≡◌, ℕ, Bool, true, false, Option, Result, Ok, List, length}
+use Rattle.std.specs.Prelude.{◌≡◌, ◌++◌, ℕ, All, Bool, true, false, Option, Ok, List, length}
 use Rattle.std.specs.List.{list_all}
 use Rattle.std.specs.Io.KnownBytes.{Appends}
 use Rattle.csv.specs.Writing.{default_writer, fields_written, has_written, text_written, writer_setup}
 use Rattle.csv.specs.declared.writer.Writer.{Writer}
 use Rattle.audit_base.specs.Names.{is_name_byte}
-use Rattle.audit_base.specs.declared.faults.Reason.{Reason}
 use Rattle.audit_base.specs.declared.records.OrderRecord.{OrderRecord}
 use Rattle.audit_base.specs.declared.records.OrderRecord.TheVariants as record_of
 use Rattle.audit_base.specs.declared.terms.Life.{Life}
+use Rattle.csv_logs.specs.Columns.{Meaning, Row}
 use Rattle.csv_logs.specs.OrderLines.{order_entry}
-use Rattle.csv_logs.specs.Written.{HasMarketPrice, line_text, order_fields}
+use Rattle.audit_base.specs.Histories.{HasMarketPrice}
+use Rattle.csv_logs.specs.Written.{line_text, log_text, order_fields}
+use Rattle.csv_logs.specs.declared.log_text.ConvertedLog.{ConvertedLog}
+use Rattle.csv_logs.specs.declared.log_text.LogText.{LogText}
 use Rattle.csv_logs.specs.declared.orders.Head.{Head}
 use Rattle.csv_logs.specs.declared.written_lines.Terms.{Terms}
 
@@ -27,11 +30,12 @@ replace_order head terms target =
 
 -- every byte of these fields may stand in a name: none is a comma, a quote or the end of a line, so
 -- that the fields are written unquoted
-abbrev pub have_name_bytes : List (List ℕ) → Bool
+abbrev pub have_name_bytes : Row → Bool
 have_name_bytes fields = list_all (list_all is_name_byte) fields
 
 -- The fields of a record's line are nine, hold no byte that ends a field, and mean the record if it can be read at all.
-pub record IsLineOf {R : Type 0} (meaning : List (List ℕ) → Result R Reason) (sound : R → Type 0) (entry : R) (fields : List (List ℕ)) : Type 0 where
+pub record IsLineOf {R : Type 0} (meaning : Meaning R) (sound : R → Type 0) (entry : R)
+    (fields : Row) : Type 0 where
   pub nine : length fields ≡ 9
   pub unquoted : have_name_bytes fields ≡ true
   pub again : sound entry → meaning fields ≡ Ok entry
@@ -43,9 +47,24 @@ pub record IsAtLine {W : Type 0} (writer : Writer W) : Type 0 where
   pub setup : writer_setup writer ≡ default_writer
 
 -- the line of these fields is appended to what the writer has written
-abbrev pub WritesLine : {W : Type 0} → (W → Option (List ℕ)) → Writer W → Writer W → List (List ℕ) → Type 0
+abbrev pub WritesLine : {W : Type 0} → (W → Option (List ℕ)) → Writer W → Writer W → Row → Type 0
 WritesLine contents old new fields = Appends (text_written contents old) (text_written contents new) (line_text fields)
 
 -- the fields of an order's line are nine, need no quotes, and mean the order if it has the price of its life
 abbrev pub IsOrderLine : OrderRecord → Type 0
 IsOrderLine order = IsLineOf order_entry HasMarketPrice order (order_fields order)
+
+-- The text that was written is the header and the lines of these records, each of which means its record.
+pub record IsLogText {R : Type 0} (names : Row) (meaning : Meaning R) (sound : R → Type 0)
+    (fields : R → Row) (text : LogText R) (entries : List R) : Type 0 where
+  pub at_line : IsAtLine text.writer
+  pub written : text.writer.wtr.inner.items ++ text.writer.wtr.buf ≡ log_text names fields entries
+  pub nine : length names ≡ 9
+  pub unquoted : have_name_bytes names ≡ true
+  pub lines : All (λ entry. IsLineOf meaning sound entry (fields entry)) entries
+
+-- The log has been handed these records, and their lines are its text.
+pub record IsConvertedLog {R : Type 0} (names : Row) (meaning : Meaning R) (sound : R → Type 0)
+    (fields : R → Row) (log : ConvertedLog R) (entries : List R) : Type 0 where
+  pub count : log.count ≡ length entries
+  pub text : IsLogText names meaning sound fields log.text entries

@@ -1,21 +1,22 @@
 //! The columns of a line, each read in its form. A column that is not in its form is named by its
 //! number, from 1 on.
 ghost use Rattle.std.specs.Prelude.{◌≡◌, ◌<◌, ◌↔◌, IsTrue, Some, map};
-ghost use Rattle.csv.specs.Records.{field_at, fields_of};
+ghost use Rattle.csv.specs.Records.{field_at};
+ghost use Rattle.audit_base.specs.Names.{is_name, name_form};
 ghost use Rattle.csv_logs.specs.Columns.{column_text, in_column, empty_form, side_form, name_at, stamp_at, side_at, quantity_at, price_at, empty_at, key_at, tested};
 ghost use Rattle.csv_logs.specs.Logs.{same_fields};
 
+use crate::fields::Fields;
 use audit_base::faults::Reason;
-use audit_base::names::{Key, Name, is_name, read_name};
+use audit_base::names::{Key, Name, is_name, is_name_by_size, read_name, read_name_by_size};
 use audit_base::numbers::{Price, Quantity, read_price, read_quantity};
 use audit_base::stamps::{Stamp, read_stamp};
 use audit_base::terms::Side;
-use csv::ByteRecord;
 
 /// The text of a column, which is empty where the line has fewer columns.
-pub(crate) fn column_text(fields: &ByteRecord, number: u8) -> &[u8]
+pub(crate) fn column_text(fields: &Fields, number: u8) -> &[u8]
     requires { 0 < number }
-    ensures { result.now ≡ column_text number (fields_of fields.now) }
+    ensures { result.now ≡ column_text number fields.now }
 {
     match fields.get(usize::from(number) - 1) {
         Some(text) => text,
@@ -46,20 +47,46 @@ fn read_empty(text: &[u8]) -> Option<()>
     if text.is_empty() { Some(()) } else { None }
 }
 
-/// The name in a column.
-pub(crate) fn name_at(number: u8, fields: &ByteRecord) -> Result<Name, Reason>
+/// The name that a column writes.
+fn read_name_in(number: u8, fields: &Fields) -> Option<Name>
     requires { 0 < number }
-    ensures { result ≡ name_at number (fields_of fields.now) }
+    ensures { result ≡ name_form (column_text number fields.now) }
 {
-    in_column(number, read_name(column_text(fields, number)))
+    let text = column_text(fields, number);
+    if fields.have_name_bytes() {
+        read_name_by_size(text)
+    } else {
+        read_name(text)
+    }
+}
+
+/// Whether a column's text is a name.
+fn is_name_in(number: u8, fields: &Fields) -> bool
+    requires { 0 < number }
+    ensures { result ≡ is_name (column_text number fields.now) }
+{
+    let text = column_text(fields, number);
+    if fields.have_name_bytes() {
+        is_name_by_size(text)
+    } else {
+        is_name(text)
+    }
+}
+
+/// The name in a column.
+pub(crate) fn name_at(number: u8, fields: &Fields) -> Result<Name, Reason>
+    requires { 0 < number }
+    ensures { result ≡ name_at number fields.now }
+{
+    in_column(number, read_name_in(number, fields))
 }
 
 /// Whether a column holds a name.
-pub(crate) fn test_name(number: u8, fields: &ByteRecord) -> Result<(), Reason>
+pub(crate) fn test_name(number: u8, fields: &Fields) -> Result<(), Reason>
     requires { 0 < number }
-    ensures { result ≡ tested (name_at number (fields_of fields.now)) }
+    ensures { result ≡ tested (name_at number fields.now) }
 {
-    if is_name(column_text(fields, number)) {
+    if is_name_in(number, fields) {
         Ok(())
     } else {
         Err(Reason::Column(number))
@@ -67,68 +94,68 @@ pub(crate) fn test_name(number: u8, fields: &ByteRecord) -> Result<(), Reason>
 }
 
 /// Whether a column holds a firm, and the next one an id.
-pub(crate) fn test_key(number: u8, fields: &ByteRecord) -> Result<(), Reason>
+pub(crate) fn test_key(number: u8, fields: &Fields) -> Result<(), Reason>
     requires first { 0 < number }
     requires next { number < 9 }
-    ensures { result ≡ tested (key_at number (fields_of fields.now)) }
+    ensures { result ≡ tested (key_at number fields.now) }
 {
     test_name(number, fields)?;
     test_name(number + 1, fields)
 }
 
 /// The point in time in a column.
-pub(crate) fn stamp_at(number: u8, fields: &ByteRecord) -> Result<Stamp, Reason>
+pub(crate) fn stamp_at(number: u8, fields: &Fields) -> Result<Stamp, Reason>
     requires { 0 < number }
-    ensures { result ≡ stamp_at number (fields_of fields.now) }
+    ensures { result ≡ stamp_at number fields.now }
 {
     in_column(number, read_stamp(column_text(fields, number)))
 }
 
 /// The side in a column: `B` for a bid, `S` for an ask.
-pub(crate) fn side_at(number: u8, fields: &ByteRecord) -> Result<Side, Reason>
+pub(crate) fn side_at(number: u8, fields: &Fields) -> Result<Side, Reason>
     requires { 0 < number }
-    ensures { result ≡ side_at number (fields_of fields.now) }
+    ensures { result ≡ side_at number fields.now }
 {
     in_column(number, read_side(column_text(fields, number)))
 }
 
 /// The quantity in a column.
-pub(crate) fn quantity_at(number: u8, fields: &ByteRecord) -> Result<Quantity, Reason>
+pub(crate) fn quantity_at(number: u8, fields: &Fields) -> Result<Quantity, Reason>
     requires { 0 < number }
-    ensures { result ≡ quantity_at number (fields_of fields.now) }
+    ensures { result ≡ quantity_at number fields.now }
 {
     in_column(number, read_quantity(column_text(fields, number)))
 }
 
 /// The price in a column.
-pub(crate) fn price_at(number: u8, fields: &ByteRecord) -> Result<Price, Reason>
+pub(crate) fn price_at(number: u8, fields: &Fields) -> Result<Price, Reason>
     requires { 0 < number }
-    ensures { result ≡ price_at number (fields_of fields.now) }
+    ensures { result ≡ price_at number fields.now }
 {
     in_column(number, read_price(column_text(fields, number)))
 }
 
 /// A column that holds nothing.
-pub(crate) fn empty_at(number: u8, fields: &ByteRecord) -> Result<(), Reason>
+pub(crate) fn empty_at(number: u8, fields: &Fields) -> Result<(), Reason>
     requires { 0 < number }
-    ensures { result ≡ empty_at number (fields_of fields.now) }
+    ensures { result ≡ empty_at number fields.now }
 {
     in_column(number, read_empty(column_text(fields, number)))
 }
 
 /// The firm in a column, and its id in the next one.
-pub(crate) fn key_at(number: u8, fields: &ByteRecord) -> Result<Key, Reason>
+pub(crate) fn key_at(number: u8, fields: &Fields) -> Result<Key, Reason>
     requires first { 0 < number }
     requires next { number < 9 }
-    ensures { result ≡ key_at number (fields_of fields.now) }
+    ensures { result ≡ key_at number fields.now }
 {
     let firm = name_at(number, fields)?;
     let id = name_at(number + 1, fields)?;
     Ok(Key { firm, id })
 }
 
-fn has_name(fields: &ByteRecord, at: usize, name: &[u8]) -> bool
-    ensures { IsTrue result ↔ (field_at (fields_of fields.now) at ≡ Some name.now) }
+fn has_name(fields: &Fields, at: usize, name: &[u8]) -> bool
+    ensures { IsTrue result ↔ (field_at fields.now at ≡ Some name.now) }
 {
     match fields.get(at) {
         Some(text) => text == name,
@@ -137,8 +164,8 @@ fn has_name(fields: &ByteRecord, at: usize, name: &[u8]) -> bool
 }
 
 /// Whether the fields are these names.
-pub(crate) fn have_names(fields: &ByteRecord, names: &[&[u8]]) -> bool
-    ensures { result ≡ same_fields (fields_of fields.now) (map (λ name. name.now) names.now) }
+pub(crate) fn have_names(fields: &Fields, names: &[&[u8]]) -> bool
+    ensures { result ≡ same_fields fields.now (map (λ name. name.now) names.now) }
 {
     if fields.len() != names.len() {
         return false;

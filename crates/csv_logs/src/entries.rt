@@ -2,13 +2,13 @@
 //! its lines say by that.
 ghost use Rattle.std.specs.Prelude.{◌≡◌, ℕ, IfOk, List, Result};
 ghost use Rattle.audit_base.specs.declared.faults.Reason.{Reason};
-ghost use Rattle.csv.specs.Records.{fields_of};
 ghost use Rattle.csv_logs.specs.Columns.{tested};
 ghost use Rattle.csv_logs.specs.Logs.{IsSymbolOf, same_fields};
 ghost use Rattle.csv_logs.specs.Steps.{TakesFields, entry_says, fields_say, line_says};
 ghost use Rattle.log_source.specs.Collectors.{HasPlace};
 
 use crate::columns::{column_text, have_names};
+use crate::fields::Fields;
 use crate::lines::{is_broken, line_fields};
 use crate::orders::{order_entry, test_order};
 use crate::trades::{test_trade, trade_entry};
@@ -16,7 +16,6 @@ use audit_base::columns::columns;
 use audit_base::faults::{NoMemory, Reason};
 use audit_base::records::{OrderRecord, TradeRecord, Traded};
 use audit_base::terms::Which;
-use csv::ByteRecord;
 use log_source::collector::Collector;
 use std::alloc::Global;
 
@@ -32,20 +31,20 @@ pub trait LogEntry: Traded {
     ghost sound: { Self → Type 0 };
 
     /// Whether these are the names of the columns.
-    fn are_names(fields: &ByteRecord) -> bool
-        ensures { result ≡ same_fields (fields_of fields.now) names };
+    fn are_names(fields: &Fields) -> bool
+        ensures { result ≡ same_fields fields.now names };
 
     /// The record that these nine fields mean, or the first column that is not in its form.
-    fn of_fields(fields: &ByteRecord) -> Result<Self, Reason>
-        ensures { result ≡ meaning (fields_of fields.now) };
+    fn of_fields(fields: &Fields) -> Result<Self, Reason>
+        ensures { result ≡ meaning fields.now };
 
     /// The symbol of the record that these nine fields mean, if they mean one.
-    fn symbol_in(fields: &ByteRecord) -> &[u8]
-        ensures { IsSymbolOf Self.symbol_of (meaning (fields_of fields.now)) result.now };
+    fn symbol_in(fields: &Fields) -> &[u8]
+        ensures { IsSymbolOf Self.symbol_of (meaning fields.now) result.now };
 
     /// Whether these nine fields mean a record, or else the first column that is not in its form.
-    fn test(fields: &ByteRecord) -> Result<(), Reason>
-        ensures { result ≡ tested (meaning (fields_of fields.now)) };
+    fn test(fields: &Fields) -> Result<(), Reason>
+        ensures { result ≡ tested (meaning fields.now) };
 
     /// Every record that fields mean is sound. This call does nothing: it only has its contract.
     fn means_sound_records()
@@ -55,7 +54,7 @@ pub trait LogEntry: Traded {
 impl LogEntry for OrderRecord {
     ghost use Rattle.audit_base.specs.Columns.{order_columns};
     ghost use Rattle.csv_logs.specs.OrderLines.{order_entry};
-    ghost use Rattle.csv_logs.specs.Written.{HasMarketPrice};
+    ghost use Rattle.audit_base.specs.Histories.{HasMarketPrice};
 
     ghost names = { order_columns };
 
@@ -63,19 +62,19 @@ impl LogEntry for OrderRecord {
 
     ghost sound = { HasMarketPrice };
 
-    fn are_names(fields: &ByteRecord) -> bool {
+    fn are_names(fields: &Fields) -> bool {
         have_names(fields, &columns(Which::Orders))
     }
 
-    fn of_fields(fields: &ByteRecord) -> Result<OrderRecord, Reason> {
+    fn of_fields(fields: &Fields) -> Result<OrderRecord, Reason> {
         order_entry(fields)
     }
 
-    fn symbol_in(fields: &ByteRecord) -> &[u8] {
+    fn symbol_in(fields: &Fields) -> &[u8] {
         column_text(fields, 5)
     }
 
-    fn test(fields: &ByteRecord) -> Result<(), Reason> {
+    fn test(fields: &Fields) -> Result<(), Reason> {
         test_order(fields)
     }
 
@@ -93,19 +92,19 @@ impl LogEntry for TradeRecord {
 
     ghost sound = { λ _. ⊤ };
 
-    fn are_names(fields: &ByteRecord) -> bool {
+    fn are_names(fields: &Fields) -> bool {
         have_names(fields, &columns(Which::Trades))
     }
 
-    fn of_fields(fields: &ByteRecord) -> Result<TradeRecord, Reason> {
+    fn of_fields(fields: &Fields) -> Result<TradeRecord, Reason> {
         trade_entry(fields)
     }
 
-    fn symbol_in(fields: &ByteRecord) -> &[u8] {
+    fn symbol_in(fields: &Fields) -> &[u8] {
         column_text(fields, 3)
     }
 
-    fn test(fields: &ByteRecord) -> Result<(), Reason> {
+    fn test(fields: &Fields) -> Result<(), Reason> {
         test_trade(fields)
     }
 
@@ -116,10 +115,10 @@ impl LogEntry for TradeRecord {
 /// the collector does not look at records of the symbol, none is made.
 fn take_entry<R: LogEntry, K: Collector<Entry = R>>(
     entries: &mut K,
-    fields: &ByteRecord,
+    fields: &Fields,
 ) -> Result<Result<(), Reason>, NoMemory>
     requires { HasPlace K.has_taken entries.old }
-    ensures { let says = entry_says (R.meaning (fields_of fields.now)) in
+    ensures { let says = entry_says (R.meaning fields.now) in
         IfOk result (TakesFields says (K.has_taken entries.old) (K.has_taken entries.new)) }
 {
     if entries.wants(R::symbol_in(fields)) {
@@ -145,10 +144,10 @@ fn take_entry<R: LogEntry, K: Collector<Entry = R>>(
 pub(crate) fn take_fields<R: LogEntry, K: Collector<Entry = R>>(
     entries: &mut K,
     header: bool,
-    fields: &ByteRecord,
+    fields: &Fields,
 ) -> Result<Result<(), Reason>, NoMemory>
     requires { HasPlace K.has_taken entries.old }
-    ensures { let says = fields_say R.names R.meaning header (fields_of fields.now) in
+    ensures { let says = fields_say R.names R.meaning header fields.now in
         IfOk result (TakesFields says (K.has_taken entries.old) (K.has_taken entries.new)) }
 {
     if !header {

@@ -5,7 +5,7 @@ ghost use Rattle.std.specs.List.{list_all};
 ghost use Rattle.log_source.specs.Feeds.{HasRoom};
 ghost use Rattle.log_source.specs.Collectors.{HasFew, HasPlace};
 ghost use Rattle.csv_logs.specs.Columns.{is_unquoted_byte};
-ghost use Rattle.csv_logs.specs.Readers.{IsReadingLine, PassesLine};
+ghost use Rattle.csv_logs.specs.Readers.{IsReadingLine, PassesLine, is_closed};
 ghost use Rattle.csv_logs.specs.Feeds.{IsHandedAs, IsReadAs, IsWithinLimit, StandsFor};
 ghost use Rattle.csv_logs.specs.Steps.{FeedEndsLine, FeedGoes, FeedHasLine, FeedMoves, KeepsAllButRest};
 ghost use Rattle.csv_logs.specs.Lines.{without_cr};
@@ -13,11 +13,11 @@ ghost use Rattle.csv_logs.specs.Logs.{read_log};
 ghost use Rattle.log_source.specs.Sources.{longest_log};
 
 use crate::entries::{LogEntry, take_fields, take_text};
-use crate::lines::{is_unquoted, line_at, split_line, starts_unquoted, without_cr};
-use crate::reader::next_fields;
+use crate::fields::Fields;
+use crate::lines::{is_closed, is_unquoted, line_at, split_line, starts_closed, without_cr};
 use audit_base::faults::{BadPlace, LogFault, NoMemory, Reason};
 use audit_base::records::{OrderRecord, TradeRecord};
-use csv::{ByteRecord, Reader, ReaderBuilder};
+use csv::{Reader, ReaderBuilder};
 use log_source::collector::Collector;
 use log_source::feed::Feed;
 use std::alloc::Global;
@@ -95,7 +95,8 @@ impl<R: LogEntry, K: Collector<Entry = R>> CsvFeed<K> {
         requires good { self.old.bad ≡ None }
         requires room { FeedHasLine K.has_taken R.names R.meaning self.old line.now }
         ensures moved { OnOk result (self.old.offset ≤ self.new.offset) }
-        ensures taken { OnOk result (FeedEndsLine K.has_taken R.names R.meaning self.old self.new line.now []) }
+        ensures taken { let ends = FeedEndsLine K.has_taken R.names R.meaning self.old self.new in
+            OnOk result (ends line.now []) }
         ensures rest { OnOk result (self.new.rest.items ≡ self.old.rest.items) }
     {
         let size = line.len() + 1;
@@ -109,28 +110,32 @@ impl<R: LogEntry, K: Collector<Entry = R>> CsvFeed<K> {
         Ok(())
     }
 
-    // Takes an unquoted line that has ended, without its LF, from a reader that stands at it. The reader then
-    // stands at the next line.
+    // Takes a closed line that has ended, without its LF, from a reader that stands at it, given whether it
+    // is known to be unquoted. The reader then stands at the next line.
     fn read_line<I: Read>(
         &mut self,
         reader: &mut Reader<I>,
-        fields: &mut ByteRecord,
+        fields: &mut Fields,
         line: &[u8],
+        unquoted: bool,
     ) -> Result<(), NoMemory>
         requires good { self.old.bad ≡ None }
         requires started { 0 < self.old.offset }
         requires room { FeedHasLine K.has_taken R.names R.meaning self.old line.now }
-        requires unquoted { IsTrue (list_all is_unquoted_byte (without_cr line.now)) }
+        requires closed { IsTrue (is_closed (without_cr line.now)) }
+        requires unquoted { let text = without_cr line.now in
+            IsTrue unquoted → IsTrue (list_all is_unquoted_byte text) }
         requires reading { IsReadingLine I.remaining reader.old line.now }
         ensures moved { OnOk result (self.old.offset ≤ self.new.offset) }
-        ensures taken { OnOk result (FeedEndsLine K.has_taken R.names R.meaning self.old self.new line.now []) }
+        ensures taken { let ends = FeedEndsLine K.has_taken R.names R.meaning self.old self.new in
+            OnOk result (ends line.now []) }
         ensures rest { OnOk result (self.new.rest.items ≡ self.old.rest.items) }
         ensures reading { OnOk result (PassesLine I.remaining reader.old reader.new line.now) }
     {
         if without_cr(line).is_empty() {
             return self.end_line(line);
         }
-        next_fields(reader, fields)?;
+        fields.read_next(reader, unquoted)?;
         let outcome = take_fields(&mut self.entries, self.header, fields)?;
         self.move_on(self.offset, line.len() + 1, outcome);
         Ok(())
@@ -139,7 +144,8 @@ impl<R: LogEntry, K: Collector<Entry = R>> CsvFeed<K> {
     // Takes the end of a line whose front is in `rest`, without its LF.
     fn end_rest(&mut self, end: &[u8]) -> Result<(), NoMemory>
         requires good { self.old.bad ≡ None }
-        requires room { FeedHasLine K.has_taken R.names R.meaning self.old (self.old.rest.items ++ end.now) }
+        requires room { let line = self.old.rest.items ++ end.now in
+            FeedHasLine K.has_taken R.names R.meaning self.old line }
         ensures taken { let line = self.old.rest.items ++ end.now in
             let rest = self.new.rest.items in
             OnOk result (FeedEndsLine K.has_taken R.names R.meaning self.old self.new line rest) }
@@ -156,7 +162,7 @@ impl<R: LogEntry, K: Collector<Entry = R>> CsvFeed<K> {
         Ok(())
     }
 
-    // Takes unquoted lines from the start of a text, as far as there are such, by one reader, and gives the
+    // Takes closed lines from the start of a text, as far as there are such, by one reader, and gives the
     // rest.
     fn read_lines<'p>(&mut self, text: &'p [u8]) -> Result<&'p [u8], NoMemory>
         requires rest { self.old.rest.items ≡ [] }
@@ -165,22 +171,24 @@ impl<R: LogEntry, K: Collector<Entry = R>> CsvFeed<K> {
             IfOk result (λ left. goes text.now left.now) }
     {
         let mut left = text;
-        if self.offset == 0 || !starts_unquoted(left) {
+        if self.offset == 0 || !starts_closed(left) {
             return Ok(left);
         }
         let mut reader = ReaderBuilder::new()
             .has_headers(false)
             .flexible(true)
             .from_reader(self.alloc, left);
-        let mut fields = ByteRecord::new(self.alloc);
+        let mut fields = Fields::new(self.alloc);
         'lines: while self.bad.is_none() {
             let Some((line, later)) = split_line(left) else {
                 break;
             };
-            if !is_unquoted(without_cr(line)) {
+            let text = without_cr(line);
+            let unquoted = is_unquoted(text);
+            if !unquoted && !is_closed(text) {
                 break;
             }
-            self.read_line(&mut reader, &mut fields, line)?;
+            self.read_line(&mut reader, &mut fields, line, unquoted)?;
             left = later;
         }
         Ok(left)

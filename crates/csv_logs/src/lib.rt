@@ -6,14 +6,16 @@
 //! fields of a line are what the crate `csv` reads from it, and the forms of the fields are those of
 //! `audit_base`. What contracts say of lines, fields and logs stands in `specs/`: `Lines` (how a log is
 //! cut), `Columns`, `OrderLines` and `TradeLines` (what nine fields mean), `Logs` (good and bad logs),
-//! `Feeds` (what a feed stands for) and `Written` (the canonical log); `Steps`, `Readers` and
-//! `WrittenLines` have the words of private functions.
+//! `Feeds` (what a feed stands for) and `Written` (the canonical log); `Steps`, `Readers`, `FieldBytes`
+//! and `WrittenLines` have the words of private functions.
 #![tactic(auto)]
 
 mod columns;
 pub mod entries;
 pub mod feeds;
+pub mod fields;
 mod lines;
+pub mod log_text;
 pub mod logs;
 mod orders;
 mod reader;

@@ -1,13 +1,16 @@
 //! The bytes of one line: what is taken off it, whether it may be read, and its fields.
-ghost use Rattle.std.specs.Prelude.{◌≡◌, ◌==◌, ◌+◌, ◌<◌, ◌^◌, ◌++◌, ◌∷◌, false, IfOk, IsTrue, MatchOption, drop, count_by};
+ghost use Rattle.std.specs.Prelude.{◌≡◌, ◌==◌, ◌+◌, ◌<◌, ◌^◌, ◌++◌, ◌∷◌, false, not, IfOk, IsTrue, MatchOption, drop, count_by};
 ghost use Rattle.std.specs.List.{list_all, list_any};
-ghost use Rattle.csv.specs.Reading.{strip_bom};
-ghost use Rattle.csv.specs.Records.{fields_of};
+ghost use Rattle.csv.specs.Reading.{default_config, strip_bom};
 ghost use Rattle.csv_logs.specs.Columns.{is_broken, is_printable, is_quote, is_unquoted_byte, line_fields};
 ghost use Rattle.csv_logs.specs.Feeds.{is_lf};
 ghost use Rattle.csv_logs.specs.Steps.{line_at};
 ghost use Rattle.csv_logs.specs.Lines.{mark_size, without_cr};
+ghost use Rattle.csv_logs.specs.Readers.{is_closed, is_quoted, state_behind, state_of};
+ghost use Rattle.csv.specs.Machine.{step};
+ghost use Rattle.csv.specs.declared.parser.State.TheVariants.{StartField};
 
+use crate::fields::Fields;
 use audit_base::faults::NoMemory;
 use csv::{ByteRecord, ReaderBuilder};
 use memchr::memchr;
@@ -80,37 +83,95 @@ pub(crate) fn is_broken(line: &[u8]) -> bool
     !is_printable(line) || count_quotes(line) % 2 == 1
 }
 
-/// Whether a line has printable bytes alone, and no quote.
+/// Whether a byte is printable and no quote.
+fn is_unquoted_byte(byte: u8) -> bool
+    ensures { result ≡ is_unquoted_byte byte }
+{
+    (0x20 <= byte) & (byte <= 0x7E) & (byte != b'"')
+}
+
+/// Whether a line has printable bytes alone, and no quote. A loop with no way out takes many bytes at
+/// once.
 pub(crate) fn is_unquoted(line: &[u8]) -> bool
     ensures { result ≡ list_all is_unquoted_byte line.now }
 {
-    line.iter()
-        .all(|byte| *byte >= 0x20 && *byte <= 0x7E && *byte != b'"')
+    let mut unquoted = true;
+    for byte in line {
+        unquoted &= is_unquoted_byte(*byte);
+    }
+    unquoted
 }
 
-/// Whether the first line of a text has ended and is unquoted.
-pub(crate) fn starts_unquoted(text: &[u8]) -> bool
+/// Where a reader stands within a line, as far as its quotes go.
+#[derive(Clone, Copy)]
+pub(crate) enum Place {
+    FieldStart,
+    InField,
+    InQuotes,
+    /// Behind a quote that closes a field, unless a second one follows.
+    AfterQuote,
+}
+
+/// The place behind one more byte of a line.
+fn place_behind(place: Place, byte: u8) -> Place
+    requires { IsTrue (is_printable byte) }
+    ensures { state_of result ≡ (step default_config (state_of place) byte).0 }
+{
+    match place {
+        Place::FieldStart | Place::AfterQuote if byte == b'"' => Place::InQuotes,
+        Place::InQuotes if byte == b'"' => Place::AfterQuote,
+        Place::InQuotes => Place::InQuotes,
+        _ if byte == b',' => Place::FieldStart,
+        _ => Place::InField,
+    }
+}
+
+/// Whether a line of printable bytes ends outside of quotes, as `csv` reads them.
+fn closes_quotes(line: &[u8]) -> bool
+    requires { IsTrue (list_all is_printable line.now) }
+    ensures { result ≡ not (is_quoted (state_behind StartField line.now)) }
+{
+    let mut place = Place::FieldStart;
+    for byte in line {
+        place = place_behind(place, *byte);
+    }
+    match place {
+        Place::InQuotes => false,
+        Place::FieldStart | Place::InField | Place::AfterQuote => true,
+    }
+}
+
+/// Whether the fields of a line do not depend on what follows it: it is not broken, and its quotes close
+/// before its end.
+pub(crate) fn is_closed(line: &[u8]) -> bool
+    ensures { result ≡ is_closed line.now }
+{
+    !is_broken(line) && closes_quotes(line)
+}
+
+/// Whether the first line of a text has ended and is closed.
+pub(crate) fn starts_closed(text: &[u8]) -> bool
     ensures { IsTrue result → strip_bom text.now ≡ text.now }
 {
     match split_line(text) {
-        Some((line, _)) => is_unquoted(without_cr(line)),
+        Some((line, _)) => is_closed(without_cr(line)),
         None => false,
     }
 }
 
 /// The fields of a line that is read by itself.
 #[tactic(auto, unfolding(crate::specs::Columns::line_fields))]
-pub(crate) fn line_fields(alloc: Global, line: &[u8]) -> Result<ByteRecord, NoMemory>
-    ensures { IfOk result (λ fields. fields_of fields ≡ line_fields line.now) }
+pub(crate) fn line_fields(alloc: Global, line: &[u8]) -> Result<Fields, NoMemory>
+    ensures { IfOk result (λ fields. fields ≡ line_fields line.now) }
 {
     let ended = line.chain(b"\n".as_slice());
     let mut reader = ReaderBuilder::new()
         .has_headers(false)
         .from_reader(alloc, ended);
-    let mut fields = ByteRecord::new(alloc);
-    match reader.read_byte_record(&mut fields) {
-        Ok(true) => Ok(fields),
-        Ok(false) => Ok(ByteRecord::new(alloc)),
+    let mut record = ByteRecord::new(alloc);
+    match reader.read_byte_record(&mut record) {
+        Ok(true) => Ok(Fields::of(record)),
+        Ok(false) => Ok(Fields::of(ByteRecord::new(alloc))),
         Err(_) => Err(NoMemory),
     }
 }

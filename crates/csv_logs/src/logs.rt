@@ -5,7 +5,7 @@ ghost use Rattle.csv_logs.specs.Logs.{read_log, order_log, trade_log, IsOnlyRead
 ghost use Rattle.csv_logs.specs.OrderLines.{order_entry};
 ghost use Rattle.csv_logs.specs.TradeLines.{trade_entry};
 ghost use Rattle.csv_logs.specs.Feeds.{IsReadAs};
-ghost use Rattle.csv_logs.specs.Written.{HasMarketPrice};
+ghost use Rattle.audit_base.specs.Histories.{HasMarketPrice};
 ghost use Rattle.log_source.specs.Sources.{longest_log};
 
 use crate::entries::LogEntry;

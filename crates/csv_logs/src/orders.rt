@@ -1,6 +1,5 @@
 //! The lines of an order log.
 ghost use Rattle.std.specs.Prelude.{◌≡◌};
-ghost use Rattle.csv.specs.Records.{fields_of};
 ghost use Rattle.audit_base.specs.declared.terms.Life.{Life};
 ghost use Rattle.csv_logs.specs.Columns.{tested};
 ghost use Rattle.csv_logs.specs.declared.orders.Head.{Head};
@@ -10,13 +9,13 @@ use crate::columns::{
     column_text, empty_at, in_column, key_at, name_at, price_at, quantity_at, side_at, stamp_at,
     test_key, test_name,
 };
+use crate::fields::Fields;
 use audit_base::faults::Reason;
 use audit_base::names::{Key, Name};
 use audit_base::numbers::market_price;
 use audit_base::records::OrderRecord;
 use audit_base::stamps::Stamp;
 use audit_base::terms::{Life, Side};
-use csv::ByteRecord;
 
 /// What the first column of an order line says that the line is.
 #[derive(Clone, Copy)]
@@ -49,8 +48,8 @@ fn read_kind(text: &[u8]) -> Option<Kind>
     }
 }
 
-fn head_at(fields: &ByteRecord) -> Result<Head, Reason>
-    ensures { result ≡ head_at (fields_of fields.now) }
+fn head_at(fields: &Fields) -> Result<Head, Reason>
+    ensures { result ≡ head_at fields.now }
 {
     let key = key_at(2, fields)?;
     let time = stamp_at(4, fields)?;
@@ -58,8 +57,8 @@ fn head_at(fields: &ByteRecord) -> Result<Head, Reason>
     Ok(Head { key, time, symbol })
 }
 
-fn limit_order(head: Head, life: Life, fields: &ByteRecord) -> Result<OrderRecord, Reason>
-    ensures { result ≡ limit_order head life (fields_of fields.now) }
+fn limit_order(head: Head, life: Life, fields: &Fields) -> Result<OrderRecord, Reason>
+    ensures { result ≡ limit_order head life fields.now }
 {
     let side = side_at(6, fields)?;
     let quantity = quantity_at(7, fields)?;
@@ -77,8 +76,8 @@ fn limit_order(head: Head, life: Life, fields: &ByteRecord) -> Result<OrderRecor
     })
 }
 
-fn market_order(head: Head, fields: &ByteRecord) -> Result<OrderRecord, Reason>
-    ensures { result ≡ market_order head (fields_of fields.now) }
+fn market_order(head: Head, fields: &Fields) -> Result<OrderRecord, Reason>
+    ensures { result ≡ market_order head fields.now }
 {
     let side = side_at(6, fields)?;
     let quantity = quantity_at(7, fields)?;
@@ -96,8 +95,8 @@ fn market_order(head: Head, fields: &ByteRecord) -> Result<OrderRecord, Reason>
     })
 }
 
-fn cancel(head: Head, fields: &ByteRecord) -> Result<OrderRecord, Reason>
-    ensures { result ≡ cancel head (fields_of fields.now) }
+fn cancel(head: Head, fields: &Fields) -> Result<OrderRecord, Reason>
+    ensures { result ≡ cancel head fields.now }
 {
     empty_at(6, fields)?; // no side
     empty_at(7, fields)?;
@@ -112,8 +111,8 @@ fn cancel(head: Head, fields: &ByteRecord) -> Result<OrderRecord, Reason>
     })
 }
 
-fn replacement(head: Head, fields: &ByteRecord) -> Result<OrderRecord, Reason>
-    ensures { result ≡ replacement head (fields_of fields.now) }
+fn replacement(head: Head, fields: &Fields) -> Result<OrderRecord, Reason>
+    ensures { result ≡ replacement head fields.now }
 {
     let side = side_at(6, fields)?;
     let quantity = quantity_at(7, fields)?;
@@ -131,8 +130,8 @@ fn replacement(head: Head, fields: &ByteRecord) -> Result<OrderRecord, Reason>
     })
 }
 
-fn order_of_kind(kind: Kind, head: Head, fields: &ByteRecord) -> Result<OrderRecord, Reason>
-    ensures { result ≡ order_of_kind kind head (fields_of fields.now) }
+fn order_of_kind(kind: Kind, head: Head, fields: &Fields) -> Result<OrderRecord, Reason>
+    ensures { result ≡ order_of_kind kind head fields.now }
 {
     match kind {
         Kind::New => limit_order(head, Life::Rests, fields),
@@ -145,24 +144,24 @@ fn order_of_kind(kind: Kind, head: Head, fields: &ByteRecord) -> Result<OrderRec
 
 /// What nine fields mean in an order log: a record, or the first column that is not in its form.
 #[tactic(auto, unfolding(crate::specs::OrderLines::order_entry))]
-pub(crate) fn order_entry(fields: &ByteRecord) -> Result<OrderRecord, Reason>
-    ensures { result ≡ order_entry (fields_of fields.now) }
+pub(crate) fn order_entry(fields: &Fields) -> Result<OrderRecord, Reason>
+    ensures { result ≡ order_entry fields.now }
 {
     let kind = in_column(1, read_kind(column_text(fields, 1)))?;
     let head = head_at(fields)?;
     order_of_kind(kind, head, fields)
 }
 
-fn test_head(fields: &ByteRecord) -> Result<(), Reason>
-    ensures { result ≡ tested (head_at (fields_of fields.now)) }
+fn test_head(fields: &Fields) -> Result<(), Reason>
+    ensures { result ≡ tested (head_at fields.now) }
 {
     test_key(2, fields)?;
     stamp_at(4, fields)?;
     test_name(5, fields)
 }
 
-fn test_limit(fields: &ByteRecord) -> Result<(), Reason>
-    ensures { (head : Head) (life : Life) → result ≡ tested (limit_order head life (fields_of fields.now)) }
+fn test_limit(fields: &Fields) -> Result<(), Reason>
+    ensures { (head : Head) (life : Life) → result ≡ tested (limit_order head life fields.now) }
 {
     side_at(6, fields)?;
     quantity_at(7, fields)?;
@@ -170,8 +169,8 @@ fn test_limit(fields: &ByteRecord) -> Result<(), Reason>
     empty_at(9, fields)
 }
 
-fn test_market(fields: &ByteRecord) -> Result<(), Reason>
-    ensures { (head : Head) → result ≡ tested (market_order head (fields_of fields.now)) }
+fn test_market(fields: &Fields) -> Result<(), Reason>
+    ensures { (head : Head) → result ≡ tested (market_order head fields.now) }
 {
     side_at(6, fields)?;
     quantity_at(7, fields)?;
@@ -179,8 +178,8 @@ fn test_market(fields: &ByteRecord) -> Result<(), Reason>
     empty_at(9, fields)
 }
 
-fn test_cancel(fields: &ByteRecord) -> Result<(), Reason>
-    ensures { (head : Head) → result ≡ tested (cancel head (fields_of fields.now)) }
+fn test_cancel(fields: &Fields) -> Result<(), Reason>
+    ensures { (head : Head) → result ≡ tested (cancel head fields.now) }
 {
     empty_at(6, fields)?;
     empty_at(7, fields)?;
@@ -188,8 +187,8 @@ fn test_cancel(fields: &ByteRecord) -> Result<(), Reason>
     test_name(9, fields)
 }
 
-fn test_replacement(fields: &ByteRecord) -> Result<(), Reason>
-    ensures { (head : Head) → result ≡ tested (replacement head (fields_of fields.now)) }
+fn test_replacement(fields: &Fields) -> Result<(), Reason>
+    ensures { (head : Head) → result ≡ tested (replacement head fields.now) }
 {
     side_at(6, fields)?;
     quantity_at(7, fields)?;
@@ -197,8 +196,8 @@ fn test_replacement(fields: &ByteRecord) -> Result<(), Reason>
     test_name(9, fields)
 }
 
-fn test_order_of_kind(kind: Kind, fields: &ByteRecord) -> Result<(), Reason>
-    ensures { (head : Head) → result ≡ tested (order_of_kind kind head (fields_of fields.now)) }
+fn test_order_of_kind(kind: Kind, fields: &Fields) -> Result<(), Reason>
+    ensures { (head : Head) → result ≡ tested (order_of_kind kind head fields.now) }
 {
     match kind {
         Kind::New | Kind::Immediate => test_limit(fields),
@@ -210,8 +209,8 @@ fn test_order_of_kind(kind: Kind, fields: &ByteRecord) -> Result<(), Reason>
 
 /// Whether nine fields mean a record in an order log, or else the first column that is not in its form.
 #[tactic(auto, unfolding(crate::specs::OrderLines::order_entry))]
-pub(crate) fn test_order(fields: &ByteRecord) -> Result<(), Reason>
-    ensures { result ≡ tested (order_entry (fields_of fields.now)) }
+pub(crate) fn test_order(fields: &Fields) -> Result<(), Reason>
+    ensures { result ≡ tested (order_entry fields.now) }
 {
     let kind = in_column(1, read_kind(column_text(fields, 1)))?;
     test_head(fields)?;

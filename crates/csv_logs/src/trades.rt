@@ -1,17 +1,16 @@
 //! The lines of a trade log.
 ghost use Rattle.std.specs.Prelude.{◌≡◌};
-ghost use Rattle.csv.specs.Records.{fields_of};
 ghost use Rattle.csv_logs.specs.Columns.{tested};
 ghost use Rattle.csv_logs.specs.TradeLines.{parties_at, trade_entry};
 
 use crate::columns::{key_at, name_at, price_at, quantity_at, stamp_at, test_key, test_name};
+use crate::fields::Fields;
 use audit_base::faults::Reason;
 use audit_base::names::Key;
 use audit_base::records::TradeRecord;
-use csv::ByteRecord;
 
-fn parties_at(fields: &ByteRecord) -> Result<(Key, Key), Reason>
-    ensures { result ≡ parties_at (fields_of fields.now) }
+fn parties_at(fields: &Fields) -> Result<(Key, Key), Reason>
+    ensures { result ≡ parties_at fields.now }
 {
     let buy = key_at(4, fields)?;
     let sell = key_at(6, fields)?;
@@ -20,8 +19,8 @@ fn parties_at(fields: &ByteRecord) -> Result<(Key, Key), Reason>
 
 /// What nine fields mean in a trade log: a record, or the first column that is not in its form.
 #[tactic(auto, unfolding(crate::specs::TradeLines::trade_entry))]
-pub(crate) fn trade_entry(fields: &ByteRecord) -> Result<TradeRecord, Reason>
-    ensures { result ≡ trade_entry (fields_of fields.now) }
+pub(crate) fn trade_entry(fields: &Fields) -> Result<TradeRecord, Reason>
+    ensures { result ≡ trade_entry fields.now }
 {
     let trade = name_at(1, fields)?;
     let time = stamp_at(2, fields)?;
@@ -40,8 +39,8 @@ pub(crate) fn trade_entry(fields: &ByteRecord) -> Result<TradeRecord, Reason>
     })
 }
 
-fn test_parties(fields: &ByteRecord) -> Result<(), Reason>
-    ensures { result ≡ tested (parties_at (fields_of fields.now)) }
+fn test_parties(fields: &Fields) -> Result<(), Reason>
+    ensures { result ≡ tested (parties_at fields.now) }
 {
     test_key(4, fields)?;
     test_key(6, fields)
@@ -49,8 +48,8 @@ fn test_parties(fields: &ByteRecord) -> Result<(), Reason>
 
 /// Whether nine fields mean a record in a trade log, or else the first column that is not in its form.
 #[tactic(auto, unfolding(crate::specs::TradeLines::trade_entry))]
-pub(crate) fn test_trade(fields: &ByteRecord) -> Result<(), Reason>
-    ensures { result ≡ tested (trade_entry (fields_of fields.now)) }
+pub(crate) fn test_trade(fields: &Fields) -> Result<(), Reason>
+    ensures { result ≡ tested (trade_entry fields.now) }
 {
     test_name(1, fields)?;
     stamp_at(2, fields)?;

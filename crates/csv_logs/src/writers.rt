@@ -3,10 +3,10 @@ ghost use Rattle.std.specs.Prelude.{◌≡◌, ◌++◌, IfOk, Ok, OnErr, OnOk};
 ghost use Rattle.csv_logs.specs.Logs.{trade_log};
 ghost use Rattle.csv_logs.specs.Written.{AreOrdersReadAgain, IsReadAgain, log_text, orders_text, trades_text};
 
+use crate::log_text::LogText;
 use crate::written_lines::LogLine;
 use audit_base::faults::NoMemory;
 use audit_base::records::{OrderRecord, TradeRecord};
-use csv::WriterBuilder;
 use std::alloc::Global;
 
 /// The text of a log.
@@ -14,19 +14,16 @@ fn text_of<R: LogLine>(alloc: Global, entries: &[R]) -> Result<Vec<u8>, NoMemory
     ensures text { IfOk result (λ text. text.items ≡ log_text R.names R.fields entries.now) }
     ensures again { OnOk result (IsReadAgain R.names R.meaning R.sound R.fields entries.now) }
 {
-    let mut writer = WriterBuilder::new().from_writer(Vec::new(alloc));
-    R::write_names(&mut writer)?;
+    let mut text = LogText::new(alloc)?;
     for entry in entries {
-        entry.write(alloc, &mut writer)?;
+        text.add(entry)?;
     }
-    match writer.into_inner() {
-        Ok(text) => Ok(text),
-        Err(_) => Err(NoMemory),
-    }
+    text.end()
 }
 
 fn append<R: LogLine>(alloc: Global, entries: &[R], out: &mut Vec<u8>) -> Result<(), NoMemory>
-    ensures appended { OnOk result (out.new.items ≡ out.old.items ++ log_text R.names R.fields entries.now) }
+    ensures appended { let text = log_text R.names R.fields entries.now in
+        OnOk result (out.new.items ≡ out.old.items ++ text) }
     ensures unchanged { OnErr result (out.new.items ≡ out.old.items) }
     ensures again { OnOk result (IsReadAgain R.names R.meaning R.sound R.fields entries.now) }
 {

@@ -13,7 +13,7 @@ use audit_base::columns::columns;
 use audit_base::faults::NoMemory;
 use audit_base::names::Name;
 use audit_base::numbers::{Price, Quantity};
-use audit_base::records::{OrderRecord, TradeRecord};
+use audit_base::records::{OrderRecord, TradeRecord, Traded};
 use audit_base::stamps::Stamp;
 use audit_base::terms::{Life, Side, Which};
 use audit_base::texts::{write_number, write_price, write_stamp};
@@ -103,6 +103,18 @@ struct Terms {
     side: Side,
     quantity: Quantity,
     price: Price,
+}
+
+impl Terms {
+    fn of(side: Side, quantity: Quantity, price: Price) -> Terms
+        ensures { result ≡ record { side = side; quantity = quantity; price = price } }
+    {
+        Terms {
+            side,
+            quantity,
+            price,
+        }
+    }
 }
 
 fn write_new<W: Write + Drop>(
@@ -209,7 +221,8 @@ pub trait LogLine: LogEntry {
     fn write<W: Write + Drop>(&self, alloc: Global, writer: &mut Writer<W>) -> Result<(), NoMemory>
         requires { IsAtLine writer.old }
         ensures at_line { OnOk result (IsAtLine writer.new) }
-        ensures written { OnOk result (WritesLine W.contents writer.old writer.new (fields self.now)) }
+        ensures written { let row = fields self.now in
+            OnOk result (WritesLine W.contents writer.old writer.new row) }
         ensures line { OnOk result (IsLineOf Self.meaning Self.sound self.now (fields self.now)) };
 }
 
@@ -259,44 +272,32 @@ impl LogLine for OrderRecord {
         alloc: Global,
         writer: &mut Writer<W>,
     ) -> Result<(), NoMemory> {
+        let head = Head {
+            key: self.key(),
+            time: self.time(),
+            symbol: self.symbol(),
+        };
         match *self {
             OrderRecord::New {
-                key,
-                time,
-                symbol,
                 side,
                 quantity,
                 price,
                 life,
+                ..
             } => {
-                let terms = Terms {
-                    side,
-                    quantity,
-                    price,
-                };
-                write_new(alloc, Head { key, time, symbol }, terms, life, writer)
+                let terms = Terms::of(side, quantity, price);
+                write_new(alloc, head, terms, life, writer)
             }
-            OrderRecord::Cancel {
-                key,
-                time,
-                symbol,
-                target,
-            } => write_cancel(alloc, Head { key, time, symbol }, target, writer),
+            OrderRecord::Cancel { target, .. } => write_cancel(alloc, head, target, writer),
             OrderRecord::Replace {
-                key,
-                time,
-                symbol,
                 target,
                 side,
                 quantity,
                 price,
+                ..
             } => {
-                let terms = Terms {
-                    side,
-                    quantity,
-                    price,
-                };
-                write_replace(alloc, Head { key, time, symbol }, terms, target, writer)
+                let terms = Terms::of(side, quantity, price);
+                write_replace(alloc, head, terms, target, writer)
             }
         }
     }

@@ -1,7 +1,19 @@
-use Rattle.std.proofs.Common.{arith}
-use Rattle.csv_logs.proofs.WrittenLemmas.{log-again}
+use Rattle.std.proofs.Common.{◌≡◌, sym, subst, Result, Ok, Err}
+use Rattle.std.specs.Prelude.{OnOk}
+use Rattle.std.proofs.lemmas.List.{take_all, take_more}
+use Rattle.csv_logs.specs.WrittenLines.{IsLogText}
 use Rattle.csv_logs.proofs.writers.text_of.Goals as goal
 
-pub returns-in-Ok-clause-again : goal.returns-in-Ok-clause-again
-returns-in-Ok-clause-again g c = λ reads.
-    log-again g.R.LogEntry.names g.R.LogEntry.meaning g.R.LogLine.fields g.R.LogEntry.sound c.args.entries.now c.in_ok-write_names.ensures.nine c.in_ok-write_names.ensures.unquoted (λ k d h. c.loop-entry.invariant.lines k d (omega (arith, h))) reads
+pub loop-entry-preserved : goal.loop-entry-preserved
+loop-entry-preserved g c =
+    subst (IsLogText g.R.LogEntry.names g.R.LogEntry.meaning g.R.LogEntry.sound g.R.LogLine.fields c.add.new.self)
+    (sym (take_more c.args.entries.now c.loop-entry.entry-index c.entry-item.result c.loop-entry-test.true))
+    (rw (← c.entry-item.is) (c.in_ok-add.ensures _ c.loop-entry.invariant))
+
+on_ok : {T E : Type 0} {P : Type 0} (result : Result T E) → P → OnOk result P
+on_ok (Ok value) holds = holds
+on_ok (Err fault) holds = tt
+
+pub returns-clause-again : goal.returns-clause-again
+returns-clause-again g c =
+    on_ok c.end.result (rw (take_all c.loop-entry.entry-index c.args.entries.now c.loop-entry-test.false) at (c.end.ensures.again _ c.loop-entry.invariant))

@@ -1,10 +1,15 @@
 use Rattle.std.proofs.Common.{◌≡◌, [], ◌++◌, List, ℕ, not, ap, subst, sym, ◌∙◌, arith}
 use Rattle.csv.specs.Reading.{builder_config, builder_is_flexible, builder_names_headers, builder_trim}
-use Rattle.csv_logs.specs.Readers.{IsReading}
+use Rattle.std.specs.List.{list_all}
+use Rattle.csv_logs.specs.Columns.{is_unquoted_byte}
+use Rattle.csv_logs.specs.Lines.{without_cr}
+use Rattle.csv_logs.specs.Readers.{IsReading, is_closed}
+use Rattle.csv_logs.proofs.ClosedLemmas.{unquoted-closed}
 use Rattle.csv_logs.specs.Steps.{EndsLine, HasLine}
 use Rattle.csv_logs.proofs.ReaderLemmas.{new-reading}
 use Rattle.csv_logs.proofs.FeedLemmas.{goes-none, goes-room, goes-line}
 use Rattle.csv_logs.proofs.feeds.CsvFeed.read_lines.Goals as goal
+use Rattle.csv_logs.proofs.feeds.CsvFeed.read_lines.Goals.{else-not-unquoted-via-then-not-unquoted+else-not-is_closed, else-not-unquoted-via-else-not-unquoted}
 
 pub lines-init : goal.lines-init
 lines-init g c = record {
@@ -17,8 +22,15 @@ lines-init g c = record {
       (made.trim ∙ ap builder_trim c.flexible.ensures ∙ ap builder_trim c.has_headers.ensures ∙ c.new.ensures.trim)
       (made.flexible ∙ ap builder_is_flexible c.flexible.ensures)
       (made.has_headers ∙ ap builder_names_headers c.flexible.ensures ∙ ap builder_names_headers c.has_headers.ensures)
-      made.headers made.fresh made.state made.source (c.starts_unquoted.ensures c.if-not-starts_unquoted.false);
+      made.headers made.fresh made.state made.source (c.starts_closed.ensures c.if-not-starts_closed.false);
 }
+
+pub read_line-requires-clause-closed : goal.read_line-requires-clause-closed
+read_line-requires-clause-closed g c = elim c.else-not-unquoted.branch [
+  | else-not-unquoted-via-then-not-unquoted+else-not-is_closed w ↦ ap is_closed (sym c.without_cr-text.ensures) ∙ sym w.is_closed.ensures ∙ w.if-not-is_closed.false
+  | else-not-unquoted-via-else-not-unquoted w ↦
+      unquoted-closed (without_cr c.in-Some.line.now) (ap (list_all is_unquoted_byte) (sym c.without_cr-text.ensures) ∙ sym c.is_unquoted-unquoted.ensures ∙ w.if-not-unquoted.false)
+]
 
 pub read_line-requires-clause-room : goal.read_line-requires-clause-room
 read_line-requires-clause-room g c =
