@@ -19,6 +19,7 @@ use Rattle.fix_fields.proofs.SearchLemmas.{split_at}
 use Rattle.fix_fields.proofs.TagLemmas.{decimal_no_equals, tag_form-decimal, tag_form-some, tag_split}
 use Rattle.fix_messages.specs.declared.meanings.MessageFault.{MessageFault}
 use Rattle.fix_messages.specs.Bodies.{body_says, reasoned, says_of}
+use Rattle.fix_messages.specs.Steps.{TakesSaid}
 use Rattle.fix_messages.specs.BodyFields.{Split, ended_field, is_end, is_equals, next_field, some_size, split_from, split_next, split_of, tagged_field, value_size}
 
 -- a byte behind bytes that are others stands right there
@@ -211,3 +212,8 @@ module _ {R : Type 0} (meaning : List TagValue → Result (Option R) MessageFaul
   untyped-says is =
       reading-says is.fields [] (is.bytes ∙ sym (append-nil (bytes_of is.fields))) is.forms (no_field_at_end (last_of None is.fields))
       ∙ ap (λ (t : Bool). cond {A = Result (Option R) Reason} t (reasoned (meaning is.fields)) (Err reason.MsgType)) is.untyped
+
+-- a body that says a fault adds no record
+pub takes-bad : {R : Type 0} (said : Result (Option R) Reason) (why : Reason) (has : List R → Type 0) → said ≡ Err why → TakesSaid said has has (Err why)
+takes-bad {R} said why has is =
+    subst (λ (s : Result (Option R) Reason). TakesSaid s has has (Err why)) (sym is) ((λ list before. subst has (sym (append-nil list)) before), refl)

@@ -1,6 +1,6 @@
 -- What a feed stands for through its steps.
 use Rattle.std.proofs.Common.{◌≡◌, ◌≢◌, ℕ, ◌+◌, ◌-◌, ◌≤◌, Bool, true, false, Option, Some, None, Result, Ok, Err, List, [], ◌∷◌, ◌++◌, length, take, drop, is_ok, refl, sym, subst, ap, ◌∙◌, inl, inr, append_assoc, arith}
-use Rattle.std.specs.Prelude.{IsTrue, MatchResult, OnOk, is_some}
+use Rattle.std.specs.Prelude.{All, IfOk, IsTrue, MatchResult, OnOk, is_some}
 use Rattle.std.specs.Global.{Vec}
 use Rattle.std.specs.Result.{is_err}
 use Rattle.std.specs.List.{list_all, slice_range}
@@ -26,7 +26,7 @@ use Rattle.fix_framing.proofs.MessageLemmas.{IsFrame-body_of}
 use Rattle.fix_messages.specs.declared.feeds.FixFeed.{FixFeed}
 use Rattle.fix_messages.specs.declared.meanings.MessageFault.{MessageFault}
 use Rattle.fix_messages.specs.Bodies.{body_says}
-use Rattle.fix_messages.specs.Feeds.{HasRead, IsCause, IsOpen, IsShut, IsRead, IsWithin, StandsAt, StandsFor, read_frames}
+use Rattle.fix_messages.specs.Feeds.{HasRead, IsCause, IsOpen, IsReadAs, IsShut, IsRead, IsWithin, StandsAt, StandsFor, read_frames}
 use Rattle.fix_messages.specs.Logs.{Item, after_item, frame_reason, items_from, read_items, read_log}
 use Rattle.log_source.specs.Handing.{Adds}
 use Rattle.fix_messages.specs.Steps.{Ends, Goes, HasLog, IsPlace, TakesSaid}
@@ -293,3 +293,9 @@ module _ {K R : Type 0} (has_taken : K → List R → Type 0) (meaning : List Ta
     reads = fed-reads old new piece room.bytes same feeds (open-reads old room.bytes none room.stands);
     within = omega (arith, room.room, length-append room.bytes piece);
   }
+
+-- a list of records is sound where all records of the log are
+pub sound-kept : {R : Type 0} (reading : Result (List R) BadPlace) (result : Result (Vec R) LogFault) (sound : R → Type 0)
+    → IsReadAs reading result → IfOk reading (All sound) → IfOk result (λ kept. All sound kept.items)
+sound-kept reading (Ok kept) sound is all = rw is at all
+sound-kept reading (Err why) sound is all = tt

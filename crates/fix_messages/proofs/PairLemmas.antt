@@ -14,8 +14,9 @@ use Rattle.log_source.specs.Collectors.{HasPlace}
 use Rattle.fix_messages.specs.declared.meanings.Report.{Report}
 use Rattle.fix_messages.specs.declared.pairing_draft.PairingDraft.{PairingDraft}
 use Rattle.fix_messages.specs.declared.pairs.PlacedReport.{PlacedReport}
-use Rattle.fix_messages.specs.declared.pairs.FirstReports.{FirstReports}
-use Rattle.fix_messages.specs.Drafts.{IsKnown, IsLeast, IsPairingDraft, TakesPair, earlier, first_in}
+use Rattle.fix_messages.specs.declared.first_reports.FirstReports.{FirstReports}
+use Rattle.fix_messages.specs.declared.pairs.EarlierReports.{EarlierReports}
+use Rattle.fix_messages.specs.Drafts.{IsKnown, IsLeast, IsPairingDraft, TakesPair, earlier, first_in, held_in}
 use Rattle.fix_messages.specs.Pairings.{HasTrades, Pair, agree, disagreement, disagreement_of, disagrees, first_disagreement, first_unless, is_at, least_waiting, lone, pair_with, paired_unless, pairing, pairs, placed, trade_of, trades_of, unpaired_at, waiting}
 use Rattle.log_source.specs.Handing.{Adds}
 
@@ -325,16 +326,16 @@ lookup-place test (e ∷ es) value h = elim (cases_Bool (test e.0)) [
 ]
 
 -- one entry more
-module _ (firsts : FirstReports) where
-  pub least-more : (i : ℕ) (least : Option PlacedReport) (id : List ℕ) (first : PlacedReport) → IsLeast firsts i least → first_in firsts id ≡ Some first
-      → Some (id, first) ≡ slice_get firsts.map.entries i → IsLeast firsts (i + 1) (earlier least first)
+module _ (held : EarlierReports) where
+  pub least-more : (i : ℕ) (least : Option PlacedReport) (id : List ℕ) (first : PlacedReport) → IsLeast held i least → held_in held id ≡ Some first
+      → Some (id, first) ≡ slice_get held.map.entries i → IsLeast held (i + 1) (Some (earlier least first))
   least-more i None id first is known at = record {
     among = (id, known);
     below = λ k entry less there. elim (cases_lt k i) [
       | inl before ↦ absurd (is.below k entry before there)
       | inr after ↦
           let same : k ≡ i = omega (arith, less, after) in
-          let found : Some entry ≡ Some (id, first) = sym there ∙ ap (slice_get firsts.map.entries) same ∙ sym at in
+          let found : Some entry ≡ Some (id, first) = sym there ∙ ap (slice_get held.map.entries) same ∙ sym at in
           let here : entry ≡ (id, first) = cc found in let place : entry.1.place ≡ first.place = ap (λ (e : List ℕ × PlacedReport). e.1.place) here in omega (arith, place)
     ];
   }
@@ -347,7 +348,7 @@ module _ (firsts : FirstReports) where
             | inl before ↦ is.below k entry before there
             | inr after ↦
                 let same : k ≡ i = omega (arith, less, after) in
-                let seen : Some entry ≡ Some (id, first) = sym there ∙ ap (slice_get firsts.map.entries) same ∙ sym at in
+                let seen : Some entry ≡ Some (id, first) = sym there ∙ ap (slice_get held.map.entries) same ∙ sym at in
                 let here : entry ≡ (id, first) = cc seen in let place : entry.1.place ≡ first.place = ap (λ (e : List ℕ × PlacedReport). e.1.place) here in omega (arith, place, lower)
           ];
         })
@@ -359,25 +360,25 @@ module _ (firsts : FirstReports) where
             | inl before ↦ let lower : found.place ≤ entry.1.place = is.below k entry before there in omega (arith, lower, higher)
             | inr after ↦
                 let same : k ≡ i = omega (arith, less, after) in
-                let seen : Some entry ≡ Some (id, first) = sym there ∙ ap (slice_get firsts.map.entries) same ∙ sym at in
+                let seen : Some entry ≡ Some (id, first) = sym there ∙ ap (slice_get held.map.entries) same ∙ sym at in
                 let here : entry ≡ (id, first) = cc seen in let place : entry.1.place ≡ first.place = ap (λ (e : List ℕ × PlacedReport). e.1.place) here in omega (arith, place)
           ];
         })
   ]
 
-  pub least-none : (i : ℕ) (least : Option PlacedReport) → IsLeast firsts i least → length firsts.map.entries ≤ i → IfNone least ((id : List ℕ) → first_in firsts id ≡ None)
-  least-none i None is all = λ id. by id (first_in firsts id) refl
+  pub least-none : (i : ℕ) (least : Option PlacedReport) → IsLeast held i least → length held.map.entries ≤ i → IfNone least ((id : List ℕ) → held_in held id ≡ None)
+  least-none i None is all = λ id. by id (held_in held id) refl
     where
-      by : (id : List ℕ) (o : Option PlacedReport) → first_in firsts id ≡ o → o ≡ None
+      by : (id : List ℕ) (o : Option PlacedReport) → held_in held id ≡ o → o ≡ None
       by id None e = refl
       by id (Some found) e =
-          let place = lookup-place (same_name id) firsts.map.entries found e in
+          let place = lookup-place (same_name id) held.map.entries found e in
           absurd (is.below place.0 (place.1, found) (omega (arith, place.2, all)) place.3)
   least-none i (Some found) is all = tt
 
-  pub least-some : (i : ℕ) (least : Option PlacedReport) → IsLeast firsts i least → length firsts.map.entries ≤ i
-      → IfSome least (λ first. (id : List ℕ) (other : PlacedReport) → first_in firsts id ≡ Some other → first.place ≤ other.place)
+  pub least-some : (i : ℕ) (least : Option PlacedReport) → IsLeast held i least → length held.map.entries ≤ i
+      → IfSome least (λ first. (id : List ℕ) (other : PlacedReport) → held_in held id ≡ Some other → first.place ≤ other.place)
   least-some i None is all = tt
   least-some i (Some found) is all = λ id other there.
-      let place = lookup-place (same_name id) firsts.map.entries other there in
+      let place = lookup-place (same_name id) held.map.entries other there in
       is.below place.0 (place.1, other) (omega (arith, place.2, all)) place.3

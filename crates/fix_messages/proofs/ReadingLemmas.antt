@@ -87,7 +87,7 @@ module _ {R : Type 0} (meaning : List TagValue → Result (Option R) MessageFaul
       ∙ ap (after_item start (body_says meaning body)) later
       ∙ item-before (body_says meaning body) new (flat_map option_to_list meanings) start reading this
 
-  good-read : (log : List ℕ) (entries : List R) → IsGood meaning log entries → read_log meaning log ≡ Ok entries
+  pub good-read : (log : List ℕ) (entries : List R) → IsGood meaning log entries → read_log meaning log ≡ Ok entries
   unfolding read_log
   good-read log entries is =
       ap (λ (t : List ℕ). read_items (body_says meaning) (items_from 0 0 t)) (sym (append-nil log))

@@ -14,7 +14,7 @@ use Rattle.fix_fields.specs.Grammar.{TagValue}
 use Rattle.fix_fields.specs.Ranges.{all_shown, shown}
 use Rattle.fix_messages.specs.declared.meanings.MessageFault.{MessageFault}
 use Rattle.fix_messages.specs.declared.meanings.MessageFault.TheVariants as fault
-use Rattle.fix_messages.specs.Rows.{values_of, value_of, value_in, first_of, occurs, occurs_as}
+use Rattle.fix_messages.specs.Rows.{values_of, value_of, value_in, first_of, only, only_of}
 
 some-value : (v : List ℕ) (vs : List (List ℕ)) → ltb 0 (length (v ∷ vs)) ≡ true
 some-value v vs = search (rules, nat_tests)
@@ -56,27 +56,28 @@ first-value body tag fields =
     ap value_in (slice_get-map (shown body) fields (position_or_len (has_tag tag) fields))
     ∙ ap (λ (o : Option Field). value_in (option_map (shown body) o)) (sym (find_at (has_tag tag) fields)) ∙ first-found body tag fields
 
--- what is found says whether the tag occurs
-abbrev pub occurs_found : ℕ → Found → Result Bool MessageFault
-occurs_found tag Absent = Ok false
-occurs_found tag (One at) = Ok true
-occurs_found tag (Many at) = Err (fault.Repeated tag)
+-- what is found says which value the tag has
+abbrev pub only_found : ℕ → List TagValue → Found → Result (Option (List ℕ)) MessageFault
+only_found tag all Absent = Ok None
+only_found tag all (One at) = Ok (Some (value_in (slice_get all at)))
+only_found tag all (Many at) = Err (fault.Repeated tag)
 
 not-one : (n : ℕ) → eqb (suc (suc n)) 1 ≡ false
 not-one n = search (rules, nat_tests)
 
-occurs-place : (tag : ℕ) (vs : List (List ℕ)) (at : ℕ) (b : Bool) → ltb 0 (length vs) ≡ b → occurs_found tag (found_at (cond b (Some at) None) (length vs)) ≡ occurs_as tag vs
-occurs-place tag [] at true h = (cc)
-occurs-place tag [] at false h = refl
-occurs-place tag (v ∷ []) at true h = refl
-occurs-place tag (v ∷ []) at false h = let t : true ≡ false = sym (some-value v []) ∙ h in cc
-occurs-place tag (v ∷ w ∷ vs) at true h = ap (λ (b : Bool). occurs_found tag (cond b (One at) (Many at))) (not-one (length vs))
-occurs-place tag (v ∷ w ∷ vs) at false h = let t : true ≡ false = sym (some-value v (w ∷ vs)) ∙ h in cc
+only-place : (tag : ℕ) (all : List TagValue) (vs : List (List ℕ)) (at : ℕ) (b : Bool) → ltb 0 (length vs) ≡ b → value_in (slice_get all at) ≡ first_of vs
+    → only_found tag all (found_at (cond b (Some at) None) (length vs)) ≡ only_of tag vs
+only-place tag all [] at true h e = (cc)
+only-place tag all [] at false h e = refl
+only-place tag all (v ∷ []) at true h e = ap (λ (t : List ℕ). Ok (Some t)) e
+only-place tag all (v ∷ []) at false h e = let t : true ≡ false = sym (some-value v []) ∙ h in cc
+only-place tag all (v ∷ w ∷ vs) at true h e = ap (λ (b : Bool). only_found tag all (cond b (One at) (Many at))) (not-one (length vs))
+only-place tag all (v ∷ w ∷ vs) at false h e = let t : true ≡ false = sym (some-value v (w ∷ vs)) ∙ h in cc
 
-pub occurs-found : (body : List ℕ) (tag : ℕ) (fields : List Field) → occurs_found tag (found_of fields tag) ≡ occurs tag (all_shown body fields)
-occurs-found body tag fields =
-    ap (λ (n : ℕ). occurs_found tag (found_at (cond (ltb (position_or_len (has_tag tag) fields) (length fields)) (Some (position_or_len (has_tag tag) fields)) None) n)) (sym (counted body tag fields))
-    ∙ occurs-place tag (values_of tag (all_shown body fields)) (position_or_len (has_tag tag) fields) (ltb (position_or_len (has_tag tag) fields) (length fields)) (has-value body tag fields)
+pub only-found : (body : List ℕ) (tag : ℕ) (fields : List Field) → only_found tag (all_shown body fields) (found_of fields tag) ≡ only tag (all_shown body fields)
+only-found body tag fields =
+    ap (λ (n : ℕ). only_found tag (all_shown body fields) (found_at (cond (ltb (position_or_len (has_tag tag) fields) (length fields)) (Some (position_or_len (has_tag tag) fields)) None) n)) (sym (counted body tag fields))
+    ∙ only-place tag (all_shown body fields) (values_of tag (all_shown body fields)) (position_or_len (has_tag tag) fields) (ltb (position_or_len (has_tag tag) fields) (length fields)) (has-value body tag fields) (first-value body tag fields)
 
 -- what stands at the place that is found
 abbrev pub value_found : List TagValue → Found → List ℕ
@@ -103,8 +104,9 @@ value-found body tag fields =
     ∙ value-place (all_shown body fields) (values_of tag (all_shown body fields)) at (ltb at (length fields)) (eqb n 1) n (has-value body tag fields) refl (first-value body tag fields)
 
 -- the same where the fields are known by another name
-pub says-occurs : (body : List ℕ) (tag : ℕ) (fields : List Field) (all : List TagValue) (found : Found) → found ≡ found_of fields tag → all_shown body fields ≡ all → occurs_found tag found ≡ occurs tag all
-says-occurs body tag fields all found h e = ap (occurs_found tag) h ∙ occurs-found body tag fields ∙ ap (occurs tag) e
+pub says-only : (body : List ℕ) (tag : ℕ) (fields : List Field) (all : List TagValue) (found : Found) → found ≡ found_of fields tag → all_shown body fields ≡ all → only_found tag all found ≡ only tag all
+says-only body tag fields all found h e =
+    ap (λ (xs : List TagValue). only_found tag xs found) (sym e) ∙ ap (only_found tag (all_shown body fields)) h ∙ only-found body tag fields ∙ ap (only tag) e
 
 pub says-value : (body : List ℕ) (tag : ℕ) (fields : List Field) (all : List TagValue) (found : Found) → found ≡ found_of fields tag → all_shown body fields ≡ all → value_found all found ≡ value_of tag all
 says-value body tag fields all found h e =

@@ -15,6 +15,10 @@ use Rattle.fix_messages.specs.BodyFields.{split_of}
 use Rattle.fix_messages.specs.OrderTables.{order_meaning}
 use Rattle.fix_messages.specs.ReportTable.{report_meaning}
 
+-- what the fields of a message mean in a kind of log: a record, or nothing, or the first test that they fail
+abbrev pub Meaning : Type 0 → Type 0
+Meaning R = List TagValue → Result (Option R) MessageFault
+
 abbrev pub order_said : Result OrderMeaning MessageFault → Result (Option OrderRecord) MessageFault
 order_said (Ok order.Skip) = Ok None
 order_said (Ok (order.Entry entry)) = Ok (Some entry)
@@ -43,7 +47,8 @@ reasoned (Ok entry) = Ok entry
 reasoned (Err fault) = Err (fault_reason fault)
 
 -- the body has fields, and this is what they mean
-pub record SaysFields {R : Type 0} (meaning : List TagValue → Result (Option R) MessageFault) (body : List ℕ) (said : Result (Option R) Reason) : Type 0 where
+pub record SaysFields {R : Type 0} (meaning : Meaning R) (body : List ℕ) (said : Result (Option R) Reason)
+    : Type 0 where
   pub fields : List TagValue
   pub read : Fields body fields
   pub means : said ≡ reasoned (meaning fields)
@@ -59,14 +64,14 @@ pub record SaysUntyped {R : Type 0} (body : List ℕ) (said : Result (Option R) 
   pub untyped : LacksType body
   pub means : said ≡ Err reason.MsgType
 
-abbrev pub BodySays : {R : Type 0} → (List TagValue → Result (Option R) MessageFault) → List ℕ → Result (Option R) Reason → Type 0
+abbrev pub BodySays : {R : Type 0} → Meaning R → List ℕ → Result (Option R) Reason → Type 0
 BodySays meaning body said = SaysFields meaning body said ⊎ (SaysUnreadable body said ⊎ SaysUntyped body said)
 
 -- what fields say behind which these bytes are left
-abbrev pub says_of : {R : Type 0} → (List TagValue → Result (Option R) MessageFault) → List TagValue → List ℕ → Result (Option R) Reason
+abbrev pub says_of : {R : Type 0} → Meaning R → List TagValue → List ℕ → Result (Option R) Reason
 says_of meaning fields [] = if begins_with_type fields then reasoned (meaning fields) else Err reason.MsgType
 says_of meaning fields (byte ∷ left) = Err (reason.Field (length (bytes_of fields)))
 
 -- the same, found from the front of the body: `BodySays` holds of it and of nothing else
-unfoldable pub body_says : {R : Type 0} → (List TagValue → Result (Option R) MessageFault) → List ℕ → Result (Option R) Reason
+unfoldable pub body_says : {R : Type 0} → Meaning R → List ℕ → Result (Option R) Reason
 body_says meaning body = says_of meaning (split_of body).fields (split_of body).left

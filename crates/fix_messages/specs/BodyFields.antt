@@ -1,4 +1,5 @@
--- The fields of a body, found one after another from its front: as many as can be read, and the bytes that are left. The codes of `=` and
+-- The fields of a body, found one after another from its front: as many as can be read, and the bytes that are left.
+-- The codes of `=` and
 -- SOH are 61 and 1.
 use Rattle.std.specs.Prelude.{ℕ, zero, suc, ◌==◌, Bool, Option, Some, None, List, [], ◌∷◌, length, take, drop, slice_index, nat_lt, if◌then◌else◌}
 use Rattle.std.specs.List.{before_first, after_first, position_or_len}
@@ -21,7 +22,8 @@ abbrev pub counted_size : Option TagValue → Option ℕ
 counted_size None = None
 counted_size (Some before) = length_form before.value
 
--- how many bytes the value of a field with this tag has: as many as the field before it counts, or those up to the first SOH
+-- how many bytes the value of a field with this tag has: as many as the field before it counts, or those up to the
+-- first SOH
 abbrev pub value_size : Option TagValue → ℕ → List ℕ → Option ℕ
 value_size before tag bytes =
     if is_counted before tag then counted_size before else some_size (position_or_len is_end bytes)
@@ -57,7 +59,8 @@ split_next bytes (Some field) later = with_field field (later field)
 abbrev pub split_from : ℕ → Option TagValue → List ℕ → Split
 split_from zero before bytes = record { fields = []; left = bytes }
 split_from (suc most) before bytes =
-    split_next bytes (next_field before bytes) (λ field. split_from most (Some field) (drop (length (field_bytes field)) bytes))
+    split_next bytes (next_field before bytes)
+    (λ field. split_from most (Some field) (drop (length (field_bytes field)) bytes))
 
 -- all fields that can be read from the front of a body: each takes a byte at least
 unfoldable pub split_of : List ℕ → Split

@@ -1,17 +1,16 @@
 -- What a FIX feed stands for, and what it and the readers of whole logs answer.
-use Rattle.std.specs.Prelude.{◌≡◌, ⊤, ℕ, ◌≤◌, Option, Some, None, Result, Ok, Err, List, [], ◌∷◌, ◌++◌, length}
+use Rattle.std.specs.Global.{Vec}
+use Rattle.std.specs.Prelude.{◌≡◌, ⊤, ℕ, ◌≤◌, MatchResult, Option, Some, None, Result, Ok, Err, List, [], ◌∷◌, ◌++◌, length}
 use Rattle.audit_base.specs.declared.faults.Reason.{Reason}
 use Rattle.audit_base.specs.declared.faults.BadPlace.{BadPlace}
 use Rattle.audit_base.specs.declared.faults.LogFault.{LogFault}
 use Rattle.audit_base.specs.declared.faults.LogFault.TheVariants as fault
 use Rattle.log_source.specs.Sources.{longest_log}
-use Rattle.fix_fields.specs.Grammar.{TagValue}
 use Rattle.fix_framing.specs.Frames.{body_of}
 use Rattle.fix_framing.specs.Framing as framing
 use Rattle.fix_framing.specs.declared.framer.Framer.{Framer}
-use Rattle.fix_messages.specs.declared.meanings.MessageFault.{MessageFault}
 use Rattle.fix_messages.specs.declared.feeds.FixFeed.{FixFeed}
-use Rattle.fix_messages.specs.Bodies.{body_says}
+use Rattle.fix_messages.specs.Bodies.{Meaning, body_says}
 use Rattle.fix_messages.specs.Logs.{read_log}
 
 -- a message and what those after it say
@@ -22,12 +21,15 @@ after_frame (Ok (Some entry)) (Err why) = Err why
 after_frame (Err why) later = Err why
 
 -- the records that these frames mean, or why the first of them that fails a test does
-abbrev pub read_frames : {R : Type 0} → (List TagValue → Result (Option R) MessageFault) → List (List ℕ) → Result (List R) Reason
+abbrev pub read_frames : {R : Type 0} → Meaning R → List (List ℕ) → Result (List R) Reason
 read_frames meaning [] = Ok []
 read_frames meaning (frame ∷ frames) = after_frame (body_says meaning (body_of frame)) (read_frames meaning frames)
 
--- The framer stands for this log with some frames, each of them means a record or nothing, and their records have been handed on in order.
-pub record HasRead {R : Type 0} (has_taken : List R → Type 0) (meaning : List TagValue → Result (Option R) MessageFault) (framer : Framer) (log : List ℕ) : Type 0 where
+-- The framer stands for this log with some frames, each of them means a record or nothing, and their records have
+-- been handed on in order.
+pub record HasRead {R : Type 0} (has_taken : List R → Type 0) (meaning : Meaning R) (framer : Framer)
+    (log : List ℕ)
+    : Type 0 where
   pub entries : List R
   pub has : has_taken entries
   pub frames : List (List ℕ)
@@ -35,26 +37,29 @@ pub record HasRead {R : Type 0} (has_taken : List R → Type 0) (meaning : List 
   pub good : read_frames meaning frames ≡ Ok entries
 
 -- No bad message has come yet, and no more is held than a message that isn't all there.
-pub record IsOpen {R : Type 0} (has_taken : List R → Type 0) (meaning : List TagValue → Result (Option R) MessageFault) (framer : Framer) (log : List ℕ) : Type 0 where
+pub record IsOpen {R : Type 0} (has_taken : List R → Type 0) (meaning : Meaning R) (framer : Framer)
+    (log : List ℕ)
+    : Type 0 where
   pub reads : HasRead has_taken meaning framer log
   pub short : length (framing.held framer) ≤ 1048604
 
 -- The log and every longer log that begins with it are bad at this place, and no bytes are held.
-pub record IsShut {R : Type 0} (meaning : List TagValue → Result (Option R) MessageFault) (framer : Framer) (bad : BadPlace) (log : List ℕ) : Type 0 where
+pub record IsShut {R : Type 0} (meaning : Meaning R) (framer : Framer) (bad : BadPlace) (log : List ℕ) : Type 0 where
   pub is_bad : (more : List ℕ) → read_log meaning (log ++ more) ≡ Err bad
   pub nothing : framing.held framer ≡ []
 
 -- these fields of a feed stand for this log
-abbrev pub StandsAt : {R : Type 0} → (List R → Type 0) → (List TagValue → Result (Option R) MessageFault) → Framer → Option BadPlace → List ℕ → Type 0
+abbrev pub StandsAt : {R : Type 0} → (List R → Type 0) → Meaning R → Framer → Option BadPlace → List ℕ → Type 0
 StandsAt has_taken meaning framer None log = IsOpen has_taken meaning framer log
 StandsAt has_taken meaning framer (Some bad) log = IsShut meaning framer bad log
 
 -- the feed stands for this log; `has_taken` says what its collector has been handed
-abbrev pub StandsFor : {K R : Type 0} → (K → List R → Type 0) → (List TagValue → Result (Option R) MessageFault) → FixFeed K → List ℕ → Type 0
+abbrev pub StandsFor : {K R : Type 0} → (K → List R → Type 0) → Meaning R → FixFeed K → List ℕ → Type 0
 StandsFor has_taken meaning feed log = StandsAt (has_taken feed.entries) meaning feed.framer feed.bad log
 
 -- The feed stands for some log that is no longer than a log may be.
-pub record IsWithin {K R : Type 0} (has_taken : K → List R → Type 0) (meaning : List TagValue → Result (Option R) MessageFault) (feed : FixFeed K) : Type 0 where
+pub record IsWithin {K R : Type 0} (has_taken : K → List R → Type 0) (meaning : Meaning R) (feed : FixFeed K)
+    : Type 0 where
   pub log : List ℕ
   pub stands : StandsFor has_taken meaning feed log
   pub within : length log ≤ longest_log
@@ -69,3 +74,12 @@ pub record IsRead {R : Type 0} (has_taken : List R → Type 0) (reading : Result
 abbrev pub IsCause : {R : Type 0} → Result (List R) BadPlace → LogFault → Type 0
 IsCause reading (fault.Bad bad) = reading ≡ Err bad
 IsCause reading fault.Memory = ⊤
+
+-- what a log says is answered: a list of its records, or why there is none
+abbrev pub IsReadAs : {R : Type 0} → Result (List R) BadPlace → Result (Vec R) LogFault → Type 0
+IsReadAs reading result = MatchResult result (λ records. reading ≡ Ok records.items) (IsCause reading)
+
+-- the same, where the records were handed to a collector
+abbrev pub IsHandedAs : {K R : Type 0} → (K → List R → Type 0) → Result (List R) BadPlace → Result K LogFault → Type 0
+IsHandedAs has_taken reading result =
+    MatchResult result (λ collector. IsRead (has_taken collector) reading) (IsCause reading)

@@ -1,4 +1,5 @@
--- What a FIX log says: its records, or its first bad message. The words take what the fields of a message mean, so that they serve
+-- What a FIX log says: its records, or its first bad message. The words take what the fields of a message mean, so
+-- that they serve
 -- order logs and trade logs.
 use Rattle.std.specs.Prelude.{◌≡◌, ◌↔◌, ◌⊎◌, Bool, false, not, ℕ, zero, suc, ◌+◌, ◌-◌, Option, Some, None, Result, Ok, Err, List, [], ◌∷◌, ◌++◌, length, map, IsTrue, if◌then◌else◌}
 use Rattle.std.specs.List.{list_all, flat_map}
@@ -7,14 +8,12 @@ use Rattle.audit_base.specs.declared.faults.Reason.{Reason}
 use Rattle.audit_base.specs.declared.faults.Reason.TheVariants as reason
 use Rattle.audit_base.specs.declared.faults.BadPlace.{BadPlace}
 use Rattle.audit_base.specs.declared.records.OrderRecord.{OrderRecord}
-use Rattle.fix_fields.specs.Grammar.{TagValue}
 use Rattle.fix_framing.specs.Breaks.{is_break}
 use Rattle.fix_framing.specs.Frames.{IsFrame, frame_fault, frame_size, body_of}
 use Rattle.fix_framing.specs.declared.frames.FrameFault.{FrameFault}
 use Rattle.fix_framing.specs.declared.frames.FrameFault.TheVariants.{Begin, Length, Truncated, Trailer, Checksum}
-use Rattle.fix_messages.specs.declared.meanings.MessageFault.{MessageFault}
 use Rattle.fix_messages.specs.declared.meanings.Report.{Report}
-use Rattle.fix_messages.specs.Bodies.{body_says, order_entry, report_entry}
+use Rattle.fix_messages.specs.Bodies.{Meaning, body_says, order_entry, report_entry}
 
 -- a fault of a frame as the reason of a bad place
 abbrev pub frame_reason : FrameFault → Reason
@@ -24,7 +23,8 @@ frame_reason Truncated = reason.Truncated
 frame_reason Trailer = reason.Trailer
 frame_reason Checksum = reason.Checksum
 
--- a place of a log at which a message has to begin: its offset, and the body of the message, or the first test of frames that fails there
+-- a place of a log at which a message has to begin: its offset, and the body of the message, or the first test of
+-- frames that fails there
 pub record Item : Type 0 where
   pub start : ℕ
   pub body : Result (List ℕ) FrameFault
@@ -34,16 +34,20 @@ abbrev pub item_and : ℕ → List ℕ → Option FrameFault → List Item → L
 item_and at text None later = record { start = at; body = Ok (body_of text) } ∷ later
 item_and at text (Some fault) later = record { start = at; body = Err fault } ∷ []
 
--- The items of a log from byte `at` on, whose first `inside` bytes belong to the message before: CR and LF bytes are passed over, a
+-- The items of a log from byte `at` on, whose first `inside` bytes belong to the message before: CR and LF bytes are
+-- passed over, a
 -- message begins at any other byte, and behind a place where none begins nothing is read.
 abbrev pub items_from : ℕ → ℕ → List ℕ → List Item
 items_from inside at [] = []
 items_from zero at (byte ∷ rest) =
-    if is_break byte then items_from zero (at + 1) rest else item_and at (byte ∷ rest) (frame_fault (byte ∷ rest)) (items_from (frame_size (byte ∷ rest) - 1) (at + 1) rest)
+    if is_break byte then items_from zero (at + 1) rest
+    else item_and at (byte ∷ rest) (frame_fault (byte ∷ rest))
+    (items_from (frame_size (byte ∷ rest) - 1) (at + 1) rest)
 items_from (suc inside) at (byte ∷ rest) = items_from inside (at + 1) rest
 
 -- what an item says, by what bodies say
-abbrev pub item_says : {R : Type 0} → (List ℕ → Result (Option R) Reason) → Result (List ℕ) FrameFault → Result (Option R) Reason
+abbrev pub item_says : {R : Type 0} → (List ℕ → Result (Option R) Reason) → Result (List ℕ) FrameFault
+    → Result (Option R) Reason
 item_says says (Ok body) = says body
 item_says says (Err fault) = Err (frame_reason fault)
 
@@ -53,7 +57,8 @@ with_first entry (Ok entries) = Ok (entry ∷ entries)
 with_first entry (Err bad) = Err (record { place = bad.place + 1; offset = bad.offset; reason = bad.reason })
 
 -- an item at this offset, and what the items after it say
-abbrev pub after_item : {R : Type 0} → ℕ → Result (Option R) Reason → Result (List R) BadPlace → Result (List R) BadPlace
+abbrev pub after_item : {R : Type 0} → ℕ → Result (Option R) Reason → Result (List R) BadPlace
+    → Result (List R) BadPlace
 after_item start (Ok None) later = later
 after_item start (Ok (Some entry)) later = with_first entry later
 after_item start (Err why) later = Err (record { place = 1; offset = start; reason = why })
@@ -64,7 +69,7 @@ read_items says [] = Ok []
 read_items says (item ∷ items) = after_item item.start (item_says says item.body) (read_items says items)
 
 -- what a log says: its records, or its first bad place
-unfoldable pub read_log : {R : Type 0} → (List TagValue → Result (Option R) MessageFault) → List ℕ → Result (List R) BadPlace
+unfoldable pub read_log : {R : Type 0} → Meaning R → List ℕ → Result (List R) BadPlace
 read_log meaning log = read_items (body_says meaning) (items_from 0 0 log)
 
 abbrev pub order_log : List ℕ → Result (List OrderRecord) BadPlace
@@ -77,10 +82,11 @@ report_log log = read_log report_entry log
 abbrev pub AreMessages : List ℕ → List (List ℕ) → Type 0
 AreMessages text [] = IsTrue (list_all is_break text)
 AreMessages text (body ∷ bodies) =
-    (gap : List ℕ) × (frame : List ℕ) × (rest : List ℕ) × IsTrue (list_all is_break gap) × IsFrame frame body × (text ≡ gap ++ (frame ++ rest)) × AreMessages rest bodies
+    (gap : List ℕ) × (frame : List ℕ) × (rest : List ℕ) × IsTrue (list_all is_break gap) × IsFrame frame body
+    × (text ≡ gap ++ (frame ++ rest)) × AreMessages rest bodies
 
 -- The text is messages each of which means a record or nothing, and these are their records in order.
-pub record HasRecords {R : Type 0} (meaning : List TagValue → Result (Option R) MessageFault) (text : List ℕ) (entries : List R) : Type 0 where
+pub record HasRecords {R : Type 0} (meaning : Meaning R) (text : List ℕ) (entries : List R) : Type 0 where
   pub bodies : List (List ℕ)
   pub messages : AreMessages text bodies
   pub meanings : List (Option R)
@@ -88,7 +94,7 @@ pub record HasRecords {R : Type 0} (meaning : List TagValue → Result (Option R
   pub records : entries ≡ flat_map option_to_list meanings
 
 -- the log is good with these records
-abbrev pub IsGood : {R : Type 0} → (List TagValue → Result (Option R) MessageFault) → List ℕ → List R → Type 0
+abbrev pub IsGood : {R : Type 0} → Meaning R → List ℕ → List R → Type 0
 IsGood meaning log entries = HasRecords meaning log entries
 
 -- the text begins with a byte that is neither CR nor LF
@@ -104,7 +110,7 @@ pub record LacksFrame (text : List ℕ) (why : Reason) : Type 0 where
   pub reason_is : why ≡ frame_reason fault
 
 -- A message begins the text, and its body fails a test.
-pub record HasBadBody {R : Type 0} (meaning : List TagValue → Result (Option R) MessageFault) (text : List ℕ) (why : Reason) : Type 0 where
+pub record HasBadBody {R : Type 0} (meaning : Meaning R) (text : List ℕ) (why : Reason) : Type 0 where
   pub frame : List ℕ
   pub body : List ℕ
   pub rest : List ℕ
@@ -112,9 +118,10 @@ pub record HasBadBody {R : Type 0} (meaning : List TagValue → Result (Option R
   pub message : IsFrame frame body
   pub fails : body_says meaning body ≡ Err why
 
--- The log is bad there: behind messages that are good, and CR and LF bytes, no message begins, or one that fails a test. The place is one
+-- The log is bad there: behind messages that are good, and CR and LF bytes, no message begins, or one that fails a
+-- test. The place is one
 -- more than the number of records before it, and the offset that of its first byte.
-pub record IsBad {R : Type 0} (meaning : List TagValue → Result (Option R) MessageFault) (log : List ℕ) (bad : BadPlace) : Type 0 where
+pub record IsBad {R : Type 0} (meaning : Meaning R) (log : List ℕ) (bad : BadPlace) : Type 0 where
   pub front : List ℕ
   pub left : List ℕ
   pub cut : log ≡ front ++ left
@@ -125,6 +132,7 @@ pub record IsBad {R : Type 0} (meaning : List TagValue → Result (Option R) Mes
   pub place : bad ≡ record { place = length entries + 1; offset = length front; reason = why }
 
 -- A log is read in one way: it is good with one list of records or bad at one place, and never both.
-pub record IsOnlyReading {R : Type 0} (meaning : List TagValue → Result (Option R) MessageFault) (log : List ℕ) (reading : Result (List R) BadPlace) : Type 0 where
+pub record IsOnlyReading {R : Type 0} (meaning : Meaning R) (log : List ℕ) (reading : Result (List R) BadPlace)
+    : Type 0 where
   pub good : (entries : List R) → IsGood meaning log entries ↔ (reading ≡ Ok entries)
   pub bad : (place : BadPlace) → IsBad meaning log place ↔ (reading ≡ Err place)

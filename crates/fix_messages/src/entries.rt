@@ -1,5 +1,5 @@
 //! What a kind of log has of its own, what the fields of a message mean, and what a body says by that.
-ghost use Rattle.std.specs.Prelude.{◌≡◌, ◌≤◌, ◌∷◌, [], IfOk, List, OnOk, Option, Result, length};
+ghost use Rattle.std.specs.Prelude.{◌≡◌, ◌≤◌, ◌∷◌, [], IfOk, IfSome, List, OnOk, Option, Result, length};
 ghost use Rattle.fix_fields.specs.Grammar.{TagValue};
 ghost use Rattle.fix_fields.specs.Ranges.{AreFieldsOf, all_shown};
 ghost use Rattle.fix_messages.specs.declared.meanings.MessageFault.{MessageFault};
@@ -14,25 +14,34 @@ use crate::reports::report_of;
 use audit_base::faults::{NoMemory, Reason};
 use audit_base::records::{OrderRecord, Traded};
 use fix_fields::field::{Field, FieldFault};
-use fix_fields::split::fields;
+use fix_fields::split::read_fields;
 use log_source::collector::Collector;
-use std::alloc::Global;
 
 /// A record of a FIX log: an order, or a report of a trade.
 pub trait FixEntry: Traded {
     // What the fields of a message mean: a record, or nothing.
     ghost meaning: { List TagValue → Result (Option Self) MessageFault };
 
+    // What holds of every record that fields mean.
+    ghost sound: { Self → Type 0 };
+
     /// The record that the fields of a body mean, or nothing, or the first test that they fail.
     fn of_fields(body: &[u8], fields: &[Field]) -> Result<Option<Self>, MessageFault>
         requires { AreFieldsOf body.now fields.now }
         ensures { result ≡ meaning (all_shown body.now fields.now) };
+
+    /// Every record that fields mean is sound. This call does nothing: it only has its contract.
+    fn means_sound_records()
+        ensures { (fields : List TagValue) → IfOk (meaning fields) (λ found. IfSome found sound) };
 }
 
 impl FixEntry for OrderRecord {
     ghost use Rattle.fix_messages.specs.Bodies.{order_entry};
+    ghost use Rattle.audit_base.specs.Histories.{HasMarketPrice};
 
     ghost meaning = { order_entry };
+
+    ghost sound = { HasMarketPrice };
 
     fn of_fields(body: &[u8], fields: &[Field]) -> Result<Option<OrderRecord>, MessageFault> {
         match order_of(body, fields)? {
@@ -40,12 +49,17 @@ impl FixEntry for OrderRecord {
             OrderMeaning::Entry(entry) => Ok(Some(entry)),
         }
     }
+
+    fn means_sound_records() {}
 }
 
 impl FixEntry for Report {
+    ghost use Rattle.std.specs.Prelude.{⊤};
     ghost use Rattle.fix_messages.specs.Bodies.{report_entry};
 
     ghost meaning = { report_entry };
+
+    ghost sound = { λ _. ⊤ };
 
     fn of_fields(body: &[u8], fields: &[Field]) -> Result<Option<Report>, MessageFault> {
         match report_of(body, fields)? {
@@ -53,6 +67,8 @@ impl FixEntry for Report {
             ReportMeaning::Entry(report) => Ok(Some(report)),
         }
     }
+
+    fn means_sound_records() {}
 }
 
 fn reason_of(fault: MessageFault) -> Reason
@@ -63,30 +79,6 @@ fn reason_of(fault: MessageFault) -> Reason
         MessageFault::Repeated(tag) => Reason::Repeated(tag),
         MessageFault::Value(tag) => Reason::Value(tag),
         MessageFault::Unsupported(tag) => Reason::Unsupported(tag),
-    }
-}
-
-fn reasoned<R: FixEntry>(meaning: Result<Option<R>, MessageFault>) -> Result<Option<R>, Reason>
-    ensures { result ≡ reasoned meaning }
-{
-    match meaning {
-        Ok(entry) => Ok(entry),
-        Err(fault) => Err(reason_of(fault)),
-    }
-}
-
-/// What the body of a message says: a record, or nothing, or the first test that it fails.
-fn body_says<R: FixEntry>(alloc: Global, body: &[u8]) -> Result<Result<Option<R>, Reason>, NoMemory>
-    requires { length body.now ≤ 1048576 }
-    ensures { IfOk result (λ said. said ≡ body_says R.meaning body.now) }
-{
-    match fields(alloc, body) {
-        Ok(fields) => Ok(reasoned(R::of_fields(body, &fields))),
-        Err(fault) => match fault {
-            FieldFault::Field(at) => Ok(Err(Reason::Field(at))),
-            FieldFault::MsgType => Ok(Err(Reason::MsgType)),
-            FieldFault::Memory => Err(NoMemory),
-        },
     }
 }
 
@@ -106,24 +98,44 @@ pub(crate) fn hand_on<R: Traded, K: Collector<Entry = R>>(
     }
 }
 
+/// Hands on the record that the fields of a message mean, if they mean one, and gives the first test that
+/// they fail.
+fn take_meaning<R: FixEntry, K: Collector<Entry = R>>(
+    entries: &mut K,
+    meaning: Result<Option<R>, MessageFault>,
+) -> Result<Result<(), Reason>, NoMemory>
+    requires { HasPlace K.has_taken entries.old }
+    ensures { IfOk result (TakesSaid (reasoned meaning) (K.has_taken entries.old)
+        (K.has_taken entries.new)) }
+{
+    match meaning {
+        Ok(Some(entry)) => {
+            hand_on(entries, entry)?;
+            Ok(Ok(()))
+        }
+        Ok(None) => Ok(Ok(())),
+        Err(fault) => Ok(Err(reason_of(fault))),
+    }
+}
+
 /// Hands on the record that the body of a message means, if it means one, and gives the first test that
-/// the body fails.
+/// the body fails. Its fields are read into a list that may be used again for the next body.
 pub(crate) fn take_body<R: FixEntry, K: Collector<Entry = R>>(
-    alloc: Global,
     entries: &mut K,
     body: &[u8],
+    fields: &mut Vec<Field>,
 ) -> Result<Result<(), Reason>, NoMemory>
     requires place { HasPlace K.has_taken entries.old }
     requires short { length body.now ≤ 1048576 }
     ensures { IfOk result (TakesSaid (body_says R.meaning body.now) (K.has_taken entries.old)
         (K.has_taken entries.new)) }
 {
-    match body_says(alloc, body)? {
-        Ok(Some(entry)) => {
-            hand_on(entries, entry)?;
-            Ok(Ok(()))
-        }
-        Ok(None) => Ok(Ok(())),
-        Err(why) => Ok(Err(why)),
+    match read_fields(body, fields) {
+        Ok(()) => take_meaning(entries, R::of_fields(body, fields)),
+        Err(fault) => match fault {
+            FieldFault::Field(at) => Ok(Err(Reason::Field(at))),
+            FieldFault::MsgType => Ok(Err(Reason::MsgType)),
+            FieldFault::Memory => Err(NoMemory),
+        },
     }
 }

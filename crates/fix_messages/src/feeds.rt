@@ -1,9 +1,9 @@
 //! Feeds: what takes a FIX log piece by piece, hands on its records, and stops at the first bad message.
-ghost use Rattle.std.specs.Prelude.{◌≡◌, ◌≤◌, ℕ, List, [], None, Some, Ok, vec_len, IfOk, OnOk, MatchBool, MatchResult};
+ghost use Rattle.std.specs.Prelude.{◌≡◌, ◌≤◌, ℕ, List, [], All, None, Some, Ok, vec_len, IfOk, OnOk, MatchBool};
 ghost use Rattle.log_source.specs.Collectors.{HasFew, HasPlace};
 ghost use Rattle.fix_framing.specs.Framing.{held};
 ghost use Rattle.log_source.specs.Sources.{longest_log};
-ghost use Rattle.fix_messages.specs.Feeds.{StandsFor, IsWithin, IsCause, IsRead};
+ghost use Rattle.fix_messages.specs.Feeds.{StandsFor, IsHandedAs, IsReadAs, IsWithin};
 ghost use Rattle.fix_messages.specs.Logs.{frame_reason, read_log};
 ghost use Rattle.fix_messages.specs.Steps.{Ends, Goes, HasLog, IsPlace};
 
@@ -11,6 +11,7 @@ use crate::entries::{FixEntry, take_body};
 use crate::meanings::Report;
 use audit_base::faults::{BadPlace, LogFault, NoMemory, Reason};
 use audit_base::records::OrderRecord;
+use fix_fields::field::Field;
 use fix_framing::framer::{Framer, Step};
 use fix_framing::frames::FrameFault;
 use log_source::collector::Collector;
@@ -84,7 +85,7 @@ impl<R: FixEntry, K: Collector<Entry = R>> FixFeed<K> {
     }
 
     // Takes the next message. True says that it was good, and that another may follow.
-    fn take_next(&mut self) -> Result<bool, NoMemory>
+    fn take_next(&mut self, fields: &mut Vec<Field>) -> Result<bool, NoMemory>
         requires good { self.old.bad ≡ None }
         requires room { HasLog K.has_taken R.meaning self.old }
         ensures { IfOk result (λ more. MatchBool more
@@ -100,7 +101,7 @@ impl<R: FixEntry, K: Collector<Entry = R>> FixFeed<K> {
             }
             Step::Whole { start, body, to } => {
                 let body = &self.framer.held()[body..to];
-                match take_body(self.alloc, &mut self.entries, body)? {
+                match take_body(&mut self.entries, body, fields)? {
                     Ok(()) => Ok(true),
                     Err(reason) => {
                         let bad = bad_at(&self.entries, start, reason);
@@ -112,27 +113,32 @@ impl<R: FixEntry, K: Collector<Entry = R>> FixFeed<K> {
         }
     }
 
-    // Takes messages as long as there is one and it is good.
+    // Takes messages as long as there is one and it is good. All have their fields read into one list.
     fn take_messages(&mut self) -> Result<(), NoMemory>
         requires good { self.old.bad ≡ None }
         requires room { HasLog K.has_taken R.meaning self.old }
         ensures { OnOk result (Ends K.has_taken R.meaning self.old self.new) }
     {
+        let mut fields = Vec::new(self.alloc);
         'messages: loop {
-            if !self.take_next()? {
+            if !self.take_next(&mut fields)? {
                 return Ok(());
             }
         }
     }
 
     /// The collector, which has been handed exactly the records of the log that has come, or its first bad
-    /// message: what the reading of the whole log gives, for every log that the feed stands for.
+    /// message: what the reading of the whole log gives, for every log that the feed stands for. Each record
+    /// is sound: one of life Market has the market price of its side.
+    #[tactic(auto, using(crate::proofs::PricedLemmas::log_sound))]
     pub fn close(mut self) -> Result<K, LogFault>
         requires { IsWithin K.has_taken R.meaning self }
         ensures reads { (log : List ℕ) → StandsFor K.has_taken R.meaning self log
-            → MatchResult result (λ collector. IsRead (K.has_taken collector) (read_log R.meaning log)) (IsCause (read_log R.meaning log)) }
+            → IsHandedAs K.has_taken (read_log R.meaning log) result }
         ensures few { IfOk result (λ collector. HasFew (K.has_taken collector)) }
+        ensures sound { (log : List ℕ) → IfOk (read_log R.meaning log) (All R.sound) }
     {
+        R::means_sound_records();
         if let Some(bad) = self.bad {
             return Err(LogFault::Bad(bad));
         }
@@ -161,9 +167,10 @@ impl<R: FixEntry> FixFeed<Vec<R>> {
     /// gives, for every log that the feed stands for.
     pub fn finish(self) -> Result<Vec<R>, LogFault>
         requires { IsWithin ⟦<Vec<R> as Collector>⟧.has_taken R.meaning self }
-        ensures reads { (log : List ℕ)
-            → StandsFor ⟦<Vec<R> as Collector>⟧.has_taken R.meaning self log
-            → MatchResult result (λ entries. read_log R.meaning log ≡ Ok entries.items) (IsCause (read_log R.meaning log)) }
+        ensures reads { let has_taken = ⟦<Vec<R> as Collector>⟧.has_taken in
+            (log : List ℕ) → StandsFor has_taken R.meaning self log
+            → IsReadAs (read_log R.meaning log) result }
+        ensures sound { IfOk result (λ entries. All R.sound entries.items) }
         ensures few { IfOk result (λ entries. vec_len entries ≤ longest_log) }
     {
         self.close()

@@ -1,14 +1,19 @@
 //! What the messages of a FIX 4.4 log mean: the record of an order or of a report of a trade, nothing,
-//! or the first test that the message fails; and what the trade reports of a log come to.
+//! or the first test that the message fails; what the trade reports of a log come to; and how records
+//! are written as messages.
 //!
 //! `orders` and `reports` read one message by the table of its type, `meanings` has their answers, and
-//! `entries` is the trait by which both kinds of log are read from their bodies. What the tables are
-//! stands in `specs/`: `Rows` (how a tag is tested and read), `OrderTables`, `ReportTable`, and `Bodies`
-//! (what a body says, its fields' faults included).
+//! `entries` is the trait by which both kinds of log are read from their bodies: by `feeds` in pieces,
+//! by `logs` as a whole. `pairing` makes trades of reports. `writers` writes messages, and `laws` says
+//! that they are read again. What the tables are stands in `specs/`: `Rows` (how a tag is tested and
+//! read), `OrderTables`, `ReportTable`, `Bodies` (what a body says, its fields' faults included) and
+//! `Written` (what is written).
 #![tactic(auto)]
 
 pub mod entries;
 pub mod feeds;
+mod first_reports;
+pub mod laws;
 #[cfg(test)]
 mod log_tests;
 pub mod logs;
@@ -22,3 +27,4 @@ pub mod reports;
 mod rows;
 #[cfg(test)]
 mod tests;
+pub mod writers;

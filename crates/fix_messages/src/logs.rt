@@ -1,7 +1,8 @@
 //! Reading a log that is there as a whole.
-ghost use Rattle.std.specs.Prelude.{◌≡◌, ◌≤◌, Ok, length, MatchResult};
+ghost use Rattle.std.specs.Prelude.{◌≤◌, All, IfOk, length, vec_len};
+ghost use Rattle.audit_base.specs.Histories.{HasMarketPrice};
 ghost use Rattle.fix_messages.specs.Bodies.{order_entry, report_entry};
-ghost use Rattle.fix_messages.specs.Feeds.{IsCause};
+ghost use Rattle.fix_messages.specs.Feeds.{IsReadAs};
 ghost use Rattle.fix_messages.specs.Logs.{read_log, order_log, report_log, IsOnlyReading};
 ghost use Rattle.log_source.specs.Sources.{longest_log};
 
@@ -16,15 +17,14 @@ use std::alloc::Global;
 /// One feed and its end.
 fn entries_of<R: FixEntry>(alloc: Global, bytes: &[u8]) -> Result<Vec<R>, LogFault>
     requires { length bytes.now ≤ longest_log }
-    ensures reads { MatchResult result (λ entries.
-        read_log R.meaning bytes.now ≡ Ok entries.items) (IsCause (read_log R.meaning bytes.now)) }
+    ensures reads { IsReadAs (read_log R.meaning bytes.now) result }
+    ensures sound { IfOk result (λ entries. All R.sound entries.items) }
+    ensures few { IfOk result (λ entries. vec_len entries ≤ longest_log) }
     ensures unique { IsOnlyReading R.meaning bytes.now (read_log R.meaning bytes.now) }
 {
     let mut feed = FixFeed::new(alloc);
-    match feed.feed(bytes) {
-        Ok(()) => feed.finish(),
-        Err(_) => Err(LogFault::Memory),
-    }
+    feed.feed(bytes)?;
+    feed.finish()
 }
 
 /// The new orders, cancels and replacements of an order log of at most 67,108,864 bytes, in order.
@@ -34,11 +34,12 @@ fn entries_of<R: FixEntry>(alloc: Global, bytes: &[u8]) -> Result<Vec<R>, LogFau
 /// before the first bad message, over all symbols; its offset is that of the message's first byte,
 /// behind CR and LF bytes; its reason is the first test that the message fails: the tests of its
 /// frame, of its fields, and of the table of its type. Each log is good with one list or bad at one
-/// place, and never both. The answer is `Memory` where there was too little.
+/// place, and never both. A market order has the market price of its side. The answer is `Memory` where
+/// there was too little.
 pub fn fix_orders_of(alloc: Global, bytes: &[u8]) -> Result<Vec<OrderRecord>, LogFault>
     requires { length bytes.now ≤ longest_log }
-    ensures reads { MatchResult result (λ entries. order_log bytes.now ≡ Ok entries.items)
-        (IsCause (order_log bytes.now)) }
+    ensures reads { IsReadAs (order_log bytes.now) result }
+    ensures priced { IfOk result (λ entries. All HasMarketPrice entries.items) }
     ensures unique { IsOnlyReading order_entry bytes.now (order_log bytes.now) }
 {
     entries_of(alloc, bytes)
@@ -46,11 +47,12 @@ pub fn fix_orders_of(alloc: Global, bytes: &[u8]) -> Result<Vec<OrderRecord>, Lo
 
 /// The trade reports of a trade log of at most 67,108,864 bytes, in order: execution reports of
 /// execution type F. Messages of other types, possible duplicates and reports of other execution
-/// types are passed over. `Bad` and `Memory` come as for an order log.
+/// types are passed over. `Bad` and `Memory` come as for an order log. There are no more reports than the
+/// log has bytes.
 pub fn fix_reports_of(alloc: Global, bytes: &[u8]) -> Result<Vec<Report>, LogFault>
     requires { length bytes.now ≤ longest_log }
-    ensures reads { MatchResult result (λ entries. report_log bytes.now ≡ Ok entries.items)
-        (IsCause (report_log bytes.now)) }
+    ensures reads { IsReadAs (report_log bytes.now) result }
+    ensures few { IfOk result (λ reports. vec_len reports ≤ longest_log) }
     ensures unique { IsOnlyReading report_entry bytes.now (report_log bytes.now) }
 {
     entries_of(alloc, bytes)

@@ -1,7 +1,8 @@
 //! A message as the list of its fields.
 ghost use Rattle.std.specs.Prelude.{◌≡◌, slice_get};
 ghost use Rattle.fix_fields.specs.Ranges.{AreFieldsOf, all_shown};
-ghost use Rattle.fix_messages.specs.Rows.{type_of, value_of, value_in, occurs, has};
+ghost use Rattle.fix_messages.specs.Rows.{type_of, value_of, value_in, only, has};
+ghost use Rattle.fix_messages.specs.Steps.{as_some_bytes};
 
 use crate::meanings::MessageFault;
 use fix_fields::field::{Field, Found};
@@ -44,13 +45,13 @@ impl<'a> Message<'a> {
         self.value(0)
     }
 
-    /// Whether the tag is there; it may not occur more than once.
-    pub(crate) fn occurs(&self, tag: u32) -> Result<bool, MessageFault>
-        ensures { result ≡ occurs tag self.now }
+    /// The value of the tag, if it is there; it may not occur more than once.
+    pub(crate) fn only(&self, tag: u32) -> Result<Option<&[u8]>, MessageFault>
+        ensures { as_some_bytes result ≡ only tag self.now }
     {
         match find_field(self.fields, tag) {
-            Found::Absent => Ok(false),
-            Found::One(_) => Ok(true),
+            Found::Absent => Ok(None),
+            Found::One(at) => Ok(Some(self.value(at))),
             Found::Many(_) => Err(MessageFault::Repeated(tag)),
         }
     }
@@ -59,8 +60,8 @@ impl<'a> Message<'a> {
     pub(crate) fn has(&self, tag: u32) -> bool
         ensures { result ≡ has tag self.now }
     {
-        match self.occurs(tag) {
-            Ok(there) => there,
+        match self.only(tag) {
+            Ok(value) => value.is_some(),
             Err(_) => true,
         }
     }

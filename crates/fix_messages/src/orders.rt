@@ -37,8 +37,7 @@ fn read_limits(text: &[u8]) -> Option<Limits>
 fn limits_at(tag: u32, message: &Message<'_>) -> Result<Limits, MessageFault>
     ensures { result ≡ limits_at tag message.now }
 {
-    required(tag, message)?;
-    supported(tag, read_limits(message.first(tag)))
+    supported(tag, read_limits(required(tag, message)?))
 }
 
 fn price_by(
@@ -52,7 +51,7 @@ fn price_by(
     match limits {
         Limits::Limit => price_at(tag, message),
         Limits::Market => {
-            message.occurs(tag)?;
+            message.only(tag)?;
             Ok(market_price(side))
         }
     }
@@ -73,10 +72,9 @@ fn read_life(text: &[u8]) -> Option<Life>
 fn life_at(tag: u32, message: &Message<'_>) -> Result<Life, MessageFault>
     ensures { result ≡ life_at tag message.now }
 {
-    if message.occurs(tag)? {
-        supported(tag, read_life(message.first(tag)))
-    } else {
-        Ok(Life::Rests)
+    match message.only(tag)? {
+        Some(text) => supported(tag, read_life(text)),
+        None => Ok(Life::Rests),
     }
 }
 
@@ -98,8 +96,7 @@ fn read_limit(text: &[u8]) -> Option<()>
 fn limit_at(tag: u32, message: &Message<'_>) -> Result<(), MessageFault>
     ensures { result ≡ limit_at tag message.now }
 {
-    required(tag, message)?;
-    supported(tag, read_limit(message.first(tag)))
+    supported(tag, read_limit(required(tag, message)?))
 }
 
 fn read_resting(text: &[u8]) -> Option<()>
@@ -115,10 +112,9 @@ fn read_resting(text: &[u8]) -> Option<()>
 fn resting_at(tag: u32, message: &Message<'_>) -> Result<(), MessageFault>
     ensures { result ≡ resting_at tag message.now }
 {
-    if message.occurs(tag)? {
-        supported(tag, read_resting(message.first(tag)))
-    } else {
-        Ok(())
+    match message.only(tag)? {
+        Some(text) => supported(tag, read_resting(text)),
+        None => Ok(()),
     }
 }
 

@@ -1,13 +1,14 @@
 //! Pairing the trade reports of a log as they come.
-ghost use Rattle.std.specs.Prelude.{◌≡◌, ◌∷◌, ◌+◌, [], List, Err, IfOk, MatchResult, None, length};
+ghost use Rattle.std.specs.Prelude.{◌≡◌, ◌∷◌, ◌+◌, [], List, IfOk, OnOk, None, length};
 ghost use Rattle.log_source.specs.Collectors.{HasPlace};
+ghost use Rattle.log_source.specs.Handing.{Adds};
 ghost use Rattle.fix_messages.specs.Drafts.{IsKnown, IsPairingDraft, TakesPair};
-ghost use Rattle.fix_messages.specs.Pairings.{HasTrades, pairing};
+ghost use Rattle.fix_messages.specs.Pairings.{IsPairedAs, pairing, trade_of};
 ghost use Rattle.fix_messages.specs.declared.meanings.Report.{Report};
 
-use crate::entries::hand_on;
+use crate::first_reports::FirstReports;
 use crate::meanings::Report;
-use crate::pairs::{FirstReports, PlacedReport, agree, trade_of, unpaired_at};
+use crate::pairs::{PlacedReport, agree, trade_of, unpaired_at};
 use audit_base::faults::NoMemory;
 use audit_base::findings::{Finding, Shown};
 use audit_base::records::TradeRecord;
@@ -23,6 +24,24 @@ pub struct PairingDraft<K> {
     firsts: FirstReports,
     finding: Option<Finding>,
     trades: K,
+}
+
+// Hands on the trade of a pair. Where the collector does not look at trades of its symbol, none is made.
+fn hand_on_pair<K: Collector<Entry = TradeRecord>>(
+    trades: &mut K,
+    first: &PlacedReport,
+    second: &PlacedReport,
+) -> Result<(), NoMemory>
+    requires { HasPlace K.has_taken trades.old }
+    ensures { let trade = trade_of first.now second.now in
+        OnOk result (Adds (K.has_taken trades.old) (K.has_taken trades.new) (trade ∷ [])) }
+{
+    if trades.wants(second.report.symbol.bytes()) {
+        trades.take(trade_of(first, second))
+    } else {
+        trades.pass_over();
+        Ok(())
+    }
 }
 
 // Takes a pair: hands on its trade, unless it or a pair before it disagrees.
@@ -46,7 +65,7 @@ fn take_pair<K: Collector<Entry = TradeRecord>>(
         };
         return Ok(Some(unpaired_at(second.place, Some(shown))));
     }
-    hand_on(trades, trade_of(first, second))?;
+    hand_on_pair(trades, first, second)?;
     Ok(None)
 }
 
@@ -64,7 +83,7 @@ fn take_report<K: Collector<Entry = TradeRecord>>(
 {
     match firsts.take(&report.report.trade) {
         None => {
-            firsts.add(report.report.trade, *report)?;
+            firsts.add(report)?;
             Ok(finding)
         }
         Some(first) => take_pair(trades, finding, &first, report),
@@ -86,10 +105,13 @@ impl<K: Collector<Entry = TradeRecord>> PairingDraft<K> {
     }
 
     /// The collector, which has been handed exactly the trades of the reports, or finding 4 in their
-    /// place: what the pairing of all reports gives, for every list that the draft has been handed.
+    /// place: what the pairing of all reports gives, for every list that the draft has been handed. There
+    /// are no more trades than reports.
     pub fn end(self) -> Result<K, Finding>
-        ensures { (reports : List Report) → IsPairingDraft K.has_taken self reports
-            → MatchResult result (λ trades. HasTrades (K.has_taken trades) (pairing reports)) (λ finding. pairing reports ≡ Err finding) }
+        ensures pairs { (reports : List Report) → IsPairingDraft K.has_taken self reports
+            → IsPairedAs K.has_taken (pairing reports) result }
+        ensures few { HasPlace (IsPairingDraft K.has_taken) self
+            → IfOk result (HasPlace K.has_taken) }
     {
         let PairingDraft {
             firsts,

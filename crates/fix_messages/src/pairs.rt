@@ -1,7 +1,7 @@
-//! Reports that wait for a second one, and what a pair of reports comes to.
+//! Reports by their trade ids, and what a pair of reports comes to.
 ghost use Rattle.std.specs.Prelude.{◌≡◌, ◌≤◌, ℕ, List, None, Some, IfNone, IfSome, OnOk, if◌then◌else◌};
 ghost use Rattle.audit_base.specs.Orders.{same_name};
-ghost use Rattle.fix_messages.specs.Drafts.{earlier, first_in};
+ghost use Rattle.fix_messages.specs.Drafts.{earlier, held_in};
 ghost use Rattle.fix_messages.specs.Pairings.{agree, trade_of, unpaired_at};
 ghost use Rattle.fix_messages.specs.declared.pairs.PlacedReport.{PlacedReport};
 
@@ -21,67 +21,66 @@ pub struct PlacedReport {
     pub report: Report,
 }
 
-/// The reports that wait for a second one, by their trade ids.
+/// Reports by their trade ids.
 #[derive(Drop)]
-pub(crate) struct FirstReports {
+pub(crate) struct EarlierReports {
     map: IndexMap<Name, PlacedReport>,
 }
 
-impl FirstReports {
+impl EarlierReports {
     /// No reports. Takes no memory.
-    pub fn new(alloc: Global) -> FirstReports
-        ensures { (id : List ℕ) → first_in result id ≡ None }
+    pub fn new(alloc: Global) -> EarlierReports
+        ensures { (id : List ℕ) → held_in result id ≡ None }
     {
-        FirstReports {
+        EarlierReports {
             map: IndexMap::new(alloc),
         }
     }
 
-    /// Takes out the report with the id, if one waits.
+    /// Takes out the report with the id, if there is one.
     pub fn take(&mut self, id: &Name) -> Option<PlacedReport>
-        ensures first { result ≡ first_in self.old id.now }
-        ensures others { (q : List ℕ) → first_in self.new q ≡ (if same_name id.now q then None
-            else first_in self.old q) }
+        ensures first { result ≡ held_in self.old id.now }
+        ensures others { (q : List ℕ) → held_in self.new q ≡ (if same_name id.now q then None
+            else held_in self.old q) }
     {
         self.map.swap_remove(id)
     }
 
-    /// One more report that waits.
-    pub fn add(&mut self, id: Name, first: PlacedReport) -> Result<(), NoMemory>
-        ensures { OnOk result ((q : List ℕ)
-            → first_in self.new q ≡ (if same_name id q then Some first else first_in self.old q)) }
+    /// One more report.
+    pub fn add(&mut self, first: &PlacedReport) -> Result<(), NoMemory>
+        ensures { OnOk result ((q : List ℕ) → held_in self.new q
+            ≡ (if same_name first.now.report.trade q then Some first.now else held_in self.old q)) }
     {
-        match self.map.insert(id, first) {
-            Ok(_) => Ok(()),
-            Err(_) => Err(NoMemory),
-        }
+        self.map.insert(first.report.trade, *first)?;
+        Ok(())
     }
 
-    /// The report that came first of those that wait.
+    /// The report that came first.
     pub fn least(&self) -> Option<PlacedReport>
-        ensures none { IfNone result ((id : List ℕ) → first_in self.now id ≡ None) }
-        ensures some { IfSome result (λ first. (id : List ℕ) × (first_in self.now id
+        ensures none { IfNone result ((id : List ℕ) → held_in self.now id ≡ None) }
+        ensures some { IfSome result (λ first. (id : List ℕ) × (held_in self.now id
             ≡ Some first)) }
         ensures least { IfSome result (λ first. (id : List ℕ) (other : PlacedReport)
-            → first_in self.now id ≡ Some other → first.place ≤ other.place) }
+            → held_in self.now id ≡ Some other → first.place ≤ other.place) }
     {
         let mut least: Option<PlacedReport> = None;
         for i in 0..self.map.len() {
             let Some((_, first)) = self.map.get_index(i) else {
                 break;
             };
-            least = earlier(least, *first);
+            least = Some(earlier(least, *first));
         }
         least
     }
 }
 
-fn earlier(least: Option<PlacedReport>, first: PlacedReport) -> Option<PlacedReport>
+/// The report with the lesser place.
+pub(crate) fn earlier(least: Option<PlacedReport>, first: PlacedReport) -> PlacedReport
     ensures { result ≡ earlier least first }
 {
     match least {
-        Some(found) if found.place <= first.place => Some(found),
-        _ => Some(first),
+        Some(found) if found.place <= first.place => found,
+        _ => first,
     }
 }
 

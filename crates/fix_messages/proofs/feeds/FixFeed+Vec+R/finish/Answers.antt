@@ -1,6 +1,13 @@
 use Rattle.fix_messages.specs.Logs.{read_log}
-use Rattle.fix_messages.proofs.FeedLemmas.{read-kept}
+use Rattle.fix_messages.proofs.FeedLemmas.{read-kept, sound-kept}
 use Rattle.fix_messages.proofs.feeds.FixFeed+Vec+R.finish.Goals as goal
 
 pub returns-clause-reads : goal.returns-clause-reads
 returns-clause-reads g c = λ log stood. read-kept (read_log g.R.FixEntry.meaning log) _ (c.close.ensures.reads log stood)
+
+-- some log is within the limit, and its records are sound
+pub returns-clause-sound : goal.returns-clause-sound
+returns-clause-sound g c =
+    let log = c.requires.log in
+    sound-kept (read_log g.R.FixEntry.meaning log) c.close.result g.R.FixEntry.sound
+    (read-kept (read_log g.R.FixEntry.meaning log) _ (c.close.ensures.reads log c.requires.stands)) (c.close.ensures.sound log)

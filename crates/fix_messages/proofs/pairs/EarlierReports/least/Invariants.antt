@@ -1,5 +1,5 @@
 use Rattle.fix_messages.specs.Drafts.{IsLeast}
-use Rattle.fix_messages.proofs.pairs.FirstReports.least.Given as goal
+use Rattle.fix_messages.proofs.pairs.EarlierReports.least.Given as goal
 
 abbrev pub invariant-loop-i : goal.invariant-loop-i
 invariant-loop-i l = IsLeast l.fn.self l.i l.least

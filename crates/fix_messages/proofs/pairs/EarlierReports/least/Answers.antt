@@ -1,11 +1,12 @@
-use Rattle.std.proofs.Common.{length, ◌+◌, ◌≤◌, arith, subst, sym}
+use Rattle.std.proofs.Common.{length, ◌+◌, ◌≤◌, arith, subst, sym, Some}
 use Rattle.fix_messages.specs.Drafts.{IsLeast}
+use Rattle.fix_messages.specs.declared.pairs.PlacedReport.{PlacedReport}
 use Rattle.fix_messages.proofs.PairLemmas.{least-more, least-none, least-some}
-use Rattle.fix_messages.proofs.pairs.FirstReports.least.Goals as goal
+use Rattle.fix_messages.proofs.pairs.EarlierReports.least.Goals as goal
 
 pub loop-i-preserved : goal.loop-i-preserved
 loop-i-preserved c =
-    subst (IsLeast c.args.self.now (c.loop-i.i + 1)) (sym c.earlier-least.ensures)
+    subst (λ (first : PlacedReport). IsLeast c.args.self.now (c.loop-i.i + 1) (Some first)) (sym c.earlier.ensures)
     (least-more c.args.self.now c.loop-i.i c.loop-i.least c.in-Some.field-0-0.now c.in-Some.first.now c.loop-i.invariant c.in-Some.ensures.value c.in-Some.ensures.entry)
 
 pub returns-after-loop-i-clause-none : goal.returns-after-loop-i-clause-none

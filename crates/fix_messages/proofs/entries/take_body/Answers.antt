@@ -1,0 +1,28 @@
+use Rattle.std.proofs.Common.{◌≡◌, ◌∙◌, ap, sym, subst, Option, Result}
+use Rattle.std.specs.Prelude.{IfOk}
+use Rattle.audit_base.specs.declared.faults.Reason.{Reason}
+use Rattle.fix_fields.specs.Refusals.{Refuses}
+use Rattle.fix_fields.specs.Ranges.{all_shown}
+use Rattle.fix_messages.specs.Bodies.{body_says, reasoned}
+use Rattle.fix_messages.specs.Steps.{TakesSaid}
+use Rattle.fix_messages.proofs.BodyLemmas.{fields-say, takes-bad, unreadable-says, untyped-says}
+use Rattle.fix_messages.proofs.entries.take_body.Goals as goal
+
+pub returns-in-Ok : goal.returns-in-Ok
+returns-in-Ok g c =
+    let meaning = g.R.FixEntry.meaning in
+    let body = c.args.body.now in
+    let shown = all_shown body c.read_fields.new.list.items in
+    let says : reasoned c.of_fields.result ≡ body_says meaning body =
+    ap reasoned (c.of_fields.ensures ∙ ap (λ (f : _). meaning (all_shown body f)) c.deref.ensures.value) ∙ sym (fields-say meaning body shown c.in-Ok.ensures.fields.read) in
+    subst (λ (said : Result (Option _) Reason). IfOk c.take_meaning.result (TakesSaid said (g.K.Collector.has_taken c.args.entries.now) (g.K.Collector.has_taken c.take_meaning.new.entries))) says c.take_meaning.ensures
+
+pub returns-in-Field : goal.returns-in-Field
+returns-in-Field g c =
+    takes-bad _ _ (g.K.Collector.has_taken c.args.entries.now)
+    (unreadable-says g.R.FixEntry.meaning c.args.body.now c.in-Field.at (subst (Refuses c.args.body.now) c.in-Field.is c.in-Err.ensures.fault))
+
+pub returns-in-MsgType : goal.returns-in-MsgType
+returns-in-MsgType g c =
+    takes-bad _ _ (g.K.Collector.has_taken c.args.entries.now)
+    (untyped-says g.R.FixEntry.meaning c.args.body.now (subst (Refuses c.args.body.now) c.in-MsgType.is c.in-Err.ensures.fault))

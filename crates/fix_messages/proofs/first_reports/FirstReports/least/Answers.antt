@@ -1,0 +1,15 @@
+use Rattle.std.proofs.Common.{Option, Some, ap, sym, ◌∙◌}
+use Rattle.fix_messages.specs.Drafts.{held_in, latest_or}
+use Rattle.fix_messages.specs.declared.pairs.PlacedReport.{PlacedReport}
+use Rattle.fix_messages.proofs.FirstLemmas.{earlier-waits}
+use Rattle.fix_messages.proofs.first_reports.FirstReports.least.Goals as goal
+
+pub returns-in-Some-clause-some : goal.returns-in-Some-clause-some
+returns-in-Some-clause-some c =
+    let self = c.args.self.now in
+    let apart = self.apart c.in-Some.latest c.in-Some.is in
+    let waits = earlier-waits (held_in self.earlier) c.in-Some.latest apart c.least-in-Some.result c.least-in-Some.ensures.some in (
+      waits.0,
+      ap (λ (latest : Option PlacedReport). latest_or latest waits.0 (held_in self.earlier waits.0)) c.in-Some.is ∙ waits.1
+          ∙ ap (λ (first : PlacedReport). Some first) (sym c.earlier.ensures),
+    )

@@ -1,0 +1,18 @@
+use Rattle.std.proofs.lemmas.Result.{on_ok_weaker}
+use Rattle.std.specs.Prelude.{[], ◌∷◌, ◌++◌, codes}
+use Rattle.audit_base.specs.declared.terms.Life.TheVariants as life
+use Rattle.fix_messages.specs.Written.{field, head_fields, limit_fields, size_fields}
+use Rattle.fix_messages.proofs.WrittenLemmas.{appends}
+use Rattle.fix_messages.proofs.writers.write_replace.Goals as goal
+
+pub returns-clause-appended : goal.returns-clause-appended
+returns-clause-appended c =
+    let head = head_fields (codes "G") c.args.head.now.key c.args.head.now.time c.args.head.now.symbol in
+    let target = field 41 c.args.target.now ∷ [] in
+    let size = size_fields c.args.terms.now.side c.args.terms.now.quantity in
+    let limit = limit_fields life.Rests c.args.terms.now.price in
+    on_ok_weaker c.write_limit.result
+    (λ e. appends c.args.body.now.items c.write_head.new.body.items c.write_limit.new.body.items head (target ++ size ++ limit) c.in_ok-write_head.ensures.appended
+    (appends c.write_head.new.body.items c.write_target.new.body.items c.write_limit.new.body.items target (size ++ limit) c.in_ok-write_target.ensures.appended
+    (appends c.write_target.new.body.items c.write_size.new.body.items c.write_limit.new.body.items size limit c.in_ok-write_size.ensures.appended e)))
+    c.write_limit.ensures.appended

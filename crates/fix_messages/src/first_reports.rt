@@ -1,0 +1,100 @@
+//! The reports that wait for a second one. The second report of a trade mostly comes right behind the
+//! first, so the report that came last waits outside the map of the earlier ones.
+ghost use Rattle.std.specs.Prelude.{◌≡◌, None};
+ghost use Rattle.std.specs.Option.{ForSome};
+ghost use Rattle.std.specs.HashMap.{get};
+ghost use Rattle.audit_base.specs.Orders.{same_name};
+
+use crate::pairs::{EarlierReports, PlacedReport, earlier};
+use audit_base::faults::NoMemory;
+use audit_base::names::Name;
+use std::alloc::Global;
+
+/// The reports that wait for a second one, by their trade ids.
+#[derive(Drop)]
+pub(crate) struct FirstReports {
+    /// The report that came last, if it still waits.
+    latest: Option<PlacedReport>,
+    earlier: EarlierReports,
+    ghost apart: { ForSome latest
+        (λ first. get same_name earlier.map first.report.trade ≡ None) },
+}
+
+impl FirstReports {
+    ghost use Rattle.std.specs.Prelude.{◌≤◌, ℕ, List, Some, IfNone, IfSome, OnOk, if◌then◌else◌};
+    ghost use Rattle.fix_messages.specs.Drafts.{first_in, is_latest};
+    ghost use Rattle.fix_messages.specs.declared.pairs.PlacedReport.{PlacedReport};
+
+    /// No reports. Takes no memory.
+    pub fn new(alloc: Global) -> FirstReports
+        ensures { (id : List ℕ) → first_in result id ≡ None }
+    {
+        FirstReports {
+            latest: None,
+            earlier: EarlierReports::new(alloc),
+        }
+    }
+
+    // Whether the report that came last waits, and has the id.
+    fn has_latest(&self, id: &Name) -> bool
+        ensures { result ≡ is_latest self.now.latest id.now }
+    {
+        match &self.latest {
+            None => false,
+            Some(latest) => latest.report.trade == *id,
+        }
+    }
+
+    /// Takes out the report with the id, if one waits.
+    pub fn take(&mut self, id: &Name) -> Option<PlacedReport>
+        ensures first { result ≡ first_in self.old id.now }
+        ensures others { (q : List ℕ) → first_in self.new q ≡ (if same_name id.now q then None
+            else first_in self.old q) }
+    {
+        if self.has_latest(id) {
+            let latest = self.latest;
+            self.latest = None;
+            latest
+        } else {
+            self.earlier.take(id)
+        }
+    }
+
+    // Moves the report that came last to the earlier ones.
+    fn put_by(&mut self) -> Result<(), NoMemory>
+        ensures nothing { OnOk result (self.new.latest ≡ None) }
+        ensures same { OnOk result ((q : List ℕ) → first_in self.new q ≡ first_in self.old q) }
+    {
+        let Some(latest) = self.latest else {
+            return Ok(());
+        };
+        self.latest = None;
+        self.earlier.add(&latest)
+    }
+
+    /// One more report that waits, where none waits with its id.
+    pub fn add(&mut self, first: &PlacedReport) -> Result<(), NoMemory>
+        requires { first_in self.old first.now.report.trade ≡ None }
+        ensures { let id = first.now.report.trade in
+            OnOk result ((q : List ℕ) → first_in self.new q
+            ≡ (if same_name id q then Some first.now else first_in self.old q)) }
+    {
+        self.put_by()?;
+        self.latest = Some(*first);
+        Ok(())
+    }
+
+    /// The report that came first of those that wait.
+    pub fn least(&self) -> Option<PlacedReport>
+        ensures none { IfNone result ((id : List ℕ) → first_in self.now id ≡ None) }
+        ensures some { IfSome result (λ first. (id : List ℕ) × (first_in self.now id
+            ≡ Some first)) }
+        ensures least { IfSome result (λ first. (id : List ℕ) (other : PlacedReport)
+            → first_in self.now id ≡ Some other → first.place ≤ other.place) }
+    {
+        match self.latest {
+            None => self.earlier.least(),
+            Some(latest) => Some(earlier(self.earlier.least(), latest)),
+        }
+    }
+}
