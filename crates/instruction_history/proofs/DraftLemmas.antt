@@ -6,7 +6,7 @@ use Rattle.audit_base.specs.declared.records.OrderRecord.{OrderRecord}
 use Rattle.audit_base.specs.Orders.{same_name}
 use Rattle.audit_base.specs.Histories.{symbol_of, history}
 use Rattle.instruction_history.specs.declared.history_so_far.HistorySoFar.{HistorySoFar}
-use Rattle.instruction_history.specs.Draft.{IsHistorySoFar, IsKnown, finding_in, entry_of}
+use Rattle.instruction_history.specs.Draft.{IsHistorySoFar, IsKnown, KnowsOneMore, finding_in, entry_of}
 use Rattle.instruction_history.proofs.HistoryLemmas.{finding_in-append, history-push, length-orders}
 use Rattle.instruction_history.proofs.RecordLemmas.{Records}
 
@@ -21,7 +21,7 @@ not-of-it : (symbol : List ℕ) (place : ℕ) (x : OrderRecord) → same_name (s
 not-of-it symbol place x other = rw other refl
 
 -- a record of the symbol
-pub known-of : (symbol : List ℕ) (entries : List OrderRecord) (x : OrderRecord) (place : ℕ) (new : HistorySoFar) (found : Option Finding) → place ≡ length entries + 1 → same_name (symbol_of x) symbol ≡ true
+known-of : (symbol : List ℕ) (entries : List OrderRecord) (x : OrderRecord) (place : ℕ) (new : HistorySoFar) (found : Option Finding) → place ≡ length entries + 1 → same_name (symbol_of x) symbol ≡ true
     → IsKnown (history symbol entries ++ (place, x) ∷ []) new found → IsKnown (history symbol (entries ++ x ∷ [])) new found
 known-of symbol entries x place new found at same known =
     subst (λ (h : Records). IsKnown h new found) (sym (pushed symbol entries x place at ∙ ap (λ (h : Records). history symbol entries ++ h) (of-it symbol place x same))) known
@@ -50,3 +50,11 @@ few-known symbol entries d found none known = omega (arith, length-orders symbol
 
 pub size-more : (count : ℕ) (entries : List OrderRecord) (x : OrderRecord) → count ≡ length entries → count + 1 ≡ length (entries ++ x ∷ [])
 size-more count entries x is = simp length-append (omega (arith, is))
+
+-- a record of the symbol was taken, and its finding, if it has one, is kept
+pub known-next : (symbol : List ℕ) (entries : List OrderRecord) (x : OrderRecord) (count : ℕ) (old new : HistorySoFar) (before found after : Option Finding) → count ≡ length entries → before ≡ None → found ≡ after
+    → same_name (symbol_of x) symbol ≡ true → IsKnown (history symbol entries) old before → KnowsOneMore old new (count + 1) x found → IsKnown (history symbol (entries ++ x ∷ [])) new after
+known-next symbol entries x count old new before found after counted none kept same known takes =
+    let place : count + 1 ≡ length entries + 1 = ap (λ (n : ℕ). n + 1) counted in
+    let one = known-of symbol entries x (count + 1) new found place same (takes (history symbol entries) (so_far-known (history symbol entries) old before none known)) in
+    subst (λ (f : Option Finding). IsKnown (history symbol (entries ++ x ∷ [])) new f) kept one

@@ -8,8 +8,8 @@ use Rattle.audit_base.specs.declared.orders.Order.{Order}
 use Rattle.audit_base.specs.declared.records.OrderRecord.{OrderRecord}
 use Rattle.audit_base.specs.declared.records.OrderRecord.TheVariants.{New, Cancel, Replace}
 use Rattle.audit_base.specs.Orders.{same_name, IsMarketPriced}
-use Rattle.audit_base.specs.Histories.{symbol_of, history, order_list, order_of_record}
-use Rattle.instruction_history.specs.MarketPrices.{HasMarketPrice, AreRecordsMarketPriced, AreMarketPriced}
+use Rattle.audit_base.specs.Histories.{symbol_of, history, order_list, order_of_record, HasMarketPrice}
+use Rattle.instruction_history.specs.MarketPrices.{AreRecordsMarketPriced, AreMarketPriced}
 use Rattle.instruction_history.proofs.RecordLemmas.{Records}
 
 abbrev IsPriced : Order → Type 0

@@ -1,5 +1,5 @@
 -- A draft of a history, with one record more.
-use Rattle.std.proofs.Common.{◌≡◌, ℕ, Bool, true, false, Option, None, Some, List, [], ◌∷◌, ◌++◌, length, refl, sym, ap, ◌∙◌}
+use Rattle.std.proofs.Common.{◌≡◌, ℕ, Bool, true, false, Option, None, Some, List, [], ◌∷◌, ◌++◌, length, refl, sym, ap, subst, ◌∙◌}
 use Rattle.std.specs.Prelude.{option_and_then, if◌then◌else◌}
 use Rattle.std.specs.Option.{option_or}
 use Rattle.audit_base.specs.declared.names.Key.{Key}
@@ -13,7 +13,8 @@ use Rattle.instruction_history.specs.declared.history_so_far.HistorySoFar.{Histo
 use Rattle.instruction_history.specs.declared.findings.Last.{Last}
 use Rattle.instruction_history.specs.declared.keys.Seen.{Seen}
 use Rattle.instruction_history.specs.Draft.{IsHistorySoFar, finding_in, orders_in, seen_at, named_in, last_from}
-use Rattle.instruction_history.specs.Keys.{seen_in}
+use Rattle.instruction_history.specs.declared.keys.Keys.{Keys}
+use Rattle.instruction_history.specs.Keys.{seen_in, AddsKey}
 use Rattle.instruction_history.specs.Draft.{fitting, target_among, finding_by, duplicate_of, back_of, unknown_of, ended_among, order_made, pushed, seen_as, AddsRecord}
 use Rattle.instruction_history.proofs.CleanLemmas.{option_map-none}
 use Rattle.instruction_history.proofs.FirstLemmas.{option_or-none, option_or-nothing, option_or-parts}
@@ -39,7 +40,7 @@ target-by h d e is =
 
 -- the finding at a record by what is kept
 abbrev pub finding_so_far : HistorySoFar → ℕ → OrderRecord → Option ℕ → Option Finding
-finding_so_far d place r target = finding_by (seen_in d.keys) d.last r target place
+finding_so_far d place r target = finding_by (seen_in d.keys (key_of r)) d.last r target place
 
 finding-by : (h : Records) (d : HistorySoFar) (e : ℕ × OrderRecord) (target : Option ℕ) → IsHistorySoFar h d → target ≡ target_by d e.1 → finding_so_far d e.0 e.1 target ≡ finding_in (h ++ e ∷ [])
 finding-by h d e target is by =
@@ -50,19 +51,29 @@ finding-by h d e target is by =
     ∙ sym (option_or-none (finding_in h) (record_finding (h ++ e ∷ []) (length h)) is.clean)
     ∙ sym (finding_in-push h e)
 
--- a finding by what a draft holds is that of the history
-pub draft-found : (h : Records) (d : HistorySoFar) (place : ℕ) (r : OrderRecord) (target : Option ℕ) (f : Finding) → IsHistorySoFar h d → target ≡ target_by d r → Some f ≡ finding_so_far d place r target → finding_in (h ++ (place, r) ∷ []) ≡ Some f
-draft-found h d place r target f is by found = sym (finding-by h d (place, r) target is by) ∙ sym found
+-- the finding where this is what the record's key named
+finding-with : (d : HistorySoFar) (place : ℕ) (r : OrderRecord) (target : Option ℕ) (key : Key) (earlier : Option Seen) → key ≡ key_of r → earlier ≡ seen_in d.keys key → finding_by earlier d.last r target place ≡ finding_so_far d place r target
+finding-with d place r target key earlier own is = ap (λ (s : Option Seen). finding_by s d.last r target place) (is ∙ ap (seen_in d.keys) own)
 
-orders-by : (h : Records) (d new : HistorySoFar) (place : ℕ) (r : OrderRecord) (target : Option ℕ) → IsHistorySoFar h d → target ≡ target_by d r → finding_in (h ++ (place, r) ∷ []) ≡ None → AddsRecord d new place r target → new.orders.items ≡ orders_in (h ++ (place, r) ∷ [])
-orders-by h d new place r target is by clean takes =
+-- a finding by what a draft holds is that of the history
+pub draft-found : (h : Records) (d : HistorySoFar) (place : ℕ) (r : OrderRecord) (target : Option ℕ) (key : Key) (earlier : Option Seen) (f : Finding) → IsHistorySoFar h d → target ≡ target_by d r → key ≡ key_of r → earlier ≡ seen_in d.keys key
+    → Some f ≡ finding_by earlier d.last r target place → finding_in (h ++ (place, r) ∷ []) ≡ Some f
+draft-found h d place r target key earlier f is by own named found =
+    sym (finding-by h d (place, r) target is by) ∙ sym (finding-with d place r target key earlier own named) ∙ sym found
+
+-- what is kept once a record's key was added
+abbrev pub with_key_of : HistorySoFar → Keys → HistorySoFar
+with_key_of d keys = record { orders = d.orders; keys = keys; last = d.last }
+
+orders-by : (h : Records) (d new : HistorySoFar) (keys : Keys) (place : ℕ) (r : OrderRecord) (target : Option ℕ) → IsHistorySoFar h d → target ≡ target_by d r → finding_in (h ++ (place, r) ∷ []) ≡ None → AddsRecord (with_key_of d keys) new place r target → new.orders.items ≡ orders_in (h ++ (place, r) ∷ [])
+orders-by h d new keys place r target is by clean takes =
     takes.orders
     ∙ ap (λ (orders : List Order). pushed (ended_among orders target place) (order_made orders r target place)) is.orders
     ∙ ap (λ (t : Option ℕ). pushed (ended_among (orders_in h) t place) (order_made (orders_in h) r t place)) (by ∙ target-by h d (place, r) is)
     ∙ sym (orders-step h (place, r) clean)
 
-keys-by : (h : Records) (d new : HistorySoFar) (place : ℕ) (r : OrderRecord) (target : Option ℕ) → IsHistorySoFar h d → None ≡ finding_so_far d place r target → AddsRecord d new place r target → (key : Key) → seen_in new.keys key ≡ named_in (h ++ (place, r) ∷ []) key
-keys-by h d new place r target is none takes key = takes.keys key ∙ go (same_key (key_of r) key) refl ∙ sym (named_in-push h (place, r) key)
+keys-by : (h : Records) (d : HistorySoFar) (keys : Keys) (place : ℕ) (r : OrderRecord) (target : Option ℕ) → IsHistorySoFar h d → None ≡ finding_so_far d place r target → AddsKey d.keys keys (key_of r) (seen_as r place (length d.orders.items)) → (key : Key) → seen_in keys key ≡ named_in (h ++ (place, r) ∷ []) key
+keys-by h d keys place r target is none adds key = adds key ∙ go (same_key (key_of r) key) refl ∙ sym (named_in-push h (place, r) key)
   where
     go : (b : Bool) → same_key (key_of r) key ≡ b → (if b then Some (seen_as r place (length d.orders.items)) else seen_in d.keys key) ≡ option_or (named_in h key) (only_if b (seen_at (h ++ (place, r) ∷ []) (length h)))
     go true e =
@@ -74,13 +85,17 @@ keys-by h d new place r target is none takes key = takes.keys key ∙ go (same_k
         ∙ sym (option_or-none (named_in h key) _ unnamed)
     go false e = is.keys key ∙ sym (option_or-nothing (named_in h key))
 
-pub draft-takes : (h : Records) (d new : HistorySoFar) (place : ℕ) (r : OrderRecord) (target : Option ℕ) → IsHistorySoFar h d → target ≡ target_by d r → None ≡ finding_so_far d place r target → AddsRecord d new place r target → IsHistorySoFar (h ++ (place, r) ∷ []) new
-draft-takes h d new place r target is by none takes =
+pub draft-takes : (h : Records) (d new : HistorySoFar) (keys : Keys) (place : ℕ) (r : OrderRecord) (target : Option ℕ) (key : Key) (earlier : Option Seen) → IsHistorySoFar h d → target ≡ target_by d r → key ≡ key_of r → earlier ≡ seen_in d.keys key
+    → None ≡ finding_by earlier d.last r target place
+    → AddsKey d.keys keys key (seen_as r place (length d.orders.items)) → AddsRecord (with_key_of d keys) new place r target → IsHistorySoFar (h ++ (place, r) ∷ []) new
+draft-takes h d new keys place r target key earlier is by own named clear adds takes =
+    let none : None ≡ finding_so_far d place r target = clear ∙ finding-with d place r target key earlier own named in
     let clean : finding_in (h ++ (place, r) ∷ []) ≡ None = sym (finding-by h d (place, r) target is by) ∙ sym none in
+    let added : AddsKey d.keys keys (key_of r) (seen_as r place (length d.orders.items)) = subst (λ (k : Key). AddsKey d.keys keys k (seen_as r place (length d.orders.items))) own adds in
     record {
       clean = clean;
-      orders = orders-by h d new place r target is by clean takes;
+      orders = orders-by h d new keys place r target is by clean takes;
       numbers = takes.numbers is.numbers;
-      keys = keys-by h d new place r target is none takes;
+      keys = λ k. ap (λ (m : Keys). seen_in m k) takes.keys ∙ keys-by h d keys place r target is none added k;
       last = takes.last ∙ sym (last-step h (place, r));
     }

@@ -11,14 +11,14 @@ use Rattle.audit_base.specs.declared.records.OrderRecord.TheVariants.{New, Cance
 use Rattle.audit_base.specs.declared.orders.Order.{Order}
 use Rattle.audit_base.specs.declared.findings.Property.TheVariants as property
 use Rattle.audit_base.specs.declared.findings.Finding.{Finding}
-use Rattle.audit_base.specs.Histories.{symbol_of, key_of, time_of, record_at, record_place, key_at, is_order, target_key, side_of, fits_side, is_before, order_index, order_of_record, record_finding}
+use Rattle.audit_base.specs.Histories.{symbol_of, time_of, record_at, record_place, key_at, is_order, target_key, side_of, fits_side, is_before, order_index, order_of_record, record_finding}
 use Rattle.audit_base.specs.Least.{least_answer, least_with, first_of, only_if}
 use Rattle.audit_base.specs.Orders.{same_name, same_key, order_at, AreOrders}
 use Rattle.audit_base.specs.Shows.{found, show_place}
 use Rattle.instruction_history.specs.declared.history_so_far.HistorySoFar.{HistorySoFar}
 use Rattle.instruction_history.specs.declared.findings.Last.{Last}
 use Rattle.instruction_history.specs.declared.keys.Seen.{Seen}
-use Rattle.instruction_history.specs.Keys.{seen_in, AddsKey}
+use Rattle.instruction_history.specs.Keys.{seen_in}
 
 -- What is known after some records of a history.
 
@@ -94,10 +94,10 @@ abbrev pub unknown_of : Option Key → Option ℕ → ℕ → Option Finding
 unknown_of named target place =
     only_if (is_some named && is_none target) (found property.UnknownTarget which.Orders place None None)
 
--- the first of these, by what the keys name, the record before and the record's target
-abbrev pub finding_by : (Key → Option Seen) → Option Last → OrderRecord → Option ℕ → ℕ → Option Finding
-finding_by seen last entry target place =
-    first_of (duplicate_of (seen (key_of entry)) place ∷ back_of last (time_of entry) place
+-- the first of these, by what the record's key named, the record before and the record's target
+abbrev pub finding_by : Option Seen → Option Last → OrderRecord → Option ℕ → ℕ → Option Finding
+finding_by earlier last entry target place =
+    first_of (duplicate_of earlier place ∷ back_of last (time_of entry) place
     ∷ unknown_of (target_key entry) target place ∷ [])
 
 -- an order that a record at a place ends, unless an earlier one did
@@ -156,9 +156,9 @@ orders_after orders entry target place =
 abbrev pub seen_as : OrderRecord → ℕ → ℕ → Seen
 seen_as entry place orders = record { place = place; index = if is_order entry then Some orders else None }
 
--- what is kept after a record that has no finding
+-- what is kept after a record that has no finding, where its key was added before
 pub record AddsRecord (old new : HistorySoFar) (place : ℕ) (entry : OrderRecord) (target : Option ℕ) : Type 0 where
   pub orders : new.orders.items ≡ orders_after old.orders.items entry target place
   pub numbers : AreOrders old.orders.items → AreOrders new.orders.items
-  pub keys : AddsKey old.keys new.keys (key_of entry) (seen_as entry place (length old.orders.items))
+  pub keys : new.keys ≡ old.keys
   pub last : new.last ≡ Some (record { place = place; time = time_of entry })

@@ -1,14 +1,12 @@
 //! Findings 1 to 3: what is wrong with one record, by what is known of the records before it.
-ghost use Rattle.std.specs.Prelude.{◌≡◌, ◌∷◌, [], None};
-ghost use Rattle.audit_base.specs.Least.{first_of as the_first};
+ghost use Rattle.std.specs.Prelude.{◌≡◌, None};
 ghost use Rattle.audit_base.specs.declared.terms.Which.TheVariants as which;
+ghost use Rattle.audit_base.specs.Histories.{target_key};
 ghost use Rattle.audit_base.specs.Shows as shows;
 ghost use Rattle.instruction_history.specs.Draft as draft;
-ghost use Rattle.instruction_history.specs.Keys.{seen_in};
 
-use super::keys::{Keys, Seen};
+use super::keys::Seen;
 use audit_base::findings::{Finding, Property, Shown};
-use audit_base::names::Key;
 use audit_base::records::OrderRecord;
 use audit_base::stamps::Stamp;
 use audit_base::terms::Which;
@@ -66,41 +64,32 @@ fn time_back(last: Option<Last>, time: Stamp, place: u32) -> Option<Finding>
 }
 
 /// Finding 3: the record names a target, and there is none.
-fn unknown_target(named: Option<Key>, target: Option<usize>, place: u32) -> Option<Finding>
-    ensures { result ≡ draft.unknown_of named target place }
+fn unknown_target(entry: &OrderRecord, target: Option<usize>, place: u32) -> Option<Finding>
+    ensures { result ≡ draft.unknown_of (target_key entry.now) target place }
 {
-    if named.is_some() && target.is_none() {
+    if entry.target_key().is_some() && target.is_none() {
         Some(found(Property::UnknownTarget, place, None))
     } else {
         None
     }
 }
 
-/// The first of three findings that is there.
-fn first_of(a: Option<Finding>, b: Option<Finding>, c: Option<Finding>) -> Option<Finding>
-    ensures { result ≡ the_first (a ∷ b ∷ c ∷ []) }
-{
-    if let Some(finding) = a {
-        return Some(finding);
-    }
-    if let Some(finding) = b {
-        return Some(finding);
-    }
-    c
-}
-
-/// The finding at the record, if there is one.
+/// The finding at the record, if there is one: the first of the three. `earlier` is what its key named
+/// before it.
 pub(crate) fn finding_of(
-    keys: &Keys,
+    earlier: Option<Seen>,
     last: Option<Last>,
     entry: &OrderRecord,
     target: Option<usize>,
     place: u32,
 ) -> Option<Finding>
-    ensures { result ≡ draft.finding_by (seen_in keys.now) last entry.now target place }
+    ensures { result ≡ draft.finding_by earlier last entry.now target place }
 {
-    let duplicate = duplicate_id(keys.find(&entry.key()), place);
-    let back = time_back(last, entry.time(), place);
-    let unknown = unknown_target(entry.target_key(), target, place);
-    first_of(duplicate, back, unknown)
+    if let Some(finding) = duplicate_id(earlier, place) {
+        return Some(finding);
+    }
+    if let Some(finding) = time_back(last, entry.time(), place) {
+        return Some(finding);
+    }
+    unknown_target(entry, target, place)
 }

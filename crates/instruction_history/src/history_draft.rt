@@ -73,7 +73,9 @@ impl<S: AuditedSymbol> HistoryDraft<S> {
         if !is_of(entry, &self.symbol) {
             return Ok(());
         }
-        self.finding = self.so_far.take(entry, self.count)?;
+        if let Some(finding) = self.so_far.take(entry, self.count)? {
+            self.finding = Some(finding);
+        }
         Ok(())
     }
 

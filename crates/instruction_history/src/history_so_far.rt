@@ -178,34 +178,35 @@ impl HistorySoFar {
     }
 
     /// Takes the next record of the history, at its place in the log, or gives the finding that it has.
+    /// After a finding nothing is known of what is kept.
     pub fn take(&mut self, entry: &OrderRecord, place: u32) -> Result<Option<Finding>, NoMemory>
         requires { vec_len self.old.orders < 2 ^ 32 }
         ensures { IfOk result (KnowsOneMore self.old self.new place entry.now) }
     {
         let target = target_of(&self.orders, &self.keys, entry);
-        if let Some(finding) = finding_of(&self.keys, self.last, entry, target, place) {
+        let seen = seen_as(entry, place, self.orders.len() as u32);
+        // One look-up tells what the key named and adds it.
+        let earlier = self.keys.add(entry.key(), seen)?;
+        if let Some(finding) = finding_of(earlier, self.last, entry, target, place) {
             return Ok(Some(finding));
         }
         self.add(entry, target, place)?;
         Ok(None)
     }
 
-    /// Adds a record that has no finding.
+    /// Adds a record that has no finding, and whose key has been added.
     fn add(
         &mut self,
         entry: &OrderRecord,
         target: Option<usize>,
         place: u32,
     ) -> Result<(), NoMemory>
-        requires few { vec_len self.old.orders < 2 ^ 32 }
-        requires target { ForSome target (λ t. t < vec_len self.old.orders) }
+        requires { ForSome target (λ t. t < vec_len self.old.orders) }
         ensures { OnOk result (AddsRecord self.old self.new place entry.now target) }
     {
-        let seen = seen_as(entry, place, self.orders.len() as u32);
         let order = order_of(&self.orders, entry, target, place);
         end_target(&mut self.orders, target, place);
         push(&mut self.orders, order)?;
-        self.keys.add(entry.key(), seen)?;
         self.last = Some(Last {
             place,
             time: entry.time(),

@@ -1,5 +1,5 @@
 //! The keys of a history, and what each of them names.
-ghost use Rattle.std.specs.Prelude.{◌≡◌, None, Some, OnOk, if◌then◌else◌};
+ghost use Rattle.std.specs.Prelude.{◌≡◌, None, Some, IfOk, OnOk, if◌then◌else◌};
 ghost use Rattle.audit_base.specs.declared.names.Key.{Key};
 ghost use Rattle.instruction_history.specs.Keys.{seen_in, AddsKey};
 
@@ -40,11 +40,11 @@ impl Keys {
         self.map.get(key).copied()
     }
 
-    /// One more key.
-    pub fn add(&mut self, key: Key, seen: Seen) -> Result<(), NoMemory>
-        ensures { OnOk result (AddsKey self.old self.new key seen) }
+    /// One more key, and what it named before. Where it named something, it names the new record now.
+    pub fn add(&mut self, key: Key, seen: Seen) -> Result<Option<Seen>, NoMemory>
+        ensures earlier { IfOk result (λ earlier. earlier ≡ seen_in self.old key) }
+        ensures adds { OnOk result (AddsKey self.old self.new key seen) }
     {
-        self.map.insert(key, seen)?;
-        Ok(())
+        Ok(self.map.insert(key, seen)?)
     }
 }

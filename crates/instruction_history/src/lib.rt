@@ -10,6 +10,8 @@
 //! keys of the symbol, whatever else the log holds.
 #![tactic(auto)]
 
+#[cfg(test)]
+mod draft_tests;
 pub mod faults;
 mod findings;
 pub mod history;

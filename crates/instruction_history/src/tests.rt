@@ -10,7 +10,7 @@ use audit_base::stamps::Stamp;
 use audit_base::terms::{Life, Side, Which};
 use std::process::Abort;
 
-fn name(rt: &impl Abort, text: &str) -> Name {
+pub(crate) fn name(rt: &impl Abort, text: &str) -> Name {
     read_name(text.as_bytes()).expect(rt, "a name")
 }
 
@@ -20,7 +20,7 @@ fn stamp(rt: &impl Abort, text: &str) -> Stamp {
     Stamp { second, nano: 0 }
 }
 
-fn record(rt: &impl Abort, text: &str) -> OrderRecord {
+pub(crate) fn record(rt: &impl Abort, text: &str) -> OrderRecord {
     let mut words = text.split(' ');
     let kind = words.next().expect(rt, "a kind");
     let firm = name(rt, words.next().expect(rt, "a firm"));

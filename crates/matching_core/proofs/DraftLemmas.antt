@@ -12,7 +12,7 @@ use Rattle.audit_base.proofs.TradeLemmas.{deals-are}
 use Rattle.matching_core.specs.declared.outcomes.CheckFault.TheVariants.{Found}
 use Rattle.matching_core.specs.Answers.{AreResolved}
 use Rattle.matching_core.specs.declared.sound_deals.SoundDeals.{SoundDeals}
-use Rattle.matching_core.specs.DealsSoFar.{IsResolved, IsKnown, finding_in, entry_of}
+use Rattle.matching_core.specs.DealsSoFar.{IsResolved, IsKnown, KnowsOneMore, finding_in, entry_of}
 use Rattle.matching_core.proofs.ResolveLemmas.{Listed, finding_in-append, trades_of-push, unsound-is}
 
 -- the trades of one record more, at its place
@@ -26,7 +26,7 @@ of-it : (symbol : List ℕ) (place : ℕ) (x : TradeRecord) → same_name x.symb
 of-it symbol place x same = rw same refl
 
 -- a record of the symbol
-pub known-of : (orders : List Order) (symbol : List ℕ) (trades : List TradeRecord) (x : TradeRecord) (place : ℕ) (new : SoundDeals) (found : Option Finding) → place ≡ length trades + 1 → same_name x.symbol symbol ≡ true
+known-of : (orders : List Order) (symbol : List ℕ) (trades : List TradeRecord) (x : TradeRecord) (place : ℕ) (new : SoundDeals) (found : Option Finding) → place ≡ length trades + 1 → same_name x.symbol symbol ≡ true
     → IsKnown orders (trades_of symbol trades ++ (place, x) ∷ []) new found → IsKnown orders (trades_of symbol (trades ++ x ∷ [])) new found
 known-of orders symbol trades x place new found at same known =
     subst (λ (h : Listed). IsKnown orders h new found) (sym (pushed symbol trades x place at ∙ ap (λ (h : Listed). trades_of symbol trades ++ h) (of-it symbol place x same))) known
@@ -48,6 +48,14 @@ still-known orders symbol trades x kept (Some g) f is known =
 pub resolved-known : (orders : List Order) (h : Listed) (kept : SoundDeals) (found : Option Finding) → found ≡ None → IsKnown orders h kept found → IsResolved orders h kept
 resolved-known orders h kept None none known = known
 resolved-known orders h kept (Some f) none known = absurd (cc none)
+
+-- a trade of the symbol was taken, and its finding, if it has one, is kept
+pub known-next : (orders : List Order) (symbol : List ℕ) (trades : List TradeRecord) (x : TradeRecord) (count : ℕ) (old new : SoundDeals) (before found after : Option Finding) → count ≡ length trades → before ≡ None → found ≡ after
+    → same_name x.symbol symbol ≡ true → IsKnown orders (trades_of symbol trades) old before → KnowsOneMore orders old new (count + 1) x found → IsKnown orders (trades_of symbol (trades ++ x ∷ [])) new after
+known-next orders symbol trades x count old new before found after counted none kept same known takes =
+    let place : count + 1 ≡ length trades + 1 = ap (λ (n : ℕ). n + 1) counted in
+    let one = known-of orders symbol trades x (count + 1) new found place same (takes (trades_of symbol trades) (resolved-known orders (trades_of symbol trades) old before none known)) in
+    subst (λ (f : Option Finding). IsKnown orders (trades_of symbol (trades ++ x ∷ [])) new f) kept one
 
 pub size-more : (count : ℕ) (trades : List TradeRecord) (x : TradeRecord) → count ≡ length trades → count + 1 ≡ length (trades ++ x ∷ [])
 size-more count trades x is = simp length-append (omega (arith, is))

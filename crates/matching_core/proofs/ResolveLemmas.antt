@@ -19,7 +19,8 @@ use Rattle.instruction_history.proofs.FirstLemmas.{least_answer-same, least_with
 use Rattle.instruction_history.proofs.HistoryLemmas.{enumerate_from-append}
 use Rattle.instruction_history.proofs.KeyLemmas.{same_name-is, same_key-is}
 use Rattle.matching_core.specs.declared.sound_deals.SoundDeals.{SoundDeals}
-use Rattle.matching_core.specs.DealsSoFar.{first_in, of_side, duplicate_of, unknown_in, finding_in, first_with, IsResolved, AddsDeal, entry_of}
+use Rattle.matching_core.specs.DealsSoFar.{first_in, of_side, duplicate_of, unknown_in, finding_in, first_with, IsResolved, AddsDeal, AddsId, entry_of}
+use Rattle.matching_core.specs.declared.trade_ids.TradeIds.{TradeIds}
 
 abbrev pub Listed : Type 0
 Listed = List (ℕ × TradeRecord)
@@ -146,20 +147,24 @@ new-finding orders h r place t is unseen =
 pub unknown-found : (orders : List Order) (h : Listed) (r : SoundDeals) (place : ℕ) (t : TradeRecord) (f : Finding) → IsResolved orders h r → first_in r.ids t.trade ≡ None → unknown_in orders (place, t) ≡ Some f → finding_in orders (h ++ (place, t) ∷ []) ≡ Some f
 unknown-found orders h r place t f is unseen unknown = new-finding orders h r place t is unseen ∙ unknown
 
-pub trade-taken : (orders : List Order) (h : Listed) (r new : SoundDeals) (place : ℕ) (t : TradeRecord) (deal : Deal) → IsResolved orders h r → first_in r.ids t.trade ≡ None → unknown_in orders (place, t) ≡ None
-    → deal ≡ deal_of orders (place, t) → AddsDeal r new t.trade deal → IsResolved orders (h ++ (place, t) ∷ []) new
-trade-taken orders h r new place t deal is unseen known made takes = record {
+-- what is kept once a trade's id was added
+abbrev pub with_id_of : SoundDeals → TradeIds → SoundDeals
+with_id_of kept ids = record { deals = kept.deals; ids = ids }
+
+pub trade-taken : (orders : List Order) (h : Listed) (r new : SoundDeals) (ids : TradeIds) (place : ℕ) (t : TradeRecord) (deal : Deal) → IsResolved orders h r → first_in r.ids t.trade ≡ None → unknown_in orders (place, t) ≡ None
+    → deal ≡ deal_of orders (place, t) → AddsId r.ids ids t.trade place → AddsDeal (with_id_of r ids) new deal → IsResolved orders (h ++ (place, t) ∷ []) new
+trade-taken orders h r new ids place t deal is unseen known made adds takes = record {
   clean = new-finding orders h r place t is unseen ∙ known;
   deals = takes.deals ∙ ap (λ (ds : List Deal). ds ++ deal ∷ []) is.deals ∙ ap (λ (d : Deal). map (deal_of orders) h ++ d ∷ []) made ∙ sym (map-push (deal_of orders) h (place, t));
   numbers = takes.numbers is.numbers;
-  ids = λ id. takes.ids id ∙ go id (same_name t.trade id) refl ∙ sym (first_with-push h (place, t) id);
+  ids = λ id. ap (λ (m : TradeIds). first_in m id) takes.ids ∙ adds id ∙ go id (same_name t.trade id) refl ∙ sym (first_with-push h (place, t) id);
 }
   where
-    go : (id : List ℕ) (b : Bool) → same_name t.trade id ≡ b → (if b then Some deal.place else first_in r.ids id) ≡ option_or (first_with h id) (only_if b place)
+    go : (id : List ℕ) (b : Bool) → same_name t.trade id ≡ b → (if b then Some place else first_in r.ids id) ≡ option_or (first_with h id) (only_if b place)
     go id true e =
         let own : t.trade ≡ id = same_name-is t.trade id e in
         let none : first_with h id ≡ None = sym (is.ids id) ∙ ap (first_in r.ids) (sym own) ∙ unseen in
-        ap (λ (d : Deal). Some d.place) made ∙ sym (option_or-none (first_with h id) (Some place) none)
+        sym (option_or-none (first_with h id) (Some place) none)
     go id false e = is.ids id ∙ sym (option_or-nothing (first_with h id))
 
 -- the key's order of a side, where no two orders have one key

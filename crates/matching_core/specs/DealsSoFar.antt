@@ -97,8 +97,8 @@ KnowsOneMore orders old new place trade finding =
 abbrev pub entry_of : List ℕ → ℕ → TradeRecord → List (ℕ × TradeRecord)
 entry_of symbol place trade = if same_name trade.symbol symbol then (place, trade) ∷ [] else []
 
--- what is kept after a trade without a finding
-pub record AddsDeal (old new : SoundDeals) (id : List ℕ) (deal : Deal) : Type 0 where
+-- what is kept after a trade without a finding, where its id was added before
+pub record AddsDeal (old new : SoundDeals) (deal : Deal) : Type 0 where
   pub deals : new.deals.items ≡ old.deals.items ++ deal ∷ []
   pub numbers : AreDeals old.deals.items → AreDeals new.deals.items
-  pub ids : AddsId old.ids new.ids id deal.place
+  pub ids : new.ids ≡ old.ids

@@ -4,6 +4,7 @@ ghost use Rattle.std.specs.Bool.{OnTrue};
 ghost use Rattle.audit_base.specs.CallOffences.{matching_offence};
 ghost use Rattle.audit_base.specs.Calls.{Matching, OnePrice};
 ghost use Rattle.audit_base.specs.Deals.{IsDealList, volume};
+ghost use Rattle.audit_base.specs.Shows.{with_traded};
 ghost use Rattle.matching_core.specs.Answers.{IfFound, HasTraded, IsNoMatching};
 ghost use Rattle.matching_core.specs.DealFindings as at;
 
@@ -15,14 +16,21 @@ use audit_base::orders::{Deal, Order};
 use audit_base::terms::Which;
 use std::alloc::Global;
 
+/// An order with what it trades up to the deal.
+fn show_order(order: &Order, traded: u128) -> Option<Shown>
+    ensures { result ≡ at.shown_order (with_traded order.now traded) }
+{
+    Some(Shown::Order(OrderLine::of(order, traded)))
+}
+
 /// Finding 7 about one order of the deal: some record cancels it.
-fn cancelled_at(deal: &Deal, order: &Order, line: &OrderLine) -> Option<Finding>
-    ensures { result ≡ at.cancelled_at deal.now order.now line.now }
+fn cancelled_at(deal: &Deal, order: &Order, traded: u128) -> Option<Finding>
+    ensures { result ≡ at.cancelled_at deal.now order.now (with_traded order.now traded) }
 {
     if order.cancelled.is_none() {
         return None;
     }
-    Some(Finding::at_deal(Property::Inactive, deal, Some(Shown::Order(*line)), None))
+    Some(Finding::at_deal(Property::Inactive, deal, show_order(order, traded), None))
 }
 
 /// Finding 7: the bid, or else the ask, is one that some record cancels.
@@ -30,15 +38,17 @@ fn inactive_at(
     deal: &Deal,
     bid: &Order,
     ask: &Order,
-    bid_line: &OrderLine,
-    ask_line: &OrderLine,
+    bid_traded: u128,
+    ask_traded: u128,
 ) -> Option<Finding>
-    ensures { result ≡ at.inactive_at deal.now bid.now ask.now bid_line.now ask_line.now }
+    ensures { let bid_line = with_traded bid.now bid_traded in
+        let ask_line = with_traded ask.now ask_traded in
+        result ≡ at.inactive_at deal.now bid.now ask.now bid_line ask_line }
 {
-    if let Some(finding) = cancelled_at(deal, bid, bid_line) {
+    if let Some(finding) = cancelled_at(deal, bid, bid_traded) {
         return Some(finding);
     }
-    cancelled_at(deal, ask, ask_line)
+    cancelled_at(deal, ask, ask_traded)
 }
 
 /// Finding 8: the price is outside a limit.
@@ -46,16 +56,18 @@ fn off_limit_at(
     deal: &Deal,
     bid: &Order,
     ask: &Order,
-    bid_line: &OrderLine,
-    ask_line: &OrderLine,
+    bid_traded: u128,
+    ask_traded: u128,
 ) -> Option<Finding>
-    ensures { result ≡ at.off_limit_at deal.now bid.now ask.now bid_line.now ask_line.now }
+    ensures { let bid_line = with_traded bid.now bid_traded in
+        let ask_line = with_traded ask.now ask_traded in
+        result ≡ at.off_limit_at deal.now bid.now ask.now bid_line ask_line }
 {
     if deal.is_within(bid, ask) {
         return None;
     }
-    let bid = Some(Shown::Order(*bid_line));
-    Some(Finding::at_deal(Property::Limit, deal, bid, Some(Shown::Order(*ask_line))))
+    let bid = show_order(bid, bid_traded);
+    Some(Finding::at_deal(Property::Limit, deal, bid, show_order(ask, ask_traded)))
 }
 
 /// Finding 9: one price is asked for, and the price is not that of the first deal.
@@ -74,11 +86,11 @@ fn other_price_at(uniform: bool, deal: &Deal, first: &Deal) -> Option<Finding>
 }
 
 /// Finding 10 of the bid and 11 of the ask: it trades more than its quantity.
-fn overfilled_at(number: Property, deal: &Deal, line: &OrderLine) -> Option<Finding>
-    ensures { result ≡ at.overfilled_at number deal.now line.now }
+fn overfilled_at(number: Property, deal: &Deal, order: &Order, traded: u128) -> Option<Finding>
+    ensures { result ≡ at.overfilled_at number deal.now (with_traded order.now traded) }
 {
-    if (line.quantity.value() as u128) < line.traded {
-        Some(Finding::at_deal(number, deal, Some(Shown::Order(*line)), None))
+    if (order.quantity.value() as u128) < traded {
+        Some(Finding::at_deal(number, deal, show_order(order, traded), None))
     } else {
         None
     }
@@ -94,23 +106,22 @@ fn finding_at_deal(
     bid_traded: u128,
     ask_traded: u128,
 ) -> Option<Finding>
-    ensures { result ≡ at.finding_at_deal uniform deal.now first.now bid.now ask.now bid_traded ask_traded }
+    ensures { let finding = at.finding_at_deal uniform deal.now first.now bid.now ask.now in
+        result ≡ finding bid_traded ask_traded }
 {
-    let bid_line = OrderLine::of(bid, bid_traded);
-    let ask_line = OrderLine::of(ask, ask_traded);
-    if let Some(finding) = inactive_at(deal, bid, ask, &bid_line, &ask_line) {
+    if let Some(finding) = inactive_at(deal, bid, ask, bid_traded, ask_traded) {
         return Some(finding);
     }
-    if let Some(finding) = off_limit_at(deal, bid, ask, &bid_line, &ask_line) {
+    if let Some(finding) = off_limit_at(deal, bid, ask, bid_traded, ask_traded) {
         return Some(finding);
     }
     if let Some(finding) = other_price_at(uniform, deal, first) {
         return Some(finding);
     }
-    if let Some(finding) = overfilled_at(Property::BuyQuantity, deal, &bid_line) {
+    if let Some(finding) = overfilled_at(Property::BuyQuantity, deal, bid, bid_traded) {
         return Some(finding);
     }
-    overfilled_at(Property::SellQuantity, deal, &ask_line)
+    overfilled_at(Property::SellQuantity, deal, ask, ask_traded)
 }
 
 /// A zero for each order.
@@ -154,7 +165,8 @@ pub fn check_matching(
     ensures count { IfOk result (λ totals. length totals.0 ≡ length orders.now) }
     ensures traded { IfOk result (HasTraded orders.now deals.now) }
     ensures volume { IfOk result (λ totals. totals.1 ≡ volume deals.now) }
-    ensures found { IfFound result (λ f. matching_offence uniform orders.now deals.now ≡ Some f) }
+    ensures found { let offence = matching_offence uniform orders.now deals.now in
+        IfFound result (λ f. offence ≡ Some f) }
     ensures only { IfFound result (λ _. IsNoMatching uniform orders.now deals.now) }
 {
     let mut traded = zeros(alloc, orders.len())?;

@@ -58,7 +58,8 @@ impl<M: AuditedHistory> DealsDraft<M> {
     pub fn end(self) -> ResolvedTrades
         requires { HasPlace (IsDealsDraft M.symbol M.orders) self }
         ensures history { result.history ≡ M.orders }
-        ensures count { ForHanded M.symbol M.orders self (λ trades. result.count ≡ length trades) }
+        ensures count { ForHanded M.symbol M.orders self
+            (λ trades. result.count ≡ length trades) }
         ensures finding { IsFindingOf M.symbol M.orders self result.finding }
         ensures deals { AreDealsOf M.symbol M.orders self result.finding result.deals.items }
         ensures deal_list { result.finding ≡ None → IsDealList M.orders result.deals.items }

@@ -75,7 +75,9 @@ impl<M: AuditedHistory> DealsSoFar<M> {
         if !is_of(trade, symbol) {
             return Ok(());
         }
-        self.finding = self.sound.take(history, trade, self.count)?;
+        if let Some(finding) = self.sound.take(history, trade, self.count)? {
+            self.finding = Some(finding);
+        }
         Ok(())
     }
 }

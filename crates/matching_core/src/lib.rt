@@ -6,6 +6,8 @@ mod check_tests;
 pub mod checking;
 pub mod deals_draft;
 mod deals_so_far;
+#[cfg(test)]
+mod draft_tests;
 pub mod outcomes;
 #[cfg(test)]
 mod resolve_tests;

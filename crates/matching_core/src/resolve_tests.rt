@@ -12,7 +12,7 @@ use audit_base::terms::{Life, Side, Which};
 use instruction_history::history::History;
 use std::process::Abort;
 
-fn name(rt: &impl Abort, text: &str) -> Name {
+pub(crate) fn name(rt: &impl Abort, text: &str) -> Name {
     read_name(text.as_bytes()).expect(rt, "a name")
 }
 
@@ -43,7 +43,7 @@ fn order(rt: &impl Abort, text: &str) -> OrderRecord {
     }
 }
 
-fn trade(rt: &impl Abort, text: &str) -> TradeRecord {
+pub(crate) fn trade(rt: &impl Abort, text: &str) -> TradeRecord {
     let mut words = text.split(' ');
     let id = name(rt, words.next().expect(rt, "an id"));
     let buyer = words.next().expect(rt, "a firm");
@@ -62,7 +62,7 @@ fn trade(rt: &impl Abort, text: &str) -> TradeRecord {
 }
 
 /// The history of Z: the bid `A b1`, the ask `B s1` and the bid `A b2`.
-fn history<R: AllocGlobal + Abort>(rt: &R) -> History {
+pub(crate) fn history<R: AllocGlobal + Abort>(rt: &R) -> History {
     let mut entries = Vec::new(rt.alloc());
     for line in ["A b1 B", "B s1 S", "A b2 B"] {
         let stored = entries.push(order(rt, line)).is_ok();

@@ -68,10 +68,12 @@ pub fn resolve(
 ) -> Result<Vec<Deal>, CheckFault>
     requires { length trades.now < 2 ^ 32 - 1 }
     ensures sound { OnOk result (Sound history.now symbol.now trades.now) }
-    ensures deals { IfOk result (λ deals. deals.items ≡ deals_of history.now symbol.now trades.now) }
+    ensures deals { let deals = deals_of history.now symbol.now trades.now in
+        IfOk result (λ made. made.items ≡ deals) }
     ensures deal_list { IfOk result (λ deals. IsDealList history.now deals.items) }
     ensures numbers { IfOk result (λ deals. AreDeals deals.items) }
-    ensures found { IfFound result (λ f. unsound_trade history.now symbol.now trades.now ≡ Some f) }
+    ensures found { let first = unsound_trade history.now symbol.now trades.now in
+        IfFound result (λ f. first ≡ Some f) }
 {
     resolve_all::<Brand>(alloc, history, trades, symbol)
 }

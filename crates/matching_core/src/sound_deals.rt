@@ -7,7 +7,7 @@ ghost use Rattle.matching_core.specs.DealsSoFar as so_far;
 use super::trade_ids::TradeIds;
 use audit_base::faults::NoMemory;
 use audit_base::findings::{Finding, Property, Shown};
-use audit_base::names::{Key, Name};
+use audit_base::names::Key;
 use audit_base::orders::{Deal, Order};
 use audit_base::records::TradeRecord;
 use audit_base::terms::{Side, Which};
@@ -70,7 +70,8 @@ fn unknown_order(side: Side, key: Key, place: u32) -> Finding
 fn deal_of(history: &History, trade: &TradeRecord, place: u32) -> Result<Deal, Finding>
     ensures deal { IfOk result (λ deal. deal ≡ deal_of history.now (place, trade.now)) }
     ensures known { OnOk result (so_far.unknown_in history.now (place, trade.now) ≡ None) }
-    ensures unknown { IfErr result (λ f. so_far.unknown_in history.now (place, trade.now) ≡ Some f) }
+    ensures unknown { let unknown = so_far.unknown_in history.now (place, trade.now) in
+        IfErr result (λ f. unknown ≡ Some f) }
 {
     let Some(bid) = on_side_with_key(history, Side::Buy, &trade.buy) else {
         return Err(unknown_order(Side::Buy, trade.buy, place));
@@ -109,6 +110,7 @@ impl SoundDeals {
     }
 
     /// Takes the next trade of the symbol, at its place in the log, or gives the finding that it has.
+    /// After a finding nothing is known of what is kept.
     pub fn take(
         &mut self,
         history: &History,
@@ -117,28 +119,27 @@ impl SoundDeals {
     ) -> Result<Option<Finding>, NoMemory>
         ensures { IfOk result (KnowsOneMore history.now self.old self.new place trade.now) }
     {
-        if let Some(first) = self.ids.find(&trade.trade) {
+        // One look-up tells which trade had the id and adds it.
+        if let Some(first) = self.ids.add(trade.trade, place)? {
             return Ok(Some(duplicate_trade(place, first)));
         }
         match deal_of(history, trade, place) {
             Err(finding) => Ok(Some(finding)),
             Ok(deal) => {
-                self.add(trade.trade, deal)?;
+                self.add(deal)?;
                 Ok(None)
             }
         }
     }
 
-    /// Adds the deal of a trade that has no finding.
-    fn add(&mut self, id: Name, deal: Deal) -> Result<(), NoMemory>
-        ensures { OnOk result (AddsDeal self.old self.new id deal) }
+    /// Adds the deal of a trade that has no finding, and whose id has been added.
+    fn add(&mut self, deal: Deal) -> Result<(), NoMemory>
+        ensures { OnOk result (AddsDeal self.old self.new deal) }
     {
-        let place = deal.place;
         // These calls tell the proof the ranges that each price and quantity keeps.
         let _ = deal.quantity.value();
         let _ = deal.price.units();
         self.deals.push(deal)?;
-        self.ids.add(id, place)?;
         Ok(())
     }
 }

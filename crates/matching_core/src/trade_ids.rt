@@ -1,5 +1,5 @@
 //! The ids of the trades so far, and where each of them came first.
-ghost use Rattle.std.specs.Prelude.{◌≡◌, ℕ, List, None, OnOk};
+ghost use Rattle.std.specs.Prelude.{◌≡◌, ℕ, List, None, IfOk, OnOk};
 ghost use Rattle.matching_core.specs.DealsSoFar.{first_in, AddsId};
 
 use audit_base::faults::NoMemory;
@@ -23,18 +23,11 @@ impl TradeIds {
         }
     }
 
-    /// The place of the first trade with the id, if there is one.
-    pub fn find(&self, id: &Name) -> Option<u32>
-        ensures { result ≡ first_in self.now id.now }
+    /// One more id, and the place that it had before. Where it had one, it has the new one now.
+    pub fn add(&mut self, id: Name, place: u32) -> Result<Option<u32>, NoMemory>
+        ensures earlier { IfOk result (λ earlier. earlier ≡ first_in self.old id) }
+        ensures adds { OnOk result (AddsId self.old self.new id place) }
     {
-        self.map.get(id).copied()
-    }
-
-    /// One more id.
-    pub fn add(&mut self, id: Name, place: u32) -> Result<(), NoMemory>
-        ensures { OnOk result (AddsId self.old self.new id place) }
-    {
-        self.map.insert(id, place)?;
-        Ok(())
+        Ok(self.map.insert(id, place)?)
     }
 }

@@ -1,9 +1,8 @@
-use Rattle.std.proofs.Common.{◌≡◌, ◌+◌, ℕ, List, true, false, length, sym, ap, ◌∙◌, subst}
+use Rattle.std.proofs.Common.{◌≡◌, ◌+◌, ℕ, List, true, false, sym, ◌∙◌, subst}
 use Rattle.audit_base.specs.declared.orders.Order.{Order}
 use Rattle.audit_base.specs.Orders.{same_name}
-use Rattle.audit_base.specs.Trades.{trades_of}
 use Rattle.matching_core.specs.DealsSoFar.{KnowsOneMore}
-use Rattle.matching_core.proofs.DraftLemmas.{still-known, known-other, known-of, resolved-known, size-more}
+use Rattle.matching_core.proofs.DraftLemmas.{still-known, known-other, known-next, size-more}
 use Rattle.matching_core.proofs.deals_so_far.DealsSoFar.take.Goals as goal
 
 pub returns-in-Some : goal.returns-in-Some
@@ -21,15 +20,22 @@ returns-then-not-is_of g c = λ trades has.
       known = known-other g.M.AuditedHistory.orders g.M.AuditedHistory.symbol trades c.args.trade.now c.args.self.now.sound c.args.self.now.finding (subst (λ (s : List ℕ). same_name c.args.trade.now.symbol s ≡ false) c.requires.symbol other) has.known;
     }
 
-pub returns : goal.returns
-returns g c = λ trades has.
-    let place : c.args.self.now.count + 1 ≡ length trades + 1 = ap (λ (n : ℕ). n + 1) has.count in
+pub returns-in-Some-2 : goal.returns-in-Some-2
+returns-in-Some-2 g c = λ trades has.
     let own : same_name c.args.trade.now.symbol c.args.symbol.now ≡ true = sym c.is_of.ensures ∙ c.if-not-is_of.false in
-    let next : KnowsOneMore g.M.AuditedHistory.orders c.args.self.now.sound c.take.new.self (c.args.self.now.count + 1) c.args.trade.now c.in_ok-self.field-0 =
-    subst (λ (orders : List Order). KnowsOneMore orders c.args.self.now.sound c.take.new.self (c.args.self.now.count + 1) c.args.trade.now c.in_ok-self.field-0) c.requires.orders c.in_ok-self.ensures in
     record {
       count = size-more c.args.self.now.count trades c.args.trade.now has.count;
-      known = known-of g.M.AuditedHistory.orders g.M.AuditedHistory.symbol trades c.args.trade.now (c.args.self.now.count + 1) c.take.new.self c.in_ok-self.field-0 place
-          (subst (λ (s : List ℕ). same_name c.args.trade.now.symbol s ≡ true) c.requires.symbol own)
-          (next (trades_of g.M.AuditedHistory.symbol trades) (resolved-known _ _ _ c.args.self.now.finding c.in_default.is has.known));
+      known = known-next g.M.AuditedHistory.orders g.M.AuditedHistory.symbol trades c.args.trade.now c.args.self.now.count c.args.self.now.sound c.take.new.self c.args.self.now.finding _ _ has.count c.in_default.is c.in-Some-2.is
+          (subst (λ (s : List ℕ). same_name c.args.trade.now.symbol s ≡ true) c.requires.symbol own) has.known
+          (subst (λ (orders : List Order). KnowsOneMore orders c.args.self.now.sound c.take.new.self (c.args.self.now.count + 1) c.args.trade.now c.in_ok-finding.field-0) c.requires.orders c.in_ok-finding.ensures);
+    }
+
+pub returns-in_default-2 : goal.returns-in_default-2
+returns-in_default-2 g c = λ trades has.
+    let own : same_name c.args.trade.now.symbol c.args.symbol.now ≡ true = sym c.is_of.ensures ∙ c.if-not-is_of.false in
+    record {
+      count = size-more c.args.self.now.count trades c.args.trade.now has.count;
+      known = known-next g.M.AuditedHistory.orders g.M.AuditedHistory.symbol trades c.args.trade.now c.args.self.now.count c.args.self.now.sound c.take.new.self c.args.self.now.finding _ _ has.count c.in_default.is (c.in_default-2.is ∙ sym c.in_default.is)
+          (subst (λ (s : List ℕ). same_name c.args.trade.now.symbol s ≡ true) c.requires.symbol own) has.known
+          (subst (λ (orders : List Order). KnowsOneMore orders c.args.self.now.sound c.take.new.self (c.args.self.now.count + 1) c.args.trade.now c.in_ok-finding.field-0) c.requires.orders c.in_ok-finding.ensures);
     }

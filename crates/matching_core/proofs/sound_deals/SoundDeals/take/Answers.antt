@@ -5,12 +5,12 @@ use Rattle.matching_core.proofs.sound_deals.SoundDeals.take.Goals as goal
 
 pub returns-in-Some : goal.returns-in-Some
 returns-in-Some c = λ h is.
-    duplicate-found c.args.history.now h c.args.self.now c.args.place c.in-Some.first c.args.trade.now is (sym c.in-Some.ensures) ∙ ap (λ (x : Finding). Some x) (sym c.duplicate_trade.ensures)
+    duplicate-found c.args.history.now h c.args.self.now c.args.place c.in-Some.first c.args.trade.now is (sym c.in_ok-first.ensures.earlier ∙ c.in-Some.is) ∙ ap (λ (x : Finding). Some x) (sym c.duplicate_trade.ensures)
 
 pub returns-in-Err : goal.returns-in-Err
 returns-in-Err c = λ h is.
-    unknown-found c.args.history.now h c.args.self.now c.args.place c.args.trade.now c.in-Err.finding is (sym c.find.ensures ∙ c.in_default.is) c.in-Err.ensures.unknown
+    unknown-found c.args.history.now h c.args.self.now c.args.place c.args.trade.now c.in-Err.finding is (sym c.in_ok-first.ensures.earlier ∙ c.in_default.is) c.in-Err.ensures.unknown
 
 pub returns-in_ok-add-in-Ok : goal.returns-in_ok-add-in-Ok
 returns-in_ok-add-in-Ok c = λ h is.
-    trade-taken c.args.history.now h c.args.self.now c.add.new.self c.args.place c.args.trade.now c.in-Ok.deal is (sym c.find.ensures ∙ c.in_default.is) c.in-Ok.ensures.known c.in-Ok.ensures.deal c.in_ok-add-in-Ok.ensures
+    trade-taken c.args.history.now h c.args.self.now c.add-in-Ok.new.self c.add.new.self c.args.place c.args.trade.now c.in-Ok.deal is (sym c.in_ok-first.ensures.earlier ∙ c.in_default.is) c.in-Ok.ensures.known c.in-Ok.ensures.deal c.in_ok-first.ensures.adds c.in_ok-add-in-Ok.ensures
