@@ -8,7 +8,8 @@ use Rattle.canonical_form.specs.declared.shares.Share.{Share}
 abbrev pub StandsBefore : Share → Share → Type 0
 StandsBefore s t = (s.bid < t.bid) ⊎ ((s.bid ≡ t.bid) × (s.ask < t.ask))
 
--- one share for each bid and ask that trade with each other, with all that they trade, in order of the bid, then of the ask
+-- one share for each bid and ask that trade with each other, with all that they trade, in order of
+-- the bid, then of the ask
 pub record AreShares (deals : List Deal) (shares : List Share) : Type 0 where
   pub quantities : All (λ s. s.quantity ≡ pair deals s.bid s.ask) shares
   pub some : All (λ s. 0 < s.quantity) shares

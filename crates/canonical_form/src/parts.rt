@@ -19,14 +19,14 @@ fn collect_parts(alloc: Global, deals: &[Deal]) -> Result<Vec<Part>, NoMemory>
     ensures parts { IfOk result (λ parts. parts.items ≡ parts_upto deals.now (length deals.now)) }
     ensures each { IfOk result (λ parts. HaveParts deals.now (length deals.now)) }
 {
-    let mut parts = Vec::with_capacity(alloc, deals.len()).map_err(|_| NoMemory)?;
+    let mut parts = Vec::with_capacity(alloc, deals.len())?;
     for (index, deal) in deals.iter().enumerate() {
         let part = Part {
             bid: deal.bid,
             ask: deal.ask,
             quantity: deal.quantity.value(),
         };
-        parts.push(part).map_err(|_| NoMemory)?;
+        parts.push(part)?;
     }
     Ok(parts)
 }
@@ -39,8 +39,6 @@ pub fn sort_parts(alloc: Global, deals: &[Deal]) -> Result<Vec<Part>, NoMemory>
     ensures sorted { IfOk result (λ parts. IsSorted part_cmp parts.items) }
 {
     let mut parts = collect_parts(alloc, deals)?;
-    match parts.sort() {
-        Ok(()) => Ok(parts),
-        Err(_) => Err(NoMemory),
-    }
+    parts.sort()?;
+    Ok(parts)
 }

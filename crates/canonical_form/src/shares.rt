@@ -31,7 +31,8 @@ fn share_of(part: Part) -> Share
 fn push_share(shares: &mut Vec<Share>, share: Share) -> Result<(), NoMemory>
     ensures { OnOk result (shares.new.items ≡ shares.old.items ++ share ∷ []) }
 {
-    shares.push(share).map_err(|_| NoMemory)
+    shares.push(share)?;
+    Ok(())
 }
 
 /// The share that is made after a part: the one so far, if the part is of its pair, or else the next one. The one

@@ -28,46 +28,50 @@ use Rattle.continuous_audit.proofs.NumberLemmas.{traded-at}
 use Rattle.continuous_audit.proofs.RestLemmas.{resting_left-future}
 use Rattle.continuous_audit.proofs.VerdictLemmas.{calm-first}
 
-zero-in : (n x : ℕ) → number_in (replicate n 0) x ≡ 0
+pub zero-in : (n x : ℕ) → number_in (replicate n 0) x ≡ 0
 zero-in n x = elim (cases_lt x n) [
   | inl lt ↦ get_or-replicate {A = ℕ} n x 0 0 lt
   | inr ge ↦ get_or_past (replicate n 0) x 0 (omega (arith, length-replicate {A = ℕ} n 0))
 ]
 
-module _ (orders : List Order) (list : IsOrderList orders) (deals : List Deal) (deal_list : IsDealList orders deals) (causes : List Cause) (are : AreCauses orders deals causes) (endings : List Ending) where
-  first-place : (k : ℕ) → k < length orders → place_at orders 0 ≤ place_at orders k
+-- before the first order nothing rests
+module _ (orders : List Order) (list : IsOrderList orders) (deals : List Deal) where
+  pub first-place : (k : ℕ) → k < length orders → place_at orders 0 ≤ place_at orders k
   first-place k lt = elim (cases_eq k 0) [
     | inl e ↦ let same : place_at orders k ≡ place_at orders 0 = ap (place_at orders) e in omega arith
     | inr ne ↦ let up = place-rises orders list 0 k (omega (arith, ne)) lt in omega arith
   ]
 
-  nothing-held : (side : Side) (xs : List Resting) → xs ≡ [] → Holds orders side (resting_left orders (traded_before orders deals) (place_at orders 0)) xs
+  pub nothing-held : (side : Side) (xs : List Resting) → xs ≡ [] → Holds orders side (resting_left orders (traded_before orders deals) (place_at orders 0)) xs
   nothing-held side xs e = subst (Holds orders side (resting_left orders (traded_before orders deals) (place_at orders 0))) (sym e) (record {
     only = λ i d lt. absurd (omega arith);
     each = λ i lt of some. let z = resting_left-future orders (traded_before orders deals) (place_at orders 0) i (first-place i lt) in absurd (omega arith);
     ranked = λ i j d lt below. absurd (omega arith);
   })
 
+module _ (orders : List Order) (list : IsOrderList orders) (deals : List Deal) (deal_list : IsDealList orders deals) (causes : List Cause) (are : AreCauses orders deals causes) (endings : List Ending) where
   pub ready-first : (numbers : Numbers) (standing : Standing) → AreAtStart (length orders) numbers → AreEmptyBooks standing → IsReady orders deals causes endings 0 (ready_place orders 0) numbers standing
   ready-first numbers standing blank bare = record {
-    calm = calm-first orders deals (place_at orders 0) deal_list.named first-place;
-    before = subst (AreBefore orders deals 0) (sym blank.before) (record {
-      count = length-replicate {A = ℕ} (length orders) 0;
-      is = λ x lt. absurd (omega arith);
-      fits = λ x. let z = zero-in (length orders) x in omega arith;
-      bounded = λ x. let z = zero-in (length orders) x in omega arith;
-    });
-    closed = subst (AreClosed orders 0) (sym blank.closed) (record { count = length-replicate {A = Bool} (length orders) false; is = λ x lt. absurd (omega arith) });
-    sizes = subst (AreSizes orders deals 0) (sym blank.sizes) (record { count = length-replicate {A = ℕ} (length orders) 0; is = λ x lt. absurd (omega arith) });
-    left = subst (AreLeft orders deals 0 (place_at orders 0)) (sym blank.left) (record { count = length-replicate {A = ℕ} (length orders) 0; is = λ x lt. absurd (omega arith) });
-    running_total = subst (λ (at : ℕ). AreRunningTotals orders deals causes at numbers.traded.items) (sym blank.at) (subst (AreRunningTotals orders deals causes 0) (sym blank.traded) (record {
-      inside = omega arith;
-      count = length-replicate {A = ℕ} (length orders) 0;
-      sums = λ x lt. zero-in (length orders) x;
-      fits = λ x lt. let z = zero-in (length orders) x in omega arith;
-    }));
-    split = subst (IsSplitAt causes 0) (sym blank.at) (record { early = λ i lt below. absurd (omega arith); late = λ i le below. omega arith });
-    books = record { bid_side = bare.bid_side; ask_side = bare.ask_side; bids = nothing-held Buy standing.books.bids.resting bare.bids; asks = nothing-held Sell standing.books.asks.resting bare.asks };
+    calm = calm-first orders deals (place_at orders 0) deal_list.named (first-place orders list deals);
+    known = record {
+      before = subst (AreBefore orders deals 0) (sym blank.before) (record {
+        count = length-replicate {A = ℕ} (length orders) 0;
+        is = λ x lt. absurd (omega arith);
+        fits = λ x. let z = zero-in (length orders) x in omega arith;
+        bounded = λ x. let z = zero-in (length orders) x in omega arith;
+      });
+      closed = subst (AreClosed orders 0) (sym blank.closed) (record { count = length-replicate {A = Bool} (length orders) false; is = λ x lt. absurd (omega arith) });
+      sizes = subst (AreSizes orders deals 0) (sym blank.sizes) (record { count = length-replicate {A = ℕ} (length orders) 0; is = λ x lt. absurd (omega arith) });
+      left = subst (AreLeft orders deals 0 (place_at orders 0)) (sym blank.left) (record { count = length-replicate {A = ℕ} (length orders) 0; is = λ x lt. absurd (omega arith) });
+      running_total = subst (λ (at : ℕ). AreRunningTotals orders deals causes at numbers.traded.items) (sym blank.at) (subst (AreRunningTotals orders deals causes 0) (sym blank.traded) (record {
+        inside = omega arith;
+        count = length-replicate {A = ℕ} (length orders) 0;
+        sums = λ x lt. zero-in (length orders) x;
+        fits = λ x lt. let z = zero-in (length orders) x in omega arith;
+      }));
+      split = subst (IsSplitAt causes 0) (sym blank.at) (record { early = λ i lt below. absurd (omega arith); late = λ i le below. omega arith });
+    };
+    books = record { bid_side = bare.bid_side; ask_side = bare.ask_side; bids = nothing-held orders list deals Buy standing.books.bids.resting bare.bids; asks = nothing-held orders list deals Sell standing.books.asks.resting bare.asks };
     dropped = record { inside = let e = bare.start in omega arith; early = λ i lt below. let e = bare.start in absurd (omega arith) };
   }
 
@@ -114,9 +118,9 @@ module _ (orders : List Order) (list : IsOrderList orders) (deals : List Deal) (
     last-conforms = end-conforms q (below-ready (length orders) refl) ready.calm
 
     pub last-count : length numbers.traded.items ≡ length orders
-    last-count = ready.running_total.count
+    last-count = ready.known.running_total.count
 
     pub last-traded : (x : ℕ) → x < length orders → number_in numbers.traded.items x ≡ traded deals x
     last-traded x lt =
-        let t = traded-at orders list deals deal_list causes are q (length orders) numbers.at numbers.traded.items ready.split ready.running_total (λ k inside below. below-ready (length orders) refl k inside) (λ k inside le. absurd (omega arith)) in
+        let t = traded-at orders list deals deal_list causes are q (length orders) numbers.at numbers.traded.items ready.known.split ready.known.running_total (λ k inside below. below-ready (length orders) refl k inside) (λ k inside le. absurd (omega arith)) in
         t.is x lt ∙ all-traded q (below-ready (length orders) refl) x

@@ -18,7 +18,8 @@ use Rattle.continuous_audit.specs.declared.endings.Books.{Books}
 use Rattle.continuous_audit.specs.Holding.{resting_with, Holds, IsPart, IsFilledInFront, resting_left, resting_left_after}
 use Rattle.continuous_audit.specs.Endings.{AreEndings, place_in, books_with, with_list, list_of, BooksHold, amount_without}
 use Rattle.continuous_audit.proofs.HoldLemmas.{hold-same, hold-entered}
-use Rattle.continuous_audit.proofs.RestLemmas.{resting_left-future, resting_left-parts, rests-parts}
+use Rattle.continuous_laws.proofs.StepLemmas.{rests-parts}
+use Rattle.continuous_audit.proofs.RestLemmas.{resting_left-future, resting_left-parts}
 use Rattle.continuous_audit.proofs.RecordLemmas.{IsOfCause, own-holds, other-holds, other-empty, resting_left-after, resting_left-next}
 use Rattle.continuous_audit.proofs.EndingLemmas.{hold-amounts, standing-is}
 
@@ -39,7 +40,7 @@ module _ (orders : List Order) (amount amount' : ℕ → ℕ) (j : ℕ) (inside 
   }
 
 -- books of which one side has another list
-both-hold : (orders : List Order) (amount : ℕ → ℕ) (s : Side) (b : Books) (ys : List Resting) → b.bids.side ≡ Buy → b.asks.side ≡ Sell → Holds orders s amount (list_of s b) → Holds orders (other_side s) amount ys → BooksHold orders amount (with_list (other_side s) ys b)
+pub both-hold : (orders : List Order) (amount : ℕ → ℕ) (s : Side) (b : Books) (ys : List Resting) → b.bids.side ≡ Buy → b.asks.side ≡ Sell → Holds orders s amount (list_of s b) → Holds orders (other_side s) amount ys → BooksHold orders amount (with_list (other_side s) ys b)
 both-hold orders amount Buy b ys bid ask own other = record { bid_side = bid; ask_side = ask; bids = own; asks = other }
 both-hold orders amount Sell b ys bid ask own other = record { bid_side = bid; ask_side = ask; bids = other; asks = own }
 
@@ -73,7 +74,7 @@ module _ (orders : List Order) (list : IsOrderList orders) (deals : List Deal) (
   gone-before : (q k : ℕ) → uncancelled_before (order_at orders k).cancelled q ≡ false → resting_left orders past q k ≡ 0
   gone-before q k f = elim (cases_lt 0 (resting_left orders past q k)) [
     | inr le ↦ omega arith
-    | inl some ↦ let at = rests-parts orders past q k (resting_left-parts orders past q k some).0 in let t = at.uncancelled in absurd (cc)
+    | inl some ↦ let at = rests-parts orders past q k (resting_left-parts orders past q k some).0 in let t = at.stands_yet in absurd (cc)
   ]
 
   -- 2. The endings up to the record.

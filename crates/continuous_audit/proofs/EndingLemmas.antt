@@ -2,7 +2,7 @@
 use Rattle.std.proofs.Common.{◌≡◌, ◌≢◌, ◌<◌, ◌≤◌, ◌+◌, ℕ, zero, suc, List, [], ◌∷◌, length, Bool, true, false, cond, Option, Some, None, refl, sym, ap, ◌∙◌, arith, inl, inr, subst, All, get_or, is_lt, IsPermutation, IsSorted, add-one}
 use Rattle.std.specs.Prelude.{nat_le, ◌==◌, ◌&&◌, ◌||◌, Contains}
 use Rattle.std.specs.Cmp.{IsStrictWeakOrder}
-use Rattle.std.proofs.lemmas.Bool.{cases_eq, cases_lt, both_ways, eq-eqb, ne_eqb, eqb-true, le-leb, leb-true, and_parts, and_from, and_left, and_right, or_right, cond-true, cond-false, false_from_ne_true}
+use Rattle.std.proofs.lemmas.Bool.{cases_Bool, cases_eq, cases_lt, both_ways, eq-eqb, ne_eqb, eqb-true, le-leb, leb-true, and_parts, and_from, and_left, and_right, or_right, cond-true, cond-false, false_from_ne_true}
 use Rattle.std.proofs.lemmas.Bool.Decides.{nat_tests}
 use Rattle.std.proofs.lemmas.Cmp.{nat_cmp_total, on_total, then_total}
 use Rattle.std.proofs.lemmas.List.Elements.{All-nil, All-append, All-cons, Contains-append_left, Contains-append_right}
@@ -16,9 +16,12 @@ use Rattle.audit_base.proofs.SumLemmas.{Contains-front}
 use Rattle.audit_base.proofs.OrderLemmas.{not_both_sides}
 use Rattle.audit_base.proofs.LeastLemmas.{any-at, any-none, cases_Option}
 use Rattle.audit_base.proofs.OffenceLemmas.{get_or-default}
+use Rattle.audit_base.specs.Priority.{better_limit}
+use Rattle.order_book.specs.declared.books.Resting.{Resting}
+use Rattle.order_book.specs.Books.{BookSide, is_pair, with_added, with_order, without_order}
 use Rattle.continuous_audit.specs.declared.endings.Ending.{Ending}
 use Rattle.continuous_audit.specs.declared.endings.Books.{Books}
-use Rattle.continuous_audit.specs.Endings.{ending_at, endings_of, endings_upto, ending_cmp, IsEnding, AreEndings, missing_ending, place_in, index_in, books_without, BooksHold, is_gone, amount_without}
+use Rattle.continuous_audit.specs.Endings.{ending_at, endings_of, endings_upto, ending_cmp, IsEnding, AreEndings, missing_ending, place_in, index_in, books_without, BooksHold, is_gone, amount_without, resting_count}
 use Rattle.continuous_audit.proofs.HoldLemmas.{hold-same, hold-without}
 
 -- the books without one order
@@ -174,3 +177,30 @@ module _ (orders : List Order) where
         both_zero : (b : Bool) (m : ℕ) → m ≡ 0 → cond b 0 m ≡ 0
         both_zero true m e = refl
         both_zero false m e = e
+
+-- taking one out leaves no more
+shorter-without : (i l : ℕ) (xs : List Resting) → length (without_order i l xs) ≤ length xs
+shorter-without i l [] = omega arith
+shorter-without i l (x ∷ xs) = elim (cases_Bool (is_pair i l x)) [
+  | inl t ↦ rw t (omega arith)
+  | inr f ↦ rw f (omega (arith, shorter-without i l xs))
+]
+
+pub fewer-without : (side : Side) (i l : ℕ) (b : Books) → resting_count (books_without side i l b) ≤ resting_count b
+fewer-without Buy i l b = omega (arith, shorter-without i l b.bids.resting)
+fewer-without Sell i l b = omega (arith, shorter-without i l b.asks.resting)
+
+-- the same, in the words of the code
+pub fewer-read : (side : Side) (i l : ℕ) (old new : Books) → new ≡ books_without side i l old → resting_count new ≤ resting_count old
+fewer-read side i l old new e = subst (λ (b : Books). resting_count b ≤ resting_count old) (sym e) (fewer-without side i l old)
+
+-- one more is one more
+longer-with : (side : Side) (r : Resting) (xs : List Resting) → length (with_order side r xs) ≡ length xs + 1
+longer-with side r [] = refl
+longer-with side r (x ∷ xs) = elim (cases_Bool (better_limit side r.limit x.limit)) [
+  | inl t ↦ rw t (omega arith)
+  | inr f ↦ rw f (omega (arith, longer-with side r xs))
+]
+
+pub longer-added : (old new : BookSide) (index limit left : ℕ) → new ≡ with_added old index limit left → length new.resting ≡ length old.resting + 1
+longer-added old new index limit left e = ap (λ (b : BookSide). length b.resting) e ∙ longer-with old.side (record { index = index; limit = limit; left = left }) old.resting

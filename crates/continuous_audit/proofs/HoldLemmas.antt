@@ -33,7 +33,7 @@ module _ (orders : List Order) (side : Side) where
   limit-is amount r p = ap (λ (s : Resting). s.limit) p.is
 
   -- of two parts, one ahead of the other, the indices differ
-  parts-apart : (amount : ℕ → ℕ) (r s : Resting) → IsPart orders side amount r → IsPart orders side amount s → IsAhead side r s → s.index ≢ r.index
+  pub parts-apart : (amount : ℕ → ℕ) (r s : Resting) → IsPart orders side amount r → IsPart orders side amount s → IsAhead side r s → s.index ≢ r.index
   parts-apart amount r s p q ahead e = not-ahead side r s (sym e) (limit-is amount r p ∙ sym (ap (limit_at orders) e) ∙ sym (limit-is amount s q)) ahead
 
   -- what is known of one list at each index of the side but one

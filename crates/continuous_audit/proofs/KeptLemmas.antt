@@ -1,7 +1,7 @@
 -- What the chain of an order has traded, from what its target has and what the target's chain had.
-use Rattle.std.proofs.Common.{◌≡◌, ◌≢◌, ◌<◌, ◌≤◌, ◌+◌, ℕ, zero, suc, List, [], ◌∷◌, length, Bool, true, false, cond, Option, None, Some, refl, sym, ap, ◌∙◌, arith, inl, inr, subst, sum_by, All, get_or}
+use Rattle.std.proofs.Common.{◌≡◌, ◌<◌, ◌≤◌, ◌+◌, ℕ, zero, suc, List, length, Bool, true, cond, Option, None, Some, refl, sym, ap, ◌∙◌, arith, inl, inr, subst, sum_by, All, get_or}
 use Rattle.std.specs.Prelude.{◌==◌, ◌&&◌, nat_lt}
-use Rattle.std.proofs.lemmas.Bool.{cases_Bool, cases_lt, cases_eq, eqb-true, and_left, and_right, lt-ltb, le-ltb, leb-true, le-leb, or_cases, cond-true, cond-false}
+use Rattle.std.proofs.lemmas.Bool.{cases_Bool, cases_lt, eqb-true, and_left, lt-ltb, le-ltb, leb-true, le-leb, or_cases, cond-true, cond-false}
 use Rattle.std.proofs.lemmas.List.Elements.{All-nil, All-cons, All-weaker}
 use Rattle.audit_base.specs.declared.orders.Order.{Order}
 use Rattle.audit_base.specs.declared.orders.Deal.{Deal}
@@ -15,9 +15,9 @@ use Rattle.audit_base.proofs.SumLemmas.{sum_by-same}
 use Rattle.audit_base.proofs.OrderLemmas.{place-rises}
 use Rattle.audit_base.proofs.OffenceLemmas.{get_or-default}
 use Rattle.audit_base.proofs.ContinuousLemmas.{target-below, chain-none, chain-some, before-is, before-some}
-use Rattle.continuous_audit.specs.Chains.{ends_by, IsClosed, IsKept}
+use Rattle.continuous_audit.specs.Chains.{ends_by, IsClosed}
 use Rattle.continuous_audit.specs.Scans.{number_in}
-use Rattle.continuous_audit.proofs.RestLemmas.{rests-parts}
+use Rattle.continuous_laws.proofs.StepLemmas.{rests-parts}
 use Rattle.continuous_audit.proofs.RecordLemmas.{ends}
 
 -- the target that the code reads
@@ -95,7 +95,7 @@ module _ (orders : List Order) (list : IsOrderList orders) where
               let place_is : place_at orders d.bid ≡ place_at orders u = ap (place_at orders) b_is in
               let r_is : resting orders d ≡ d.bid = cond-true (nat_lt (place_at orders d.bid) (place_at orders d.ask)) d.bid d.ask (lt-ltb _ _ (omega arith)) in
               let at = rests-parts orders past (cause orders d) u (subst (λ (r : ℕ). rests orders past (cause orders d) r ≡ true) (r_is ∙ b_is) rest) in
-              let late = ended-late (order_at orders u).cancelled (place_at orders t) (cause orders d) ended at.uncancelled in
+              let late = ended-late (order_at orders u).cancelled (place_at orders t) (cause orders d) ended at.stands_yet in
               let end = ends orders list deals named t inside d is (omega arith) in
               let side_is : side_at orders (resting orders d) ≡ other_side (side_at orders t) = ap (side_at orders) end.1.resting_is ∙ end.1.of_side in
               own-side (side_at orders t) (sym ahead.1 ∙ ap (side_at orders) (sym (r_is ∙ b_is)) ∙ side_is)
@@ -104,7 +104,7 @@ module _ (orders : List Order) (list : IsOrderList orders) where
               let place_is : place_at orders d.ask ≡ place_at orders u = ap (place_at orders) a_is in
               let r_is : resting orders d ≡ d.ask = cond-false (nat_lt (place_at orders d.bid) (place_at orders d.ask)) d.bid d.ask (le-ltb _ _ (omega arith)) in
               let at = rests-parts orders past (cause orders d) u (subst (λ (r : ℕ). rests orders past (cause orders d) r ≡ true) (r_is ∙ a_is) rest) in
-              let late = ended-late (order_at orders u).cancelled (place_at orders t) (cause orders d) ended at.uncancelled in
+              let late = ended-late (order_at orders u).cancelled (place_at orders t) (cause orders d) ended at.stands_yet in
               let end = ends orders list deals named t inside d is (omega arith) in
               let side_is : side_at orders (resting orders d) ≡ other_side (side_at orders t) = ap (side_at orders) end.1.resting_is ∙ end.1.of_side in
               own-side (side_at orders t) (sym ahead.1 ∙ ap (side_at orders) (sym (r_is ∙ a_is)) ∙ side_is)

@@ -15,7 +15,8 @@ use Rattle.order_book.specs.declared.books.Resting.{Resting}
 use Rattle.continuous_audit.specs.declared.causes.Cause.{Cause}
 use Rattle.continuous_audit.specs.Holding.{Holds, IsPart, IsFilledInFront, resting_left, resting_left_after, left_in, IsWithin, after_fills}
 use Rattle.continuous_audit.specs.Scans.{number_in, deal_in, IsRefreshed}
-use Rattle.continuous_audit.proofs.RestLemmas.{resting_left-parts, rests-parts}
+use Rattle.continuous_laws.proofs.StepLemmas.{rests-parts}
+use Rattle.continuous_audit.proofs.RestLemmas.{resting_left-parts}
 use Rattle.continuous_audit.proofs.HeadLemmas.{after_fills-holds}
 
 -- an order of an earlier place has a lower index

@@ -3,6 +3,7 @@ pub mod BooksLemmas
 pub mod CauseLemmas
 pub mod ChainLemmas
 pub mod DealingLemmas
+pub mod FilledLemmas
 pub mod EndingLemmas
 pub mod HeadLemmas
 pub mod HoldLemmas
@@ -11,12 +12,17 @@ pub mod LeftLemmas
 pub mod NumberLemmas
 pub mod OpenLemmas
 pub mod PassLemmas
+pub mod MatchLemmas
 pub mod ReadyLemmas
 pub mod RefreshLemmas
 pub mod RestLemmas
 pub mod ScanLemmas
+pub mod ExpectingLemmas
 pub mod FillLemmas
+pub mod SortLemmas
 pub mod SpreadLemmas
 pub mod StandLemmas
 pub mod RecordLemmas
+pub mod TradedLemmas
 pub mod VerdictLemmas
+pub mod WalkLemmas

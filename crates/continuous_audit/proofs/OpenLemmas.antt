@@ -1,10 +1,10 @@
 -- What an order brings at its own record, from what the earlier ones have traded and have left.
-use Rattle.std.proofs.Common.{◌≡◌, ◌<◌, ℕ, zero, suc, List, length, Bool, true, false, Option, None, Some, refl, sym, ap, ◌∙◌, arith, sum_by, All, get_or, inl, inr}
+use Rattle.std.proofs.Common.{◌≡◌, ◌<◌, ℕ, List, length, Bool, true, false, None, Some, refl, sym, ap, ◌∙◌, inl, inr}
 use Rattle.std.specs.Prelude.{◌&&◌, not}
 use Rattle.audit_base.specs.declared.orders.Order.{Order}
 use Rattle.audit_base.specs.declared.orders.Deal.{Deal}
 use Rattle.audit_base.specs.Orders.{order_at, place_at, IsOrderList}
-use Rattle.audit_base.specs.Continuous.{rests, traded_before, before_of, entered_of, size_of, is_own_place}
+use Rattle.audit_base.specs.Continuous.{rests, traded_before, before_of, entered_of, is_own_place}
 use Rattle.audit_base.proofs.OrderLemmas.{place-rises}
 use Rattle.audit_base.proofs.LeastLemmas.{cases_Option}
 use Rattle.audit_base.proofs.ContinuousLemmas.{target-below, entered-none, entered-some, size-is}

@@ -1,34 +1,16 @@
 -- How what rests of an order changes from one place to another.
 use Rattle.std.proofs.Common.{◌≡◌, ◌<◌, ◌≤◌, ◌+◌, ◌-◌, ◌⊎◌, ℕ, List, Bool, true, false, cond, Option, Some, None, refl, sym, ap, ◌∙◌, arith, inl, inr, All, get_or}
-use Rattle.std.specs.Prelude.{◌==◌, ◌&&◌, nat_lt}
-use Rattle.std.proofs.lemmas.Bool.{cases_Bool, eqb-true, and_parts, and_from, and_left, and_right, ltb-true, lt-ltb, le-ltb, leb-true, le-leb, or_cases, cond-true, cond-false}
+use Rattle.std.specs.Prelude.{◌&&◌, nat_lt}
+use Rattle.std.proofs.lemmas.Bool.{cases_Bool, lt-ltb, le-ltb, leb-true, le-leb, cond-true, cond-false}
 use Rattle.std.proofs.lemmas.Bool.Decides.{nat_tests}
 use Rattle.audit_base.specs.declared.orders.Order.{Order}
 use Rattle.audit_base.specs.declared.orders.Deal.{Deal}
 use Rattle.audit_base.specs.Orders.{order_at, place_at, is_rests}
 use Rattle.audit_base.specs.Deals.{names}
 use Rattle.audit_base.specs.Continuous.{cause, traded_before, uncancelled_before, rests, size, left}
-use Rattle.audit_base.proofs.SumLemmas.{sum_by-none, sum_by-same}
+use Rattle.audit_base.proofs.SumLemmas.{sum_by-same}
+use Rattle.continuous_laws.proofs.StepLemmas.{rests-parts}
 use Rattle.continuous_audit.specs.Holding.{resting_left}
-
--- an order that rests before p, in parts
-pub record IsAtRest (orders : List Order) (past : ℕ → ℕ → ℕ) (p k : ℕ) : Type 0 where
-  pub life : is_rests (order_at orders k).life ≡ true
-  pub earlier : place_at orders k < p
-  pub uncancelled : uncancelled_before (order_at orders k).cancelled p ≡ true
-  pub has_left : past p k < size orders past k
-
-pub rests-parts : (orders : List Order) (past : ℕ → ℕ → ℕ) (p k : ℕ) → rests orders past p k ≡ true → IsAtRest orders past p k
-unfolding rests size
-rests-parts orders past p k h =
-    let two = and_parts (is_rests (order_at orders k).life && nat_lt (place_at orders k) p) (uncancelled_before (order_at orders k).cancelled p && nat_lt (past p k) (size orders past k)) h in
-    let a = and_parts (is_rests (order_at orders k).life) (nat_lt (place_at orders k) p) two.0 in
-    let b = and_parts (uncancelled_before (order_at orders k).cancelled p) (nat_lt (past p k) (size orders past k)) two.1 in
-    record { life = a.0; earlier = ltb-true _ _ a.1; uncancelled = b.0; has_left = ltb-true _ _ b.1 }
-
-pub rests-from : (orders : List Order) (past : ℕ → ℕ → ℕ) (p k : ℕ) → IsAtRest orders past p k → rests orders past p k ≡ true
-unfolding rests size
-rests-from orders past p k at = and_from _ _ (and_from _ _ at.life (lt-ltb _ _ at.earlier)) (and_from _ _ at.uncancelled (lt-ltb _ _ at.has_left))
 
 -- what rests of it
 pub resting_left-parts : (orders : List Order) (past : ℕ → ℕ → ℕ) (p k : ℕ) → 0 < resting_left orders past p k → (rests orders past p k ≡ true) × (resting_left orders past p k ≡ left orders past p k)
@@ -92,19 +74,6 @@ resting_left-newest orders past q n t earlier e =
     let o = order_at orders n in
     let now : nat_lt o.place q ≡ true = lt-ltb o.place q earlier in
     rw (now, e) (newest (is_rests o.life) (uncancelled_before o.cancelled q) (size orders past n) t)
-
--- an order has traded nothing before its place
-pub traded-none : (orders : List Order) (deals : List Deal) (p k : ℕ) → p ≤ place_at orders k → traded_before orders deals p k ≡ 0
-unfolding traded_before
-traded-none orders deals p k later = sum_by-none (λ d. cond (names k d && nat_lt (cause orders d) p) d.quantity 0) deals (λ n e lt.
-    let d = get_or deals n e in
-    cond-false (names k d && nat_lt (cause orders d) p) d.quantity 0 (elim (cases_Bool (names k d)) [
-      | inr f ↦ and_left (names k d) (nat_lt (cause orders d) p) f
-      | inl t ↦ and_right (names k d) (nat_lt (cause orders d) p) (le-ltb (cause orders d) p (elim (or_cases (d.bid == k) (d.ask == k) t) [
-        | inl b ↦ let same : place_at orders d.bid ≡ place_at orders k = ap (place_at orders) (eqb-true d.bid k b) in omega arith
-        | inr a ↦ let same : place_at orders d.ask ≡ place_at orders k = ap (place_at orders) (eqb-true d.ask k a) in omega arith
-      ]))
-    ]))
 
 -- where no deal has a cause from p on and below q, nothing is traded in between
 pub traded-gap : (orders : List Order) (deals : List Deal) (p q k : ℕ) → p ≤ q → All (λ d. cause orders d < p ⊎ q ≤ cause orders d) deals → traded_before orders deals q k ≡ traded_before orders deals p k

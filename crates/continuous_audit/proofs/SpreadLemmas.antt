@@ -25,11 +25,13 @@ use Rattle.audit_base.proofs.ContinuousOffenceLemmas.{traded-more}
 use Rattle.order_book.specs.declared.books.Resting.{Resting}
 use Rattle.order_book.specs.Books.{IsAhead, first}
 use Rattle.continuous_audit.specs.Holding.{resting_of, IsPart, Holds, resting_left, IsApart, is_active, meets_first, bid_of, ask_of}
-use Rattle.continuous_audit.proofs.RestLemmas.{rests-parts, rests-from, resting_left-parts, resting_left-is, uncancelled-back}
+use Rattle.continuous_laws.proofs.StepLemmas.{rests-parts}
+use Rattle.continuous_laws.proofs.ExistLemmas.{rests-from}
+use Rattle.continuous_audit.proofs.RestLemmas.{resting_left-parts, resting_left-is, uncancelled-back}
 use Rattle.continuous_audit.proofs.HeadLemmas.{ahead-better}
 
 -- what is better meets all that the other meets
-better-meets : (side : Side) (o p : Order) (l : ℕ) → o.side ≡ side → better o p ≡ true → limits_meet side p.limit l ≡ true → limits_meet side o.limit l ≡ true
+pub better-meets : (side : Side) (o p : Order) (l : ℕ) → o.side ≡ side → better o p ≡ true → limits_meet side p.limit l ≡ true → limits_meet side o.limit l ≡ true
 better-meets Buy o p l s b m =
     let over : outranks Buy o p ≡ true = subst (λ (t : Side). outranks t o p ≡ true) s (better-outranks o p b) in
     let le = leb-true l p.limit m in
@@ -39,11 +41,11 @@ better-meets Sell o p l s b m =
     let le = leb-true p.limit l m in
     elim (ask-outranks o p over) [ inl more ↦ le-leb o.limit l (omega arith) | inr same ↦ let e = same.0 in le-leb o.limit l (omega arith) ]
 
-meets-back : (side : Side) (a b : ℕ) → limits_meet side a b ≡ true → limits_meet (other_side side) b a ≡ true
+pub meets-back : (side : Side) (a b : ℕ) → limits_meet side a b ≡ true → limits_meet (other_side side) b a ≡ true
 meets-back Buy a b m = m
 meets-back Sell a b m = m
 
-meets-twice : (side : Side) (a b : ℕ) → limits_meet (other_side side) b a ≡ true → limits_meet side a b ≡ true
+pub meets-twice : (side : Side) (a b : ℕ) → limits_meet (other_side side) b a ≡ true → limits_meet side a b ≡ true
 meets-twice Buy a b m = m
 meets-twice Sell a b m = m
 
@@ -122,7 +124,7 @@ module _ (orders : List Order) (list : IsOrderList orders) (deals : List Deal) (
       | inl r ↦
           let at = rests-parts orders past (suc p) n r in
           let more = at.has_left in
-          and_from _ _ (subst (λ q. uncancelled_before (order_at orders n).cancelled (suc q) ≡ true) (sym n_place) at.uncancelled)
+          and_from _ _ (subst (λ q. uncancelled_before (order_at orders n).cancelled (suc q) ≡ true) (sym n_place) at.stands_yet)
           (subst (λ q. nat_lt 0 (left orders past (suc q) n) ≡ true) (sym n_place) (lt-ltb 0 (left orders past (suc p) n) (omega arith)))
       | inr here ↦
           let outer = and_parts ((place_at orders n == p) && uncancelled_before (order_at orders n).cancelled (suc p)) (nat_lt 0 (left orders past (suc p) n)) here in
@@ -143,7 +145,7 @@ module _ (orders : List Order) (list : IsOrderList orders) (deals : List Deal) (
             rests-from orders past p x (record {
               life = at.life;
               earlier = omega (arith, away);
-              uncancelled = uncancelled-back (order_at orders x).cancelled p (suc p) (omega arith) at.uncancelled;
+              stands_yet = uncancelled-back (order_at orders x).cancelled p (suc p) (omega arith) at.stands_yet;
               has_left = omega (arith, traded-more orders deals p x);
             }),
           )

@@ -13,7 +13,10 @@ use Rattle.audit_base.proofs.OrderLemmas.{place-rises}
 use Rattle.audit_base.proofs.ContinuousOffenceLemmas.{no_fault-conforms, IsLast, late-conforms}
 use Rattle.continuous_audit.specs.Holding.{IsApart}
 use Rattle.continuous_audit.specs.Progress.{IsCalm}
-use Rattle.continuous_audit.proofs.RestLemmas.{rests-parts, rests-from, uncancelled-back, traded-none, traded-gap}
+use Rattle.continuous_laws.proofs.StepLemmas.{rests-parts}
+use Rattle.continuous_laws.proofs.ExistLemmas.{rests-from}
+use Rattle.continuous_laws.proofs.PlaceLemmas.{traded-none}
+use Rattle.continuous_audit.proofs.RestLemmas.{uncancelled-back, traded-gap}
 use Rattle.continuous_audit.proofs.SpreadLemmas.{active-place}
 use Rattle.continuous_audit.proofs.RecordLemmas.{quiet-until, no-cause}
 
@@ -68,7 +71,7 @@ module _ (orders : List Order) (list : IsOrderList orders) (deals : List Deal) (
                 | inr ne ↦ let up = place-rises orders list x n (omega (arith, ne)) n_inside in omega arith
               ]
             ];
-            uncancelled = uncancelled-back _ (suc p) q le at.uncancelled;
+            stands_yet = uncancelled-back _ (suc p) q le at.stands_yet;
             has_left = omega arith;
           })
 

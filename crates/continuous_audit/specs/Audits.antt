@@ -13,8 +13,8 @@ use Rattle.matching_core.specs.declared.outcomes.Reached.{Reached}
 use Rattle.matching_core.specs.declared.outcomes.Outcome.{Outcome}
 use Rattle.matching_core.specs.declared.outcomes.Outcome.TheVariants as outcome
 
--- the deals conform, with what each order traded and the volume; on a regular order list what each pair trades is the only
--- quantity that the rule allows it
+-- the deals conform, with what each order traded and the volume; on a regular order list what each
+-- pair trades is the only quantity that the rule allows it
 pub record IsConforming (orders : List Order) (deals : List Deal) (reached : Reached) : Type 0 where
   pub conforms : ConformsContinuous orders deals
   pub count : length reached.traded.0 ≡ length orders

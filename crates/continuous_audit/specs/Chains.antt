@@ -31,8 +31,8 @@ pub record AreClosed (orders : List Order) (m : ℕ) (closed : List Bool) : Type
 abbrev pub AreBounded : List ℕ → Type 0
 AreBounded before = (x : ℕ) → number_in before x ≤ x * 2 ^ 72
 
--- before the order at n comes, where the rule holds at each earlier place: what the orders have traded, and Before of the
--- earlier ones
+-- before the order at n comes, where the rule holds at each earlier place: what the orders have
+-- traded, and Before of the earlier ones
 pub record IsKept (orders : List Order) (deals : List Deal) (n : ℕ)
     (traded before : List ℕ) : Type 0 where
   pub conforms : (i : ℕ) → i < place_at orders n → ConformsAt orders deals i

@@ -1,5 +1,5 @@
 -- The orders that a record ends, and the books without them.
-use Rattle.std.specs.Prelude.{◌≡◌, ◌<◌, ◌≤◌, ℕ, zero, suc, Bool, ◌==◌, ◌&&◌, nat_le, List, [], ◌∷◌, ◌++◌, Option, None, Some, All, AllPairs, Contains, length, slice_index_or, if◌then◌else◌}
+use Rattle.std.specs.Prelude.{◌≡◌, ◌<◌, ◌≤◌, ◌+◌, ℕ, zero, suc, Bool, ◌==◌, ◌&&◌, nat_le, List, [], ◌∷◌, ◌++◌, Option, None, Some, All, AllPairs, Contains, length, slice_index_or, if◌then◌else◌}
 use Rattle.std.specs.Ordering.{nat_cmp, ordering_then}
 use Rattle.std.specs.declared.cmp.Ordering.{Ordering}
 use Rattle.audit_base.specs.declared.terms.Side.{Side}
@@ -52,29 +52,32 @@ place_in endings i = (slice_index_or endings i missing_ending).place
 abbrev pub index_in : List Ending → ℕ → ℕ
 index_in endings i = (slice_index_or endings i missing_ending).index
 
--- the books without an order
-abbrev pub books_without : Side → ℕ → ℕ → Books → Books
-books_without Buy index limit b = record b { bids = record b.bids { resting = without_order index limit b.bids.resting } }
-books_without Sell index limit b = record b { asks = record b.asks { resting = without_order index limit b.asks.resting } }
-
--- the books with one order more
-abbrev pub books_with : Side → Resting → Books → Books
-books_with Buy r b = record b { bids = record b.bids { resting = with_order b.bids.side r b.bids.resting } }
-books_with Sell r b = record b { asks = record b.asks { resting = with_order b.asks.side r b.asks.resting } }
+-- the list of a side
+abbrev pub list_of : Side → Books → List Resting
+list_of Buy b = b.bids.resting
+list_of Sell b = b.asks.resting
 
 -- the books with another list on one side
 abbrev pub with_list : Side → List Resting → Books → Books
 with_list Buy xs b = record b { bids = record b.bids { resting = xs } }
 with_list Sell xs b = record b { asks = record b.asks { resting = xs } }
 
--- the list of a side
-abbrev pub list_of : Side → Books → List Resting
-list_of Buy b = b.bids.resting
-list_of Sell b = b.asks.resting
+-- the books without an order
+abbrev pub books_without : Side → ℕ → ℕ → Books → Books
+books_without side index limit b = with_list side (without_order index limit (list_of side b)) b
+
+-- the books with one order more
+abbrev pub books_with : Side → Resting → Books → Books
+books_with Buy r b = record b { bids = record b.bids { resting = with_order b.bids.side r b.bids.resting } }
+books_with Sell r b = record b { asks = record b.asks { resting = with_order b.asks.side r b.asks.resting } }
 
 -- the books with what is left now of the best orders of a side
 abbrev pub with_fills : Side → List ℕ → Books → Books
 with_fills side left b = with_list side (after_fills (left_in left) (list_of side b)) b
+
+-- how many orders rest in both books
+abbrev pub resting_count : Books → ℕ
+resting_count b = length b.bids.resting + length b.asks.resting
 
 -- both books hold these amounts
 pub record BooksHold (orders : List Order) (amount : ℕ → ℕ) (b : Books) : Type 0 where

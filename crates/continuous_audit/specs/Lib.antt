@@ -5,6 +5,9 @@ pub mod Causes
 pub mod Chains
 pub mod DealFindings
 pub mod Endings
+pub mod Fills
 pub mod Holding
+pub mod Matching
+pub mod Pairs
 pub mod Progress
 pub mod Scans

@@ -1,5 +1,5 @@
 -- What is known before an order comes, and what of it after its deals.
-use Rattle.std.specs.Prelude.{◌≡◌, ◌<◌, ◌≤◌, ◌^◌, [], replicate, ℕ, zero, suc, Bool, false, ◌==◌, ◌&&◌, nat_lt, List, Option, None, Some, length, if◌then◌else◌}
+use Rattle.std.specs.Prelude.{All, ◌≡◌, ◌<◌, ◌≤◌, ◌^◌, [], replicate, ℕ, zero, suc, Bool, false, ◌==◌, ◌&&◌, nat_lt, List, Option, None, Some, length, if◌then◌else◌}
 use Rattle.audit_base.specs.declared.terms.Side.{Side}
 use Rattle.audit_base.specs.declared.terms.Side.TheVariants.{Buy, Sell}
 use Rattle.audit_base.specs.declared.terms.Which.TheVariants as which
@@ -10,7 +10,7 @@ use Rattle.audit_base.specs.declared.findings.Shown.TheVariants as shown
 use Rattle.audit_base.specs.declared.findings.Finding.{Finding}
 use Rattle.audit_base.specs.Orders.{place_at, side_at, other_side, is_rests, IsOrderList}
 use Rattle.audit_base.specs.Continuous.{traded_before, before_of, size_of, left_before, left_after, uncancelled_before}
-use Rattle.audit_base.specs.Deals.{IsDealList}
+use Rattle.audit_base.specs.Deals.{NamesOrders}
 use Rattle.audit_base.specs.ContinuousRules.{ConformsAt}
 use Rattle.audit_base.specs.Shows.{found, with_traded}
 use Rattle.audit_base.specs.Least.{least_answer}
@@ -112,16 +112,30 @@ abbrev pub HoldAfter : List Order → List Deal → ℕ → Books → Type 0
 HoldAfter orders deals n b = BooksHold orders
     (resting_left orders (traded_before orders deals) (suc (place_at orders n))) b
 
--- before the order at n comes, at place q
-pub record IsReady (orders : List Order) (deals : List Deal) (causes : List Cause)
-    (endings : List Ending) (n q : ℕ) (numbers : Numbers) (standing : Standing) : Type 0 where
-  pub calm : IsCalm orders deals q
+-- the numbers of the first n orders before place q, and where the deals of the later ones begin
+pub record AreNumbers (orders : List Order) (deals : List Deal) (causes : List Cause) (n q : ℕ)
+    (numbers : Numbers) : Type 0 where
   pub before : AreBefore orders deals n numbers.before.items
   pub closed : AreClosed orders n numbers.closed.items
   pub sizes : AreSizes orders deals n numbers.sizes.items
   pub left : AreLeft orders deals n q numbers.left.items
   pub running_total : AreRunningTotals orders deals causes numbers.at numbers.traded.items
   pub split : IsSplitAt causes n numbers.at
+
+-- before the order at n comes, at its own place; and after its deals
+abbrev pub AreNumbersFor : List Order → List Deal → List Cause → ℕ → Numbers → Type 0
+AreNumbersFor orders deals causes n numbers =
+    AreNumbers orders deals causes n (place_at orders n) numbers
+
+abbrev pub AreNumbersAfter : List Order → List Deal → List Cause → ℕ → Numbers → Type 0
+AreNumbersAfter orders deals causes n numbers =
+    AreNumbers orders deals causes (suc n) (suc (place_at orders n)) numbers
+
+-- before the order at n comes, at place q
+pub record IsReady (orders : List Order) (deals : List Deal) (causes : List Cause)
+    (endings : List Ending) (n q : ℕ) (numbers : Numbers) (standing : Standing) : Type 0 where
+  pub calm : IsCalm orders deals q
+  pub known : AreNumbers orders deals causes n q numbers
   pub books : BooksHold orders (resting_left orders (traded_before orders deals) q) standing.books
   pub dropped : AreDropped endings standing.start q
 
@@ -130,13 +144,8 @@ pub record IsAfterDeals (orders : List Order) (deals : List Deal) (causes : List
     (numbers : Numbers) (books : Books) : Type 0 where
   pub conserved : conservation_at orders deals n ≡ None
   pub ranked : priority_at orders deals n ≡ None
-  pub before : AreBefore orders deals (suc n) numbers.before.items
-  pub closed : AreClosed orders (suc n) numbers.closed.items
-  pub sizes : AreSizes orders deals (suc n) numbers.sizes.items
-  pub left : AreLeft orders deals (suc n) (suc (place_at orders n)) numbers.left.items
+  pub known : AreNumbersAfter orders deals causes n numbers
   pub traded : AreTraded orders deals (suc (place_at orders n)) numbers.traded.items
-  pub running_total : AreRunningTotals orders deals causes numbers.at numbers.traded.items
-  pub split : IsSplitAt causes (suc n) numbers.at
   pub holds : HoldAfterDeals orders deals n books
 
 -- before the order at n comes, at its own place; and after the order before it
@@ -163,7 +172,7 @@ pub record IsAtSpread (orders : List Order) (deals : List Deal) (n : ℕ)
 pub record IsEntering (orders : List Order) (deals : List Deal) (n own_left : ℕ)
     (b : Books) : Type 0 where
   pub list : IsOrderList orders
-  pub deal_list : IsDealList orders deals
+  pub named : All (NamesOrders orders) deals
   pub left_is : own_left ≡ left_after orders deals (place_at orders n) n
   pub holds : HoldWithoutOwn orders deals n b
 

@@ -4,7 +4,7 @@ use Rattle.audit_base.specs.declared.orders.Order.{Order}
 use Rattle.audit_base.specs.declared.orders.Deal.{Deal}
 use Rattle.audit_base.specs.Orders.{place_at}
 use Rattle.audit_base.specs.Deals.{names, deal_at}
-use Rattle.audit_base.specs.Continuous.{traded_before, traded_after, before_of, entered_of, size_of, left_before, left_after}
+use Rattle.audit_base.specs.Continuous.{traded_after, before_of, entered_of, size_of, left_before, left_after}
 use Rattle.continuous_audit.specs.declared.causes.Cause.{Cause}
 use Rattle.continuous_audit.specs.Causes.{running_total}
 
@@ -22,7 +22,8 @@ order_in causes i = (slice_index_or causes i missing_cause).order
 abbrev pub deal_in : List Cause → ℕ → ℕ
 deal_in causes i = (slice_index_or causes i missing_cause).deal
 
--- before the deals of the order at n: Before and Size of each order up to it, what is left of the earlier ones, and whether it entered
+-- before the deals of the order at n: Before and Size of each order up to it, what is left of the
+-- earlier ones, and whether it entered
 pub record IsKnown (orders : List Order) (deals : List Deal) (n : ℕ) (entered : Bool)
     (before sizes left : List ℕ) : Type 0 where
   pub before_count : length before ≡ length orders

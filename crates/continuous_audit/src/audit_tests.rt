@@ -2,6 +2,7 @@
 ghost use Rattle.std.specs.Prelude.{◌<◌, ◌^◌, length};
 
 use super::auditing::audit_continuous;
+use super::expecting::continuous_matching;
 use audit_base::findings::{Property, Shown};
 use audit_base::names::{Key, Name, read_name};
 use audit_base::numbers::{Price, Quantity, market_price};
@@ -142,14 +143,24 @@ fn trade_record(rt: &impl Abort, id: &str, trade: Trade<'_>) -> TradeRecord {
     }
 }
 
-/// What the audit of these logs answers.
-fn answer_to<R: AllocGlobal + Abort>(rt: &R, lines: &[Line<'_>], trades: &[Trade<'_>]) -> Outcome {
+/// The history of these lines.
+fn history_of<R: AllocGlobal + Abort>(rt: &R, lines: &[Line<'_>]) -> History {
     let symbol = name(rt, "Z");
     let mut entries = Vec::new(rt.alloc());
     for line in lines {
         entries.push(record(rt, *line)).expect(rt, "memory");
     }
     assert!(rt; entries.len() < 100);
+    let Ok(history) = History::build(rt.alloc(), &entries, &symbol) else {
+        panic!(rt; "no history");
+    };
+    history
+}
+
+/// What the audit of these logs answers.
+fn answer_to<R: AllocGlobal + Abort>(rt: &R, lines: &[Line<'_>], trades: &[Trade<'_>]) -> Outcome {
+    let symbol = name(rt, "Z");
+    let history = history_of(rt, lines);
     let mut reports = Vec::new(rt.alloc());
     for (trade, id) in trades.iter().zip(["T1", "T2", "T3", "T4", "T5"]) {
         reports
@@ -157,9 +168,6 @@ fn answer_to<R: AllocGlobal + Abort>(rt: &R, lines: &[Line<'_>], trades: &[Trade
             .expect(rt, "memory");
     }
     assert!(rt; reports.len() < 100);
-    let Ok(history) = History::build(rt.alloc(), &entries, &symbol) else {
-        panic!(rt; "no history");
-    };
     let Ok(deals) = resolve(rt.alloc(), &history, &reports, &symbol) else {
         panic!(rt; "no deals");
     };
@@ -167,6 +175,21 @@ fn answer_to<R: AllocGlobal + Abort>(rt: &R, lines: &[Line<'_>], trades: &[Trade
         Ok(outcome) => outcome,
         Err(_) => panic!(rt; "no memory"),
     }
+}
+
+/// The Expected trades of these lines: the index of the bid and of the ask, the quantity and the price.
+fn expected_of<R: AllocGlobal + Abort>(rt: &R, lines: &[Line<'_>]) -> Vec<Expected> {
+    let history = history_of(rt, lines);
+    let deals = continuous_matching(rt.alloc(), history.orders()).expect(rt, "memory");
+    let mut expected = Vec::new(rt.alloc());
+    for (deal, number) in deals.iter().zip(1u32..) {
+        assert_eq!(rt; deal.place, number);
+        let (quantity, price) = (deal.quantity.value(), deal.price.units());
+        expected
+            .push((deal.bid, deal.ask, quantity, price))
+            .expect(rt, "memory");
+    }
+    expected
 }
 
 /// An order that is shown, by its place and its traded number.
@@ -568,6 +591,55 @@ const CHAIN: [Line<'static>; 8] = [
     Replace("r3", "r2", 10, 10),
     Bid("b4", 9, 10),
 ];
+
+/// An expected trade: the index of the bid and of the ask, the quantity and the price.
+type Expected = (usize, usize, u64, u64);
+
+#[test]
+fn expected_trades(rt: HostRuntime) {
+    let rows: [(&str, &[Line<'_>], &[Expected]); 4] = [
+        (
+            "crossed book",
+            &[
+                Ask("s1", 5, 12),
+                Bid("b1", 5, 9),
+                Ask("s2", 5, 11),
+                Bid("b2", 5, 11),
+            ],
+            &[(3, 2, 5, 11)],
+        ),
+        (
+            "best first, at the limits of those that rest",
+            &[
+                Ask("s1", 2, 10),
+                Ask("s2", 3, 9),
+                Ask("s3", 4, 10),
+                Bid("b1", 7, 10),
+                MarketBid("m1", 9),
+            ],
+            &[(3, 0, 2, 10), (3, 1, 3, 9), (3, 2, 2, 10), (4, 2, 2, 10)],
+        ),
+        (
+            "a chain of three replacements",
+            &CHAIN,
+            &[(1, 0, 2, 10), (3, 2, 3, 11), (5, 4, 1, 12), (7, 6, 4, 10)],
+        ),
+        (
+            "an immediate order, and one that is cancelled",
+            &[
+                ImmediateBid("i1", 5, 10),
+                Ask("s1", 5, 9),
+                Cancel("x1", "s1"),
+                Bid("b1", 5, 9),
+            ],
+            &[],
+        ),
+    ];
+    for (name, lines, wanted) in rows {
+        let expected = expected_of(&rt, lines);
+        assert_eq!(rt; expected.as_slice(), wanted, "{name}");
+    }
+}
 
 #[test]
 fn what_each_order_traded(rt: HostRuntime) {

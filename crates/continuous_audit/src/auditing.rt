@@ -23,33 +23,24 @@ use order_book::books::Book;
 use std::alloc::Global;
 
 /// A zero for each order.
-fn zero_totals(alloc: Global, count: usize) -> Result<Vec<u128>, NoMemory>
+pub fn zero_totals(alloc: Global, count: usize) -> Result<Vec<u128>, NoMemory>
     ensures { IfOk result (λ totals. totals.items ≡ replicate count 0) }
 {
-    match vec![in alloc; 0u128; count] {
-        Ok(totals) => Ok(totals),
-        Err(_) => Err(NoMemory),
-    }
+    Ok(vec![in alloc; 0u128; count]?)
 }
 
 /// A zero for each order.
-fn zero_amounts(alloc: Global, count: usize) -> Result<Vec<u64>, NoMemory>
+pub fn zero_amounts(alloc: Global, count: usize) -> Result<Vec<u64>, NoMemory>
     ensures { IfOk result (λ amounts. amounts.items ≡ replicate count 0) }
 {
-    match vec![in alloc; 0u64; count] {
-        Ok(amounts) => Ok(amounts),
-        Err(_) => Err(NoMemory),
-    }
+    Ok(vec![in alloc; 0u64; count]?)
 }
 
 /// A flag for each order, not set.
-fn no_flags(alloc: Global, count: usize) -> Result<Vec<bool>, NoMemory>
+pub fn no_flags(alloc: Global, count: usize) -> Result<Vec<bool>, NoMemory>
     ensures { IfOk result (λ flags. flags.items ≡ replicate count false) }
 {
-    match vec![in alloc; false; count] {
-        Ok(flags) => Ok(flags),
-        Err(_) => Err(NoMemory),
-    }
+    Ok(vec![in alloc; false; count]?)
 }
 
 /// The numbers before the first order of so many.
@@ -73,7 +64,7 @@ fn no_numbers(alloc: Global, count: usize) -> Result<Numbers, NoMemory>
 }
 
 /// Empty books, before the first order.
-fn empty_books(alloc: Global) -> Standing
+pub fn empty_books(alloc: Global) -> Standing
     ensures { AreEmptyBooks result }
 {
     Standing {

@@ -34,13 +34,13 @@ fn collect_causes(alloc: Global, orders: &[Order], deals: &[Deal]) -> Result<Vec
     ensures { IfOk result (λ causes.
         causes.items ≡ causes_upto orders.now deals.now (length deals.now)) }
 {
-    let mut causes = Vec::with_capacity(alloc, deals.len()).map_err(|_| NoMemory)?;
+    let mut causes = Vec::with_capacity(alloc, deals.len())?;
     for (index, deal) in deals.iter().enumerate() {
         let cause = Cause {
             order: incoming(orders, deal),
             deal: index,
         };
-        causes.push(cause).map_err(|_| NoMemory)?;
+        causes.push(cause)?;
     }
     Ok(causes)
 }
@@ -53,8 +53,6 @@ pub fn sort_causes(alloc: Global, orders: &[Order], deals: &[Deal]) -> Result<Ve
     ensures sorted { IfOk result (λ causes. IsSorted cause_cmp causes.items) }
 {
     let mut causes = collect_causes(alloc, orders, deals)?;
-    match causes.sort() {
-        Ok(()) => Ok(causes),
-        Err(_) => Err(NoMemory),
-    }
+    causes.sort()?;
+    Ok(causes)
 }

@@ -7,17 +7,6 @@ ghost use Rattle.continuous_audit.specs.DealFindings as by_deal;
 
 use audit_base::findings::{Finding, OrderLine, Property, Shown};
 use audit_base::orders::{Deal, Order};
-use audit_base::terms::Life;
-
-/// Whether the life of an order lets it rest.
-fn is_rests(life: Life) -> bool
-    ensures { result ≡ by_deal.is_rests life }
-{
-    match life {
-        Life::Rests => true,
-        Life::Immediate | Life::Market => false,
-    }
-}
 
 /// Whether no record before a place ends the order.
 fn is_uncancelled(cancelled: Option<u32>, place: u32) -> bool
@@ -33,7 +22,7 @@ fn is_uncancelled(cancelled: Option<u32>, place: u32) -> bool
 pub fn waits(order: &Order, place: u32, left: u64) -> bool
     ensures { result ≡ by_deal.waits order.now place left }
 {
-    is_rests(order.life) && is_uncancelled(order.cancelled, place) && left > 0
+    order.life.rests() && is_uncancelled(order.cancelled, place) && left > 0
 }
 
 /// The resting order doesn't rest, or else the incoming one never entered.
@@ -105,6 +94,19 @@ fn deal_finding(
     overfilled_at(Property::SellQuantity, deal, ask_over, ask)
 }
 
+/// What is known of one of a deal's orders.
+#[derive(Clone, Copy, Debug)]
+pub struct Account {
+    /// What it has traded up to the deal.
+    pub traded: u128,
+    /// Its Before.
+    pub before: u128,
+    /// Its Size.
+    pub size: u64,
+    /// What was left of it before the record.
+    pub left: u64,
+}
+
 /// The first finding of a deal, from what its orders have traded and had left before the record.
 pub fn check_deal(
     deal: &Deal,
@@ -112,32 +114,26 @@ pub fn check_deal(
     ask: &Order,
     place: u32,
     entered: bool,
-    bid_traded: u128,
-    ask_traded: u128,
-    bid_before: u128,
-    ask_before: u128,
-    bid_size: u64,
-    ask_size: u64,
-    bid_left: u64,
-    ask_left: u64,
+    own_bid: Account,
+    own_ask: Account,
 ) -> Option<Finding>
-    requires bid_fits { bid_traded + bid_before < 2 ^ 128 }
-    requires ask_fits { ask_traded + ask_before < 2 ^ 128 }
-    ensures { result ≡ by_deal.check_deal deal.now bid.now ask.now place entered bid_traded
-        ask_traded
-        bid_before ask_before bid_size ask_size bid_left ask_left }
+    requires bid_fits { own_bid.traded + own_bid.before < 2 ^ 128 }
+    requires ask_fits { own_ask.traded + own_ask.before < 2 ^ 128 }
+    ensures { result ≡ by_deal.check_deal deal.now bid.now ask.now place entered
+        own_bid.traded own_ask.traded own_bid.before own_ask.before
+        own_bid.size own_ask.size own_bid.left own_ask.left }
 {
-    let bid_line = OrderLine::of(bid, bid_traded + bid_before);
-    let ask_line = OrderLine::of(ask, ask_traded + ask_before);
-    let bid_over = (bid_size as u128) < bid_traded;
-    let ask_over = (ask_size as u128) < ask_traded;
+    let bid_line = OrderLine::of(bid, own_bid.traded + own_bid.before);
+    let ask_line = OrderLine::of(ask, own_ask.traded + own_ask.before);
+    let bid_over = (own_bid.size as u128) < own_bid.traded;
+    let ask_over = (own_ask.size as u128) < own_ask.traded;
     if bid.place < ask.place {
-        let rests = waits(bid, place, bid_left);
+        let rests = waits(bid, place, own_bid.left);
         deal_finding(
             deal, rests, entered, &bid_line, &ask_line, &bid_line, &ask_line, bid_over, ask_over,
         )
     } else {
-        let rests = waits(ask, place, ask_left);
+        let rests = waits(ask, place, own_ask.left);
         deal_finding(
             deal, rests, entered, &ask_line, &bid_line, &bid_line, &ask_line, bid_over, ask_over,
         )

@@ -1,6 +1,6 @@
 //! What the deals of a record do to the books.
 ghost use Rattle.std.specs.Prelude.{◌≡◌, ◌<◌, ◌≤◌, ◌+◌, ◌^◌, ℕ, All, None, length};
-ghost use Rattle.audit_base.specs.Orders.{IsOrderList, other_side};
+ghost use Rattle.audit_base.specs.Orders.{IsOrderList};
 ghost use Rattle.audit_base.specs.Deals.{IsDealList};
 ghost use Rattle.order_book.specs.Books.{first};
 ghost use Rattle.continuous_audit.specs.Causes.{AreCauses};
@@ -17,16 +17,6 @@ use audit_base::findings::Finding;
 use audit_base::orders::{Deal, Order};
 use audit_base::terms::Side;
 use order_book::books::Resting;
-
-/// The other side.
-pub fn other(side: Side) -> Side
-    ensures { result ≡ other_side side }
-{
-    match side {
-        Side::Buy => Side::Sell,
-        Side::Sell => Side::Buy,
-    }
-}
 
 /// Settles the book of a side.
 fn fill_side(books: &mut Books, side: Side, left: &[u64])
@@ -84,7 +74,7 @@ pub fn pass_deals(
     ensures finding { result ≡ priority_at orders.now deals.now order }
     ensures holds { result ≡ None → HoldAfterDeals orders.now deals.now order books.new }
 {
-    let side = other(orders[order].side);
+    let side = orders[order].side.other();
     fill_side(books, side, left);
     match best_of(books, side) {
         Some(best) => check_priority(

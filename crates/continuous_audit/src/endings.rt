@@ -1,8 +1,8 @@
 //! The orders that a record ends, by the place of this record, and the books without them.
-ghost use Rattle.std.specs.Prelude.{◌≡◌, ◌≢◌, ◌<◌, ◌≤◌, ◌++◌, ℕ, OnOk, OnErr, IfOk, All, length, IsPermutation, IsSorted, slice_index};
+ghost use Rattle.std.specs.Prelude.{◌≡◌, ◌≢◌, ◌<◌, ◌≤◌, ◌+◌, ◌++◌, ℕ, OnOk, OnErr, IfOk, All, length, IsPermutation, IsSorted, slice_index};
 ghost use Rattle.audit_base.specs.Orders.{side_at, limit_at};
 ghost use Rattle.continuous_audit.specs.Endings.{endings_upto, endings_of, ending_cmp, books_without};
-ghost use Rattle.continuous_audit.specs.Endings.{books_with, BooksHold, IsEnding, amount_without, place_in, index_in};
+ghost use Rattle.continuous_audit.specs.Endings.{books_with, BooksHold, IsEnding, amount_without, place_in, index_in, resting_count};
 
 use audit_base::faults::NoMemory;
 use audit_base::numbers::Price;
@@ -30,7 +30,10 @@ fn add_ending(endings: &mut Vec<Ending>, index: usize, order: &Order) -> Result<
     ensures { OnOk result (endings.new.items ≡ endings.old.items ++ endings_of index order.now) }
 {
     match order.cancelled {
-        Some(place) => endings.push(Ending { place, index }).map_err(|_| NoMemory),
+        Some(place) => {
+            endings.push(Ending { place, index })?;
+            Ok(())
+        }
         None => Ok(()),
     }
 }
@@ -39,7 +42,7 @@ fn add_ending(endings: &mut Vec<Ending>, index: usize, order: &Order) -> Result<
 fn collect_endings(alloc: Global, orders: &[Order]) -> Result<Vec<Ending>, NoMemory>
     ensures { IfOk result (λ endings. endings.items ≡ endings_upto orders.now (length orders.now)) }
 {
-    let mut endings = Vec::with_capacity(alloc, orders.len()).map_err(|_| NoMemory)?;
+    let mut endings = Vec::with_capacity(alloc, orders.len())?;
     for (index, order) in orders.iter().enumerate() {
         add_ending(&mut endings, index, order)?;
     }
@@ -53,10 +56,8 @@ pub fn sort_endings(alloc: Global, orders: &[Order]) -> Result<Vec<Ending>, NoMe
     ensures sorted { IfOk result (λ endings. IsSorted ending_cmp endings.items) }
 {
     let mut endings = collect_endings(alloc, orders)?;
-    match endings.sort() {
-        Ok(()) => Ok(endings),
-        Err(_) => Err(NoMemory),
-    }
+    endings.sort()?;
+    Ok(endings)
 }
 
 /// Takes an order out of the book of its side.
@@ -88,6 +89,7 @@ pub fn enter_order(
         (books.new ≡ books_with side (record { index = index; limit = limit; left = left })
         books.old) }
     ensures err { OnErr result (books.new ≡ books.old) }
+    ensures more { OnOk result (resting_count books.new ≡ resting_count books.old + 1) }
 {
     match side {
         Side::Buy => books.bids.add(index, limit, left),
@@ -112,6 +114,7 @@ pub fn drop_endings(
     ensures next { result < length endings.now → upto ≤ place_in endings.now result }
     ensures holds { (amount : ℕ → ℕ) → BooksHold orders.now amount books.old
         → BooksHold orders.now (amount_without endings.now from result amount) books.new }
+    ensures fewer { resting_count books.new ≤ resting_count books.old }
 {
     let mut at = from;
     while at < endings.len() {

@@ -37,7 +37,8 @@ fn target_rests(orders: &[Order], left: &[u64], order: &Order) -> bool
 
 /// What is left of a quantity of which so much is taken, and 0 where the order didn't enter.
 fn size_left(entered: bool, quantity: Quantity, before: u128) -> u64
-    ensures { result ≡ size_left entered quantity before }
+    ensures same { result ≡ size_left entered quantity before }
+    ensures most { result ≤ 10 ^ 12 }
 {
     let quantity = quantity.value();
     if entered && before < quantity as u128 {
@@ -79,6 +80,7 @@ pub fn open_order(
         → IsOpened orders.now deals order result.entered result.before result.size }
     ensures bounded { result.before ≤ order * 2 ^ 72 }
     ensures closed { result.closed ≡ true → IsClosed orders.now order }
+    ensures most { result.size ≤ 10 ^ 12 }
 {
     let before = chain_before(orders, traded, before, closed, order);
     let opened = &orders[order];

@@ -4,11 +4,10 @@ ghost use Rattle.audit_base.specs.Orders.{IsOrderList, place_at};
 ghost use Rattle.audit_base.specs.Deals.{IsDealList};
 ghost use Rattle.audit_base.specs.ContinuousOffences.{finding_at_place, IsContinuousOffence};
 ghost use Rattle.continuous_audit.specs.Causes.{AreCauses};
-ghost use Rattle.continuous_audit.specs.Scans.{number_in, AreRunningTotals, IsSplitAt};
-ghost use Rattle.continuous_audit.specs.Progress.{AreBefore, AreSizes, AreLeft, HoldBefore, IsAfterDeals};
+ghost use Rattle.continuous_audit.specs.Scans.{number_in};
+ghost use Rattle.continuous_audit.specs.Progress.{AreNumbersAfter, AreNumbersFor, HoldBefore, IsAfterDeals};
 ghost use Rattle.continuous_audit.specs.Progress.{ConformsBelow, IsReadyFor, IsReadyNext, conservation_at, ready_place};
-ghost use Rattle.continuous_audit.specs.Chains.{AreClosed};
-ghost use Rattle.continuous_audit.specs.Endings.{AreEndings, BooksHold, IsEnding, place_in, amount_without};
+ghost use Rattle.continuous_audit.specs.Endings.{AreEndings, BooksHold, IsEnding, place_in, amount_without, resting_count};
 ghost use Rattle.audit_base.specs.declared.findings.Finding.{Finding as AFinding};
 
 use super::causes::Cause;
@@ -45,7 +44,7 @@ pub struct Standing {
 }
 
 /// Sets the number of an order.
-fn set_total(numbers: &mut Vec<u128>, order: usize, number: u128)
+pub fn set_total(numbers: &mut Vec<u128>, order: usize, number: u128)
     requires { order < vec_len numbers.old }
     ensures { numbers.new.items ≡ slice_set numbers.old.items order number }
 {
@@ -53,7 +52,7 @@ fn set_total(numbers: &mut Vec<u128>, order: usize, number: u128)
 }
 
 /// Sets the quantity of an order.
-fn set_amount(numbers: &mut Vec<u64>, order: usize, number: u64)
+pub fn set_amount(numbers: &mut Vec<u64>, order: usize, number: u64)
     requires { order < vec_len numbers.old }
     ensures { numbers.new.items ≡ slice_set numbers.old.items order number }
 {
@@ -61,7 +60,7 @@ fn set_amount(numbers: &mut Vec<u64>, order: usize, number: u64)
 }
 
 /// Sets the flag of an order.
-fn set_flag(flags: &mut Vec<bool>, order: usize, flag: bool)
+pub fn set_flag(flags: &mut Vec<bool>, order: usize, flag: bool)
     requires { order < vec_len flags.old }
     ensures { flags.new.items ≡ slice_set flags.old.items order flag }
 {
@@ -90,28 +89,12 @@ pub fn deal_order(
     requires causes { AreCauses orders.now deals.now causes.now }
     requires order { order < length orders.now }
     requires conforms { ConformsBelow orders.now deals.now (place_at orders.now order) }
-    requires before { AreBefore orders.now deals.now order numbers.old.before.items }
-    requires closed { AreClosed orders.now order numbers.old.closed.items }
-    requires sizes { AreSizes orders.now deals.now order numbers.old.sizes.items }
-    requires left { AreLeft orders.now deals.now order (place_at orders.now order)
-        numbers.old.left.items }
-    requires running_total { AreRunningTotals orders.now deals.now causes.now numbers.old.at
-        numbers.old.traded.items }
-    requires split { IsSplitAt causes.now order numbers.old.at }
+    requires known { AreNumbersFor orders.now deals.now causes.now order numbers.old }
     ensures finding { result ≡ conservation_at orders.now deals.now order }
     ensures start { numbers.new.start ≡ numbers.old.at }
     ensures from { result ≡ None → numbers.new.start ≤ numbers.new.at }
-    ensures before { result ≡ None
-        → AreBefore orders.now deals.now (suc order) numbers.new.before.items }
-    ensures closed { result ≡ None → AreClosed orders.now (suc order) numbers.new.closed.items }
-    ensures sizes { result ≡ None
-        → AreSizes orders.now deals.now (suc order) numbers.new.sizes.items }
-    ensures left { result ≡ None
-        → AreLeft orders.now deals.now (suc order) (suc (place_at orders.now order))
-        numbers.new.left.items }
-    ensures running_total { result ≡ None
-        → AreRunningTotals orders.now deals.now causes.now numbers.new.at numbers.new.traded.items }
-    ensures split { result ≡ None → IsSplitAt causes.now (order + 1) numbers.new.at }
+    ensures known { result ≡ None
+        → AreNumbersAfter orders.now deals.now causes.now order numbers.new }
 {
     let opening = open_order(
         orders,
@@ -171,14 +154,7 @@ fn trade(
     requires causes { AreCauses orders.now deals.now causes.now }
     requires order { order < length orders.now }
     requires conforms { ConformsBelow orders.now deals.now (place_at orders.now order) }
-    requires before { AreBefore orders.now deals.now order numbers.old.before.items }
-    requires closed { AreClosed orders.now order numbers.old.closed.items }
-    requires sizes { AreSizes orders.now deals.now order numbers.old.sizes.items }
-    requires left { AreLeft orders.now deals.now order (place_at orders.now order)
-        numbers.old.left.items }
-    requires running_total { AreRunningTotals orders.now deals.now causes.now numbers.old.at
-        numbers.old.traded.items }
-    requires split { IsSplitAt causes.now order numbers.old.at }
+    requires known { AreNumbersFor orders.now deals.now causes.now order numbers.old }
     requires books { HoldBefore orders.now deals.now order books.old }
     ensures found { (finding : AFinding) → result ≡ Some finding
         → finding_at_place orders.now deals.now (place_at orders.now order) ≡ Some finding }
@@ -203,7 +179,7 @@ fn trade(
 }
 
 /// Takes out of the books what records before a place end.
-fn drop_upto(orders: &[Order], endings: &[Ending], standing: &mut Standing, upto: u64)
+pub fn drop_upto(orders: &[Order], endings: &[Ending], standing: &mut Standing, upto: u64)
     requires inside { All (IsEnding orders.now) endings.now }
     requires from { standing.old.start ≤ length endings.now }
     ensures from { standing.old.start ≤ standing.new.start }
@@ -213,7 +189,10 @@ fn drop_upto(orders: &[Order], endings: &[Ending], standing: &mut Standing, upto
     ensures next { standing.new.start < length endings.now
         → upto ≤ place_in endings.now standing.new.start }
     ensures holds { (amount : ℕ → ℕ) → BooksHold orders.now amount standing.old.books
-        → BooksHold orders.now (amount_without endings.now standing.old.start standing.new.start amount) standing.new.books }
+        → BooksHold orders.now
+        (amount_without endings.now standing.old.start standing.new.start amount)
+        standing.new.books }
+    ensures fewer { resting_count standing.new.books ≤ resting_count standing.old.books }
 {
     let start = standing.start;
     let next = drop_endings(&mut standing.books, orders, endings, start, upto);
@@ -221,7 +200,7 @@ fn drop_upto(orders: &[Order], endings: &[Ending], standing: &mut Standing, upto
 }
 
 /// The place of the order after the one at `order`, or one past its place if it is the last.
-fn next_place(orders: &[Order], order: usize) -> u64
+pub fn next_place(orders: &[Order], order: usize) -> u64
     requires { order < length orders.now }
     ensures { result ≡ ready_place orders.now (suc order) }
 {

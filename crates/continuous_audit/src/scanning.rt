@@ -8,7 +8,7 @@ ghost use Rattle.continuous_audit.specs.Causes.{AreCauses};
 ghost use Rattle.continuous_audit.specs.Scans.{AreRunningTotals, IsKnown, IsSplitAt, with_deal};
 
 use super::causes::Cause;
-use super::checking::check_deal;
+use super::checking::{Account, check_deal};
 use audit_base::findings::Finding;
 use audit_base::orders::{Deal, Order};
 
@@ -73,21 +73,20 @@ pub fn check_deals(
         let (bid_before, ask_before) = (before[deal.bid], before[deal.ask]);
         let (bid_size, ask_size) = (sizes[deal.bid], sizes[deal.ask]);
         let (bid_left, ask_left) = (left[deal.bid], left[deal.ask]);
-        if let Some(finding) = check_deal(
-            deal,
-            &orders[deal.bid],
-            &orders[deal.ask],
-            place,
-            entered,
-            bid_traded,
-            ask_traded,
-            bid_before,
-            ask_before,
-            bid_size,
-            ask_size,
-            bid_left,
-            ask_left,
-        ) {
+        let bid = Account {
+            traded: bid_traded,
+            before: bid_before,
+            size: bid_size,
+            left: bid_left,
+        };
+        let ask = Account {
+            traded: ask_traded,
+            before: ask_before,
+            size: ask_size,
+            left: ask_left,
+        };
+        let (bid_order, ask_order) = (&orders[deal.bid], &orders[deal.ask]);
+        if let Some(finding) = check_deal(deal, bid_order, ask_order, place, entered, bid, ask) {
             return Err(finding);
         }
         at += 1;

@@ -1,5 +1,5 @@
 //! Whether the order of a record meets one that rests, and its way into the book.
-ghost use Rattle.std.specs.Prelude.{◌≡◌, ◌<◌, ◌≤◌, ◌^◌, ℕ, suc, ◌&&◌, List, Some, All, OnOk, length};
+ghost use Rattle.std.specs.Prelude.{◌≡◌, ◌<◌, ◌≤◌, ◌+◌, ◌^◌, ℕ, min, suc, ◌&&◌, List, Some, All, OnOk, length};
 ghost use Rattle.audit_base.specs.declared.terms.Which.TheVariants as which;
 ghost use Rattle.audit_base.specs.declared.findings.Property.TheVariants as property;
 ghost use Rattle.audit_base.specs.declared.findings.Shown.TheVariants as shown;
@@ -8,17 +8,18 @@ ghost use Rattle.audit_base.specs.declared.orders.Deal.{Deal as ADeal};
 ghost use Rattle.audit_base.specs.Orders.{IsOrderList, place_at};
 ghost use Rattle.audit_base.specs.Expected.{limits_meet};
 ghost use Rattle.audit_base.specs.ContinuousOffences.{spread_finding};
+ghost use Rattle.continuous_audit.specs.Endings.{resting_count};
 ghost use Rattle.continuous_audit.specs.Scans.{AreSmall, number_in};
 ghost use Rattle.continuous_audit.specs.Progress as progress;
 
-use super::dealing::{best_of, other};
+use super::dealing::best_of;
 use super::endings::{Books, enter_order};
 use super::passing::shown_of;
 use audit_base::faults::NoMemory;
 use audit_base::findings::{Finding, OrderLine, Property, Shown};
 use audit_base::numbers::Price;
 use audit_base::orders::Order;
-use audit_base::terms::{Life, Side, Which};
+use audit_base::terms::{Side, Which};
 use order_book::books::Resting;
 
 /// Whether an order is active after its own record, where so much is left of it.
@@ -36,14 +37,11 @@ fn is_active(order: &Order, left: u64) -> bool
 fn stays(order: &Order, left: u64) -> bool
     ensures { result ≡ progress.stays_with order.now left }
 {
-    match order.life {
-        Life::Rests => is_active(order, left),
-        Life::Immediate | Life::Market => false,
-    }
+    order.life.rests() && is_active(order, left)
 }
 
 /// Whether a limit of a side meets one of the other side.
-fn limits_meet(side: Side, limit: Price, other: Price) -> bool
+pub fn limits_meet(side: Side, limit: Price, other: Price) -> bool
     ensures { result ≡ limits_meet side limit other }
 {
     match side {
@@ -110,7 +108,7 @@ pub fn spread_of(
         → result ≡ spread_finding orders.now deals (place_at orders.now order) }
 {
     let own = &orders[order];
-    match best_of(books, other(own.side)) {
+    match best_of(books, own.side.other()) {
         Some(best) => {
             if !meets(own, left[order], best.limit) {
                 return None;
@@ -133,9 +131,10 @@ pub fn enter_own(
     requires order { order < length orders.now }
     requires bids { All (λ r. r.index < order) books.old.bids.resting }
     requires asks { All (λ r. r.index < order) books.old.asks.resting }
-    ensures { OnOk result ((deals : List ADeal)
+    ensures entered { OnOk result ((deals : List ADeal)
         → progress.IsEntering orders.now deals order left books.old
         → progress.HoldAfter orders.now deals order books.new) }
+    ensures more { OnOk result (resting_count books.new ≤ resting_count books.old + min 1 left) }
 {
     let own = &orders[order];
     if stays(own, left) {

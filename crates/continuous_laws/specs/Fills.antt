@@ -10,8 +10,8 @@ pub record IsRanking (count : ℕ) (better : ℕ → ℕ → Bool) : Type 0 wher
   pub total : (i j : ℕ) → i < count → j < count → (i ≡ j → ⊥)
       → (better i j ≡ true) ⊎ (better j i ≡ true)
 
--- numbers within what is left, together at most the size; better ones are whole before worse ones get any; and the size is
--- used up, or all are whole
+-- numbers within what is left, together at most the size; better ones are whole before worse ones get
+-- any; and the size is used up, or all are whole
 pub record IsFill (count : ℕ) (better : ℕ → ℕ → Bool) (left : ℕ → ℕ) (size : ℕ)
     (number : ℕ → ℕ) : Type 0 where
   pub within : (i : ℕ) → i < count → number i ≤ left i

@@ -31,7 +31,8 @@ pub struct Book {
 /// Puts an order in the place of the one that has its rank.
 fn put(orders: &mut BTreeMap<Rank, Resting>, rank: Rank, order: Resting)
     requires { IsSome (get ⟦<Rank as Ord>⟧.cmp orders.old rank) }
-    ensures { orders.new.entries ≡ set_value (is_at (⟦<Rank as Ord>⟧.cmp rank)) orders.old.entries order }
+    ensures { orders.new.entries
+        ≡ set_value (is_at (⟦<Rank as Ord>⟧.cmp rank)) orders.old.entries order }
 {
     if let Some(held) = orders.get_mut(&rank) {
         *held = order;
@@ -80,7 +81,8 @@ impl Book {
     /// Takes out the order with this index and limit. True exactly where it was there.
     pub fn cancel(&mut self, index: usize, limit: Price) -> bool
         ensures there { result ≡ list_any (is_pair index limit) self.old.resting }
-        ensures gone { self.new ≡ record self.old { resting = without_order index limit self.old.resting } }
+        ensures gone { self.new
+            ≡ record self.old { resting = without_order index limit self.old.resting } }
     {
         let rank = Rank::of(self.side, index, limit);
         self.orders.remove(&rank).is_some()

@@ -1,7 +1,7 @@
 use Rattle.std.proofs.Common.{◌<◌, ℕ, inl, inr, subst, sym, arith}
 use Rattle.std.proofs.lemmas.Bool.{cases_eq}
 use Rattle.continuous_audit.specs.Endings.{place_in, missing_ending}
-use Rattle.continuous_audit.proofs.EndingLemmas.{standing-first, standing-read}
+use Rattle.continuous_audit.proofs.EndingLemmas.{standing-first, standing-read, fewer-read}
 use Rattle.continuous_audit.proofs.endings.drop_endings.Goals as goal
 
 pub loop-at-init : goal.loop-at-init
@@ -10,6 +10,7 @@ loop-at-init c = record {
   inside = c.requires.from;
   before = λ i le lt. absurd (omega arith);
   holds = λ amount h. standing-first c.args.orders.now c.args.endings.now c.args.from amount c.args.books.now h;
+  fewer = omega arith;
 }
 
 pub loop-at-preserved : goal.loop-at-preserved
@@ -23,4 +24,8 @@ loop-at-preserved c = record {
   holds = λ amount h.
       let inside = (c.requires.inside c.loop-at.at missing_ending c.loop-at-test.true).inside in
       standing-read c.args.orders.now c.args.endings.now c.args.from c.loop-at.at amount c.loop-at.books c.drop_order.new.books c.index-orders-ending.result c.loop-at.invariant.from inside c.index-orders-ending.is c.drop_order.ensures (c.loop-at.invariant.holds amount h);
+  fewer =
+      let less = fewer-read _ _ _ c.loop-at.books c.drop_order.new.books c.drop_order.ensures in
+      let before = c.loop-at.invariant.fewer in
+      omega arith;
 }

@@ -79,8 +79,8 @@ returns-in-Some-spread_of-clause-found c =
     c.drop_upto.ensures.before c.drop_upto.ensures.inside c.drop_upto.ensures.next c.drop_upto.new.standing.books (c.drop_upto.ensures.holds (resting_left_after orders deals (place_at orders n)) after_deals.holds) in
     let is = c.spread_of.ensures deals (record {
       traded_is = subst (AreTraded orders deals (suc (place_at orders n))) (sym c.deref.ensures.value) after_deals.traded;
-      before_is = subst (AreBefore orders deals (suc n)) (sym c.deref-2.ensures.value) after_deals.before;
-      left_is = subst (AreLeft orders deals (suc n) (suc (place_at orders n))) (sym c.deref-3.ensures.value) after_deals.left;
+      before_is = subst (AreBefore orders deals (suc n)) (sym c.deref-2.ensures.value) after_deals.known.before;
+      left_is = subst (AreLeft orders deals (suc n) (suc (place_at orders n))) (sym c.deref-3.ensures.value) after_deals.known.left;
       holds = others;
       apart = c.requires.ready.calm.apart;
     }) in
@@ -101,13 +101,13 @@ returns-clause-ready c =
     c.drop_upto.ensures.before c.drop_upto.ensures.inside c.drop_upto.ensures.next c.drop_upto.new.standing.books (c.drop_upto.ensures.holds (resting_left_after orders deals (place_at orders n)) after_deals.holds) in
     let is = c.spread_of.ensures deals (record {
       traded_is = subst (AreTraded orders deals (suc (place_at orders n))) (sym c.deref.ensures.value) after_deals.traded;
-      before_is = subst (AreBefore orders deals (suc n)) (sym c.deref-2.ensures.value) after_deals.before;
-      left_is = subst (AreLeft orders deals (suc n) (suc (place_at orders n))) (sym c.deref-3.ensures.value) after_deals.left;
+      before_is = subst (AreBefore orders deals (suc n)) (sym c.deref-2.ensures.value) after_deals.known.before;
+      left_is = subst (AreLeft orders deals (suc n) (suc (place_at orders n))) (sym c.deref-3.ensures.value) after_deals.known.left;
       holds = others;
       apart = c.requires.ready.calm.apart;
     }) in
     let spread_none : spread_finding orders deals (place_at orders n) ≡ None = sym is ∙ elim (cases_Option c.spread_of.result) [ inl e ↦ e | inr some ↦ absurd (c.in_default-spread_of.not-Some some.0 some.1) ] in
-    let entered = c.in_ok-enter_own.ensures deals (record { list = c.requires.list; deal_list = c.requires.deal_list; left_is = c.own_left-left.ensures ∙ after_deals.left.is n (omega arith); holds = others }) in
+    let entered = c.in_ok-enter_own.ensures.entered deals (record { list = c.requires.list; named = c.requires.deal_list.named; left_is = c.own_left-left.ensures ∙ after_deals.known.left.is n (omega arith); holds = others }) in
     let old = dropped-more c.args.endings.now c.args.standing.now.start c.drop_upto.new.standing.start (place_at orders n) (suc (place_at orders n)) c.requires.ready.dropped (omega arith) c.drop_upto.ensures.inside (λ i le lt. let l = c.drop_upto.ensures.before i le lt in omega arith) in
     let above = next-above orders c.requires.list deals c.requires.deal_list.named n c.requires.order in
     let next = next-first orders c.requires.list deals c.requires.deal_list.named n c.requires.order in
@@ -115,12 +115,14 @@ returns-clause-ready c =
       calm = calm-next orders c.requires.list deals c.requires.deal_list.named n c.requires.order _ above next c.requires.ready.calm
           (none-shown orders deals (place_at orders n) after_deals.conserved after_deals.ranked spread_none)
           (quiet-apart orders c.requires.list deals n c.requires.order c.drop_upto.new.standing.books others c.requires.ready.calm.apart spread_none);
-      before = after_deals.before;
-      closed = after_deals.closed;
-      sizes = after_deals.sizes;
-      left = left-next orders c.requires.list deals c.requires.deal_list.named n c.requires.order c.trade.new.numbers.left.items after_deals.left;
-      running_total = after_deals.running_total;
-      split = after_deals.split;
+      known = record {
+        before = after_deals.known.before;
+        closed = after_deals.known.closed;
+        sizes = after_deals.known.sizes;
+        left = left-next orders c.requires.list deals c.requires.deal_list.named n c.requires.order c.trade.new.numbers.left.items after_deals.known.left;
+        running_total = after_deals.known.running_total;
+        split = after_deals.known.split;
+      };
       books = next-holds orders c.requires.list deals c.requires.deal_list.named n c.requires.order c.args.endings.now c.requires.endings c.drop_upto.new.standing.start c.drop_upto-2.new.standing.start c.next_place-next.result c.next_place-next.ensures old
           c.drop_upto-2.ensures.before c.drop_upto-2.ensures.inside c.drop_upto-2.ensures.next c.drop_upto-2.new.standing.books (c.drop_upto-2.ensures.holds (resting_left orders (traded_before orders deals) (suc (place_at orders n))) entered);
       dropped = dropped-more c.args.endings.now c.drop_upto.new.standing.start c.drop_upto-2.new.standing.start (suc (place_at orders n)) _ old above c.drop_upto-2.ensures.inside (λ i le lt. let l = c.drop_upto-2.ensures.before i le lt in let e = c.next_place-next.ensures in omega arith);

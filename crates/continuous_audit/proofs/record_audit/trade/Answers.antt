@@ -7,13 +7,13 @@ use Rattle.continuous_audit.proofs.record_audit.trade.Goals as goal
 pub pass_deals-requires-clause-traded : goal.pass_deals-requires-clause-traded
 pass_deals-requires-clause-traded c x lt =
     let none : c.deal_order.result ≡ None = elim (cases_Option c.deal_order.result) [ inl e ↦ e | inr some ↦ absurd (c.in_default.not-Some some.0 some.1) ] in
-    let t = traded-now c.args.orders.now c.requires.list c.args.deals.now c.requires.deal_list c.args.causes.now c.requires.causes c.args.order c.requires.order c.deal_order.new.numbers.at c.deal_order.new.numbers.traded.items (c.deal_order.ensures.split none) (c.deal_order.ensures.running_total none) in
+    let t = traded-now c.args.orders.now c.requires.list c.args.deals.now c.requires.deal_list c.args.causes.now c.requires.causes c.args.order c.requires.order c.deal_order.new.numbers.at c.deal_order.new.numbers.traded.items (subst (λ (m : ℕ). IsSplitAt c.args.causes.now m c.deal_order.new.numbers.at) (sym (add-one c.args.order)) (c.deal_order.ensures.known none).split) (c.deal_order.ensures.known none).running_total in
     ap (λ (xs : List ℕ). number_in xs x) c.deref-2.ensures.value ∙ t.is x lt
 
 pub pass_deals-requires-clause-traded_fits : goal.pass_deals-requires-clause-traded_fits
 pass_deals-requires-clause-traded_fits c =
     let none : c.deal_order.result ≡ None = elim (cases_Option c.deal_order.result) [ inl e ↦ e | inr some ↦ absurd (c.in_default.not-Some some.0 some.1) ] in
-    let t = traded-now c.args.orders.now c.requires.list c.args.deals.now c.requires.deal_list c.args.causes.now c.requires.causes c.args.order c.requires.order c.deal_order.new.numbers.at c.deal_order.new.numbers.traded.items (c.deal_order.ensures.split none) (c.deal_order.ensures.running_total none) in
+    let t = traded-now c.args.orders.now c.requires.list c.args.deals.now c.requires.deal_list c.args.causes.now c.requires.causes c.args.order c.requires.order c.deal_order.new.numbers.at c.deal_order.new.numbers.traded.items (subst (λ (m : ℕ). IsSplitAt c.args.causes.now m c.deal_order.new.numbers.at) (sym (add-one c.args.order)) (c.deal_order.ensures.known none).split) (c.deal_order.ensures.known none).running_total in
     subst (λ (xs : List ℕ). (x : ℕ) → x < length c.args.orders.now → number_in xs x ≤ 2 ^ 72) (sym c.deref-2.ensures.value) t.fits
 
 pub returns-clause-after_deals : goal.returns-clause-after_deals
@@ -22,12 +22,7 @@ returns-clause-after_deals c = λ quiet.
     record {
       conserved = sym c.deal_order.ensures.finding ∙ none;
       ranked = sym c.pass_deals.ensures.finding ∙ quiet;
-      before = c.deal_order.ensures.before none;
-      closed = c.deal_order.ensures.closed none;
-      sizes = c.deal_order.ensures.sizes none;
-      left = c.deal_order.ensures.left none;
-      traded = traded-now c.args.orders.now c.requires.list c.args.deals.now c.requires.deal_list c.args.causes.now c.requires.causes c.args.order c.requires.order c.deal_order.new.numbers.at c.deal_order.new.numbers.traded.items (c.deal_order.ensures.split none) (c.deal_order.ensures.running_total none);
-      running_total = c.deal_order.ensures.running_total none;
-      split = subst (λ (m : ℕ). IsSplitAt c.args.causes.now m c.deal_order.new.numbers.at) (add-one c.args.order) (c.deal_order.ensures.split none);
+      traded = traded-now c.args.orders.now c.requires.list c.args.deals.now c.requires.deal_list c.args.causes.now c.requires.causes c.args.order c.requires.order c.deal_order.new.numbers.at c.deal_order.new.numbers.traded.items (subst (λ (m : ℕ). IsSplitAt c.args.causes.now m c.deal_order.new.numbers.at) (sym (add-one c.args.order)) (c.deal_order.ensures.known none).split) (c.deal_order.ensures.known none).running_total;
+      known = c.deal_order.ensures.known none;
       holds = c.pass_deals.ensures.holds quiet;
     }

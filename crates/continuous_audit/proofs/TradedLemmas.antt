@@ -1,0 +1,187 @@
+-- What is known after an order has traded at its record.
+use Rattle.std.proofs.Common.{◌≡◌, ◌<◌, ◌≤◌, ◌+◌, ◌-◌, ◌*◌, ◌^◌, ℕ, min, suc, List, ◌++◌, length, map, get_or, Bool, true, refl, sym, ap, ◌∙◌, arith, inl, inr, subst, All}
+use Rattle.std.specs.Prelude.{slice_set}
+use Rattle.std.proofs.lemmas.Bool.{cases_eq}
+use Rattle.std.proofs.lemmas.List.{length-append, length-map}
+use Rattle.std.proofs.lemmas.List.Elements.{All-append, All-map}
+use Rattle.audit_base.specs.declared.terms.Side.{Side}
+use Rattle.audit_base.specs.declared.terms.Side.TheVariants.{Buy, Sell}
+use Rattle.audit_base.specs.declared.orders.Order.{Order}
+use Rattle.audit_base.specs.declared.orders.Deal.{Deal}
+use Rattle.audit_base.specs.Orders.{order_at, side_at, limit_at, place_at, other_side, IsOrderList}
+use Rattle.audit_base.specs.Continuous.{traded_before, before_of, size, size_of, left_before}
+use Rattle.order_book.specs.declared.books.Resting.{Resting}
+use Rattle.continuous_audit.specs.declared.endings.Books.{Books}
+use Rattle.continuous_audit.specs.declared.fills.Fill.{Fill}
+use Rattle.continuous_audit.specs.declared.pairs.Pair.{Pair}
+use Rattle.continuous_audit.specs.declared.matching.TradesSoFar.{TradesSoFar}
+use Rattle.continuous_audit.specs.Chains.{IsClosed, IsOpening}
+use Rattle.continuous_audit.specs.Endings.{BooksHold, list_of, resting_count, with_list}
+use Rattle.continuous_audit.specs.Fills.{fills_of, rest_of, filled, total_filled}
+use Rattle.continuous_audit.specs.Holding.{resting_left, resting_left_after}
+use Rattle.continuous_audit.specs.Matching.{AreApplied, AreExpected, IsCounted, IsMatched}
+use Rattle.continuous_audit.specs.Pairs.{IsDealt, pair_of}
+use Rattle.continuous_audit.specs.Scans.{number_in}
+use Rattle.continuous_audit.proofs.FilledLemmas.{filled-le, walk-count}
+use Rattle.continuous_audit.proofs.MatchLemmas.{set-at, set-other, set-length, traded-other, traded-own, books-after, pairs-after, fills-inside, fills-inside-any, fills-sized, opening-is}
+use Rattle.continuous_audit.proofs.NumberLemmas.{closed-more}
+
+count-with : (t : Side) (zs : List Resting) (b : Books) → resting_count (with_list t zs b) + length (list_of t b) ≡ resting_count b + length zs
+count-with Buy zs b = omega arith
+count-with Sell zs b = omega arith
+
+-- the trade of the order at n: what it comes to, from what was known before
+pub record IsTraded (orders : List Order) (n q rest b : ℕ) (fills : List Fill) (old new : TradesSoFar) : Type 0 where
+  pub mid_traded : List ℕ
+  pub mid_left : List ℕ
+  pub fills_are : fills ≡ fills_of (side_at orders n) (limit_at orders n) q (list_of (other_side (side_at orders n)) old.standing.books)
+  pub rest_is : rest + total_filled fills ≡ q
+  pub applied : AreApplied fills old.traded.items old.left.items mid_traded mid_left
+  pub before : new.before.items ≡ slice_set old.before.items n b
+  pub traded : new.traded.items ≡ slice_set mid_traded n (q - rest)
+  pub left : new.left.items ≡ slice_set mid_left n rest
+  pub books : new.standing.books ≡ with_list (other_side (side_at orders n)) (rest_of (side_at orders n) (limit_at orders n) q (list_of (other_side (side_at orders n)) old.standing.books)) old.standing.books
+  pub pairs : new.pairs.items ≡ old.pairs.items ++ map (pair_of (side_at orders n) n) fills
+
+module _ (orders : List Order) (list : IsOrderList orders) (n : ℕ) (n_inside : n < length orders) (q rest b : ℕ) (fills : List Fill) (old new : TradesSoFar) (counted : IsCounted orders n 0 old) (h : IsTraded orders n q rest b fills old new) where
+  abbrev p : ℕ
+  p = place_at orders n
+
+  abbrev s : Side
+  s = side_at orders n
+
+  abbrev all_fills : List Fill
+  all_fills = fills_of s (limit_at orders n) q (list_of (other_side s) old.standing.books)
+
+  module _ (deals : List Deal) (is : AreExpected orders deals) (old_is : IsMatched orders deals n p (resting_left orders (traded_before orders deals) p) old) (q_is : q ≡ size_of orders deals n) (b_is : b ≡ before_of orders deals n) where
+    abbrev past : ℕ → ℕ → ℕ
+    past = traded_before orders deals
+
+    traded-now : (x : ℕ) → x < length orders → number_in new.traded.items x ≡ past (suc p) x
+    traded-now x lt = elim (cases_eq x n) [
+      | inl e ↦
+          let own = traded-own orders list n n_inside deals is old.standing.books old_is.books q q_is in
+          let long : n < length h.mid_traded = let c = h.applied.traded_count in let d = counted.traded_count in omega arith in
+          let sum = h.rest_is in
+          let all : total_filled fills ≡ total_filled all_fills = ap total_filled h.fills_are in
+          set-at h.mid_traded new.traded.items n (q - rest) x long h.traded e ∙ (let v : q - rest ≡ past (suc p) n = omega arith in v) ∙ ap (past (suc p)) (sym e)
+      | inr ne ↦
+          set-other h.mid_traded new.traded.items n (q - rest) x h.traded ne ∙ h.applied.traded_is x
+          ∙ (λ i. old_is.traded_is x lt i + filled (h.fills_are i) x)
+          ∙ sym (traded-other orders list n n_inside deals is old.standing.books old_is.books q q_is x lt ne)
+    ]
+
+    left-now : (x : ℕ) → x < suc n → number_in new.left.items x ≡ left_before orders deals (suc p) x
+    left-now x lt = elim (cases_eq x n) [
+      | inl e ↦
+          let own = traded-own orders list n n_inside deals is old.standing.books old_is.books q q_is in
+          let long : n < length h.mid_left = let c = h.applied.left_count in let d = counted.left_count in omega arith in
+          let sum = h.rest_is in
+          let all : total_filled fills ≡ total_filled all_fills = ap total_filled h.fills_are in
+          set-at h.mid_left new.left.items n rest x long h.left e ∙ (let v : rest ≡ size orders past n - past (suc p) n = omega arith in v) ∙ ap (λ (k : ℕ). size orders past k - past (suc p) k) (sym e)
+      | inr ne ↦
+          let less : x < n = omega (arith, ne) in
+          let was = old_is.left_is x less in
+          let more = traded-other orders list n n_inside deals is old.standing.books old_is.books q q_is x (omega arith) ne in
+          let all : filled fills x ≡ filled all_fills x = ap (λ (fs : List Fill). filled fs x) h.fills_are in
+          let taken = h.applied.left_is x in
+          set-other h.mid_left new.left.items n rest x h.left ne ∙ (let v : number_in h.mid_left x ≡ size orders past x - past (suc p) x = omega arith in v)
+    ]
+
+    before-now : (x : ℕ) → x < suc n → number_in new.before.items x ≡ before_of orders deals x
+    before-now x lt = elim (cases_eq x n) [
+      | inl e ↦ let long = counted.before_count in set-at old.before.items new.before.items n b x (omega arith) h.before e ∙ b_is ∙ ap (before_of orders deals) (sym e)
+      | inr ne ↦ set-other old.before.items new.before.items n b x h.before ne ∙ old_is.before_is x (omega (arith, ne))
+    ]
+
+    pub traded-matched : IsMatched orders deals (suc n) (suc p) (resting_left_after orders deals p) new
+    traded-matched = record {
+      traded_is = traded-now;
+      before_is = before-now;
+      left_is = left-now;
+      books = subst (BooksHold orders (resting_left_after orders deals p)) (sym h.books) (books-after orders list n n_inside deals is old.standing.books old_is.books q q_is);
+      pairs = pairs-after orders list n n_inside deals is old.standing.books old_is.books q q_is old.pairs.items new.pairs.items old_is.pairs (h.pairs ∙ ap (λ (fs : List Fill). old.pairs.items ++ map (pair_of s n) fs) h.fills_are);
+    }
+
+    dealt-new : q ≤ 10 ^ 12 → All (IsDealt (length orders)) (map (pair_of s n) fills)
+    dealt-new fits = subst (λ (fs : List Fill). All (IsDealt (length orders)) (map (pair_of s n) fs)) (sym h.fills_are)
+        (All-map (IsDealt (length orders)) (pair_of s n) all_fills (λ k d lt.
+        let sized = fills-sized orders list n n_inside deals is old.standing.books old_is.books q q_is k d lt in
+        let most = sized.most in
+        dealt-by s (get_or all_fills k d) (fills-inside orders list n n_inside deals is old.standing.books old_is.books q q_is k d lt) sized.some (omega arith)))
+      where
+        dealt-by : (side : Side) (f : Fill) → f.index < length orders → 0 < f.quantity → f.quantity ≤ 10 ^ 12 → IsDealt (length orders) (pair_of side n f)
+        dealt-by Buy f lt some most = record { bid_inside = n_inside; ask_inside = lt; some = some; most = most }
+        dealt-by Sell f lt some most = record { bid_inside = lt; ask_inside = n_inside; some = some; most = most }
+
+    pub traded-counted : q ≤ 10 ^ 12 → b ≤ n * 2 ^ 72 → (closed : Bool) → (closed ≡ true → IsClosed orders n) → new.closed.items ≡ slice_set old.closed.items n closed
+        → IsCounted orders (suc n) (min 1 (number_in new.left.items n)) new
+    traded-counted fits bounded closed closed_is closed_new =
+        let long_traded : length h.mid_traded ≡ length orders = h.applied.traded_count ∙ counted.traded_count in
+        let long_left : length h.mid_left ≡ length orders = h.applied.left_count ∙ counted.left_count in
+        let sum = h.rest_is in record {
+          traded_count = set-length h.mid_traded new.traded.items n (q - rest) h.traded ∙ long_traded;
+          before_count = set-length old.before.items new.before.items n b h.before ∙ counted.before_count;
+          left_count = set-length h.mid_left new.left.items n rest h.left ∙ long_left;
+          closed = closed-more orders deals n n_inside old.closed.items new.closed.items closed counted.closed closed_is closed_new;
+          traded_fits = λ x. elim (cases_eq x n) [
+            | inl e ↦ let v = set-at h.mid_traded new.traded.items n (q - rest) x (omega arith) h.traded e in omega arith
+            | inr ne ↦
+                let v = set-other h.mid_traded new.traded.items n (q - rest) x h.traded ne in
+                let w = h.applied.traded_is x in
+                let was = counted.traded_fits x in
+                omega (arith, filled-le fills x)
+          ];
+          bounded = λ x. elim (cases_eq x n) [
+            | inl e ↦ let l = counted.before_count in let v = set-at old.before.items new.before.items n b x (omega arith) h.before e in subst (λ (k : ℕ). number_in new.before.items x ≤ k * 2 ^ 72) (sym e) (omega arith)
+            | inr ne ↦ let v = set-other old.before.items new.before.items n b x h.before ne in let was = counted.bounded x in omega arith
+          ];
+          dealt = subst (All (IsDealt (length orders))) (sym h.pairs) (All-append (IsDealt (length orders)) old.pairs.items (map (pair_of s n) fills) counted.dealt (dealt-new fits));
+          few =
+              let ys = list_of (other_side s) old.standing.books in
+              let zs = rest_of s (limit_at orders n) q ys in
+              let a : length new.pairs.items ≡ length old.pairs.items + length (map (pair_of s n) fills) = ap (λ (ps : List Pair). length ps) h.pairs ∙ length-append old.pairs.items (map (pair_of s n) fills) in
+              let c : length (map (pair_of s n) fills) ≡ length fills = length-map fills (pair_of s n) in
+              let d : length fills ≡ length all_fills = ap (λ (fs : List Fill). length fs) h.fills_are in
+              let e : total_filled fills ≡ total_filled all_fills = ap total_filled h.fills_are in
+              let f : resting_count new.standing.books ≡ resting_count (with_list (other_side s) zs old.standing.books) = ap resting_count h.books in
+              let g = count-with (other_side s) zs old.standing.books in
+              let own = set-at h.mid_left new.left.items n rest n (omega arith) h.left refl in
+              let few = counted.few in
+              let rest_as : rest ≡ q - total_filled all_fills = omega arith in
+              omega (arith, walk-count s (limit_at orders n) q ys);
+        }
+
+-- The same, in the words of the code: the order that it reads, and the list that it reads twice.
+
+pub traded-read : (orders : List Order) (n q rest b : ℕ) (old new : TradesSoFar) (own : Order) → own ≡ order_at orders n → (made first second : List Fill) (mid_traded mid_left : List ℕ)
+    → made ≡ fills_of own.side own.limit q (list_of (other_side own.side) old.standing.books) → first ≡ made → second ≡ made → rest + total_filled made ≡ q
+    → AreApplied first old.traded.items old.left.items mid_traded mid_left → new.before.items ≡ slice_set old.before.items n b → new.traded.items ≡ slice_set mid_traded n (q - rest) → new.left.items ≡ slice_set mid_left n rest
+    → new.standing.books ≡ with_list (other_side own.side) (rest_of own.side own.limit q (list_of (other_side own.side) old.standing.books)) old.standing.books
+    → new.pairs.items ≡ old.pairs.items ++ map (pair_of own.side n) second → IsTraded orders n q rest b first old new
+traded-read orders n q rest b old new own own_is made first second mid_traded mid_left made_is first_is second_is sum applied before traded left books pairs = record {
+  mid_traded = mid_traded;
+  mid_left = mid_left;
+  fills_are = first_is ∙ made_is ∙ (λ i. fills_of (own_is i).side (own_is i).limit q (list_of (other_side (own_is i).side) old.standing.books));
+  rest_is = ap (λ (fs : List Fill). rest + total_filled fs) first_is ∙ sum;
+  applied = applied;
+  before = before;
+  traded = traded;
+  left = left;
+  books = books ∙ (λ i. with_list (other_side (own_is i).side) (rest_of (own_is i).side (own_is i).limit q (list_of (other_side (own_is i).side) old.standing.books)) old.standing.books);
+  pairs = pairs ∙ (λ i. old.pairs.items ++ map (pair_of (own_is i).side n) ((second_is ∙ sym first_is) i));
+}
+
+module _ (orders : List Order) (list : IsOrderList orders) (n : ℕ) (n_inside : n < length orders) (old : TradesSoFar) where
+  pub first-read : (deals : List Deal) → AreExpected orders deals → IsMatched orders deals n (place_at orders n) (resting_left orders (traded_before orders deals) (place_at orders n)) old
+      → (traded left before : List ℕ) → traded ≡ old.traded.items → left ≡ old.left.items → before ≡ old.before.items → IsOpening orders deals n traded left before
+  first-read deals is old_is traded left before t_is l_is b_is = opening-is orders list n n_inside deals is traded left before
+      (λ x lt. ap (λ (xs : List ℕ). number_in xs x) t_is ∙ old_is.traded_is x lt) (λ x lt. ap (λ (xs : List ℕ). number_in xs x) b_is ∙ old_is.before_is x lt) (λ x lt. ap (λ (xs : List ℕ). number_in xs x) l_is ∙ old_is.left_is x lt)
+
+  pub first-inside : IsCounted orders n 0 old → (deals : List Deal) → AreExpected orders deals → IsMatched orders deals n (place_at orders n) (resting_left orders (traded_before orders deals) (place_at orders n)) old
+      → (q : ℕ) (own : Order) → own ≡ order_at orders n → (fills : List Fill) → fills ≡ fills_of own.side own.limit q (list_of (other_side own.side) old.standing.books)
+      → {count : ℕ} → count ≡ length orders → All (λ f. f.index < count) fills
+  first-inside counted deals is old_is q own own_is fills fills_is count_is k d lt =
+      let inside = subst (λ (fs : List Fill). All (λ f. f.index < length orders) fs) (sym (fills_is ∙ (λ i. fills_of (own_is i).side (own_is i).limit q (list_of (other_side (own_is i).side) old.standing.books))))
+      (fills-inside-any orders list n n_inside deals is old.standing.books old_is.books q) k d lt in
+      omega arith

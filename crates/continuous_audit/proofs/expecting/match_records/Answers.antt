@@ -1,0 +1,16 @@
+use Rattle.std.proofs.Common.{ℕ, sym, subst, add-one}
+use Rattle.continuous_audit.specs.Matching.{IsCounted, MatchedBefore}
+use Rattle.continuous_audit.specs.Progress.{AreDropped, ready_place}
+use Rattle.continuous_audit.proofs.expecting.match_records.Goals as goal
+
+pub loop-order-preserved : goal.loop-order-preserved
+loop-order-preserved c =
+    let orders = c.args.orders.now in
+    let new = c.match_record.new.so_far in
+    let next = sym (add-one c.loop-order.order) in
+    let after = c.in_ok-match_record.ensures in
+    record {
+      dropped = subst (λ (m : ℕ). AreDropped c.args.endings.now new.standing.start (ready_place orders m)) next after.dropped;
+      counted = subst (λ (m : ℕ). IsCounted orders m 0 new) next after.counted;
+      matched = subst (λ (m : ℕ). MatchedBefore orders m (ready_place orders m) new) next after.matched;
+    }

@@ -1,0 +1,10 @@
+use Rattle.continuous_audit.specs.Matching.{IsCounted, MatchedBefore}
+use Rattle.continuous_audit.specs.Progress.{AreDropped, ready_place}
+use Rattle.continuous_audit.proofs.expecting.match_records.Given as goal
+
+abbrev pub invariant-loop-order : goal.invariant-loop-order
+invariant-loop-order l = record {
+  dropped : AreDropped l.endings l.so_far.standing.start (ready_place l.orders l.order);
+  counted : IsCounted l.orders l.order 0 l.so_far;
+  matched : MatchedBefore l.orders l.order (ready_place l.orders l.order) l.so_far;
+}

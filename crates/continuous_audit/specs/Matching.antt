@@ -1,0 +1,71 @@
+-- What is known of the Expected trades before an order comes, and after it has traded.
+use Rattle.std.specs.Prelude.{◌≡◌, ◌<◌, ◌≤◌, ◌+◌, ◌-◌, ◌*◌, ◌^◌, ℕ, suc, false, List, [], All, length, replicate}
+use Rattle.audit_base.specs.declared.orders.Order.{Order}
+use Rattle.audit_base.specs.declared.orders.Deal.{Deal}
+use Rattle.audit_base.specs.Orders.{place_at}
+use Rattle.audit_base.specs.Continuous.{traded_before, before_of, left_before}
+use Rattle.audit_base.specs.ContinuousRules.{ConformsContinuous}
+use Rattle.audit_base.specs.Expected.{IsExpectedContinuous}
+use Rattle.continuous_audit.specs.declared.matching.TradesSoFar.{TradesSoFar}
+use Rattle.continuous_audit.specs.Holding.{resting_left, resting_left_after}
+use Rattle.continuous_audit.specs.Chains.{AreBounded, AreClosed}
+use Rattle.continuous_audit.specs.Endings.{BooksHold, resting_count}
+use Rattle.continuous_audit.specs.Fills.{filled}
+use Rattle.continuous_audit.specs.Pairs.{AreSharedPairs, IsDealt}
+use Rattle.continuous_audit.specs.Progress.{AreEmptyBooks}
+use Rattle.continuous_audit.specs.Scans.{number_in}
+use Rattle.continuous_audit.specs.declared.fills.Fill.{Fill}
+
+-- these deals are the Expected trades, and they conform
+pub record AreExpected (orders : List Order) (deals : List Deal) : Type 0 where
+  pub expected : IsExpectedContinuous orders deals
+  pub conforms : ConformsContinuous orders deals
+
+-- fills are added to what the orders have traded, and taken from what is left of them
+pub record AreApplied (fills : List Fill) (old_traded old_left traded left : List ℕ) : Type 0 where
+  pub traded_count : length traded ≡ length old_traded
+  pub left_count : length left ≡ length old_left
+  pub traded_is : (x : ℕ) → number_in traded x ≡ number_in old_traded x + filled fills x
+  pub left_is : (x : ℕ) → number_in left x ≡ number_in old_left x - filled fills x
+
+-- whatever the deals are: of the first n orders each that has traded less than it might has a pair, or
+-- it rests, or it is the one that waits to
+pub record IsCounted (orders : List Order) (n waiting : ℕ) (t : TradesSoFar) : Type 0 where
+  pub traded_count : length t.traded.items ≡ length orders
+  pub before_count : length t.before.items ≡ length orders
+  pub left_count : length t.left.items ≡ length orders
+  pub closed : AreClosed orders n t.closed.items
+  pub traded_fits : (x : ℕ) → number_in t.traded.items x ≤ n * 10 ^ 12
+  pub bounded : AreBounded t.before.items
+  pub dealt : All (IsDealt (length orders)) t.pairs.items
+  pub few : length t.pairs.items + resting_count t.standing.books + waiting ≤ n
+
+-- under these deals, of the first n orders before place q, where the books hold these amounts
+pub record IsMatched (orders : List Order) (deals : List Deal) (n q : ℕ) (amount : ℕ → ℕ)
+    (t : TradesSoFar) : Type 0 where
+  pub traded_is : (x : ℕ) → x < length orders
+      → number_in t.traded.items x ≡ traded_before orders deals q x
+  pub before_is : (x : ℕ) → x < n → number_in t.before.items x ≡ before_of orders deals x
+  pub left_is : (x : ℕ) → x < n → number_in t.left.items x ≡ left_before orders deals q x
+  pub books : BooksHold orders amount t.standing.books
+  pub pairs : AreSharedPairs orders deals n t.pairs.items
+
+-- before place q, where the order at n is the next
+abbrev pub MatchedBefore : List Order → ℕ → ℕ → TradesSoFar → Type 0
+MatchedBefore orders n q t = (deals : List Deal) → AreExpected orders deals
+    → IsMatched orders deals n q (resting_left orders (traded_before orders deals) q) t
+
+-- after the order at n has traded
+abbrev pub MatchedAfter : List Order → ℕ → TradesSoFar → Type 0
+MatchedAfter orders n t = (deals : List Deal) → AreExpected orders deals
+    → IsMatched orders deals (suc n) (suc (place_at orders n))
+    (resting_left_after orders deals (place_at orders n)) t
+
+-- before the first of so many orders
+pub record AreAtFirst (count : ℕ) (t : TradesSoFar) : Type 0 where
+  pub traded : t.traded.items ≡ replicate count 0
+  pub before : t.before.items ≡ replicate count 0
+  pub closed : t.closed.items ≡ replicate count false
+  pub left : t.left.items ≡ replicate count 0
+  pub standing : AreEmptyBooks t.standing
+  pub pairs : t.pairs.items ≡ []

@@ -1,0 +1,78 @@
+//! The Expected trades of continuous trading.
+ghost use Rattle.std.specs.Prelude.{◌≡◌, ◌<◌, ◌≤◌, suc, IfOk, OnOk, length};
+ghost use Rattle.audit_base.specs.Orders.{IsOrderList};
+ghost use Rattle.audit_base.specs.Deals.{AreDeals, IsDealList};
+ghost use Rattle.audit_base.specs.Histories.{Regular};
+ghost use Rattle.audit_base.specs.ContinuousRules.{ConformsContinuous};
+ghost use Rattle.audit_base.specs.Expected.{IsExpectedContinuous};
+ghost use Rattle.continuous_audit.specs.Endings.{AreEndings};
+ghost use Rattle.continuous_audit.specs.Matching.{AreAtFirst, IsCounted, MatchedBefore};
+ghost use Rattle.continuous_audit.specs.Progress.{AreDropped, ready_place};
+
+use super::auditing::{empty_books, no_flags, zero_amounts, zero_totals};
+use super::endings::{Ending, sort_endings};
+use super::matching::{TradesSoFar, match_record};
+use super::pairs::{number_pairs, sort_pairs};
+use audit_base::faults::NoMemory;
+use audit_base::orders::{Deal, Order};
+use std::alloc::Global;
+
+/// Nothing has traded before the first of so many orders.
+fn no_trades(alloc: Global, count: usize) -> Result<TradesSoFar, NoMemory>
+    ensures { IfOk result (AreAtFirst count) }
+{
+    let traded = zero_totals(alloc, count)?;
+    let before = zero_totals(alloc, count)?;
+    let closed = no_flags(alloc, count)?;
+    let left = zero_amounts(alloc, count)?;
+    Ok(TradesSoFar {
+        traded,
+        before,
+        closed,
+        left,
+        standing: empty_books(alloc),
+        fills: Vec::new(alloc),
+        pairs: Vec::new(alloc),
+    })
+}
+
+/// Goes over the records of the orders.
+fn match_records(
+    orders: &[Order],
+    endings: &[Ending],
+    so_far: &mut TradesSoFar,
+) -> Result<(), NoMemory>
+    requires list { IsOrderList orders.now }
+    requires regular { Regular orders.now }
+    requires endings { AreEndings orders.now endings.now }
+    requires dropped { AreDropped endings.now so_far.old.standing.start (ready_place orders.now 0) }
+    requires counted { IsCounted orders.now 0 0 so_far.old }
+    requires matched { MatchedBefore orders.now 0 (ready_place orders.now 0) so_far.old }
+    ensures counted { OnOk result (IsCounted orders.now (length orders.now) 0 so_far.new) }
+    ensures matched { OnOk result (MatchedBefore orders.now (length orders.now)
+        (ready_place orders.now (length orders.now)) so_far.new) }
+{
+    for order in 0..orders.len() {
+        match_record(orders, endings, order, so_far)?;
+    }
+    Ok(())
+}
+
+/// The Expected trades of continuous trading over a regular order list, as deals with the places 1, 2 and so on: at
+/// its own record each order trades with the best orders that rest on the other side, as long as their limits meet,
+/// at their limits. One deal for each bid and ask that trade, in order of the bid's place, then of the ask's. They
+/// conform to the rule. In n log n steps for n orders. Err only out of memory.
+pub fn continuous_matching(alloc: Global, orders: &[Order]) -> Result<Vec<Deal>, NoMemory>
+    requires order_list { IsOrderList orders.now }
+    requires regular { Regular orders.now }
+    ensures expected { IfOk result (λ deals. IsExpectedContinuous orders.now deals.items) }
+    ensures conforms { IfOk result (λ deals. ConformsContinuous orders.now deals.items) }
+    ensures deal_list { IfOk result (λ deals. IsDealList orders.now deals.items) }
+    ensures ranges { IfOk result (λ deals. AreDeals deals.items) }
+{
+    let endings = sort_endings(alloc, orders)?;
+    let mut so_far = no_trades(alloc, orders.len())?;
+    match_records(orders, &endings, &mut so_far)?;
+    sort_pairs(&mut so_far.pairs)?;
+    number_pairs(alloc, orders, &so_far.pairs)
+}

@@ -1,0 +1,148 @@
+//! One record of an order: what it trades under the rule, and what stands after it.
+ghost use Rattle.std.specs.Prelude.{◌≡◌, ◌<◌, ◌≤◌, ◌+◌, ◌-◌, ◌*◌, ◌^◌, ◌∷◌, [], ℕ, suc, min, All, IfOk, OnOk, length, slice_index, vec_len};
+ghost use Rattle.audit_base.specs.Orders.{IsOrderList, limit_at, other_side, place_at, side_at};
+ghost use Rattle.audit_base.specs.Histories.{Regular};
+ghost use Rattle.continuous_audit.specs.Endings.{AreEndings, list_of, with_list};
+ghost use Rattle.continuous_audit.specs.Fills.{fills_of, rest_of, total_filled};
+ghost use Rattle.continuous_audit.specs.Matching.{AreApplied, IsCounted, MatchedAfter, MatchedBefore};
+ghost use Rattle.continuous_audit.specs.Progress.{AreDropped, ready_place};
+ghost use Rattle.continuous_audit.specs.Scans.{number_in};
+
+use super::endings::{Books, Ending};
+use super::fills::{Fill, take_fills};
+use super::leaving::left_of;
+use super::opening::open_order;
+use super::pairs::{Pair, push_pairs};
+use super::record_audit::{Standing, drop_upto, next_place, set_amount, set_flag, set_total};
+use super::spreading::enter_own;
+use audit_base::faults::NoMemory;
+use audit_base::orders::Order;
+use audit_base::terms::Side;
+
+/// What the Expected trades so far come to: what is known of the orders, by their indices, the books, and the pairs
+/// that have traded.
+#[derive(Drop)]
+pub struct TradesSoFar {
+    pub traded: Vec<u128>,
+    pub before: Vec<u128>,
+    /// Whether the records of the chain of each order end one another.
+    pub closed: Vec<bool>,
+    pub left: Vec<u64>,
+    pub standing: Standing,
+    /// What the last order trades.
+    pub fills: Vec<Fill>,
+    pub pairs: Vec<Pair>,
+}
+
+/// Adds a fill to what its order has traded, and takes it from what is left of it.
+fn apply_fill(fill: &Fill, traded: &mut Vec<u128>, left: &mut Vec<u64>)
+    requires traded_inside { fill.now.index < vec_len traded.old }
+    requires left_inside { fill.now.index < vec_len left.old }
+    requires fits { number_in traded.old.items fill.now.index + fill.now.quantity < 2 ^ 128 }
+    ensures { AreApplied (fill.now ∷ []) traded.old.items left.old.items traded.new.items
+        left.new.items }
+{
+    let quantity = fill.quantity as u128;
+    traded[fill.index] += quantity;
+    left[fill.index] = left_of(left[fill.index], quantity);
+}
+
+/// Adds fills to what their orders have traded, and takes them from what is left of these.
+fn apply_fills(fills: &[Fill], traded: &mut Vec<u128>, left: &mut Vec<u64>)
+    requires traded_inside { All (λ f. f.index < vec_len traded.old) fills.now }
+    requires left_inside { All (λ f. f.index < vec_len left.old) fills.now }
+    requires fits { (x : ℕ) → number_in traded.old.items x + total_filled fills.now < 2 ^ 128 }
+    ensures { AreApplied fills.now traded.old.items left.old.items traded.new.items
+        left.new.items }
+{
+    for (index, fill) in fills.iter().enumerate() {
+        apply_fill(fill, traded, left);
+    }
+}
+
+/// Trades an order with the best orders of the other side's book. `fills` is overwritten with what it trades; gives
+/// what is left of its size.
+fn fill_order(
+    own: &Order,
+    size: u64,
+    books: &mut Books,
+    fills: &mut Vec<Fill>,
+) -> Result<u64, NoMemory>
+    ensures fills { OnOk result (fills.new.items
+        ≡ fills_of own.now.side own.now.limit size (list_of (other_side own.now.side) books.old)) }
+    ensures books { OnOk result (books.new ≡ with_list (other_side own.now.side)
+        (rest_of own.now.side own.now.limit size (list_of (other_side own.now.side) books.old))
+        books.old) }
+    ensures left { IfOk result (λ left. left + total_filled fills.new.items ≡ size) }
+{
+    match own.side {
+        Side::Buy => take_fills(&mut books.asks, own.side, own.limit, size, fills),
+        Side::Sell => take_fills(&mut books.bids, own.side, own.limit, size, fills),
+    }
+}
+
+/// Trades the order of a record with the best orders of the other side.
+fn trade_order(orders: &[Order], order: usize, so_far: &mut TradesSoFar) -> Result<(), NoMemory>
+    requires list { IsOrderList orders.now }
+    requires regular { Regular orders.now }
+    requires order { order < length orders.now }
+    requires counted { IsCounted orders.now order 0 so_far.old }
+    requires matched { MatchedBefore orders.now order (place_at orders.now order) so_far.old }
+    ensures started { OnOk result (so_far.new.standing.start ≡ so_far.old.standing.start) }
+    ensures counted { OnOk result (IsCounted orders.now (suc order)
+        (min 1 (number_in so_far.new.left.items order)) so_far.new) }
+    ensures matched { OnOk result (MatchedAfter orders.now order so_far.new) }
+{
+    let opening = open_order(
+        orders,
+        &so_far.traded,
+        &so_far.left,
+        &so_far.before,
+        &so_far.closed,
+        order,
+    );
+    set_total(&mut so_far.before, order, opening.before);
+    set_flag(&mut so_far.closed, order, opening.closed);
+    let own = &orders[order];
+    let left = fill_order(
+        own,
+        opening.size,
+        &mut so_far.standing.books,
+        &mut so_far.fills,
+    )?;
+    apply_fills(&so_far.fills, &mut so_far.traded, &mut so_far.left);
+    set_total(&mut so_far.traded, order, (opening.size - left) as u128);
+    set_amount(&mut so_far.left, order, left);
+    push_pairs(own.side, order, &so_far.fills, &mut so_far.pairs)
+}
+
+/// The record of an order: what it trades, and what rests after it, up to the next order's record.
+pub fn match_record(
+    orders: &[Order],
+    endings: &[Ending],
+    order: usize,
+    so_far: &mut TradesSoFar,
+) -> Result<(), NoMemory>
+    requires list { IsOrderList orders.now }
+    requires regular { Regular orders.now }
+    requires order { order < length orders.now }
+    requires endings { AreEndings orders.now endings.now }
+    requires dropped { AreDropped endings.now so_far.old.standing.start
+        (place_at orders.now order) }
+    requires counted { IsCounted orders.now order 0 so_far.old }
+    requires matched { MatchedBefore orders.now order (place_at orders.now order) so_far.old }
+    ensures dropped { OnOk result (AreDropped endings.now so_far.new.standing.start
+        (ready_place orders.now (suc order))) }
+    ensures counted { OnOk result (IsCounted orders.now (suc order) 0 so_far.new) }
+    ensures matched { OnOk result
+        (MatchedBefore orders.now (suc order) (ready_place orders.now (suc order)) so_far.new) }
+{
+    trade_order(orders, order, so_far)?;
+    let place = orders[order].place;
+    drop_upto(orders, endings, &mut so_far.standing, place as u64 + 1);
+    let left = so_far.left[order];
+    enter_own(orders, order, left, &mut so_far.standing.books)?;
+    let next = next_place(orders, order);
+    drop_upto(orders, endings, &mut so_far.standing, next);
+    Ok(())
+}

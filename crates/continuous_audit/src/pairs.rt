@@ -1,0 +1,112 @@
+//! The pairs of a bid and an ask that trade, in their order, and their deals.
+ghost use Rattle.std.specs.Prelude.{◌≡◌, ◌<◌, ◌≤◌, ◌++◌, ◌^◌, IfOk, OnOk, All, IsPermutation, IsSorted, length, map};
+ghost use Rattle.audit_base.specs.Orders.{order_at};
+ghost use Rattle.audit_base.specs.Deals.{AreDeals};
+ghost use Rattle.audit_base.specs.Expected.{resting_limit};
+ghost use Rattle.continuous_audit.specs.Pairs.{AreNumbered, IsDealt, pair_cmp, pair_of};
+
+use super::fills::Fill;
+use audit_base::faults::NoMemory;
+use audit_base::numbers::{Price, Quantity};
+use audit_base::orders::{Deal, Order};
+use audit_base::terms::Side;
+use std::alloc::Global;
+
+/// A bid and an ask, by their indices, and what they trade with each other.
+#[derive(Clone, Copy, Debug, PartialEq, Eq, PartialOrd, Ord)]
+pub struct Pair {
+    pub bid: usize,
+    pub ask: usize,
+    /// From 1 to 1,000,000,000,000.
+    pub quantity: u64,
+}
+
+/// The pair of an incoming order of a side and one that it trades with.
+fn pair_of(side: Side, order: usize, fill: &Fill) -> Pair
+    ensures { result ≡ pair_of side order fill.now }
+{
+    let (bid, ask) = match side {
+        Side::Buy => (order, fill.index),
+        Side::Sell => (fill.index, order),
+    };
+    Pair {
+        bid,
+        ask,
+        quantity: fill.quantity,
+    }
+}
+
+/// Adds the pairs of an incoming order of a side and those that it trades with.
+pub fn push_pairs(
+    side: Side,
+    order: usize,
+    fills: &[Fill],
+    pairs: &mut Vec<Pair>,
+) -> Result<(), NoMemory>
+    ensures { OnOk result
+        (pairs.new.items ≡ pairs.old.items ++ map (pair_of side order) fills.now) }
+{
+    for (index, fill) in fills.iter().enumerate() {
+        pairs.push(pair_of(side, order, fill))?;
+    }
+    Ok(())
+}
+
+/// Puts pairs in order of the bid's index, then of the ask's.
+pub fn sort_pairs(pairs: &mut Vec<Pair>) -> Result<(), NoMemory>
+    ensures moved { OnOk result (IsPermutation pairs.old.items pairs.new.items) }
+    ensures sorted { OnOk result (IsSorted pair_cmp pairs.new.items) }
+{
+    pairs.sort()?;
+    Ok(())
+}
+
+/// The limit of the earlier of two orders.
+fn resting_limit(orders: &[Order], bid: usize, ask: usize) -> Price
+    requires bid { bid < length orders.now }
+    requires ask { ask < length orders.now }
+    ensures same { result ≡ resting_limit orders.now bid ask }
+    ensures priced { result < 10 ^ 18 }
+{
+    let (bid, ask) = (&orders[bid], &orders[ask]);
+    let limit = if bid.place < ask.place {
+        bid.limit
+    } else {
+        ask.limit
+    };
+    let _units = limit.units();
+    limit
+}
+
+/// The quantity of a pair.
+fn quantity_of(pair: &Pair) -> Quantity
+    requires some { 0 < pair.now.quantity }
+    requires most { pair.now.quantity ≤ 10 ^ 12 }
+    ensures { result ≡ pair.now.quantity }
+{
+    match Quantity::of(pair.quantity) {
+        Some(quantity) => quantity,
+        None => unreachable!(),
+    }
+}
+
+/// One deal for each pair, numbered from 1 in their order, at the limit of the earlier order.
+pub fn number_pairs(alloc: Global, orders: &[Order], pairs: &[Pair]) -> Result<Vec<Deal>, NoMemory>
+    requires few { length pairs.now < 2 ^ 32 }
+    requires dealt { All (IsDealt (length orders.now)) pairs.now }
+    ensures numbered { IfOk result (λ deals. AreNumbered orders.now pairs.now deals.items) }
+    ensures ranges { IfOk result (λ deals. AreDeals deals.items) }
+{
+    let mut deals = Vec::with_capacity(alloc, pairs.len())?;
+    for (i, pair) in pairs.iter().enumerate() {
+        let deal = Deal {
+            place: i as u32 + 1,
+            bid: pair.bid,
+            ask: pair.ask,
+            quantity: quantity_of(pair),
+            price: resting_limit(orders, pair.bid, pair.ask),
+        };
+        deals.push(deal)?;
+    }
+    Ok(deals)
+}
