@@ -1,0 +1,11 @@
+mod CountLemmas
+mod LineLemmas
+mod HeadLemmas
+mod VerifyLemmas
+mod BoundLemmas
+mod SoundLemmas
+mod PriceLemmas
+mod WrittenLemmas
+mod CertifyLemmas
+mod LastLemmas
+mod OrderLemmas

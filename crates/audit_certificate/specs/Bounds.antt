@@ -1,0 +1,59 @@
+-- How line 2 is read, and the price that is written.
+use Rattle.std.specs.Prelude.{◌≡◌, ℕ, zero, suc, ◌+◌, ◌^◌, ◌==◌, ◌&&◌, nat_lt, max, Bool, List, Option, None, Some, slice_index, take, drop, length, if◌then◌else◌}
+use Rattle.std.specs.List.{position}
+use Rattle.audit_base.specs.declared.terms.Rule.{Rule}
+use Rattle.audit_base.specs.declared.terms.Rule.TheVariants as rule
+use Rattle.audit_base.specs.declared.terms.Side.TheVariants.{Buy}
+use Rattle.audit_base.specs.declared.orders.Order.{Order}
+use Rattle.audit_base.specs.Numbers.{price_form}
+use Rattle.audit_base.specs.Orders.{order_at, stands_on}
+use Rattle.audit_base.specs.Bounds.{IsLeastCut}
+
+abbrev pub is_comma : ℕ → Bool
+is_comma byte = byte == 44
+
+-- a text up to its first comma
+abbrev pub take_upto : List ℕ → Option ℕ → List ℕ
+take_upto text None = text
+take_upto text (Some at) = take at text
+
+abbrev pub before_comma : List ℕ → List ℕ
+before_comma text = take_upto text (position is_comma text)
+
+-- the price that a text writes, or 10^18, whose text is not one of a price
+abbrev pub price_or_above : Option ℕ → ℕ
+price_or_above None = 10 ^ 18
+price_or_above (Some price) = price
+
+abbrev pub price_of : List ℕ → ℕ
+price_of text = price_or_above (price_form text)
+
+-- the price behind the six bytes `bound,`
+abbrev pub named_price : List ℕ → ℕ
+named_price line = if nat_lt (length line) 6 then 10 ^ 18 else price_of (before_comma (drop 6 line))
+
+-- one unit above the limit of a bid that takes part and trades less than its quantity; else 0
+abbrev pub above_if_short : Order → ℕ → ℕ
+above_if_short o traded =
+    if stands_on Buy o && nat_lt traded o.quantity then o.limit + 1 else 0
+
+-- the greatest of these over the first n orders
+unfoldable pub above_short_bids : List Order → List ℕ → ℕ → ℕ
+above_short_bids orders traded zero = 0
+above_short_bids orders traded (suc n) =
+    max (above_if_short (order_at orders n) (slice_index traded n))
+    (above_short_bids orders traded n)
+
+-- the price belongs to the least cut
+pub record IsLeastCutPrice (orders : List Order) (price : ℕ) : Type 0 where
+  pub volume : ℕ
+  pub least : IsLeastCut orders (record { price = price; volume = volume })
+
+-- under `maximum` the price of the least cut, else that above the short bids
+abbrev pub IsPriceOf : Rule → List Order → List ℕ → ℕ → Type 0
+IsPriceOf rule.Maximum orders traded price = IsLeastCutPrice orders price
+IsPriceOf rule.Uniform orders traded price = price ≡ above_short_bids orders traded (length orders)
+IsPriceOf rule.Matching orders traded price = price ≡ above_short_bids orders traded (length orders)
+IsPriceOf rule.Fair orders traded price = price ≡ above_short_bids orders traded (length orders)
+IsPriceOf rule.Continuous orders traded price =
+    price ≡ above_short_bids orders traded (length orders)

@@ -1,0 +1,164 @@
+//! Line 2: a price that shows the volume to be the greatest.
+ghost use Rattle.std.specs.Prelude.{◌≡◌, ◌<◌, ◌≤◌, ◌↔◌, ◌^◌, ℕ, List, IfOk, IsTrue, OnOk, length};
+ghost use Rattle.std.specs.List.{position};
+ghost use Rattle.audit_base.specs.Orders.{AreOrders, IsOrder};
+ghost use Rattle.audit_certificate.specs.Agreement.{ArePlaced, IsBoundLine, ShowsBound};
+ghost use Rattle.audit_certificate.specs.Bounds as bound;
+ghost use Rattle.audit_certificate.specs.Texts.{bound_text};
+
+use super::texts::append_bound;
+use audit_base::faults::NoMemory;
+use audit_base::numbers::read_price;
+use audit_base::orders::Order;
+use audit_base::terms::{Rule, Side};
+use std::alloc::Global;
+use volume_bound::direct::{demand_at, supply_below};
+use volume_bound::extremes::least_cut;
+
+/// One more than the greatest price. The bound may stand here, since nobody bids as much.
+const ABOVE_ALL_PRICES: u64 = 1_000_000_000_000_000_000;
+
+/// Whether the price shows that no volume is greater than this one.
+fn shows_bound(rule: Rule, orders: &[Order], volume: u128, price: u64) -> bool
+    requires { length orders.now < 2 ^ 32 }
+    ensures { IsTrue result ↔ ShowsBound rule orders.now volume price }
+{
+    let demand = demand_at(orders, price);
+    let below = supply_below(orders, price);
+    match rule {
+        Rule::Maximum => demand <= volume && volume - demand == below,
+        Rule::Uniform => demand <= volume && below <= volume,
+        Rule::Matching | Rule::Fair | Rule::Continuous => false,
+    }
+}
+
+/// The place of the first comma.
+fn comma_in(text: &[u8]) -> Option<usize>
+    ensures { result ≡ position bound.is_comma text.now }
+{
+    text.iter().position(|byte| *byte == b',')
+}
+
+/// What stands before the first comma.
+fn before_comma(text: &[u8]) -> &[u8]
+    ensures { result.now ≡ bound.before_comma text.now }
+{
+    match comma_in(text) {
+        None => text,
+        Some(at) => &text[..at],
+    }
+}
+
+/// The price that the text writes; where it writes none, the one whose text is not read as a price.
+fn price_of(text: &[u8]) -> u64
+    ensures same { result ≡ bound.price_of text.now }
+    ensures in_range { result ≤ 10 ^ 18 }
+{
+    match read_price(text) {
+        Some(price) => price.units(),
+        None => ABOVE_ALL_PRICES,
+    }
+}
+
+/// The price that a line 2 has behind `bound,`; of any other line some price.
+fn named_price(line: &[u8]) -> u64
+    ensures same { result ≡ bound.named_price line.now }
+    ensures in_range { result ≤ 10 ^ 18 }
+{
+    if line.len() < 6 {
+        return ABOVE_ALL_PRICES;
+    }
+    price_of(before_comma(&line[6..]))
+}
+
+/// Whether the line is the canonical one of the price and the volume.
+fn is_bound_text(
+    alloc: Global,
+    price: u64,
+    volume: u128,
+    line: &[u8],
+    text: &mut Vec<u8>,
+) -> Result<bool, NoMemory>
+    requires { price ≤ 10 ^ 18 }
+    ensures { IfOk result (λ same. IsTrue same ↔ (line.now ≡ bound_text price volume)) }
+{
+    text.clear();
+    append_bound(alloc, price, volume, text)?;
+    Ok(text.as_slice() == line)
+}
+
+/// Whether the line is a line 2 of this volume with a price that shows it. `text` is a buffer that each
+/// call uses anew.
+pub fn is_bound_line(
+    alloc: Global,
+    rule: Rule,
+    orders: &[Order],
+    volume: u128,
+    line: &[u8],
+    text: &mut Vec<u8>,
+) -> Result<bool, NoMemory>
+    requires { length orders.now < 2 ^ 32 }
+    ensures { IfOk result (λ passes. IsTrue passes ↔ IsBoundLine rule orders.now volume line.now) }
+{
+    let price = named_price(line);
+    if !is_bound_text(alloc, price, volume, line, text)? {
+        return Ok(false);
+    }
+    Ok(shows_bound(rule, orders, volume, price))
+}
+
+/// One unit above the limit of an order, if it is a bid that takes part and trades less than its
+/// quantity; else 0.
+fn above_if_short(order: &Order, traded: u128) -> u64
+    ensures same { result ≡ bound.above_if_short order.now traded }
+    ensures in_range { result ≤ 10 ^ 18 }
+    ensures numbers { IsOrder order.now }
+    ensures place { order.now.place < 2 ^ 32 }
+{
+    let _place = order.place;
+    let limit = order.limit.units();
+    let quantity = order.quantity.value();
+    if order.stands_on(Side::Buy) && traded < u128::from(quantity) {
+        limit + 1
+    } else {
+        0
+    }
+}
+
+/// One unit above the greatest limit of a bid that is not fully traded; 0 where there is none.
+fn above_short_bids(orders: &[Order], traded: &[u128]) -> u64
+    requires { length traded.now ≡ length orders.now }
+    ensures same { result ≡ bound.above_short_bids orders.now traded.now (length orders.now) }
+    ensures in_range { result ≤ 10 ^ 18 }
+    ensures numbers { AreOrders orders.now }
+    ensures places { ArePlaced orders.now }
+{
+    let mut price = 0;
+    for index in 0..orders.len() {
+        price = above_if_short(&orders[index], traded[index]).max(price);
+    }
+    price
+}
+
+/// The least price that passes line 2, where the deals that trade this conform. Under `maximum` it is that of
+/// the least cut. Under `uniform` it is one unit above the best bid that is not fully traded: up to its
+/// limit the demand is above the volume. Err only out of memory.
+pub fn least_price(
+    alloc: Global,
+    rule: Rule,
+    orders: &[Order],
+    traded: &[u128],
+) -> Result<u64, NoMemory>
+    requires few { length orders.now < 2 ^ 32 }
+    requires count { length traded.now ≡ length orders.now }
+    ensures price { IfOk result (bound.IsPriceOf rule orders.now traded.now) }
+    ensures in_range { IfOk result (λ price. price ≤ 10 ^ 18) }
+    ensures numbers { OnOk result (AreOrders orders.now) }
+    ensures places { OnOk result (ArePlaced orders.now) }
+{
+    let above = above_short_bids(orders, traded);
+    match rule {
+        Rule::Maximum => Ok(least_cut(alloc, orders)?.price),
+        Rule::Uniform | Rule::Matching | Rule::Fair | Rule::Continuous => Ok(above),
+    }
+}

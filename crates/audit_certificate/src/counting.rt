@@ -1,0 +1,60 @@
+//! What each order trades, and the volume, in one pass over the deals.
+ghost use Rattle.std.specs.Prelude.{◌≡◌, ◌<◌, ◌+◌, ◌^◌, IfOk, OnOk, replicate, slice_index, slice_set, vec_len};
+ghost use Rattle.audit_base.specs.Deals.{IsDeal, IsDealList, AreDeals};
+ghost use Rattle.audit_certificate.specs.Counting.{AreCounts};
+
+use audit_base::faults::NoMemory;
+use audit_base::orders::{Deal, Order};
+use std::alloc::Global;
+
+/// What deals come to.
+#[derive(Debug, Drop)]
+pub struct Counts {
+    /// What each order trades, by its index.
+    pub traded: Vec<u128>,
+    /// The quantities of all deals, added.
+    pub volume: u128,
+}
+
+/// A zero for each order.
+fn zeros(alloc: Global, count: usize) -> Result<Vec<u128>, NoMemory>
+    ensures { IfOk result (λ traded. traded.items ≡ replicate count 0) }
+{
+    Ok(vec![in alloc; 0u128; count]?)
+}
+
+/// Adds a quantity to what an order trades.
+fn add(traded: &mut Vec<u128>, index: usize, quantity: u64)
+    requires inside { index < vec_len traded.old }
+    requires fits { slice_index traded.old.items index + quantity < 2 ^ 128 }
+    ensures { let sum = slice_index traded.old.items index + quantity in
+        traded.new.items ≡ slice_set traded.old.items index sum }
+{
+    traded[index] += u128::from(quantity);
+}
+
+/// The quantity of a deal, whose numbers are in their ranges, as their types say.
+fn quantity_of(deal: &Deal) -> u64
+    ensures same { result ≡ deal.now.quantity }
+    ensures numbers { IsDeal deal.now }
+{
+    let _price = deal.price.units();
+    deal.quantity.value()
+}
+
+/// What each order trades in the deals, and the volume. Err only out of memory.
+pub fn count(alloc: Global, orders: &[Order], deals: &[Deal]) -> Result<Counts, NoMemory>
+    requires { IsDealList orders.now deals.now }
+    ensures counts { IfOk result (AreCounts orders.now deals.now) }
+    ensures numbers { OnOk result (AreDeals deals.now) }
+{
+    let mut traded = zeros(alloc, orders.len())?;
+    let mut volume: u128 = 0;
+    'deals: for deal in deals {
+        let quantity = quantity_of(deal);
+        add(&mut traded, deal.bid, quantity);
+        add(&mut traded, deal.ask, quantity);
+        volume += u128::from(quantity);
+    }
+    Ok(Counts { traded, volume })
+}

@@ -1,0 +1,174 @@
+//! The certificate of a staircase of orders, and texts that are wrong in one line each. An order is
+//! written as its side (B, S) and its limit in currency units, and each has the quantity 1.
+ghost use Rattle.audit_base.specs.Deals.{IsDealList};
+
+use super::certifying::certify;
+use super::faults::VerifyFault;
+use super::verifying::verify;
+use audit_base::names::{Key, Name, read_name};
+use audit_base::numbers::{Quantity, read_price};
+use audit_base::orders::Deal;
+use audit_base::records::{OrderRecord, TradeRecord};
+use audit_base::stamps::Stamp;
+use audit_base::terms::{Life, Rule, Side};
+use instruction_history::history::History;
+use matching_core::resolving::resolve;
+use std::process::Abort;
+
+fn name(rt: &impl Abort, text: &[u8]) -> Name {
+    read_name(text).expect(rt, "a name")
+}
+
+fn key(rt: &impl Abort, id: u8) -> Key {
+    Key {
+        firm: name(rt, b"A"),
+        id: name(rt, &[id]),
+    }
+}
+
+/// The order with this digit as its id.
+fn order(rt: &impl Abort, id: u8, side: Side, limit: u8) -> OrderRecord {
+    OrderRecord::New {
+        key: key(rt, id),
+        time: Stamp { second: 5, nano: 0 },
+        symbol: name(rt, b"Z"),
+        side,
+        quantity: Quantity::of(1).expect(rt, "a quantity"),
+        price: read_price(&[limit]).expect(rt, "a price"),
+        life: Life::Rests,
+    }
+}
+
+/// Bids at 1, 2 and 3, then asks at 1, 2 and 3.
+fn staircase<R: AllocGlobal + Abort>(rt: &R) -> History {
+    let entries = [
+        order(rt, b'1', Side::Buy, b'1'),
+        order(rt, b'2', Side::Buy, b'2'),
+        order(rt, b'3', Side::Buy, b'3'),
+        order(rt, b'4', Side::Sell, b'1'),
+        order(rt, b'5', Side::Sell, b'2'),
+        order(rt, b'6', Side::Sell, b'3'),
+    ];
+    let Ok(history) = History::build(rt.alloc(), &entries, &name(rt, b"Z")) else {
+        panic!(rt; "no history");
+    };
+    history
+}
+
+/// A trade of 1 at 2 between the orders with these digits as their ids.
+fn trade(rt: &impl Abort, id: u8, buy: u8, sell: u8) -> TradeRecord {
+    TradeRecord {
+        trade: name(rt, &[id]),
+        time: Stamp { second: 5, nano: 0 },
+        symbol: name(rt, b"Z"),
+        buy: key(rt, buy),
+        sell: key(rt, sell),
+        quantity: Quantity::of(1).expect(rt, "a quantity"),
+        price: read_price(b"2").expect(rt, "a price"),
+    }
+}
+
+/// The two trades of the staircase: the bids at 2 and 3 with the asks at 1 and 2.
+fn two_deals<R: AllocGlobal + Abort>(rt: &R, history: &History) -> Vec<Deal>
+    ensures { IsDealList history.now result.items }
+{
+    let trades = [trade(rt, b'1', b'2', b'4'), trade(rt, b'2', b'3', b'5')];
+    let Ok(deals) = resolve(rt.alloc(), history, &trades, &name(rt, b"Z")) else {
+        panic!(rt; "unsound trades");
+    };
+    deals
+}
+
+/// The lines of the certificate of these trades.
+const LINES: [&str; 10] = [
+    "certificate,uniform,Z",
+    "bound,1.00000001,2",
+    "last,buy,2",
+    "last,sell,5",
+    "order,1,0",
+    "order,2,1",
+    "order,3,1",
+    "order,4,1",
+    "order,5,1",
+    "order,6,0",
+];
+
+/// The lines, each ended by LF.
+fn text_of<R: AllocGlobal + Abort>(rt: &R, lines: &[&str]) -> Vec<u8> {
+    let mut text = Vec::new(rt.alloc());
+    for line in lines {
+        let stored = text.extend_from_slice(line.as_bytes()).is_ok() && text.push(b'\n').is_ok();
+        assert!(rt; stored);
+    }
+    text
+}
+
+/// What the verification of a text answers.
+fn answer<R: AllocGlobal + Abort>(rt: &R, bytes: &[u8]) -> Result<Rule, VerifyFault> {
+    let history = staircase(rt);
+    let deals = two_deals(rt, &history);
+    assert!(rt; bytes.len() <= 67_108_864);
+    verify(rt.alloc(), &name(rt, b"Z"), history.orders(), &deals, bytes)
+}
+
+#[test]
+fn the_certificate_of_a_staircase(rt: HostRuntime) {
+    let history = staircase(&rt);
+    let deals = two_deals(&rt, &history);
+    let symbol = name(&rt, b"Z");
+    let wanted = text_of(&rt, &LINES);
+    assert!(rt; wanted.len() <= 67_108_864);
+    let Ok(rule) = verify(rt.alloc(), &symbol, history.orders(), &deals, &wanted) else {
+        panic!(rt; "refused");
+    };
+    assert_eq!(rt; rule, Rule::Uniform);
+    let Ok(text) = certify(rt.alloc(), rule, &symbol, history.orders(), &deals) else {
+        panic!(rt; "no memory");
+    };
+    assert_eq!(rt; text.as_slice(), wanted.as_slice());
+}
+
+/// The number of a line, what stands in its place, and the number of the line that is refused.
+const WRONG: [(usize, &str, u32); 14] = [
+    (1, "certificate,maximum,Z", 2),
+    (1, "certificate,fair,Z", 1),
+    (1, "certificate,uniform,Y", 1),
+    (1, "certificate,uniform,Z\r", 1),
+    (2, "bound,1,2", 2),
+    (2, "bound,1.000000010,2", 2),
+    (2, "bound,1.00000001,3", 2),
+    (2, "bound,1.00000001,02", 2),
+    (3, "last,buy,1", 3),
+    (3, "last,buy,none", 3),
+    (4, "last,sell,4", 4),
+    (5, "order,01,0", 5),
+    (7, "order,3,2", 7),
+    (10, "order,6,0\norder,7,0", 11),
+];
+
+#[test]
+fn the_first_wrong_line_is_told(rt: HostRuntime) {
+    for (number, line, refused) in WRONG {
+        let mut lines = LINES;
+        lines[number - 1] = line;
+        let told = answer(&rt, &text_of(&rt, &lines));
+        assert_eq!(rt; told, Err(VerifyFault::No(refused)), "{line}");
+    }
+}
+
+#[test]
+fn a_line_is_missing_or_not_ended(rt: HostRuntime) {
+    let text = text_of(&rt, &LINES);
+    let size = text.len();
+    assert!(rt; size > 10);
+    assert_eq!(rt; answer(&rt, &text[..size - 1]), Err(VerifyFault::No(10)));
+    assert_eq!(rt; answer(&rt, &text[..size - 10]), Err(VerifyFault::No(10)));
+    assert_eq!(rt; answer(&rt, &text[..0]), Err(VerifyFault::No(1)));
+}
+
+#[test]
+fn any_price_that_shows_the_volume_passes(rt: HostRuntime) {
+    let mut lines = LINES;
+    lines[1] = "bound,2,2";
+    assert_eq!(rt; answer(&rt, &text_of(&rt, &lines)), Ok(Rule::Uniform));
+}

@@ -1,0 +1,2 @@
+mod GeneratorLemmas
+mod HistoryOfGenerated

@@ -1,0 +1,35 @@
+use Rattle.std.proofs.Common.{◌≡◌, sym, ap, ◌∙◌, arith, subst, length}
+use Rattle.std.specs.Prelude.{None}
+use Rattle.audit_base.specs.Histories.{WellFormed, Regular, order_list, instant_order}
+use Rattle.log_maker.specs.Generator.{AreOfSymbol, generated_records, generated_symbol}
+use Rattle.log_maker.proofs.GeneratorLemmas.{state-first, step-is, all-made}
+use Rattle.log_maker.proofs.HistoryOfGenerated.{count-is, all-of-symbol, well_formed, regular, all-rest}
+use Rattle.log_maker.proofs.generator.make_orders.Goals as goal
+
+pub loop-number-init : goal.loop-number-init
+loop-number-init c = (state-first c.args.start, c.in_ok-entries.ensures.items)
+
+pub loop-number-preserved : goal.loop-number-preserved
+loop-number-preserved c = step-is c.args.start c.loop-number.number c.loop-number.state c.next_state-state.result c.loop-number.entries.items c.push.new.self.items c.in_ok-entry.entry
+    c.loop-number.auto.number c.loop-number.invariant c.next_state-state.ensures c.in_ok-entry.ensures c.in_ok-push.ensures.items
+
+made : (c : goal.After-drop-text-2) → c.loop-number.entries.items ≡ generated_records c.args.start c.args.count
+made c = all-made c.args.start c.args.count c.loop-number.number c.loop-number.entries.items c.loop-number-test.false (c.loop-number.auto.number-end (omega arith)) c.loop-number.invariant.1
+
+pub returns-clause-records : goal.returns-clause-records
+returns-clause-records c = made c
+
+pub returns-clause-count : goal.returns-clause-count
+returns-clause-count c = ap length (made c) ∙ count-is c.args.start c.args.count c.requires.count.most
+
+pub returns-clause-symbol : goal.returns-clause-symbol
+returns-clause-symbol c = subst (AreOfSymbol generated_symbol) (sym (made c)) (all-of-symbol c.args.start c.args.count c.requires.count.most)
+
+pub returns-clause-well_formed : goal.returns-clause-well_formed
+returns-clause-well_formed c = subst (WellFormed generated_symbol) (sym (made c)) (well_formed c.args.start c.args.count c.requires.count.most)
+
+pub returns-clause-regular : goal.returns-clause-regular
+returns-clause-regular c = subst (λ entries. Regular (order_list generated_symbol entries)) (sym (made c)) (regular c.args.start c.args.count c.requires.count.most)
+
+pub returns-clause-resting : goal.returns-clause-resting
+returns-clause-resting c = subst (λ entries. instant_order (order_list generated_symbol entries) ≡ None) (sym (made c)) (all-rest c.args.start c.args.count c.requires.count.most)
