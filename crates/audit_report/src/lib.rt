@@ -7,6 +7,7 @@ mod lines;
 mod reasons;
 pub mod reports;
 pub mod statuses;
+pub mod summaries;
 pub mod tables;
 #[cfg(test)]
 mod tests;

@@ -41,7 +41,8 @@ pub fn append_totals_line(
     volume: u128,
     out: &mut Vec<u8>,
 ) -> Result<(), NoMemory>
-    ensures { OnOk result (out.new.items ≡ out.old.items ++ text.totals_line orders trades volume) }
+    ensures { let line = text.totals_line orders trades volume in
+        OnOk result (out.new.items ≡ out.old.items ++ line) }
 {
     let parts = [
         Part::Number(u128::from(orders)),

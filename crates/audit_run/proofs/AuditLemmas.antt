@@ -1,6 +1,6 @@
 -- The audit of two logs: how what is known of one log goes over to both, and what the command `audit` reports of them.
 use Rattle.std.proofs.Common.{◌≡◌, ◌∙◌, sym, subst, refl, inl, inr, ⊎_elim, ℕ, true, false, ◌≤◌, List, [], ◌∷◌, length, None, Some, Result, Ok, Err, IsOk}
-use Rattle.std.specs.Prelude.{IfErr, IfOk, IsTrue}
+use Rattle.std.specs.Prelude.{IfErr, IfOk}
 use Rattle.audit_base.specs.declared.faults.BadPlace.{BadPlace}
 use Rattle.audit_base.specs.declared.findings.Finding.{Finding}
 use Rattle.audit_base.specs.declared.orders.Order.{Order}
@@ -14,7 +14,8 @@ use Rattle.audit_report.specs.Lines.{read_fault_line, too_long_line}
 use Rattle.audit_report.specs.Statuses.{verdict_status}
 use Rattle.audit_report.specs.Texts.{verdict_text}
 use Rattle.audit_base.specs.Deals.{AreDeals}
-use Rattle.audit_base.specs.Histories.{instant_order, order_list, WellFormed}
+use Rattle.audit_base.specs.Histories.{order_list, WellFormed}
+use Rattle.audit_base.specs.Verdicts.{call_finding}
 use Rattle.audit_base.specs.Trades.{deals_of, unsound_trade}
 use Rattle.log_source.specs.declared.shelf.Shelf.{Ghosts as Shelf}
 use Rattle.log_source.specs.Sources.{Slot, longest_log}
@@ -29,11 +30,11 @@ use Rattle.audit_run.specs.declared.requests.Request.{Request}
 use Rattle.audit_run.specs.declared.reports.Report.{Report}
 use Rattle.audit_run.specs.declared.stops.Stop.{Stop}
 use Rattle.audit_run.specs.declared.stops.Stop.TheVariants as stop
-use Rattle.audit_run.specs.Auditing.{audit_of, source_of, without_log, Decides, DecidesTrades, IsAfterOrders, IsAuditStop, IsCallHistory, IsEndOf, IsReportOf, IsOrdersVerdict, IsStarted, IsStop, IsVerdictOn, StaysWithin, StaysWithinAt}
+use Rattle.audit_run.specs.Auditing.{audit_of, source_of, without_log, Decides, DecidesTrades, IsAfterOrders, IsAuditStop, IsAdmitted, IsEndOf, IsReportOf, IsOrdersVerdict, IsStarted, IsStop, IsVerdictOn, StaysWithin, StaysWithinAt}
 use Rattle.audit_run.specs.Collecting.{step_of, HasCollected, HasTrades, IsReadAs}
-use Rattle.audit_run.specs.Judgements.{is_call, IsJudged}
+use Rattle.audit_run.specs.Judgements.{IsJudged}
 use Rattle.audit_run.specs.Phases.{IsJudgedDeals, IsJudgedTrades}
-use Rattle.audit_run.proofs.JudgeLemmas.{judged_alone, judged_by_instant, judged_whole, trades_sound}
+use Rattle.audit_run.proofs.JudgeLemmas.{judged_alone, judged_by_order, judged_whole, trades_sound}
 use Rattle.audit_run.specs.LogVerdicts.{order_log, trade_log}
 use Rattle.audit_run.specs.Requests.{next_log}
 use Rattle.audit_run.specs.Runs.{IsText, ReportsLogs, StopsAtLog}
@@ -148,23 +149,23 @@ module _ (r : Reading) (q : Question) (trades : Source) (entries : List OrderRec
       record { bytes = is.bytes; read = is.read; holds = rw is.holds (judged (Err finding)) }
 
   -- a report without its partner is the verdict
-  pub after_alone : (finding : Finding) (history : List Order) → IsTrue (is_call q.rule) → IsCallHistory q entries history
+  pub after_alone : (finding : Finding) (history : List Order) → IsAdmitted q entries history
       → IsReadAs r Trades trades.name.now (λ bytes. trade_log trades.form bytes ≡ Ok (Err finding)) → IsAfterOrders r q trades entries (verdict.Rejected finding)
-  after_alone finding history call is read =
-      record { bytes = read.bytes; read = read.read; holds = rw read.holds (judged_alone q entries history finding call is.formed is.orders is.instant) }
+  after_alone finding history is read =
+      record { bytes = read.bytes; read = read.read; holds = rw read.holds (judged_alone q entries history finding is.formed is.orders is.admits) }
 
   -- what the trades come to that were handed to a collector is decided
-  pub decides_ended : (has_taken : List TradeRecord → Type 0) (ended : ResolvedTrades) (result : Result Verdict Stop) → IsTrue (is_call q.rule) → IsCallHistory q entries ended.history
+  pub decides_ended : (has_taken : List TradeRecord → Type 0) (ended : ResolvedTrades) (result : Result Verdict Stop) → IsAdmitted q entries ended.history
       → IsReadAs r Trades trades.name.now (λ bytes. HasTrades has_taken (trade_log trades.form bytes)) → ((ts : List TradeRecord) → has_taken ts → IsEndOf q ts ended)
       → (ended.finding ≡ None → AreDeals ended.deals.items) → IfOk result (λ v. (ts : List TradeRecord) → IsEndOf q ts ended → IsJudgedTrades q ended.history ts v)
       → IfErr result (λ why. why ≡ stop.Memory) → DecidesTrades r q trades entries result
-  decides_ended has_taken ended (Ok v) call is read ends numbers judged memory =
+  decides_ended has_taken ended (Ok v) is read ends numbers judged memory =
       let ts : List TradeRecord = read.holds.trades in
       let end : IsEndOf q ts ended = ends ts read.holds.has in
-      let whole = judged_whole q entries ts ended.history v call is.formed is.orders is.instant
+      let whole = judged_whole q entries ts ended.history v is.formed is.orders is.admits
       (λ sound. let none : ended.finding ≡ None = sym end.finding ∙ sound in subst AreDeals (end.deals none) (numbers none)) (judged ts end) in
       record { bytes = read.bytes; read = read.read; holds = rw read.holds.says whole }
-  decides_ended has_taken ended (Err why) call is read ends numbers judged memory = rw memory tt
+  decides_ended has_taken ended (Err why) is read ends numbers judged memory = rw memory tt
 
 -- what was gathered of the trades of a symbol, in the words of the question
 pub ends_as : (q : Question) (symbol : List ℕ) (orders : List Order) (ts : List TradeRecord) (ended : ResolvedTrades) → q.symbol ≡ symbol → ended.history ≡ orders → ended.count ≡ length ts
@@ -183,21 +184,21 @@ ended_sound q ts ended orders v end none same is =
     (subst (λ (n : ℕ). IsJudgedDeals q ended.history ended.deals.items n v) end.count
     (subst (λ (os : List Order). IsJudgedDeals q os ended.deals.items ended.count v) same is))
 
--- the orders of a history without a finding
-pub call_history : (q : Question) (symbol : List ℕ) (entries : List OrderRecord) (history : List Order) → q.symbol ≡ symbol → WellFormed symbol entries → history ≡ order_list symbol entries → instant_order history ≡ None
-    → IsCallHistory q entries history
-call_history q symbol entries history named formed orders instant = record {
+-- the orders of a history whose orders the rule admits
+pub admitted : (q : Question) (symbol : List ℕ) (entries : List OrderRecord) (history : List Order) → q.symbol ≡ symbol → WellFormed symbol entries → history ≡ order_list symbol entries → call_finding q.rule history ≡ None
+    → IsAdmitted q entries history
+admitted q symbol entries history named formed orders admits = record {
   formed = subst (λ (s : List ℕ). WellFormed s entries) (sym named) formed;
   orders = subst (λ (s : List ℕ). history ≡ order_list s entries) (sym named) orders;
-  instant = instant;
+  admits = admits;
 }
 
--- an order of a history that does not rest is the verdict, whatever the trade log says
-pub instant_found : (q : Question) (symbol : List ℕ) (entries : List OrderRecord) (history : List Order) (finding : Finding) → IsTrue (is_call q.rule) → q.symbol ≡ symbol → WellFormed symbol entries → history ≡ order_list symbol entries
-    → instant_order history ≡ Some finding → (paired : Result (List TradeRecord) Finding) → IsJudged q entries paired (verdict.Rejected finding)
-instant_found q symbol entries history finding call named formed orders instant paired =
-    judged_by_instant q entries paired finding call (subst (λ (s : List ℕ). WellFormed s entries) (sym named) formed)
-    (subst (λ (s : List ℕ). instant_order (order_list s entries) ≡ Some finding) (sym named) (subst (λ (os : List Order). instant_order os ≡ Some finding) orders instant))
+-- an order of a history that the rule does not admit is the verdict, whatever the trade log says
+pub refused_order : (q : Question) (symbol : List ℕ) (entries : List OrderRecord) (history : List Order) (finding : Finding) → q.symbol ≡ symbol → WellFormed symbol entries → history ≡ order_list symbol entries
+    → call_finding q.rule history ≡ Some finding → (paired : Result (List TradeRecord) Finding) → IsJudged q entries paired (verdict.Rejected finding)
+refused_order q symbol entries history finding named formed orders instant paired =
+    judged_by_order q entries paired finding (subst (λ (s : List ℕ). WellFormed s entries) (sym named) formed)
+    (subst (λ (s : List ℕ). call_finding q.rule (order_list s entries) ≡ Some finding) (sym named) (subst (λ (os : List Order). call_finding q.rule os ≡ Some finding) orders instant))
 
 -- The command `audit`: which steps lead to its report, and where it stops.
 

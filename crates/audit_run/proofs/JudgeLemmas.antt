@@ -1,6 +1,6 @@
 -- The phases of the verdict on records, one after another, are the verdict of the rules.
 use Rattle.std.proofs.Common.{◌≡◌, ◌∙◌, sym, ap, subst, refl, ℕ, Bool, true, false, List, [], ◌∷◌, length, Option, None, Some, Result, Ok, Err, ◌<◌, ◌≤◌, ◌^◌}
-use Rattle.std.specs.Prelude.{IfOk, IsTrue, not, option_map}
+use Rattle.std.specs.Prelude.{IfOk, not, option_map}
 use Rattle.std.specs.Option.{ForSome}
 use Rattle.audit_base.specs.declared.terms.Rule.{Rule}
 use Rattle.audit_base.specs.declared.terms.Rule.TheVariants as rule
@@ -25,7 +25,7 @@ use Rattle.audit_report.specs.declared.verdicts.Verdict.{Verdict}
 use Rattle.audit_report.specs.declared.verdicts.Verdict.TheVariants.{Accepted as IsAccepted, Rejected, Malformed}
 use Rattle.audit_report.specs.Texts.{IsVerdictInRange, IsBoundInRange}
 use Rattle.audit_run.specs.declared.questions.Question.{Question}
-use Rattle.audit_run.specs.Judgements.{is_call, IsBoundShown, IsOutcome, IsJudged}
+use Rattle.audit_run.specs.Judgements.{IsBoundShown, IsOutcome, IsJudged}
 use Rattle.audit_run.specs.Phases.{FoundAfter, IsJudgedRecords, IsJudgedHistory, IsJudgedTrades, IsJudgedDeals}
 
 -- what holds of an answer holds of what follows from it
@@ -69,32 +69,21 @@ pub judged_of : (q : Question) (entries : List OrderRecord) (trades : Result (Li
 judged_of q entries trades orders the_verdict formed same is =
     judged_after q entries trades the_verdict formed (subst (λ (os : List Order). IsJudgedHistory q os trades the_verdict) same is)
 
-pub no_call : IsTrue false → ⊥
-no_call e = cc
-
--- under a rule of a call the orders that don't rest are looked for
-call_looks : (the_rule : Rule) (orders : List Order) → IsTrue (is_call the_rule) → call_finding the_rule orders ≡ instant_order orders
-call_looks rule.Matching orders call = refl
-call_looks rule.Fair orders call = refl
-call_looks rule.Uniform orders call = refl
-call_looks rule.Maximum orders call = refl
-call_looks rule.Continuous orders call = absurd (no_call call)
-
 module _ (q : Question) (orders : List Order) where
   -- an order that doesn't rest is the verdict
-  pub history_instant : (trades : Result (List TradeRecord) Finding) (finding : Finding) → IsTrue (is_call q.rule) → instant_order orders ≡ Some finding
+  pub history_instant : (trades : Result (List TradeRecord) Finding) (finding : Finding) → call_finding q.rule orders ≡ Some finding
       → IsJudgedHistory q orders trades (Rejected finding)
-  history_instant trades finding call is = record {
+  history_instant trades finding is = record {
     found = Some finding;
-    by_the_rules = subst (λ (i : Option Finding). after_phases q orders trades (Some finding) None i) (sym (call_looks q.rule orders call ∙ is)) refl;
+    by_the_rules = subst (λ (i : Option Finding). after_phases q orders trades (Some finding) None i) (sym is) refl;
     outcome = refl;
   }
 
   -- else a report without its partner is
-  pub history_alone : (finding : Finding) → IsTrue (is_call q.rule) → instant_order orders ≡ None → IsJudgedHistory q orders (Err finding) (Rejected finding)
-  history_alone finding call none = record {
+  pub history_alone : (finding : Finding) → call_finding q.rule orders ≡ None → IsJudgedHistory q orders (Err finding) (Rejected finding)
+  history_alone finding none = record {
     found = Some finding;
-    by_the_rules = subst (λ (i : Option Finding). after_phases q orders (Err finding) (Some finding) None i) (sym (call_looks q.rule orders call ∙ none)) refl;
+    by_the_rules = subst (λ (i : Option Finding). after_phases q orders (Err finding) (Some finding) None i) (sym none) refl;
     outcome = refl;
   }
 
@@ -103,11 +92,11 @@ module _ (q : Question) (orders : List Order) where
   or_none (Some f) = refl
 
   -- else the trades decide
-  pub history_trades : (trades : List TradeRecord) (the_verdict : Verdict) → IsTrue (is_call q.rule) → instant_order orders ≡ None → IsJudgedTrades q orders trades the_verdict
+  pub history_trades : (trades : List TradeRecord) (the_verdict : Verdict) → call_finding q.rule orders ≡ None → IsJudgedTrades q orders trades the_verdict
       → IsJudgedHistory q orders (Ok trades) the_verdict
-  history_trades trades the_verdict call none is = record {
+  history_trades trades the_verdict none is = record {
     found = is.found;
-    by_the_rules = subst (λ (i : Option Finding). after_phases q orders (Ok trades) is.found None i) (sym (call_looks q.rule orders call ∙ none))
+    by_the_rules = subst (λ (i : Option Finding). after_phases q orders (Ok trades) is.found None i) (sym none)
         (subst (λ (u : Option Finding). FoundAfter u q orders (deals_of orders q.symbol trades) (length trades) is.found) (sym (or_none (unsound_trade orders q.symbol trades))) is.by_the_rules);
     outcome = is.outcome;
   }
@@ -184,11 +173,11 @@ instant_at orders i o same lt before away =
     ∙ ap (option_map (λ (k : ℕ). found property.InstantOrder which.Orders (order_at orders k).place None None)) (sym first)
 
 -- what the trades come to is the verdict, which is the only one
-pub judged_whole : (q : Question) (entries : List OrderRecord) (trades : List TradeRecord) (orders : List Order) (the_verdict : Verdict) → IsTrue (is_call q.rule) → WellFormed q.symbol entries
-    → orders ≡ order_list q.symbol entries → instant_order orders ≡ None → (unsound_trade orders q.symbol trades ≡ None → AreDeals (deals_of orders q.symbol trades))
+pub judged_whole : (q : Question) (entries : List OrderRecord) (trades : List TradeRecord) (orders : List Order) (the_verdict : Verdict) → WellFormed q.symbol entries
+    → orders ≡ order_list q.symbol entries → call_finding q.rule orders ≡ None → (unsound_trade orders q.symbol trades ≡ None → AreDeals (deals_of orders q.symbol trades))
     → IsJudgedTrades q orders trades the_verdict → IsJudged q entries (Ok trades) the_verdict
-judged_whole q entries trades orders the_verdict call formed same none ranges is =
-    let whole = judged_of q entries (Ok trades) orders the_verdict formed same (history_trades q orders trades the_verdict call none is) in
+judged_whole q entries trades orders the_verdict formed same none ranges is =
+    let whole = judged_of q entries (Ok trades) orders the_verdict formed same (history_trades q orders trades the_verdict none is) in
     record {
       found = whole.found;
       by_the_rules = whole.by_the_rules;
@@ -210,34 +199,34 @@ judged_by_history q entries trades finding is =
       outcome = refl;
     }
 
--- an order that doesn't rest is the only verdict
-pub judged_by_instant : (q : Question) (entries : List OrderRecord) (trades : Result (List TradeRecord) Finding) (finding : Finding) → IsTrue (is_call q.rule) → WellFormed q.symbol entries
-    → instant_order (order_list q.symbol entries) ≡ Some finding → IsJudged q entries trades (Rejected finding)
+-- an order that the rule does not admit is the only verdict
+pub judged_by_order : (q : Question) (entries : List OrderRecord) (trades : Result (List TradeRecord) Finding) (finding : Finding) → WellFormed q.symbol entries
+    → call_finding q.rule (order_list q.symbol entries) ≡ Some finding → IsJudged q entries trades (Rejected finding)
 unfolding judged_after history_instant
-judged_by_instant q entries trades finding call formed is =
+judged_by_order q entries trades finding formed is =
     let orders : List Order = order_list q.symbol entries in
-    let history = history_instant q orders trades finding call is in
+    let history = history_instant q orders trades finding is in
     record {
       found = Some finding;
       by_the_rules = (judged_after q entries trades (Rejected finding) formed history).by_the_rules;
       one = λ other others.
-          subst (λ (i : Option Finding). after_phases q orders trades other None i) (call_looks q.rule orders call ∙ is)
+          subst (λ (i : Option Finding). after_phases q orders trades other None i) is
           (subst (λ (h : Option Finding). after_phases q orders trades other h (call_finding q.rule orders)) formed others);
       outcome = refl;
     }
 
 -- a report without its partner is the only verdict where the history has none
-pub judged_alone : (q : Question) (entries : List OrderRecord) (orders : List Order) (finding : Finding) → IsTrue (is_call q.rule) → WellFormed q.symbol entries
-    → orders ≡ order_list q.symbol entries → instant_order orders ≡ None → IsJudged q entries (Err finding) (Rejected finding)
+pub judged_alone : (q : Question) (entries : List OrderRecord) (orders : List Order) (finding : Finding) → WellFormed q.symbol entries
+    → orders ≡ order_list q.symbol entries → call_finding q.rule orders ≡ None → IsJudged q entries (Err finding) (Rejected finding)
 unfolding judged_after history_alone
-judged_alone q entries orders finding call formed same none =
+judged_alone q entries orders finding formed same none =
     let those : List Order = order_list q.symbol entries in
-    let quiet : instant_order those ≡ None = ap instant_order (sym same) ∙ none in
+    let quiet : call_finding q.rule those ≡ None = ap (call_finding q.rule) (sym same) ∙ none in
     record {
       found = Some finding;
-      by_the_rules = (judged_after q entries (Err finding) (Rejected finding) formed (history_alone q those finding call quiet)).by_the_rules;
+      by_the_rules = (judged_after q entries (Err finding) (Rejected finding) formed (history_alone q those finding quiet)).by_the_rules;
       one = λ other others.
-          subst (λ (i : Option Finding). after_phases q those (Err finding) other None i) (call_looks q.rule those call ∙ quiet)
+          subst (λ (i : Option Finding). after_phases q those (Err finding) other None i) quiet
           (subst (λ (h : Option Finding). after_phases q those (Err finding) other h (call_finding q.rule those)) formed others);
       outcome = refl;
     }

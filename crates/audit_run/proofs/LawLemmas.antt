@@ -28,7 +28,7 @@ use Rattle.audit_run.specs.Laws.{FormsAgree, OneVerdict}
 use Rattle.audit_run.specs.LogVerdicts.{order_log, trade_log}
 
 -- there is one least number with a property
-one-least : (P : ℕ → Type 0) (a b : ℕ) → IsLeast P a → IsLeast P b → a ≡ b
+pub one-least : (P : ℕ → Type 0) (a b : ℕ) → IsLeast P a → IsLeast P b → a ≡ b
 one-least P a b x y =
     let at_least : a < b → ⊥ = λ lt. y.none_below a lt x.holds in
     let at_most : b < a → ⊥ = λ lt. x.none_below b lt y.holds in

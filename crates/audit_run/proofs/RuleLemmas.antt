@@ -1,6 +1,6 @@
 -- What the audit of a rule answers is the verdict of the rules on the deals.
-use Rattle.std.proofs.Common.{◌≡◌, ◌∙◌, ap, sym, subst, refl, ℕ, zero, suc, Bool, true, false, List, ◌∷◌, length, Option, None, Some, arith, ◌<◌, ◌+◌}
-use Rattle.std.specs.Prelude.{MatchOption, IsTrue, map, slice_index}
+use Rattle.std.proofs.Common.{◌≡◌, ◌∙◌, ap, sym, subst, refl, ℕ, zero, suc, false, List, ◌∷◌, length, Option, None, Some, arith, ◌<◌, ◌+◌, ◌⊎◌, inl, inr}
+use Rattle.std.specs.Prelude.{MatchOption, map, slice_index}
 use Rattle.std.specs.Option.{option_or}
 use Rattle.std.specs.List.{range_with_len}
 use Rattle.audit_base.specs.declared.terms.Rule.{Rule}
@@ -21,12 +21,13 @@ use Rattle.matching_core.specs.declared.outcomes.CheckFault.TheVariants as fault
 use Rattle.matching_core.specs.declared.outcomes.Outcome.{Outcome}
 use Rattle.matching_core.specs.declared.outcomes.Outcome.TheVariants as outcome
 use Rattle.matching_core.specs.declared.outcomes.Reached.{Reached}
+use Rattle.audit_base.specs.Histories.{Regular}
 use Rattle.call_auction.specs.Audits.{IsAudited}
+use Rattle.continuous_audit.specs.Audits as continuous
 use Rattle.audit_run.specs.declared.questions.Question.{Question}
-use Rattle.audit_run.specs.Judgements.{is_call, order_line_at, order_lines, table_lines}
+use Rattle.audit_run.specs.Judgements.{order_line_at, order_lines, rule_lines}
 use Rattle.audit_run.specs.Phases.{IsJudgedDeals}
-use Rattle.audit_run.specs.Tables.{line_of, lines_of, call_table, accepted_verdict, conforming_outcome, IsRuleConforming, IsOutcomeOfFault, IsRuleAudited}
-use Rattle.audit_run.proofs.JudgeLemmas.{no_call}
+use Rattle.audit_run.specs.Tables.{line_of, lines_of, accepted_verdict, conforming_outcome, IsRuleConforming, IsOutcomeOfFault, IsRuleAudited}
 
 map-same : (f g : ℕ → Line) (a n : ℕ) → ((i : ℕ) → i < a + n → f i ≡ g i) → map f (range_with_len a n) ≡ map g (range_with_len a n)
 map-same f g a zero same = refl
@@ -39,14 +40,14 @@ lines-are : (orders : List Order) (deals : List Deal) (totals : List ℕ) → Ar
 lines-are orders deals totals are =
     map-same (λ i. line_of (order_at orders i) (slice_index totals i)) (order_line_at orders deals) 0 (length orders) (λ i lt. ap (line_of (order_at orders i)) (are.each i (omega arith)))
 
-table-is : (the_rule : Rule) (table : Bool) (orders : List Order) (deals : List Deal) (totals : List ℕ) → IsTrue (is_call the_rule) → AreTotals orders deals totals
-    → call_table table orders totals ≡ table_lines the_rule table orders deals
-table-is the_rule false orders deals totals call are = refl
-table-is rule.Continuous true orders deals totals call are = absurd (no_call call)
-table-is rule.Matching true orders deals totals call are = lines-are orders deals totals are
-table-is rule.Fair true orders deals totals call are = lines-are orders deals totals are
-table-is rule.Uniform true orders deals totals call are = lines-are orders deals totals are
-table-is rule.Maximum true orders deals totals call are = lines-are orders deals totals are
+-- under a rule of a call these are the lines of the table
+pub call-lines : (the_rule : Rule) (orders : List Order) (deals : List Deal) (totals : List ℕ)
+    → (the_rule ≡ rule.Matching) ⊎ ((the_rule ≡ rule.Fair) ⊎ ((the_rule ≡ rule.Uniform) ⊎ (the_rule ≡ rule.Maximum))) → AreTotals orders deals totals
+    → lines_of orders totals ≡ rule_lines the_rule orders deals
+call-lines the_rule orders deals totals (inl is) are = rw is (lines-are orders deals totals are)
+call-lines the_rule orders deals totals (inr (inl is)) are = rw is (lines-are orders deals totals are)
+call-lines the_rule orders deals totals (inr (inr (inl is))) are = rw is (lines-are orders deals totals are)
+call-lines the_rule orders deals totals (inr (inr (inr is))) are = rw is (lines-are orders deals totals are)
 
 module _ (orders : List Order) (deals : List Deal) (count : ℕ) where
   -- totals of deals that conform to `matching`, or to `fair`
@@ -96,10 +97,21 @@ module _ (orders : List Order) (deals : List Deal) (count : ℕ) where
   }
   maximum_audited (outcome.Broken finding) audited = audited.offence
 
+  -- what the audit of continuous trading answers
+  pub continuous_audited : Regular orders → (answer : Outcome) → continuous.IsAudited orders deals answer → IsRuleAudited rule.Continuous orders deals count answer
+  continuous_audited regular (outcome.Conforms reached) audited = record {
+    conforms = audited.conforms;
+    totals = record { count = audited.count; each = audited.totals };
+    volume_is = audited.volume_is;
+    bound_is = audited.no_bound;
+    only = audited.only regular;
+  }
+  continuous_audited regular (outcome.Broken finding) audited = audited.offence
+
   -- what the audit answers is the verdict
-  pub judged_conforming : (q : Question) (reached : Reached) → IsTrue (is_call q.rule) → IsRuleConforming q.rule orders deals count reached
-      → IsJudgedDeals q orders deals count (accepted_verdict q orders (length deals) reached)
-  judged_conforming q reached call is = record {
+  pub judged_conforming : (q : Question) (reached : Reached) → IsRuleConforming q.rule orders deals count reached
+      → IsJudgedDeals q orders deals count (accepted_verdict q orders deals reached)
+  judged_conforming q reached is = record {
     found = None;
     by_the_rule = is.conforms;
     outcome = record {
@@ -109,7 +121,7 @@ module _ (orders : List Order) (deals : List Deal) (count : ℕ) where
       trades_are = refl;
       volume_is = is.volume_is;
       bound_is = is.bound_is;
-      table_is = table-is q.rule q.table orders deals reached.traded.0 call is.totals;
+      table_is = refl;
       only = is.only;
     };
   }

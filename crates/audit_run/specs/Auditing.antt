@@ -1,5 +1,5 @@
 -- The audit of two logs, as its functions pass it on: the verdict, or why there is none.
-use Rattle.std.specs.Prelude.{◌≡◌, ◌≤◌, ◌⊎◌, Bool, ◌&&◌, List, None, Result, Ok, Err, IsOk, length, unwrap_or, MatchResult}
+use Rattle.std.specs.Prelude.{◌≡◌, ◌≤◌, ◌⊎◌, ℕ, List, None, Result, Ok, Err, IsOk, length, MatchResult}
 use Rattle.audit_base.specs.declared.terms.Which.{Which}
 use Rattle.audit_base.specs.declared.terms.Which.TheVariants.{Orders, Trades}
 use Rattle.audit_base.specs.declared.faults.BadPlace.{BadPlace}
@@ -7,8 +7,9 @@ use Rattle.audit_base.specs.declared.findings.Finding.{Finding}
 use Rattle.audit_base.specs.declared.records.OrderRecord.{OrderRecord}
 use Rattle.audit_base.specs.declared.records.TradeRecord.{TradeRecord}
 use Rattle.audit_base.specs.declared.orders.Order.{Order}
-use Rattle.audit_base.specs.Histories.{instant_order, order_list, WellFormed}
+use Rattle.audit_base.specs.Histories.{order_list, WellFormed}
 use Rattle.audit_base.specs.Trades.{deals_of, unsound_trade}
+use Rattle.audit_base.specs.Verdicts.{call_finding}
 use Rattle.matching_core.specs.declared.deals_draft.ResolvedTrades.{ResolvedTrades}
 use Rattle.audit_report.specs.declared.statuses.Status.TheVariants as status
 use Rattle.audit_report.specs.declared.verdicts.Verdict.{Verdict}
@@ -16,8 +17,6 @@ use Rattle.audit_report.specs.declared.verdicts.Verdict.TheVariants.{Malformed}
 use Rattle.audit_report.specs.Lines.{read_fault_line, too_long_line}
 use Rattle.audit_report.specs.Statuses.{verdict_status}
 use Rattle.audit_report.specs.Texts.{verdict_text}
-use Rattle.audit_base.specs.declared.terms.Form.TheVariants.{Csv}
-use Rattle.audit_run.specs.declared.options.Options.{Options}
 use Rattle.audit_run.specs.declared.stops.Stop.{Stop}
 use Rattle.audit_run.specs.declared.stops.Stop.TheVariants as stop
 use Rattle.audit_run.specs.declared.reading.Unread.{Unread}
@@ -28,15 +27,11 @@ use Rattle.audit_run.specs.declared.reports.Report.{Report}
 use Rattle.audit_run.specs.declared.requests.Request.{Request}
 use Rattle.audit_run.specs.declared.requests.Request.TheVariants.{Audit}
 use Rattle.audit_run.specs.Collecting.{step_of, IsReadAs}
-use Rattle.audit_run.specs.Judgements.{is_call, IsJudged}
-use Rattle.audit_run.specs.LogVerdicts.{is_read_form, order_log, trade_log}
+use Rattle.audit_run.specs.Judgements.{IsJudged}
+use Rattle.audit_run.specs.LogVerdicts.{order_log, trade_log}
 use Rattle.audit_run.specs.Runs.{IsText}
 use Rattle.log_source.specs.Sources.{longest_log}
 use Rattle.audit_run.specs.Steps.{Reading, IsReadFault, IsTooLong, BeginsWithin, EndsWithin}
-
--- the rule is one of a call, and both forms are read
-abbrev pub is_audited : Question → Source → Source → Bool
-is_audited q orders trades = is_call q.rule && is_read_form orders.form && is_read_form trades.form
 
 -- nothing was done to the slot
 abbrev pub IsUntouched : Reading → Which → Type 0
@@ -113,19 +108,18 @@ IsLengthStop (Err (stop.ReadFault log)) = ⊥
 IsLengthStop (Err (stop.TooLong log)) = Unit {0}
 IsLengthStop (Err stop.Memory) = ⊥
 
--- why there is no verdict after the order log
-abbrev pub IsTradesStop : Reading → Source → Stop → Type 0
-IsTradesStop r trades (stop.ReadFault log) =
-    (log ≡ Trades) × IsReadFault r (step_of r Trades trades.name.now)
-IsTradesStop r trades (stop.TooLong log) =
-    (log ≡ Trades) × IsTooLong r (step_of r Trades trades.name.now)
-IsTradesStop r trades stop.Memory = Unit {0}
+-- why nothing is said of one log
+abbrev pub IsLogStop : Reading → Which → List ℕ → Stop → Type 0
+IsLogStop r log name (stop.ReadFault which) = (which ≡ log) × IsReadFault r (step_of r log name)
+IsLogStop r log name (stop.TooLong which) = (which ≡ log) × IsTooLong r (step_of r log name)
+IsLogStop r log name stop.Memory = Unit {0}
 
 -- the verdict after the order log, or why there is none
 abbrev pub DecidesTrades : Reading → Question → Source → List OrderRecord → Result Verdict Stop
     → Type 0
 DecidesTrades r q trades entries result =
-    MatchResult result (IsAfterOrders r q trades entries) (IsTradesStop r trades)
+    MatchResult result (IsAfterOrders r q trades entries)
+    (IsLogStop r Trades trades.name.now)
 
 -- the verdict, or why there is none
 abbrev pub Decides : Reading → Question → Source → Source → Result Verdict Stop → Type 0
@@ -162,12 +156,12 @@ pub record IsReportOf (verdict : Verdict) (report : Report) : Type 0 where
   pub status_is : report.status ≡ verdict_status verdict
   pub text_is : report.text.items ≡ verdict_text verdict
 
--- The history of these records is well-formed and has these orders, all of which may rest.
-pub record IsCallHistory (q : Question) (entries : List OrderRecord)
+-- The history of these records is well-formed and has these orders, which the rule admits.
+pub record IsAdmitted (q : Question) (entries : List OrderRecord)
     (history : List Order) : Type 0 where
   pub formed : WellFormed q.symbol entries
   pub orders : history ≡ order_list q.symbol entries
-  pub instant : instant_order history ≡ None
+  pub admits : call_finding q.rule history ≡ None
 
 -- What was gathered of these trades came to this end.
 pub record IsEndOf (q : Question) (trades : List TradeRecord)
@@ -175,9 +169,3 @@ pub record IsEndOf (q : Question) (trades : List TradeRecord)
   pub count : ended.count ≡ length trades
   pub finding : unsound_trade ended.history q.symbol trades ≡ ended.finding
   pub deals : ended.finding ≡ None → ended.deals.items ≡ deals_of ended.history q.symbol trades
-
--- the forms that options give are read
-abbrev pub reads_forms : Options → Bool
-reads_forms options =
-    is_read_form (unwrap_or options.orders_form Csv)
-    && is_read_form (unwrap_or options.trades_form Csv)

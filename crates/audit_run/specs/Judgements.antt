@@ -29,14 +29,6 @@ use Rattle.audit_run.specs.declared.questions.Question.{Question}
 abbrev pub question : Rule → List ℕ → Bool → Question
 question the_rule symbol table = record { rule = the_rule; symbol = symbol; table = table }
 
--- the rules of a call, in which all orders meet at once
-abbrev pub is_call : Rule → Bool
-is_call rule.Matching = true
-is_call rule.Fair = true
-is_call rule.Uniform = true
-is_call rule.Maximum = true
-is_call rule.Continuous = false
-
 -- the line of an order of a call, with what it trades
 abbrev pub order_line_at : List Order → List Deal → ℕ → Line
 order_line_at orders deals i = line.Order (with_traded (order_at orders i) (traded deals i))
@@ -55,14 +47,18 @@ abbrev pub pair_lines : List Order → List Deal → List Line
 pair_lines orders deals = let indices = range_with_len 0 (length orders) in
     flat_map (λ bid. filter_map (pair_line_at orders deals bid) indices) indices
 
+-- the lines of a rule: of a call its orders, of continuous trading its pairs
+abbrev pub rule_lines : Rule → List Order → List Deal → List Line
+rule_lines rule.Continuous orders deals = pair_lines orders deals
+rule_lines rule.Matching orders deals = order_lines orders deals
+rule_lines rule.Fair orders deals = order_lines orders deals
+rule_lines rule.Uniform orders deals = order_lines orders deals
+rule_lines rule.Maximum orders deals = order_lines orders deals
+
 -- the table of a log, where one is asked for
 abbrev pub table_lines : Rule → Bool → List Order → List Deal → List Line
 table_lines the_rule false orders deals = []
-table_lines rule.Continuous true orders deals = pair_lines orders deals
-table_lines rule.Matching true orders deals = order_lines orders deals
-table_lines rule.Fair true orders deals = order_lines orders deals
-table_lines rule.Uniform true orders deals = order_lines orders deals
-table_lines rule.Maximum true orders deals = order_lines orders deals
+table_lines the_rule true orders deals = rule_lines the_rule orders deals
 
 -- the bound that is reported: of `uniform` and `maximum` the least price that shows the volume, of the other rules none
 abbrev pub IsBoundShown : Rule → List Order → ℕ → Option Cut → Type 0

@@ -4,6 +4,7 @@ pub mod Runs
 pub mod Words
 pub mod Options
 pub mod Requests
+pub mod OtherTexts
 pub mod Steps
 pub mod LogVerdicts
 pub mod Judgements
@@ -12,6 +13,7 @@ pub mod InMemory
 -- What private functions pass on to one another.
 pub mod Collecting
 pub mod Auditing
+pub mod Reporting
 pub mod Phases
 pub mod Tables
 pub mod Writing

@@ -1,9 +1,8 @@
 -- What a log says in its form, and the verdict on two logs.
-use Rattle.std.specs.Prelude.{◌≡◌, ℕ, Bool, true, false, List, Result, Ok, Err, MatchResult}
+use Rattle.std.specs.Prelude.{◌≡◌, ℕ, List, Result, Ok, Err, MatchResult}
 use Rattle.audit_base.specs.declared.terms.Which.TheVariants.{Orders, Trades}
 use Rattle.audit_base.specs.declared.terms.Form.{Form}
 use Rattle.audit_base.specs.declared.terms.Form.TheVariants.{Csv, Fix}
-use Rattle.audit_base.specs.declared.faults.Reason.TheVariants as reason
 use Rattle.audit_base.specs.declared.faults.BadPlace.{BadPlace}
 use Rattle.audit_base.specs.declared.faults.LogFault.{LogFault}
 use Rattle.audit_base.specs.declared.faults.LogFault.TheVariants as fault
@@ -13,6 +12,9 @@ use Rattle.audit_base.specs.declared.records.TradeRecord.{TradeRecord}
 use Rattle.audit_report.specs.declared.verdicts.Verdict.{Verdict}
 use Rattle.audit_report.specs.declared.verdicts.Verdict.TheVariants.{Malformed}
 use Rattle.csv_logs.specs.Logs as csv
+use Rattle.fix_messages.specs.declared.meanings.Report.{Report}
+use Rattle.fix_messages.specs.Logs as fix
+use Rattle.fix_messages.specs.Pairings.{pairing}
 use Rattle.audit_run.specs.declared.questions.Question.{Question}
 use Rattle.audit_run.specs.Judgements.{IsJudged}
 
@@ -24,19 +26,10 @@ pub record Log : Type 0 where
 abbrev pub log_in : Form → List ℕ → Log
 log_in form bytes = record { form = form; bytes = bytes }
 
--- the forms that are read; a log in the form `Fix` is not read yet, and no words ask for it
-abbrev pub is_read_form : Form → Bool
-is_read_form Csv = true
-is_read_form Fix = false
-
--- what stands for the reading of a log whose form is not read yet
-abbrev unread_form : BadPlace
-unread_form = record { place = 1; offset = 0; reason = reason.Begin }
-
 -- what an order log says: its records, or its first bad place
 abbrev pub order_log : Form → List ℕ → Result (List OrderRecord) BadPlace
 order_log Csv bytes = csv.order_log bytes
-order_log Fix bytes = Err unread_form
+order_log Fix bytes = fix.order_log bytes
 
 -- each record of a CSV log is a trade
 abbrev pub all_paired : Result (List TradeRecord) BadPlace
@@ -44,10 +37,16 @@ abbrev pub all_paired : Result (List TradeRecord) BadPlace
 all_paired (Ok trades) = Ok (Ok trades)
 all_paired (Err bad) = Err bad
 
+-- the reports of a FIX log are paired into trades
+abbrev pub paired_reports : Result (List Report) BadPlace
+    → Result (Result (List TradeRecord) Finding) BadPlace
+paired_reports (Ok reports) = Ok (pairing reports)
+paired_reports (Err bad) = Err bad
+
 -- what a trade log says: its trades, or finding 4 in their place where its reports do not pair; or its first bad place
 abbrev pub trade_log : Form → List ℕ → Result (Result (List TradeRecord) Finding) BadPlace
 trade_log Csv bytes = all_paired (csv.trade_log bytes)
-trade_log Fix bytes = Err unread_form
+trade_log Fix bytes = paired_reports (fix.report_log bytes)
 
 -- Verdict: an order log out of its grammar has its first bad place as the verdict, and the trade log is not looked at; else a trade
 -- log out of its grammar has its own; else the records of both are judged

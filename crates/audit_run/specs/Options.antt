@@ -2,18 +2,19 @@
 -- the next word.
 use Rattle.std.specs.Prelude.{ℕ, Bool, true, false, not, ◌==◌, Option, None, Some, is_none, option_and_then, List, [], ◌∷◌, codes, if◌then◌else◌}
 use Rattle.std.specs.Cmp.Lexicographic.{pointwise}
-use Rattle.audit_base.specs.Least.{only_if}
+use Rattle.audit_base.specs.Least.{first_of, only_if}
 use Rattle.audit_base.specs.declared.terms.Form.{Form}
-use Rattle.audit_base.specs.declared.terms.Form.TheVariants.{Csv}
+use Rattle.audit_base.specs.declared.terms.Form.TheVariants.{Csv, Fix}
 use Rattle.audit_run.specs.declared.options.Options.{Options}
 
 -- a word is this text
 abbrev pub is_word : List ℕ → List ℕ → Bool
 is_word word text = pointwise ◌==◌ word text
 
--- the form that a word names; logs in the form `fix` are not read yet, and no word names it
+-- the form that a word names
 abbrev pub form_named : List ℕ → Option Form
-form_named word = only_if (is_word word (codes "csv")) Csv
+form_named word = first_of (only_if (is_word word (codes "csv")) Csv
+    ∷ only_if (is_word word (codes "fix")) Fix ∷ [])
 
 -- nothing is said by options
 abbrev pub no_options : Options

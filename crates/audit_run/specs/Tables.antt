@@ -1,5 +1,5 @@
--- What is reported of a call that conforms, from what each order traded.
-use Rattle.std.specs.Prelude.{◌≡◌, ℕ, Bool, List, [], None, Some, length, map, slice_index, if◌then◌else◌}
+-- What is reported of deals that conform.
+use Rattle.std.specs.Prelude.{◌≡◌, ◌<◌, ℕ, List, None, Some, length, map, slice_index, take}
 use Rattle.std.specs.List.{range_with_len}
 use Rattle.audit_base.specs.declared.orders.Order.{Order}
 use Rattle.audit_base.specs.declared.orders.Deal.{Deal}
@@ -7,7 +7,7 @@ use Rattle.audit_base.specs.declared.terms.Rule.{Rule}
 use Rattle.audit_base.specs.Deals.{volume}
 use Rattle.audit_base.specs.Verdicts.{IsRuleVerdict}
 use Rattle.short_order.specs.Totals.{AreTotals}
-use Rattle.audit_base.specs.Orders.{order_at}
+use Rattle.audit_base.specs.Orders.{order_at, place_at}
 use Rattle.audit_base.specs.Shows.{with_traded}
 use Rattle.audit_report.specs.declared.tables.Line.{Line}
 use Rattle.audit_report.specs.declared.tables.Line.TheVariants as line
@@ -19,7 +19,8 @@ use Rattle.matching_core.specs.declared.outcomes.CheckFault.{CheckFault}
 use Rattle.matching_core.specs.declared.outcomes.CheckFault.TheVariants as fault
 use Rattle.matching_core.specs.declared.outcomes.Reached.{Reached}
 use Rattle.audit_run.specs.declared.questions.Question.{Question}
-use Rattle.audit_run.specs.Judgements.{AreOnlyQuantities, IsBoundShown}
+use Rattle.canonical_form.specs.declared.shares.Share.{Share}
+use Rattle.audit_run.specs.Judgements.{AreOnlyQuantities, IsBoundShown, table_lines}
 
 -- the line of an order with what it traded
 abbrev pub line_of : Order → ℕ → Line
@@ -34,20 +35,28 @@ lines_below orders traded n =
 abbrev pub lines_of : List Order → List ℕ → List Line
 lines_of orders traded = lines_below orders traded (length orders)
 
--- the lines, if a table is asked for
-abbrev pub call_table : Bool → List Order → List ℕ → List Line
-call_table table orders traded = if table then lines_of orders traded else []
+-- the line of a bid and an ask by their share, and one line for each of the first n shares
+abbrev pub line_of_share : List Order → Share → Line
+line_of_share orders s = line.Pair (place_at orders s.bid) (place_at orders s.ask) s.quantity
 
--- the verdict that a log of so many trades is accepted, with what its deals reached
-abbrev pub accepted_verdict : Question → List Order → ℕ → Reached → Verdict
-accepted_verdict q orders trades reached = verdict.Accepted (record {
+abbrev pub share_lines : List Order → List Share → ℕ → List Line
+share_lines orders shares n = map (line_of_share orders) (take n shares)
+
+-- a share is of a bid and an ask of the order list
+pub record IsShareOf (orders : List Order) (s : Share) : Type 0 where
+  pub bid_inside : s.bid < length orders
+  pub ask_inside : s.ask < length orders
+
+-- the verdict that deals are accepted, with what they reached
+abbrev pub accepted_verdict : Question → List Order → List Deal → Reached → Verdict
+accepted_verdict q orders deals reached = verdict.Accepted (record {
   rule = q.rule;
   symbol = q.symbol;
   orders = length orders;
-  trades = trades;
+  trades = length deals;
   volume = reached.volume;
   bound = reached.bound;
-  table = call_table q.table orders reached.traded.0;
+  table = table_lines q.rule q.table orders deals;
 })
 
 -- The deals conform to the rule, with what each order traded, the volume and the bound; the quantities are the only ones.

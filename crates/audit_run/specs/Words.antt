@@ -1,15 +1,19 @@
 -- The words of a command line without the program's name, and what they ask for where they are well-formed. The code of `-` is 45.
-use Rattle.std.specs.Prelude.{ℕ, Bool, true, false, not, ◌==◌, ◌&&◌, ◌||◌, Option, None, option_map, option_and_then, unwrap_or, List, [], ◌∷◌, length, drop, slice_index, slice_index_or, codes, nat_le, if◌then◌else◌}
+use Rattle.std.specs.Prelude.{ℕ, Bool, true, false, not, ◌==◌, ◌&&◌, ◌||◌, Option, None, option_map, option_and_then, unwrap_or, is_none, List, [], ◌∷◌, length, drop, slice_index, slice_index_or, codes, nat_le, if◌then◌else◌}
+use Rattle.audit_base.specs.Digits.{digits_form}
 use Rattle.audit_base.specs.Names.{is_name}
 use Rattle.audit_base.specs.Least.{first_of, only_if}
 use Rattle.audit_base.specs.Words.{rule_word}
 use Rattle.audit_base.specs.declared.terms.Rule.{Rule}
 use Rattle.audit_base.specs.declared.terms.Rule.TheVariants as rule
+use Rattle.audit_base.specs.declared.terms.Form.{Form}
 use Rattle.audit_base.specs.declared.terms.Form.TheVariants.{Csv}
+use Rattle.audit_base.specs.declared.terms.Which.{Which}
+use Rattle.audit_base.specs.declared.terms.Which.TheVariants.{Orders, Trades}
 use Rattle.audit_run.specs.declared.options.Options.{Options}
 use Rattle.audit_run.specs.declared.requests.Request.{Request}
-use Rattle.audit_run.specs.declared.requests.Request.TheVariants.{Audit}
-use Rattle.audit_run.specs.Options.{is_word, options_in}
+use Rattle.audit_run.specs.declared.requests.Request.TheVariants.{Audit, Expect, Convert, Generate}
+use Rattle.audit_run.specs.Options.{form_named, is_word, options_in}
 
 -- the word at a place, from 0
 abbrev pub word_at : List (List ℕ) → ℕ → List ℕ
@@ -27,14 +31,15 @@ is_symbol word = is_name word && not (is_option word)
 abbrev pub is_path : List ℕ → Bool
 is_path word = not (length word == 0) && not (is_option word)
 
--- RULE is the word of a rule of a call; for the rule `continuous` there is no audit yet, and no word names it
+-- RULE is the word of a rule
 abbrev pub rule_named : List ℕ → Option Rule
 rule_named word = first_of (only_if (is_word word (rule_word rule.Matching)) rule.Matching
     ∷ only_if (is_word word (rule_word rule.Fair)) rule.Fair
     ∷ only_if (is_word word (rule_word rule.Uniform)) rule.Uniform
-    ∷ only_if (is_word word (rule_word rule.Maximum)) rule.Maximum ∷ [])
+    ∷ only_if (is_word word (rule_word rule.Maximum)) rule.Maximum
+    ∷ only_if (is_word word (rule_word rule.Continuous)) rule.Continuous ∷ [])
 
--- the rules whose quantities are determined: a table of them may be asked for
+-- the rules whose quantities are determined: a table of them may be asked for, and they have Expected trades
 abbrev pub has_table : Rule → Bool
 has_table rule.Matching = false
 has_table rule.Fair = false
@@ -72,6 +77,87 @@ audit_with words choice = Audit choice.0 (word_at words 2) (word_at words 3) (wo
 abbrev pub audit_request : List (List ℕ) → Option Request
 audit_request words = option_map (audit_with words) (audit_choice words)
 
+-- the first four words of `expect RULE SYMBOL ORDERS`, but that RULE may be any word
+abbrev pub is_expect : List (List ℕ) → Bool
+is_expect words = nat_le 4 (length words) && is_word (word_at words 0) (codes "expect")
+    && is_symbol (word_at words 2) && is_path (word_at words 3)
+
+-- of the options `expect` has only the form of the order log
+abbrev pub has_orders_form_alone : Options → Bool
+has_orders_form_alone options = is_none options.trades_form && not options.table
+
+-- the rule that the second word names, which is one with Expected trades, and the form of the order log
+abbrev pub expect_under : List (List ℕ) → Rule → Option (Rule × Form)
+expect_under words the_rule =
+    option_and_then (λ options. only_if (has_table the_rule && has_orders_form_alone options)
+    (the_rule, unwrap_or options.orders_form Csv)) (options_in (drop 4 words))
+
+abbrev pub expect_choice : List (List ℕ) → Option (Rule × Form)
+expect_choice words =
+    if is_expect words
+    then option_and_then (expect_under words) (rule_named (word_at words 1))
+    else None
+
+abbrev pub expect_with : List (List ℕ) → Rule × Form → Request
+expect_with words choice = Expect choice.0 (word_at words 2) (word_at words 3) choice.1
+
+-- `expect RULE SYMBOL ORDERS` with its option
+abbrev pub expect_request : List (List ℕ) → Option Request
+expect_request words = option_map (expect_with words) (expect_choice words)
+
+-- the log that a word names
+abbrev pub log_named : List ℕ → Option Which
+log_named word = first_of (only_if (is_word word (codes "orders")) Orders
+    ∷ only_if (is_word word (codes "trades")) Trades ∷ [])
+
+-- the four words of `convert LOG FORM PATH`, but that LOG and FORM may be any words
+abbrev pub is_convert : List (List ℕ) → Bool
+is_convert words = length words == 4 && is_word (word_at words 0) (codes "convert")
+    && is_path (word_at words 3)
+
+abbrev pub convert_choice : List (List ℕ) → Option (Which × Form)
+convert_choice words =
+    if is_convert words
+    then option_and_then (λ log. option_map (λ form. (log, form)) (form_named (word_at words 2)))
+    (log_named (word_at words 1))
+    else None
+
+abbrev pub convert_with : List (List ℕ) → Which × Form → Request
+convert_with words choice = Convert choice.0 choice.1 (word_at words 3)
+
+-- `convert orders|trades FORM PATH`
+abbrev pub convert_request : List (List ℕ) → Option Request
+convert_request words = option_map (convert_with words) (convert_choice words)
+
+-- the number from 1 to a greatest one that a word of 1 to 10 digits writes
+abbrev pub number_upto : ℕ → List ℕ → Option ℕ
+number_upto most word =
+    option_and_then (λ n. only_if (nat_le 1 n && nat_le n most) n) (digits_form 10 word)
+
+-- START is from 1 to 2,147,483,646, and COUNT from 1 to 1,000,000
+abbrev pub start_named : List ℕ → Option ℕ
+start_named word = number_upto 2147483646 word
+
+abbrev pub count_named : List ℕ → Option ℕ
+count_named word = number_upto 1000000 word
+
+-- three words, the first of which is `generate`
+abbrev pub is_generate : List (List ℕ) → Bool
+is_generate words = length words == 3 && is_word (word_at words 0) (codes "generate")
+
+abbrev pub generate_choice : List (List ℕ) → Option (ℕ × ℕ)
+generate_choice words =
+    if is_generate words
+    then option_and_then (λ start. option_map (λ count. (start, count)) (count_named (word_at words 2)))
+    (start_named (word_at words 1))
+    else None
+
+-- `generate START COUNT`
+abbrev pub generate_request : List (List ℕ) → Option Request
+generate_request words =
+    option_map (λ choice. Generate choice.0 choice.1) (generate_choice words)
+
 -- what words ask for, one row a command; nothing where they are not well-formed
 abbrev pub request_of : List (List ℕ) → Option Request
-request_of words = audit_request words
+request_of words = first_of (audit_request words ∷ expect_request words
+    ∷ convert_request words ∷ generate_request words ∷ [])

@@ -1,26 +1,25 @@
 //! The audit of two logs: each is handed record by record to what its rule keeps, and the verdict is
 //! answered, or why there is none.
-ghost use Rattle.std.specs.Prelude.{◌≡◌, ◌≤◌, ◌-◌, ◌<◌, ◌^◌, ◌⊎◌, ℕ, List, None, Ok, Result, length, IfOk, IfErr, IsTrue};
+ghost use Rattle.std.specs.Prelude.{◌≡◌, ◌≤◌, ◌-◌, ◌<◌, ◌^◌, ◌⊎◌, ℕ, List, None, Ok, Result, length, IfOk, IfErr};
 ghost use Rattle.audit_base.specs.declared.findings.Finding.{Finding};
 ghost use Rattle.audit_base.specs.declared.records.TradeRecord.{TradeRecord};
 ghost use Rattle.audit_base.specs.declared.terms.Which.{Which};
 ghost use Rattle.log_source.specs.Sources.{longest_log};
 ghost use Rattle.audit_base.specs.Deals.{IsDealList};
-ghost use Rattle.audit_base.specs.Histories.{instant_order, order_list, WellFormed};
+ghost use Rattle.audit_base.specs.Histories.{order_list, WellFormed, Regular};
 ghost use Rattle.audit_base.specs.Trades.{deals_of, unsound_trade};
 ghost use Rattle.audit_report.specs.declared.verdicts.Verdict.TheVariants as verdict;
 ghost use Rattle.audit_report.specs.Texts.{IsVerdictInRange};
 ghost use Rattle.instruction_history.specs.HistoryDraft.{IsHistoryDraft};
 ghost use Rattle.log_source.specs.Collectors.{HasPlace};
-ghost use Rattle.audit_run.specs.Auditing.{Decides, DecidesTrades, IsLengthStop, IsCallHistory, IsEndOf, StaysWithin, StaysWithinAt, is_audited, without_log};
+ghost use Rattle.audit_run.specs.Auditing.{Decides, DecidesTrades, IsLengthStop, IsAdmitted, IsEndOf, StaysWithin, StaysWithinAt, without_log};
 ghost use Rattle.audit_run.specs.Collecting.{TouchesOnly};
-ghost use Rattle.audit_run.specs.Judgements.{is_call, IsJudged};
-ghost use Rattle.audit_run.specs.LogVerdicts.{is_read_form};
+ghost use Rattle.audit_run.specs.Judgements.{IsJudged};
 ghost use Rattle.audit_run.specs.Phases.{IsJudgedTrades};
 ghost use Rattle.audit_run.specs.Steps.{reading, KeepsLogs, NeverFall};
 
 use super::collecting::{Collected, collect_orders, collect_trades};
-use super::judging::first_instant;
+use super::judging::call_finding;
 use super::questions::{Question, Source};
 use super::reading::Unread;
 use super::rules::judge_deals;
@@ -58,7 +57,6 @@ fn verdict_of_finding<F: Shelf>(
     trades: &Source<'_>,
     finding: Finding,
 ) -> Result<Verdict, Stop>
-    requires { IsTrue (is_read_form trades.now.form) }
     ensures logs { KeepsLogs F.Shelf shelf.old shelf.new }
     ensures only { TouchesOnly (reading F.Shelf shelf.old shelf.new) Which.Trades }
     ensures decides { (entries : List OrderRecord)
@@ -81,7 +79,6 @@ fn verdict_of_ended(
     question: &Question,
     ended: &ResolvedTrades,
 ) -> Result<Verdict, Stop>
-    requires call { IsTrue (is_call question.now.rule) }
     requires few { ended.now.count < 2 ^ 32 - 1 }
     requires deal_list { ended.now.finding ≡ None
         → IsDealList ended.now.history ended.now.deals.items }
@@ -107,13 +104,11 @@ fn verdict_of_trades<M: AuditedHistory, F: Shelf>(
     trades: &Source<'_>,
     history: History,
 ) -> Result<Verdict, Stop>
-    requires call { IsTrue (is_call question.now.rule) }
-    requires form { IsTrue (is_read_form trades.now.form) }
     requires symbol { question.now.symbol ≡ M.symbol }
     requires orders { history ≡ M.orders }
     ensures logs { KeepsLogs F.Shelf shelf.old shelf.new }
     ensures only { TouchesOnly (reading F.Shelf shelf.old shelf.new) Which.Trades }
-    ensures decides { (entries : List OrderRecord) → IsCallHistory question.now entries history
+    ensures decides { (entries : List OrderRecord) → IsAdmitted question.now entries history
         → DecidesTrades (reading F.Shelf shelf.old shelf.new)
         question.now trades.now entries result }
     ensures in_range { IfOk result IsVerdictInRange }
@@ -136,8 +131,6 @@ fn verdict_after_orders<S: AuditedSymbol, F: Shelf>(
     trades: &Source<'_>,
     orders: HistoryDraft<S>,
 ) -> Result<Verdict, Stop>
-    requires call { IsTrue (is_call question.now.rule) }
-    requires form { IsTrue (is_read_form trades.now.form) }
     requires symbol { question.now.symbol ≡ S.symbol }
     requires place { HasPlace (IsHistoryDraft S.symbol) orders }
     ensures logs { KeepsLogs F.Shelf shelf.old shelf.new }
@@ -150,7 +143,7 @@ fn verdict_after_orders<S: AuditedSymbol, F: Shelf>(
         → StaysWithinAt (reading F.Shelf shelf.old shelf.new) Which.Trades result }
 {
     match orders.end() {
-        Ok(history) => match first_instant(history.orders()) {
+        Ok(history) => match call_finding(question.rule, history.orders()) {
             Some(finding) => verdict_of_finding(alloc, shelf, question, trades, finding),
             None => verdict_of_trades::<Brand, F>(alloc, shelf, question, trades, history),
         },
@@ -166,7 +159,6 @@ fn verdict_about<S: AuditedSymbol, F: Shelf>(
     orders: &Source<'_>,
     trades: &Source<'_>,
 ) -> Result<Verdict, Stop>
-    requires audited { IsTrue (is_audited question.now orders.now trades.now) }
     requires symbol { question.now.symbol ≡ S.symbol }
     ensures logs { KeepsLogs F.Shelf shelf.old shelf.new }
     ensures later { NeverFall (reading F.Shelf shelf.old shelf.new) }
@@ -191,7 +183,6 @@ pub(crate) fn verdict_on<F: Shelf>(
     orders: &Source<'_>,
     trades: &Source<'_>,
 ) -> Result<Verdict, Stop>
-    requires { IsTrue (is_audited question.now orders.now trades.now) }
     ensures logs { KeepsLogs F.Shelf shelf.old shelf.new }
     ensures later { NeverFall (reading F.Shelf shelf.old shelf.new) }
     ensures decides { Decides (reading F.Shelf shelf.old shelf.new)

@@ -1,11 +1,12 @@
 //! Judging logs that have been read: the phases of the verdict, each handed to the crate that decides
 //! it.
-ghost use Rattle.std.specs.Prelude.{◌≡◌, ◌<◌, ◌-◌, ◌^◌, length, IfOk, IsTrue};
+ghost use Rattle.std.specs.Prelude.{◌≡◌, ◌<◌, ◌-◌, ◌^◌, length, IfOk};
 ghost use Rattle.audit_base.specs.Histories.{instant_order};
+ghost use Rattle.audit_base.specs.Verdicts as spec;
 ghost use Rattle.audit_base.specs.Verdicts.{paired_trades};
 ghost use Rattle.audit_report.specs.Texts.{IsVerdictInRange};
 ghost use Rattle.fix_messages.specs.Pairings.{pairing_of};
-ghost use Rattle.audit_run.specs.Judgements.{is_call, question, IsJudged};
+ghost use Rattle.audit_run.specs.Judgements.{question, IsJudged};
 ghost use Rattle.audit_run.specs.Phases.{IsJudgedRecords, IsJudgedHistory, IsJudgedTrades};
 
 use super::questions::Question;
@@ -26,7 +27,7 @@ use matching_core::resolving::resolve;
 use std::alloc::Global;
 
 /// Finding 16: the least order that is not one that rests.
-pub(crate) fn first_instant(orders: &[Order]) -> Option<Finding>
+fn first_instant(orders: &[Order]) -> Option<Finding>
     ensures { result ≡ instant_order orders.now }
 {
     for order in orders {
@@ -44,6 +45,16 @@ pub(crate) fn first_instant(orders: &[Order]) -> Option<Finding>
     None
 }
 
+/// What is found where the rule does not admit an order of the history: a call takes only orders that rest.
+pub(crate) fn call_finding(rule: Rule, orders: &[Order]) -> Option<Finding>
+    ensures { result ≡ spec.call_finding rule orders.now }
+{
+    match rule {
+        Rule::Continuous => None,
+        Rule::Matching | Rule::Fair | Rule::Uniform | Rule::Maximum => first_instant(orders),
+    }
+}
+
 /// The verdict where the history is well-formed and has no finding: its trades decide.
 fn judge_trades(
     alloc: Global,
@@ -51,7 +62,6 @@ fn judge_trades(
     history: &History,
     trades: &[TradeRecord],
 ) -> Result<Verdict, NoMemory>
-    requires call { IsTrue (is_call question.now.rule) }
     requires few { length trades.now < 2 ^ 32 - 1 }
     ensures { IfOk result (IsJudgedTrades question.now history.now trades.now) }
 {
@@ -77,11 +87,10 @@ fn judge_history(
     history: &History,
     trades: &Paired,
 ) -> Result<Verdict, NoMemory>
-    requires call { IsTrue (is_call question.now.rule) }
     requires few { length (paired_trades (pairing_of trades.now)) < 2 ^ 32 - 1 }
     ensures { IfOk result (IsJudgedHistory question.now history.now (pairing_of trades.now)) }
 {
-    if let Some(finding) = first_instant(history.orders()) {
+    if let Some(finding) = call_finding(question.rule, history.orders()) {
         return Ok(Verdict::Rejected(finding));
     }
     match trades {
@@ -97,7 +106,6 @@ fn judge_records(
     entries: &[OrderRecord],
     trades: &Paired,
 ) -> Result<Verdict, NoMemory>
-    requires call { IsTrue (is_call question.now.rule) }
     requires few_entries { length entries.now < 2 ^ 32 - 1 }
     requires few_trades { length (paired_trades (pairing_of trades.now)) < 2 ^ 32 - 1 }
     ensures judged { IfOk result
@@ -113,13 +121,14 @@ fn judge_records(
     }
 }
 
-/// The verdict of a rule of a call on the records of two logs: the first phase with a finding decides,
-/// and where there is none the log is accepted, with the bound of `uniform` and `maximum`, and with the
-/// line of each order where a table is asked for. The verdict is never `Malformed`.
+/// The verdict of a rule on the records of two logs: the first phase with a finding decides, and where
+/// there is none the log is accepted, with the bound of `uniform` and `maximum`, and, where a table is
+/// asked for, with the line of each order, or under `continuous` of each pair that trades. The verdict is
+/// never `Malformed`.
 ///
-/// The phases are the history (a key twice, a time that goes back, an unknown target; then an order
-/// that does not rest), a report without its partner, the trades (an id twice, an unknown order), and
-/// the rule.
+/// The phases are the history (a key twice, a time that goes back, an unknown target; then, under a rule
+/// of a call, an order that does not rest), a report without its partner, the trades (an id twice, an
+/// unknown order), and the rule.
 pub fn judge(
     alloc: Global,
     rule: Rule,
@@ -128,7 +137,6 @@ pub fn judge(
     entries: &[OrderRecord],
     trades: &Paired,
 ) -> Result<Verdict, NoMemory>
-    requires call { IsTrue (is_call rule) }
     requires few_entries { length entries.now < 2 ^ 32 - 1 }
     requires few_trades { length (paired_trades (pairing_of trades.now)) < 2 ^ 32 - 1 }
     ensures judged { IfOk result

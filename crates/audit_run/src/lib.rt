@@ -1,17 +1,28 @@
 //! The auditor: from the words of a command line and two logs to the report and the status.
 //!
-//! `running::run` is the top call. It reads the words (`requests`), hands each log piece by piece to what
-//! the rule keeps of it (`auditing`), makes the whole report (`reports`) and writes it, or one line. Its
-//! contract is the claim of the project, composed from the contracts of the crates below; `laws` has what
-//! it rests on, that two logs have one verdict, whatever forms they are in. `decoding` and `judging` are
-//! the same for logs that are there as a whole.
+//! `running::run` is the top call. It reads the words (`choices`, `requests`), makes the whole report of
+//! the command (`commands`) and writes it, or one line. An audit hands each log piece by piece to what the
+//! rule keeps of it (`auditing`), in the form that it is in (`collecting`, `reading`); `expecting`,
+//! `converting` and `generating` are the commands that write logs. The contract of `run` is the claim of
+//! the project, composed from the contracts of the crates below; `laws` has what it rests on, that two
+//! logs have one verdict, whatever forms they are in. `decoding` and `judging` are the same for logs that
+//! are there as a whole.
 #![tactic(auto)]
 
 mod auditing;
+mod choices;
 pub mod collecting;
+mod commands;
+#[cfg(test)]
+mod continuous_row_tests;
+mod converting;
 pub mod decoding;
 #[cfg(test)]
 mod expected_tests;
+mod expecting;
+#[cfg(test)]
+mod fix_row_tests;
+mod generating;
 pub mod in_memory;
 pub mod judging;
 pub mod laws;
@@ -32,3 +43,5 @@ mod tables;
 mod tests;
 mod word_forms;
 mod writing;
+#[cfg(test)]
+mod writing_row_tests;

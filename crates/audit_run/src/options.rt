@@ -1,9 +1,7 @@
 //! The options of a command: they stand after its positional words, in any order, each at most once,
 //! and the value of an option is the next word.
-ghost use Rattle.std.specs.Prelude.{◌≡◌, map, IfSome, IsTrue};
+ghost use Rattle.std.specs.Prelude.{◌≡◌, map};
 ghost use Rattle.std.specs.String.{string_bytes};
-ghost use Rattle.audit_run.specs.Auditing.{reads_forms};
-ghost use Rattle.audit_run.specs.LogVerdicts.{is_read_form};
 ghost use Rattle.audit_run.specs.Options as spec;
 
 use super::word_forms::is_word;
@@ -22,8 +20,7 @@ pub struct Options {
 
 /// Nothing is said.
 fn no_options() -> Options
-    ensures options { result ≡ spec.no_options }
-    ensures forms { IsTrue (reads_forms result) }
+    ensures { result ≡ spec.no_options }
 {
     Options {
         orders_form: None,
@@ -33,12 +30,14 @@ fn no_options() -> Options
 }
 
 /// The form that a word names.
-fn form_named(word: &str) -> Option<Form>
-    ensures form { result ≡ spec.form_named word.now }
-    ensures read { IfSome result (λ form. IsTrue (is_read_form form)) }
+pub(crate) fn form_named(word: &str) -> Option<Form>
+    ensures { result ≡ spec.form_named word.now }
 {
     if is_word(word, b"csv") {
         return Some(Form::Csv);
+    }
+    if is_word(word, b"fix") {
+        return Some(Form::Fix);
     }
     None
 }
@@ -52,9 +51,7 @@ fn is_flag(word: &str) -> bool
 
 /// What is said with `--table` too, unless it was said before.
 fn with_table(said: Options) -> Option<Options>
-    requires forms { IsTrue (reads_forms said) }
-    ensures options { result ≡ spec.with_table said }
-    ensures forms { IfSome result (λ options. IsTrue (reads_forms options)) }
+    ensures { result ≡ spec.with_table said }
 {
     if said.table {
         return None;
@@ -67,10 +64,7 @@ fn with_table(said: Options) -> Option<Options>
 
 /// What is said with the form of the order log too, unless one was given before.
 fn with_orders_form(said: Options, form: Form) -> Option<Options>
-    requires forms { IsTrue (reads_forms said) }
-    requires read { IsTrue (is_read_form form) }
-    ensures options { result ≡ spec.with_orders_form said form }
-    ensures forms { IfSome result (λ options. IsTrue (reads_forms options)) }
+    ensures { result ≡ spec.with_orders_form said form }
 {
     if said.orders_form.is_some() {
         return None;
@@ -83,10 +77,7 @@ fn with_orders_form(said: Options, form: Form) -> Option<Options>
 
 /// What is said with the form of the trade log too, unless one was given before.
 fn with_trades_form(said: Options, form: Form) -> Option<Options>
-    requires forms { IsTrue (reads_forms said) }
-    requires read { IsTrue (is_read_form form) }
-    ensures options { result ≡ spec.with_trades_form said form }
-    ensures forms { IfSome result (λ options. IsTrue (reads_forms options)) }
+    ensures { result ≡ spec.with_trades_form said form }
 {
     if said.trades_form.is_some() {
         return None;
@@ -99,9 +90,7 @@ fn with_trades_form(said: Options, form: Form) -> Option<Options>
 
 /// What is said with an option and its value too.
 fn with_valued(word: &str, value: &str, said: Options) -> Option<Options>
-    requires forms { IsTrue (reads_forms said) }
-    ensures options { result ≡ spec.with_valued word.now value.now said }
-    ensures forms { IfSome result (λ options. IsTrue (reads_forms options)) }
+    ensures { result ≡ spec.with_valued word.now value.now said }
 {
     if is_word(word, b"--orders-form") {
         return with_orders_form(said, form_named(value)?);
@@ -115,8 +104,7 @@ fn with_valued(word: &str, value: &str, said: Options) -> Option<Options>
 /// What these words say as options. There is nothing where a word is no option, a value is missing, or
 /// an option stands twice.
 pub(crate) fn options_in(words: &[String]) -> Option<Options>
-    ensures options { result ≡ spec.options_in (map string_bytes words.now) }
-    ensures forms { IfSome result (λ options. IsTrue (reads_forms options)) }
+    ensures { result ≡ spec.options_in (map string_bytes words.now) }
 {
     let Some((word, rest)) = words.split_first() else {
         return Some(no_options());

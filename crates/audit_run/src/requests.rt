@@ -1,18 +1,16 @@
 //! What the words of a command line ask for. They are read by hand: exactly the well-formed words are
 //! taken.
-ghost use Rattle.std.specs.Prelude.{◌≡◌, ◌<◌, ◌≤◌, None, Some, length, map, IfOk, IfSome, IsTrue, IsErrOf};
+ghost use Rattle.std.specs.Prelude.{◌≡◌, ◌<◌, None, Some, length, map, IfOk, IsErrOf, IsTrue};
 ghost use Rattle.std.specs.String.{string_bytes};
-ghost use Rattle.audit_run.specs.Auditing.{reads_forms};
-ghost use Rattle.audit_run.specs.Judgements.{is_call};
-ghost use Rattle.audit_run.specs.Requests.{is_answered};
+ghost use Rattle.audit_run.specs.Reporting.{MayBeAsked};
 ghost use Rattle.audit_run.specs.Words as spec;
 
-use super::options::{Options, options_in};
+use super::choices::{audit_choice, convert_choice, expect_choice, generate_choice, word_at};
+use super::options::Options;
 use super::paths::PathText;
-use super::word_forms::{has_table, is_path, is_symbol, is_word, rule_named};
 use audit_base::faults::NoMemory;
 use audit_base::names::{Name, read_name};
-use audit_base::terms::{Form, Rule};
+use audit_base::terms::{Form, Rule, Which};
 use std::alloc::Global;
 use thiserror::Error;
 
@@ -28,6 +26,24 @@ pub enum Request {
         orders_form: Form,
         trades_form: Form,
         table: bool,
+    },
+    /// To write the Expected trades of a symbol under a rule.
+    Expect {
+        rule: Rule,
+        symbol: Name,
+        orders: PathText,
+        orders_form: Form,
+    },
+    /// To write a log as a CSV log.
+    Convert {
+        log: Which,
+        form: Form,
+        path: PathText,
+    },
+    /// To generate a log and say what its Expected trades come to.
+    Generate {
+        start: u32,
+        count: u32,
     },
 }
 
@@ -51,59 +67,6 @@ impl From<NoMemory> for WordsFault {
     }
 }
 
-/// The word at a place, from 0.
-fn word_at(words: &[String], place: usize) -> &str
-    requires { place < length words.now }
-    ensures { result.now ≡ spec.word_at (map string_bytes words.now) place }
-{
-    words[place].as_str()
-}
-
-/// Whether the first five words are `audit`, a word for the rule, SYMBOL, ORDERS and TRADES.
-fn is_audit(words: &[String]) -> bool
-    ensures { result ≡ spec.is_audit (map string_bytes words.now) }
-{
-    words.len() >= 5
-        && is_word(word_at(words, 0), b"audit")
-        && is_symbol(word_at(words, 2))
-        && is_path(word_at(words, 3))
-        && is_path(word_at(words, 4))
-}
-
-/// Whether the rule has a table, if one is asked for.
-fn fits_rule(rule: Rule, options: Options) -> bool
-    ensures { result ≡ spec.fits_rule rule options }
-{
-    !options.table || has_table(rule)
-}
-
-/// The rule, with the options after the first five words.
-fn options_under(words: &[String], rule: Rule) -> Option<(Rule, Options)>
-    requires call { IsTrue (is_call rule) }
-    requires long { 5 ≤ length words.now }
-    ensures choice { result ≡ spec.options_under (map string_bytes words.now) rule }
-    ensures call { IfSome result (λ choice. IsTrue (is_call choice.0)) }
-    ensures forms { IfSome result (λ choice. IsTrue (reads_forms choice.1)) }
-{
-    let options = options_in(&words[5..])?;
-    if fits_rule(rule, options) {
-        return Some((rule, options));
-    }
-    None
-}
-
-/// The rule and the options of an audit, where the words ask for one.
-fn audit_choice(words: &[String]) -> Option<(Rule, Options)>
-    ensures choice { result ≡ spec.audit_choice (map string_bytes words.now) }
-    ensures call { IfSome result (λ choice. IsTrue (is_call choice.0)) }
-    ensures forms { IfSome result (λ choice. IsTrue (reads_forms choice.1)) }
-{
-    if !is_audit(words) {
-        return None;
-    }
-    options_under(words, rule_named(word_at(words, 1))?)
-}
-
 /// The path that a word names.
 fn path_of(alloc: Global, word: &str) -> Result<PathText, NoMemory>
     ensures { IfOk result (λ path. path ≡ word.now) }
@@ -112,25 +75,30 @@ fn path_of(alloc: Global, word: &str) -> Result<PathText, NoMemory>
     Ok(PathText::of(text))
 }
 
-/// What the words ask for: `audit RULE SYMBOL ORDERS TRADES`, where RULE is the word of a rule of a
-/// call, and after them, in any order and each at most once, `--orders-form FORM`, `--trades-form FORM`
-/// and, where the rule has one, `--table`; FORM is `csv`. `Usage` comes exactly where they are not
-/// well-formed, and takes no memory.
-pub fn read_words(alloc: Global, words: &[String]) -> Result<Request, WordsFault>
-    ensures request { IfOk result
-        (λ request. spec.request_of (map string_bytes words.now) ≡ Some request) }
-    ensures usage { IsErrOf result WordsFault.Usage
-        → spec.request_of (map string_bytes words.now) ≡ None }
-    ensures decided { spec.request_of (map string_bytes words.now) ≡ None
-        → IsErrOf result WordsFault.Usage }
-    ensures answered { IfOk result (λ request. IsTrue (is_answered request)) }
+/// The name that a word is, which is a symbol.
+fn symbol_at(words: &[String], place: usize) -> Name
+    requires inside { place < length words.now }
+    requires symbol { IsTrue (spec.is_symbol (spec.word_at (map string_bytes words.now) place)) }
+    ensures { result ≡ spec.word_at (map string_bytes words.now) place }
 {
-    let Some((rule, options)) = audit_choice(words) else {
-        return Err(WordsFault::Usage);
-    };
-    let Some(symbol) = read_name(word_at(words, 2).as_bytes()) else {
-        return Err(WordsFault::Usage);
-    };
+    match read_name(word_at(words, place).as_bytes()) {
+        Some(symbol) => symbol,
+        None => unreachable!(),
+    }
+}
+
+/// The request of words that ask for an audit.
+fn audit_with(
+    alloc: Global,
+    words: &[String],
+    rule: Rule,
+    options: Options,
+) -> Result<Request, NoMemory>
+    requires { IsTrue (spec.is_audit (map string_bytes words.now)) }
+    ensures { IfOk result (λ request.
+        request ≡ spec.audit_with (map string_bytes words.now) (rule, options)) }
+{
+    let symbol = symbol_at(words, 2);
     let orders = path_of(alloc, word_at(words, 3))?;
     let trades = path_of(alloc, word_at(words, 4))?;
     Ok(Request::Audit {
@@ -142,4 +110,75 @@ pub fn read_words(alloc: Global, words: &[String]) -> Result<Request, WordsFault
         trades_form: options.trades_form.unwrap_or(Form::Csv),
         table: options.table,
     })
+}
+
+/// The request of words that ask for Expected trades.
+fn expect_with(
+    alloc: Global,
+    words: &[String],
+    rule: Rule,
+    orders_form: Form,
+) -> Result<Request, NoMemory>
+    requires { IsTrue (spec.is_expect (map string_bytes words.now)) }
+    ensures { IfOk result (λ request.
+        request ≡ spec.expect_with (map string_bytes words.now) (rule, orders_form)) }
+{
+    let symbol = symbol_at(words, 2);
+    let orders = path_of(alloc, word_at(words, 3))?;
+    Ok(Request::Expect {
+        rule,
+        symbol,
+        orders,
+        orders_form,
+    })
+}
+
+/// The request of words that ask to convert a log.
+fn convert_with(
+    alloc: Global,
+    words: &[String],
+    log: Which,
+    form: Form,
+) -> Result<Request, NoMemory>
+    requires { IsTrue (spec.is_convert (map string_bytes words.now)) }
+    ensures { IfOk result (λ request.
+        request ≡ spec.convert_with (map string_bytes words.now) (log, form)) }
+{
+    let path = path_of(alloc, word_at(words, 3))?;
+    Ok(Request::Convert { log, form, path })
+}
+
+/// What the words ask for, one row a command:
+///
+/// - `audit RULE SYMBOL ORDERS TRADES`, and after them, in any order and each at most once,
+///   `--orders-form FORM`, `--trades-form FORM` and, where the rule has one, `--table`;
+/// - `expect RULE SYMBOL ORDERS` of a rule with Expected trades, and after them `--orders-form FORM`;
+/// - `convert orders|trades FORM PATH`;
+/// - `generate START COUNT`, START from 1 to 2,147,483,646 and COUNT from 1 to 1,000,000, each of 1 to 10
+///   digits.
+///
+/// RULE is the word of a rule, and FORM is `csv` or `fix`. `Usage` comes exactly where they are not
+/// well-formed, and takes no memory.
+pub fn read_words(alloc: Global, words: &[String]) -> Result<Request, WordsFault>
+    ensures request { IfOk result
+        (λ request. spec.request_of (map string_bytes words.now) ≡ Some request) }
+    ensures usage { IsErrOf result WordsFault.Usage
+        → spec.request_of (map string_bytes words.now) ≡ None }
+    ensures decided { spec.request_of (map string_bytes words.now) ≡ None
+        → IsErrOf result WordsFault.Usage }
+    ensures asked { IfOk result MayBeAsked }
+{
+    if let Some((rule, options)) = audit_choice(words) {
+        return Ok(audit_with(alloc, words, rule, options)?);
+    }
+    if let Some((rule, orders_form)) = expect_choice(words) {
+        return Ok(expect_with(alloc, words, rule, orders_form)?);
+    }
+    if let Some((log, form)) = convert_choice(words) {
+        return Ok(convert_with(alloc, words, log, form)?);
+    }
+    if let Some((start, count)) = generate_choice(words) {
+        return Ok(Request::Generate { start, count });
+    }
+    Err(WordsFault::Usage)
 }

@@ -8,7 +8,7 @@ use std::test::Fail;
 
 /// A row: its name, the words, the lines of the order log and of the trade log behind their headers, the
 /// status and the report.
-type Row = (
+pub(crate) type Row = (
     &'static str,
     &'static str,
     &'static str,
@@ -17,7 +17,7 @@ type Row = (
     &'static str,
 );
 
-fn assert_row<R: AllocGlobal + Abort>(rt: &R, row: Row) -> Result<(), Fail> {
+pub(crate) fn assert_row<R: AllocGlobal + Abort>(rt: &R, row: Row) -> Result<(), Fail> {
     let (name, words, orders, trades, status, report) = row;
     let words = split_words(rt.alloc(), words)?;
     let orders = log_of(rt.alloc(), ORDER_HEADER, orders)?;

@@ -1,20 +1,22 @@
-//! The verdict of each rule of a call where the trades are sound: what the audit of the rule answers, as a
+//! The verdict of each rule where the trades are sound: what the audit of the rule answers, as a
 //! finding or as an accepted log.
-ghost use Rattle.std.specs.Prelude.{◌≡◌, ◌<◌, ◌-◌, ◌^◌, None, length, IfOk, IsTrue};
+ghost use Rattle.std.specs.Prelude.{◌≡◌, ◌<◌, ◌-◌, ◌^◌, None, IfOk};
 ghost use Rattle.audit_base.specs.declared.terms.Rule.TheVariants as rule;
+ghost use Rattle.audit_base.specs.Histories.{Regular};
 ghost use Rattle.audit_base.specs.Orders.{IsOrderList};
+ghost use Rattle.short_order.specs.Totals.{AreTotals};
 ghost use Rattle.audit_base.specs.Deals.{IsDealList};
-ghost use Rattle.audit_run.specs.Judgements.{is_call};
 ghost use Rattle.audit_run.specs.Phases.{IsJudgedDeals};
 ghost use Rattle.audit_run.specs.Tables.{accepted_verdict, conforming_outcome, IsOutcomeOfFault, IsRuleAudited};
 
 use super::questions::Question;
-use super::tables::call_table;
+use super::tables::table_of;
 use audit_base::faults::NoMemory;
 use audit_base::orders::{Deal, Order};
 use audit_base::terms::Rule;
 use audit_report::verdicts::{Accepted, Verdict};
 use call_auction::fair_matchings::fair_matching;
+use continuous_audit::auditing::audit_continuous;
 use matching_core::checking::check_matching;
 use matching_core::outcomes::{CheckFault, Outcome, Reached};
 use matching_core::totals::Totals;
@@ -84,7 +86,7 @@ fn audit(
     deals: &[Deal],
     count: u32,
 ) -> Result<Outcome, NoMemory>
-    requires call { IsTrue (is_call rule) }
+    requires regular { Regular orders.now }
     requires order_list { IsOrderList orders.now }
     requires deal_list { IsDealList orders.now deals.now }
     requires few { count < 2 ^ 32 - 1 }
@@ -95,7 +97,7 @@ fn audit(
         Rule::Fair => audit_fair(alloc, orders, deals, count),
         Rule::Uniform => audit_uniform(alloc, orders, deals, count),
         Rule::Maximum => audit_maximum(alloc, orders, deals, count),
-        Rule::Continuous => unreachable!(),
+        Rule::Continuous => audit_continuous(alloc, orders, deals),
     }
 }
 
@@ -107,13 +109,13 @@ fn accept(
     deals: &[Deal],
     reached: &Reached,
 ) -> Result<Verdict, NoMemory>
-    requires orders { length orders.now < 2 ^ 32 }
-    requires deals { length deals.now < 2 ^ 32 }
-    requires totals { length reached.now.traded.0 ≡ length orders.now }
+    requires order_list { IsOrderList orders.now }
+    requires deal_list { IsDealList orders.now deals.now }
+    requires totals { AreTotals orders.now deals.now reached.now.traded.0 }
     ensures { IfOk result (λ verdict. verdict
-        ≡ accepted_verdict question.now orders.now (length deals.now) reached.now) }
+        ≡ accepted_verdict question.now orders.now deals.now reached.now) }
 {
-    let table = call_table(alloc, question.table, orders, reached.traded.as_slice())?;
+    let table = table_of(alloc, question, orders, deals, reached.traded.as_slice())?;
     Ok(Verdict::Accepted(Accepted {
         rule: question.rule,
         symbol: question.symbol,
@@ -125,7 +127,7 @@ fn accept(
     }))
 }
 
-/// The verdict of a rule of a call where the trades are sound; `count` is the number of trades of the
+/// The verdict of a rule where the trades are sound; `count` is the number of trades of the
 /// whole log.
 pub(crate) fn judge_deals(
     alloc: Global,
@@ -134,7 +136,7 @@ pub(crate) fn judge_deals(
     deals: &[Deal],
     count: u32,
 ) -> Result<Verdict, NoMemory>
-    requires call { IsTrue (is_call question.now.rule) }
+    requires regular { Regular orders.now }
     requires order_list { IsOrderList orders.now }
     requires deal_list { IsDealList orders.now deals.now }
     requires few { count < 2 ^ 32 - 1 }

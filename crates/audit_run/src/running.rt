@@ -1,13 +1,13 @@
 //! The top call: from the words of a command line to the report and the status.
-ghost use Rattle.std.specs.Prelude.{IsTrue, map};
+ghost use Rattle.std.specs.Prelude.{map};
 ghost use Rattle.std.specs.String.{string_bytes};
 ghost use Rattle.log_source.specs.Sinks.{Stays};
-ghost use Rattle.audit_run.specs.Requests.{is_answered};
+ghost use Rattle.audit_run.specs.Reporting.{MayBeAsked};
 ghost use Rattle.audit_run.specs.Runs.{Answers, AnswersLength, Runs, ReportsHeldLogs};
 ghost use Rattle.audit_run.specs.Steps.{reading, KeepsLogs, NeverFall};
 ghost use Rattle.audit_run.specs.Words.{request_of};
 
-use super::reports::report_on;
+use super::commands::report_on;
 use super::requests::{Request, WordsFault, read_words};
 use super::writing::{write_stop, write_text};
 use audit_report::reports::usage_text;
@@ -18,7 +18,7 @@ use std::alloc::Global;
 
 /// Answers well-formed words: the whole report is made, and then written.
 fn answer<F: Shelf, K: Sink>(alloc: Global, shelf: &mut F, out: &mut K, request: &Request) -> Status
-    requires { IsTrue (is_answered request.now) }
+    requires { MayBeAsked request.now }
     ensures logs { KeepsLogs F.Shelf shelf.old shelf.new }
     ensures later { NeverFall (reading F.Shelf shelf.old shelf.new) }
     ensures stays { Stays (K.state out.old) (K.state out.new) }

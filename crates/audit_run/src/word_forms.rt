@@ -1,11 +1,11 @@
 //! The forms of single words of a command line.
-ghost use Rattle.std.specs.Prelude.{◌≡◌, IfSome, IsTrue};
-ghost use Rattle.audit_run.specs.Judgements.{is_call};
+ghost use Rattle.std.specs.Prelude.{◌≡◌, ◌≤◌, IfSome};
 ghost use Rattle.audit_run.specs.Options as option;
 ghost use Rattle.audit_run.specs.Words as spec;
 
+use audit_base::digits::read_digits;
 use audit_base::names::read_name;
-use audit_base::terms::Rule;
+use audit_base::terms::{Rule, Which};
 
 /// Whether the word is this text.
 pub(crate) fn is_word(word: &str, text: &[u8]) -> bool
@@ -38,10 +38,9 @@ pub(crate) fn is_path(word: &str) -> bool
     !word.is_empty() && !is_option(word)
 }
 
-/// The rule of a call that the word names.
+/// The rule that the word names.
 pub(crate) fn rule_named(word: &str) -> Option<Rule>
-    ensures rule { result ≡ spec.rule_named word.now }
-    ensures call { IfSome result (λ rule. IsTrue (is_call rule)) }
+    ensures { result ≡ spec.rule_named word.now }
 {
     if is_word(word, Rule::Matching.word()) {
         return Some(Rule::Matching);
@@ -55,10 +54,38 @@ pub(crate) fn rule_named(word: &str) -> Option<Rule>
     if is_word(word, Rule::Maximum.word()) {
         return Some(Rule::Maximum);
     }
+    if is_word(word, Rule::Continuous.word()) {
+        return Some(Rule::Continuous);
+    }
     None
 }
 
-/// Whether a table of quantities may be asked for.
+/// The log that the word names.
+pub(crate) fn log_named(word: &str) -> Option<Which>
+    ensures { result ≡ spec.log_named word.now }
+{
+    if is_word(word, b"orders") {
+        return Some(Which::Orders);
+    }
+    if is_word(word, b"trades") {
+        return Some(Which::Trades);
+    }
+    None
+}
+
+/// The number from 1 to a greatest one that the word writes in 1 to 10 digits.
+pub(crate) fn number_upto(word: &str, most: u32) -> Option<u32>
+    ensures number { result ≡ spec.number_upto most word.now }
+    ensures limits { IfSome result (λ number. (1 ≤ number) × (number ≤ most)) }
+{
+    let number = read_digits(word.as_bytes(), 10)?;
+    if 1 <= number && number <= u64::from(most) {
+        return Some(number as u32);
+    }
+    None
+}
+
+/// Whether a table of quantities may be asked for: the rule determines them, and has Expected trades.
 pub(crate) fn has_table(rule: Rule) -> bool
     ensures { result ≡ spec.has_table rule }
 {

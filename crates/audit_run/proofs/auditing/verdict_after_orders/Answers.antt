@@ -1,6 +1,7 @@
 use Rattle.std.proofs.Common.{◌≡◌, ap, sym, subst, ◌∙◌, ℕ, List, Some}
-use Rattle.audit_base.specs.Histories.{history_finding, instant_order}
-use Rattle.audit_run.proofs.AuditLemmas.{call_history, instant_found}
+use Rattle.audit_base.specs.Histories.{history_finding}
+use Rattle.audit_base.specs.Verdicts.{call_finding}
+use Rattle.audit_run.proofs.AuditLemmas.{admitted, refused_order}
 use Rattle.audit_run.proofs.JudgeLemmas.{judged_by_history}
 use Rattle.audit_run.proofs.auditing.verdict_after_orders.Goals as goal
 
@@ -9,16 +10,16 @@ end-requires g c = (c.requires.place.entries, c.requires.place.has)
 
 pub returns-in-Some-clause-decides : goal.returns-in-Some-clause-decides
 returns-in-Some-clause-decides g c = λ entries has.
-    let instant = ap instant_order (sym c.orders.ensures.same) ∙ sym c.first_instant.ensures ∙ c.in-Some.is in
+    let refused = ap (call_finding c.args.question.now.rule) (sym c.orders.ensures.same) ∙ sym c.call_finding.ensures ∙ c.in-Some.is in
     c.verdict_of_finding.ensures.decides entries
-    (instant_found c.args.question.now g.S.AuditedSymbol.symbol entries c.in-Ok.history c.in-Some.finding c.requires.call c.requires.symbol
-    (c.in-Ok.ensures.well_formed entries has) (c.in-Ok.ensures.orders entries has) instant)
+    (refused_order c.args.question.now g.S.AuditedSymbol.symbol entries c.in-Ok.history c.in-Some.finding c.requires.symbol
+    (c.in-Ok.ensures.well_formed entries has) (c.in-Ok.ensures.orders entries has) refused)
 
 pub returns-in-None-clause-decides : goal.returns-in-None-clause-decides
 returns-in-None-clause-decides g c = λ entries has.
-    let instant = ap instant_order (sym c.orders.ensures.same) ∙ sym c.first_instant.ensures ∙ c.in-None.is in
+    let admits = ap (call_finding c.args.question.now.rule) (sym c.orders.ensures.same) ∙ sym c.call_finding.ensures ∙ c.in-None.is in
     c.verdict_of_trades.ensures.decides entries
-    (call_history c.args.question.now g.S.AuditedSymbol.symbol entries c.in-Ok.history c.requires.symbol (c.in-Ok.ensures.well_formed entries has) (c.in-Ok.ensures.orders entries has) instant)
+    (admitted c.args.question.now g.S.AuditedSymbol.symbol entries c.in-Ok.history c.requires.symbol (c.in-Ok.ensures.well_formed entries has) (c.in-Ok.ensures.orders entries has) admits)
 
 pub returns-in-Err-clause-decides : goal.returns-in-Err-clause-decides
 returns-in-Err-clause-decides g c = λ entries has.

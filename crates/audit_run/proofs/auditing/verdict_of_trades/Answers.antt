@@ -1,7 +1,7 @@
 use Rattle.std.proofs.Common.{sym, subst, ◌∙◌, List}
 use Rattle.audit_base.specs.declared.orders.Order.{Order}
 use Rattle.matching_core.specs.DealsDraft.{IsDealsDraft}
-use Rattle.audit_run.specs.Auditing.{IsCallHistory}
+use Rattle.audit_run.specs.Auditing.{IsAdmitted}
 use Rattle.audit_run.specs.Steps.{reading}
 use Rattle.audit_run.proofs.AuditLemmas.{after_alone, decides_ended, ends_as}
 use Rattle.audit_run.proofs.auditing.verdict_of_trades.Goals as goal
@@ -10,8 +10,8 @@ pub returns-in-Ok-Trades-clause-decides : goal.returns-in-Ok-Trades-clause-decid
 returns-in-Ok-Trades-clause-decides g c = λ entries is.
     let read = rw c.in-Ok-Trades.field-0-is at c.in-Ok-Trades.ensures.read in
     decides_ended (reading g.F.Shelf c.args.shelf.now c.collect_trades.new.shelf) c.args.question.now c.args.trades.now entries
-    (IsDealsDraft g.M.AuditedHistory.symbol g.M.AuditedHistory.orders c.in-Ok-Trades.deals) c.end.result c.verdict_of_ended.result c.requires.call
-    (subst (λ (os : List Order). IsCallHistory c.args.question.now entries os) (c.requires.orders ∙ sym c.end.ensures.history) is) read
+    (IsDealsDraft g.M.AuditedHistory.symbol g.M.AuditedHistory.orders c.in-Ok-Trades.deals) c.end.result c.verdict_of_ended.result
+    (subst (λ (os : List Order). IsAdmitted c.args.question.now entries os) (c.requires.orders ∙ sym c.end.ensures.history) is) read
     (λ ts has. ends_as c.args.question.now g.M.AuditedHistory.symbol g.M.AuditedHistory.orders ts c.end.result c.requires.symbol c.end.ensures.history
     (c.end.ensures.count ts has) (c.end.ensures.finding ts has) (c.end.ensures.deals ts has))
     c.end.ensures.numbers c.verdict_of_ended.ensures.verdict c.verdict_of_ended.ensures.memory
@@ -20,4 +20,4 @@ pub returns-in-Ok-Alone-clause-decides : goal.returns-in-Ok-Alone-clause-decides
 returns-in-Ok-Alone-clause-decides g c = λ entries is.
     let read = rw c.in-Ok-Alone.field-0-is at c.in-Ok-Alone.ensures.read in
     after_alone (reading g.F.Shelf c.args.shelf.now c.collect_trades.new.shelf) c.args.question.now c.args.trades.now entries
-    c.in-Ok-Alone.finding c.args.history c.requires.call is read
+    c.in-Ok-Alone.finding c.args.history is read

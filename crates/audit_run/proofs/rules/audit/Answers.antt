@@ -1,5 +1,5 @@
 use Rattle.audit_run.proofs.JudgeLemmas.{ok-then}
-use Rattle.audit_run.proofs.RuleLemmas.{uniform_audited, maximum_audited}
+use Rattle.audit_run.proofs.RuleLemmas.{uniform_audited, maximum_audited, continuous_audited}
 use Rattle.audit_run.proofs.rules.audit.Goals as goal
 
 pub returns-in-Uniform : goal.returns-in-Uniform
@@ -9,3 +9,7 @@ returns-in-Uniform c =
 pub returns-in-Maximum : goal.returns-in-Maximum
 returns-in-Maximum c =
     rw c.in-Maximum.is (ok-then c.audit_maximum.result _ _ (λ answer is. maximum_audited c.args.orders.now c.args.deals.now c.args.count answer is) c.audit_maximum.ensures)
+
+pub returns-in-Continuous : goal.returns-in-Continuous
+returns-in-Continuous c =
+    rw c.in-Continuous.is (ok-then c.audit_continuous.result _ _ (λ answer is. continuous_audited c.args.orders.now c.args.deals.now c.args.count c.requires.regular answer is) c.audit_continuous.ensures)

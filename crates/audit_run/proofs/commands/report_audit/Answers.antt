@@ -1,6 +1,6 @@
 use Rattle.audit_run.specs.Steps.{reading}
 use Rattle.audit_run.proofs.AuditLemmas.{audit_report_text, audit_stop}
-use Rattle.audit_run.proofs.reports.report_audit.Goals as goal
+use Rattle.audit_run.proofs.commands.report_audit.Goals as goal
 
 pub returns-in-Ok-verdict_report-clause-decides : goal.returns-in-Ok-verdict_report-clause-decides
 returns-in-Ok-verdict_report-clause-decides g c =

@@ -1,0 +1,208 @@
+-- What a command that reads one log, or none, reports: from one log to the whole call.
+use Rattle.std.proofs.Common.{◌≡◌, sym, subst, refl, inl, inr, ⊎_elim, ℕ, ◌≤◌, List, [], ◌∷◌, Option, None, Some, Result, Ok, Err, arith}
+use Rattle.std.specs.Prelude.{MatchOption, MatchResult}
+use Rattle.audit_base.specs.declared.faults.BadPlace.{BadPlace}
+use Rattle.audit_base.specs.declared.findings.Finding.{Finding}
+use Rattle.audit_base.specs.declared.records.OrderRecord.{OrderRecord}
+use Rattle.audit_base.specs.declared.records.TradeRecord.{TradeRecord}
+use Rattle.audit_base.specs.declared.terms.Rule.{Rule}
+use Rattle.audit_base.specs.declared.terms.Which.{Which}
+use Rattle.audit_base.specs.declared.terms.Which.TheVariants.{Orders, Trades}
+use Rattle.audit_base.specs.Histories.{history_finding, order_list, WellFormed}
+use Rattle.audit_base.specs.Verdicts.{call_finding}
+use Rattle.audit_report.specs.declared.statuses.Status.{Status}
+use Rattle.audit_report.specs.declared.statuses.Status.TheVariants as status
+use Rattle.audit_report.specs.declared.verdicts.Verdict.{Verdict}
+use Rattle.audit_report.specs.declared.verdicts.Verdict.TheVariants as verdict
+use Rattle.audit_report.specs.Lines.{read_fault_line, too_long_line}
+use Rattle.audit_report.specs.Statuses.{verdict_status}
+use Rattle.audit_report.specs.Texts.{verdict_text}
+use Rattle.log_source.specs.Sources.{longest_log, other_of}
+use Rattle.audit_run.specs.declared.reading.Unread.{Unread}
+use Rattle.audit_run.specs.declared.reading.Unread.TheVariants as unread
+use Rattle.audit_run.specs.declared.reports.Report.{Report}
+use Rattle.audit_run.specs.declared.requests.Request.{Request}
+use Rattle.audit_run.specs.declared.stops.Stop.{Stop}
+use Rattle.audit_run.specs.declared.stops.Stop.TheVariants as stop
+use Rattle.audit_run.specs.Auditing.{DecidesReport, IsReportOf, StaysWithin, StaysWithinAt}
+use Rattle.audit_run.specs.Collecting.{step_of, IsUnread, TouchesOnly}
+use Rattle.csv_logs.specs.Written.{orders_text, trades_text}
+use Rattle.audit_run.specs.LogVerdicts.{Log, order_log, trade_log}
+use Rattle.audit_run.specs.OtherTexts.{orders_finding, ConvertsTrades, ExpectsOf, IsConvertReport, IsDone, IsExpectedLog, IsRefused}
+use Rattle.audit_run.specs.Reporting.{DecidesLog, IsReportStatus, IsWithoutLog, SaysReport}
+use Rattle.audit_run.specs.Requests.{next_log, IsReport}
+use Rattle.audit_run.specs.Runs.{IsText, ReportsLogs, StopsAtLog}
+use Rattle.audit_run.specs.Steps.{Reading, Step, IsReadFault, IsTooLong, BeginsWithin, Lead, NeverFall, with_slot}
+
+-- The statuses that a report may have.
+
+refused-status : (v : Verdict) (s : Status) (text : List ℕ) → IsRefused v s text → IsReportStatus s
+refused-status v s text is = subst IsReportStatus (sym is.status_is) (one v)
+  where
+    one : (v : Verdict) → IsReportStatus (verdict_status v)
+    one (verdict.Accepted a) = tt
+    one (verdict.Rejected f) = tt
+    one (verdict.Malformed log bad) = tt
+
+pub done-status : (is_text : List ℕ → Type 0) (s : Status) (text : List ℕ) → IsDone is_text s text → IsReportStatus s
+done-status is_text s text is = subst IsReportStatus (sym is.done) tt
+
+expects-status : (the_rule : Rule) (symbol : List ℕ) (entries : List OrderRecord) (found : Option Finding) (s : Status) (text : List ℕ)
+    → MatchOption found (IsDone (IsExpectedLog the_rule symbol (order_list symbol entries)) s text) (λ finding. IsRefused (verdict.Rejected finding) s text) → IsReportStatus s
+expects-status the_rule symbol entries None s text is = done-status _ s text is
+expects-status the_rule symbol entries (Some finding) s text is = refused-status _ s text is
+
+pub expect-status : (the_rule : Rule) (symbol : List ℕ) (said : Result (List OrderRecord) BadPlace) (s : Status) (text : List ℕ)
+    → MatchResult said (λ entries. ExpectsOf the_rule symbol entries s text) (λ bad. IsRefused (verdict.Malformed Orders bad) s text) → IsReportStatus s
+expect-status the_rule symbol (Ok entries) s text is = expects-status the_rule symbol entries (orders_finding the_rule symbol entries) s text is
+expect-status the_rule symbol (Err bad) s text is = refused-status _ s text is
+
+converts-status : (paired : Result (List TradeRecord) Finding) (s : Status) (text : List ℕ) → ConvertsTrades paired s text → IsReportStatus s
+converts-status (Ok trades) s text is = done-status (λ written. written ≡ trades_text trades) s text is
+converts-status (Err finding) s text is = refused-status (verdict.Rejected finding) s text is
+
+orders-status : (said : Result (List OrderRecord) BadPlace) (s : Status) (text : List ℕ)
+    → MatchResult said (λ entries. IsDone (λ written. written ≡ orders_text entries) s text) (λ bad. IsRefused (verdict.Malformed Orders bad) s text) → IsReportStatus s
+orders-status (Ok entries) s text is = done-status (λ written. written ≡ orders_text entries) s text is
+orders-status (Err bad) s text is = refused-status (verdict.Malformed Orders bad) s text is
+
+trades-status : (said : Result (Result (List TradeRecord) Finding) BadPlace) (s : Status) (text : List ℕ)
+    → MatchResult said (λ paired. ConvertsTrades paired s text) (λ bad. IsRefused (verdict.Malformed Trades bad) s text) → IsReportStatus s
+trades-status (Ok paired) s text is = converts-status paired s text is
+trades-status (Err bad) s text is = refused-status (verdict.Malformed Trades bad) s text is
+
+pub convert-status : (which : Which) (log : Log) (s : Status) (text : List ℕ) → IsConvertReport which log s text → IsReportStatus s
+convert-status Orders log s text is = orders-status (order_log log.form log.bytes) s text is
+convert-status Trades log s text is = trades-status (trade_log log.form log.bytes) s text is
+
+-- One log that was not read into records.
+
+module _ {R : Type 0} (meaning : List ℕ → Result R BadPlace) (r : Reading) (log : Which) (name : List ℕ) (says : List ℕ → Status → List ℕ → Type 0) where
+  pub decides-unread : ((bytes : List ℕ) (bad : BadPlace) → meaning bytes ≡ Err bad → says bytes (verdict_status (verdict.Malformed log bad)) (verdict_text (verdict.Malformed log bad)))
+      → (why : Unread) (result : Result Report Stop) → IsUnread meaning r log name why → IsWithoutLog log why result → DecidesLog r log name says result
+  decides-unread refuses (unread.Bad bad) (Ok report) is made = record {
+    bytes = is.bytes;
+    read = is.read;
+    holds = rw (made.status_is, made.text_is) (refuses is.bytes bad is.holds);
+  }
+  decides-unread refuses (unread.Bad bad) (Err why) is made = rw made tt
+  decides-unread refuses unread.ReadFault result is made = rw made (refl, is)
+  decides-unread refuses unread.TooLong result is made = rw made (refl, is)
+  decides-unread refuses unread.Memory result is made = rw made tt
+
+-- where the log was not read into records, it is too long or stays within the longest log
+pub within-unread : (r : Reading) (log : Which) (why : Unread) (result : Result Report Stop) → IsWithoutLog log why result → ((why ≡ unread.TooLong → ⊥) → (r.after log).taken ≤ longest_log)
+    → StaysWithinAt r log result
+within-unread r log (unread.Bad bad) result is within = inr (within (λ e. cc))
+within-unread r log unread.ReadFault result is within = inr (within (λ e. cc))
+within-unread r log unread.TooLong result is within = inl (rw is tt)
+within-unread r log unread.Memory result is within = inr (within (λ e. cc))
+
+-- One log, or none, of the whole call.
+
+module _ (r : Reading) (request : Request) where
+  pub text-of : (s : Status) (text : List ℕ) → IsReportStatus s → ReportsLogs r request s text → IsText r request s text
+  text-of status.Accepted text answers is = is
+  text-of status.Rejected text answers is = is
+  text-of status.Malformed text answers is = is
+  text-of status.Usage text answers is = absurd answers
+  text-of status.ReadFault text answers is = absurd answers
+  text-of status.WriteFault text answers is = absurd answers
+  text-of status.TooLong text answers is = absurd answers
+  text-of status.Memory text answers is = absurd answers
+
+  module _ (log : Which) (name : List ℕ) (only : TouchesOnly r log) where
+    abbrev one_step : Step
+    one_step = step_of r log name
+
+    one-leads : Lead r.before (one_step ∷ []) r.after
+    one-leads = (record { at = refl; later = only.later }, ends log only.other)
+      where
+        ends : (log : Which) → r.after (other_of log) ≡ r.before (other_of log) → (which : Which) → r.after which ≡ with_slot r.before log (r.after log) which
+        ends Orders same Orders = refl
+        ends Orders same Trades = same
+        ends Trades same Orders = same
+        ends Trades same Trades = refl
+
+    pub one-later : NeverFall r
+    one-later = falls log only.later only.other
+      where
+        falls : (log : Which) → (r.before log).faults ≤ (r.after log).faults → r.after (other_of log) ≡ r.before (other_of log) → NeverFall r
+        falls Orders own same Orders = own
+        falls Orders own same Trades = rw same (at_most _)
+          where
+            at_most : (n : ℕ) → n ≤ n
+            at_most n = omega arith
+        falls Trades own same Orders = rw same (at_most _)
+          where
+            at_most : (n : ℕ) → n ≤ n
+            at_most n = omega arith
+        falls Trades own same Trades = own
+
+    pub one-within : (result : Result Report Stop) → ((r.before log).taken ≤ longest_log → StaysWithinAt r log result) → StaysWithin r result
+    one-within result within begins = ⊎_elim (λ stop. inl stop) (λ own. inr (ends log own only.other begins)) (within (begins log))
+      where
+        ends : (log : Which) → (r.after log).taken ≤ longest_log → r.after (other_of log) ≡ r.before (other_of log) → BeginsWithin r → (which : Which) → (r.after which).taken ≤ longest_log
+        ends Orders own same begins Orders = own
+        ends Orders own same begins Trades = rw same (begins Trades)
+        ends Trades own same begins Orders = rw same (begins Orders)
+        ends Trades own same begins Trades = own
+
+    one-stops : (why : Reading → Step → Type 0) (line : Which → List ℕ) → next_log request [] ≡ Some (log, name) → why r one_step → StopsAtLog why line r request (line log)
+    one-stops why line first cause = record {
+      steps = [];
+      logs = [];
+      last = one_step;
+      lead = one-leads;
+      read = refl;
+      next = first;
+      cause = cause;
+      text_is = refl;
+    }
+
+    -- what is decided of one log is decided of the whole call
+    pub decides-one : (says : List ℕ → Status → List ℕ → Type 0) (result : Result Report Stop) → next_log request [] ≡ Some (log, name) → ((bytes : List ℕ) → next_log request (bytes ∷ []) ≡ None)
+        → ((bytes : List ℕ) (s : Status) (text : List ℕ) → says bytes s text → IsReport request (bytes ∷ []) s text)
+        → ((bytes : List ℕ) (s : Status) (text : List ℕ) → says bytes s text → IsReportStatus s)
+        → DecidesLog r log name says result → DecidesReport r request result
+    decides-one says (Ok report) first last reports answers is =
+        text-of report.status report.text.items (answers is.bytes report.status report.text.items is.holds)
+        (record {
+          steps = one_step ∷ [];
+          logs = is.bytes ∷ [];
+          lead = one-leads;
+          read = (is.bytes, record { next = first; read = is.read }, refl);
+          all = last is.bytes;
+          report = reports is.bytes report.status report.text.items is.holds;
+        })
+    decides-one says (Err (stop.ReadFault which)) first last reports answers is = rw is.0 (one-stops IsReadFault read_fault_line first is.1)
+    decides-one says (Err (stop.TooLong which)) first last reports answers is = rw is.0 (one-stops IsTooLong too_long_line first is.1)
+    decides-one says (Err stop.Memory) first last reports answers is = tt
+
+  -- a command that needs no log reports without one
+  pub decides-none : (result : Result Report Stop) → ((log : Which) → r.after log ≡ r.before log) → next_log request [] ≡ None
+      → MatchResult result (λ report. IsReport request [] report.status report.text.items × IsReportStatus report.status) (λ why. why ≡ stop.Memory) → DecidesReport r request result
+  decides-none (Ok report) same none is =
+      text-of report.status report.text.items is.1 (record { steps = []; logs = []; lead = same; read = refl; all = none; report = is.0 })
+  decides-none (Err why) same none is = rw is tt
+
+-- What is expected of the records of an order log.
+
+expects-found : (the_rule : Rule) (symbol : List ℕ) (entries : List OrderRecord) (finding : Finding) (report : Report) → orders_finding the_rule symbol entries ≡ Some finding
+    → IsReportOf (verdict.Rejected finding) report → SaysReport (ExpectsOf the_rule symbol entries) report
+expects-found the_rule symbol entries finding report found made = rw found (record { status_is = made.status_is; text_is = made.text_is })
+
+pub expects-history : (the_rule : Rule) (symbol : List ℕ) (entries : List OrderRecord) (finding : Finding) (report : Report) → history_finding symbol entries ≡ Some finding
+    → IsReportOf (verdict.Rejected finding) report → SaysReport (ExpectsOf the_rule symbol entries) report
+expects-history the_rule symbol entries finding report found made = expects-found the_rule symbol entries finding report (rw found refl) made
+
+pub expects-order : (the_rule : Rule) (symbol : List ℕ) (entries : List OrderRecord) (finding : Finding) (report : Report) → WellFormed symbol entries
+    → call_finding the_rule (order_list symbol entries) ≡ Some finding → IsReportOf (verdict.Rejected finding) report → SaysReport (ExpectsOf the_rule symbol entries) report
+expects-order the_rule symbol entries finding report formed found made = expects-found the_rule symbol entries finding report (rw (formed, found) refl) made
+
+pub expects-done : (the_rule : Rule) (symbol : List ℕ) (entries : List OrderRecord) (report : Report) → WellFormed symbol entries → call_finding the_rule (order_list symbol entries) ≡ None
+    → report.status ≡ status.Accepted → IsExpectedLog the_rule symbol (order_list symbol entries) report.text.items → SaysReport (ExpectsOf the_rule symbol entries) report
+expects-done the_rule symbol entries report formed admits done is = rw none (record { done = done; is = is })
+  where
+    none : orders_finding the_rule symbol entries ≡ None
+    none = rw (formed, admits) refl

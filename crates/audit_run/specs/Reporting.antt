@@ -1,0 +1,62 @@
+-- What the functions of a command that reads one log, or none, pass on to one another.
+use Rattle.std.specs.Prelude.{◌≡◌, ◌++◌, ℕ, List, Result, Err, IsTrue, MatchResult}
+use Rattle.audit_base.specs.declared.terms.Which.{Which}
+use Rattle.audit_report.specs.declared.statuses.Status.{Status}
+use Rattle.audit_report.specs.declared.statuses.Status.TheVariants as status
+use Rattle.audit_report.specs.declared.verdicts.Verdict.TheVariants.{Malformed}
+use Rattle.log_maker.specs.Generator.{IsStart, IsCount}
+use Rattle.audit_run.specs.declared.reading.Unread.{Unread}
+use Rattle.audit_run.specs.declared.reading.Unread.TheVariants as unread
+use Rattle.audit_run.specs.declared.reports.Report.{Report}
+use Rattle.audit_run.specs.declared.requests.Request.{Request}
+use Rattle.audit_run.specs.declared.requests.Request.TheVariants.{Audit, Expect, Convert, Generate}
+use Rattle.audit_run.specs.declared.stops.Stop.{Stop}
+use Rattle.audit_run.specs.declared.stops.Stop.TheVariants as stop
+use Rattle.audit_run.specs.Auditing.{IsLogStop, IsReportOf}
+use Rattle.audit_run.specs.Collecting.{IsReadAs}
+use Rattle.audit_run.specs.Steps.{Reading}
+use Rattle.audit_run.specs.Words.{has_table}
+
+-- what words may ask for: Expected trades of a rule that has such, and a log of numbers in their limits
+abbrev pub MayBeAsked : Request → Type 0
+MayBeAsked (Audit rule symbol orders trades orders_form trades_form table) = Unit {0}
+MayBeAsked (Expect rule symbol orders orders_form) = IsTrue (has_table rule)
+MayBeAsked (Convert log form path) = Unit {0}
+MayBeAsked (Generate start count) = IsStart start × IsCount count
+
+-- a report is reported of a log with this status and text
+abbrev pub SaysReport : (Status → List ℕ → Type 0) → Report → Type 0
+SaysReport says report = says report.status report.text.items
+
+-- a log was read to its end and reported on, or there is no report for a cause
+abbrev pub DecidesLog : Reading → Which → List ℕ → (List ℕ → Status → List ℕ → Type 0)
+    → Result Report Stop → Type 0
+DecidesLog r log name says result =
+    MatchResult result
+    (λ report. IsReadAs r log name (λ bytes. SaysReport (says bytes) report))
+    (IsLogStop r log name)
+
+-- what is reported where a log was not read into records
+abbrev pub IsWithoutLog : Which → Unread → Result Report Stop → Type 0
+IsWithoutLog log (unread.Bad bad) result =
+    MatchResult result (IsReportOf (Malformed log bad)) (λ why. why ≡ stop.Memory)
+IsWithoutLog log unread.ReadFault result = result ≡ Err (stop.ReadFault log)
+IsWithoutLog log unread.TooLong result = result ≡ Err (stop.TooLong log)
+IsWithoutLog log unread.Memory result = result ≡ Err stop.Memory
+
+-- the statuses of a report
+abbrev pub IsReportStatus : Status → Type 0
+IsReportStatus status.Accepted = Unit {0}
+IsReportStatus status.Rejected = Unit {0}
+IsReportStatus status.Malformed = Unit {0}
+IsReportStatus status.Usage = ⊥
+IsReportStatus status.ReadFault = ⊥
+IsReportStatus status.WriteFault = ⊥
+IsReportStatus status.TooLong = ⊥
+IsReportStatus status.Memory = ⊥
+
+-- A line of this kind was added.
+pub record AddsLine (is_line : List ℕ → Type 0) (old new : List ℕ) : Type 0 where
+  pub line : List ℕ
+  pub is : is_line line
+  pub added : new ≡ old ++ line

@@ -1,0 +1,140 @@
+//! The command `expect`: the Expected trades of an order log, as a trade log.
+ghost use Rattle.std.specs.Prelude.{◌≡◌, List, IfOk, IsTrue};
+ghost use Rattle.audit_base.specs.declared.records.OrderRecord.{OrderRecord};
+ghost use Rattle.audit_base.specs.declared.terms.Which.{Which};
+ghost use Rattle.audit_base.specs.Deals.{IsDealList};
+ghost use Rattle.audit_base.specs.Expected.{IsExpected};
+ghost use Rattle.audit_base.specs.Histories.{Regular};
+ghost use Rattle.audit_base.specs.Orders.{IsOrderList};
+ghost use Rattle.instruction_history.specs.HistoryDraft.{IsHistoryDraft};
+ghost use Rattle.log_source.specs.Collectors.{HasPlace};
+ghost use Rattle.audit_run.specs.Auditing.{StaysWithinAt};
+ghost use Rattle.audit_run.specs.Collecting.{TouchesOnly};
+ghost use Rattle.audit_run.specs.LogVerdicts.{log_in};
+ghost use Rattle.audit_run.specs.OtherTexts.{ExpectsOf, IsExpectedLog, IsExpectReport};
+ghost use Rattle.audit_run.specs.Reporting.{DecidesLog, SaysReport};
+ghost use Rattle.audit_run.specs.Steps.{reading, KeepsLogs};
+ghost use Rattle.audit_run.specs.Words as words;
+
+use super::collecting::collect_orders;
+use super::judging::call_finding;
+use super::questions::Source;
+use super::reports::{Report, done_report, finding_report, report_without};
+use super::stops::Stop;
+use audit_base::faults::NoMemory;
+use audit_base::names::Name;
+use audit_base::orders::{Deal, Order};
+use audit_base::terms::{Rule, Which};
+use canonical_form::trades::trades_of_deals;
+use continuous_audit::expecting::continuous_matching;
+use csv_logs::writers::write_trades;
+use instruction_history::history_draft::{AuditedSymbol, HistoryDraft};
+use log_source::shelf::Shelf;
+use maximum_audit::expecting::greatest_matching;
+use std::alloc::Global;
+use std::marker::Brand;
+use uniform_audit::expecting::expected_uniform;
+
+/// The Expected trades of a rule that has such.
+fn expected_deals(alloc: Global, rule: Rule, orders: &[Order]) -> Result<Vec<Deal>, NoMemory>
+    requires rule { IsTrue (words.has_table rule) }
+    requires order_list { IsOrderList orders.now }
+    requires regular { Regular orders.now }
+    ensures expected { IfOk result (λ deals. IsExpected rule orders.now deals.items) }
+    ensures deal_list { IfOk result (λ deals. IsDealList orders.now deals.items) }
+{
+    match rule {
+        Rule::Uniform => expected_uniform(alloc, orders),
+        Rule::Maximum => greatest_matching(alloc, orders),
+        Rule::Continuous => continuous_matching(alloc, orders),
+        Rule::Matching | Rule::Fair => unreachable!(),
+    }
+}
+
+/// The trade log of the Expected trades.
+fn expected_log(
+    alloc: Global,
+    rule: Rule,
+    symbol: &Name,
+    orders: &[Order],
+) -> Result<Vec<u8>, NoMemory>
+    requires rule { IsTrue (words.has_table rule) }
+    requires order_list { IsOrderList orders.now }
+    requires regular { Regular orders.now }
+    ensures { IfOk result (λ text. IsExpectedLog rule symbol.now orders.now text.items) }
+{
+    let deals = expected_deals(alloc, rule, orders)?;
+    let trades = trades_of_deals(alloc, orders, &deals, symbol)?;
+    let mut text = Vec::new(alloc);
+    write_trades(alloc, &trades, &mut text)?;
+    Ok(text)
+}
+
+/// What is reported of the records of an order log.
+fn report_records<S: AuditedSymbol>(
+    alloc: Global,
+    rule: Rule,
+    symbol: &Name,
+    draft: HistoryDraft<S>,
+) -> Result<Report, NoMemory>
+    requires rule { IsTrue (words.has_table rule) }
+    requires symbol { symbol.now ≡ S.symbol }
+    requires place { HasPlace (IsHistoryDraft S.symbol) draft }
+    ensures { IfOk result (λ report. (entries : List OrderRecord)
+        → IsHistoryDraft S.symbol draft entries
+        → SaysReport (ExpectsOf rule symbol.now entries) report) }
+{
+    let history = match draft.end() {
+        Ok(history) => history,
+        Err(finding) => return finding_report(alloc, finding),
+    };
+    let orders = history.orders();
+    match call_finding(rule, orders) {
+        Some(finding) => finding_report(alloc, finding),
+        None => Ok(done_report(expected_log(alloc, rule, symbol, orders)?)),
+    }
+}
+
+/// The report, by the history of the symbol.
+fn report_about<S: AuditedSymbol, F: Shelf>(
+    alloc: Global,
+    shelf: &mut F,
+    rule: Rule,
+    symbol: &Name,
+    orders: &Source<'_>,
+) -> Result<Report, Stop>
+    requires rule { IsTrue (words.has_table rule) }
+    requires symbol { symbol.now ≡ S.symbol }
+    ensures logs { KeepsLogs F.Shelf shelf.old shelf.new }
+    ensures only { TouchesOnly (reading F.Shelf shelf.old shelf.new) Which.Orders }
+    ensures decides { DecidesLog (reading F.Shelf shelf.old shelf.new) Which.Orders
+        orders.now.name.now
+        (λ bytes. IsExpectReport rule symbol.now (log_in orders.now.form bytes)) result }
+    ensures within { StaysWithinAt (reading F.Shelf shelf.old shelf.new) Which.Orders result }
+{
+    let draft = HistoryDraft::<S>::new(alloc, *symbol);
+    match collect_orders::<F, HistoryDraft<S>>(alloc, shelf, orders, draft) {
+        Ok(draft) => Ok(report_records(alloc, rule, symbol, draft)?),
+        Err(unread) => report_without(alloc, Which::Orders, unread),
+    }
+}
+
+/// The report of the command `expect`: the trade log of the Expected trades; or that of the bad place or
+/// the finding for which there are none.
+pub(crate) fn report_expect<F: Shelf>(
+    alloc: Global,
+    shelf: &mut F,
+    rule: Rule,
+    symbol: &Name,
+    orders: &Source<'_>,
+) -> Result<Report, Stop>
+    requires { IsTrue (words.has_table rule) }
+    ensures logs { KeepsLogs F.Shelf shelf.old shelf.new }
+    ensures only { TouchesOnly (reading F.Shelf shelf.old shelf.new) Which.Orders }
+    ensures decides { DecidesLog (reading F.Shelf shelf.old shelf.new) Which.Orders
+        orders.now.name.now
+        (λ bytes. IsExpectReport rule symbol.now (log_in orders.now.form bytes)) result }
+    ensures within { StaysWithinAt (reading F.Shelf shelf.old shelf.new) Which.Orders result }
+{
+    report_about::<Brand, F>(alloc, shelf, rule, symbol, orders)
+}

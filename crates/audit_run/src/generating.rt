@@ -1,0 +1,128 @@
+//! The command `generate`: a log of any length that is the same at each run, and what its Expected trades
+//! come to.
+ghost use Rattle.std.specs.Prelude.{◌≡◌, ◌<◌, ◌^◌, IfOk, OnOk, length};
+ghost use Rattle.audit_base.specs.declared.terms.Rule.TheVariants as rule;
+ghost use Rattle.audit_base.specs.Deals.{volume};
+ghost use Rattle.audit_base.specs.Histories.{Regular};
+ghost use Rattle.audit_base.specs.Orders.{IsOrderList};
+ghost use Rattle.log_maker.specs.Generator.{IsCount, IsStart, generated_orders, generated_records};
+ghost use Rattle.audit_run.specs.OtherTexts.{IsCallLine, IsContinuousLine, IsDone, IsSummary, IsSummaryOf};
+ghost use Rattle.audit_run.specs.Reporting.{AddsLine, SaysReport};
+
+use super::reports::{Report, done_report};
+use audit_base::faults::NoMemory;
+use audit_base::orders::{Deal, Order};
+use audit_base::terms::Rule;
+use audit_report::summaries::{append_call_line, append_continuous_line, append_generated_line};
+use call_laws::optimum::{
+    greatest_matching_reaches_the_least_cut, maximum_trades_are_expected, uniform_optimum,
+    uniform_trades_are_expected,
+};
+use continuous_audit::expecting::continuous_matching;
+use instruction_history::faults::HistoryFault;
+use instruction_history::history::History;
+use log_maker::generator::{generated_symbol, make_orders};
+use maximum_audit::expecting::greatest_matching;
+use std::alloc::Global;
+use uniform_audit::expecting::expected_uniform;
+use volume_bound::extremes::{best_uniform, least_cut};
+
+/// The history of the generated records, which is well-formed.
+fn generated_history(alloc: Global, start: u32, count: u32) -> Result<History, NoMemory>
+    requires start { IsStart start }
+    requires count { IsCount count }
+    ensures { IfOk result (λ history.
+        history ≡ generated_orders (generated_records start count)) }
+{
+    let entries = make_orders(alloc, start, count)?;
+    match History::build(alloc, &entries, &generated_symbol()) {
+        Ok(history) => Ok(history),
+        Err(fault) => match fault {
+            HistoryFault::Found(_) => unreachable!(),
+            HistoryFault::Memory => Err(NoMemory),
+        },
+    }
+}
+
+/// How many deals there are.
+fn count_of(deals: &[Deal]) -> u32
+    requires { length deals.now < 2 ^ 32 }
+    ensures { result ≡ length deals.now }
+{
+    deals.len() as u32
+}
+
+/// Adds the line of the Expected trades of `uniform`.
+fn append_uniform(alloc: Global, orders: &[Order], out: &mut Vec<u8>) -> Result<(), NoMemory>
+    requires { IsOrderList orders.now }
+    ensures { OnOk result
+        (AddsLine (IsCallLine rule.Uniform orders.now) out.old.items out.new.items) }
+{
+    // Laws that the answer rests on. They compute nothing.
+    uniform_optimum();
+    uniform_trades_are_expected();
+    let most = best_uniform(alloc, orders)?;
+    let deals = expected_uniform(alloc, orders)?;
+    append_call_line(alloc, Rule::Uniform, count_of(&deals), &most, out)
+}
+
+/// Adds the line of the Expected trades of `maximum`.
+fn append_maximum(alloc: Global, orders: &[Order], out: &mut Vec<u8>) -> Result<(), NoMemory>
+    requires { IsOrderList orders.now }
+    ensures { OnOk result
+        (AddsLine (IsCallLine rule.Maximum orders.now) out.old.items out.new.items) }
+{
+    // Laws that the answer rests on. They compute nothing.
+    greatest_matching_reaches_the_least_cut();
+    maximum_trades_are_expected();
+    let most = least_cut(alloc, orders)?;
+    let deals = greatest_matching(alloc, orders)?;
+    append_call_line(alloc, Rule::Maximum, count_of(&deals), &most, out)
+}
+
+/// The quantities of the deals, added.
+fn volume_of(deals: &[Deal]) -> u128
+    requires { length deals.now < 2 ^ 32 }
+    ensures { result ≡ volume deals.now }
+{
+    deals
+        .iter()
+        .map(|deal| u128::from(deal.quantity.value()))
+        .sum()
+}
+
+/// Adds the line of the Expected trades of `continuous`.
+fn append_continuous(alloc: Global, orders: &[Order], out: &mut Vec<u8>) -> Result<(), NoMemory>
+    requires order_list { IsOrderList orders.now }
+    requires regular { Regular orders.now }
+    ensures { OnOk result
+        (AddsLine (IsContinuousLine orders.now) out.old.items out.new.items) }
+{
+    let deals = continuous_matching(alloc, orders)?;
+    append_continuous_line(alloc, count_of(&deals), volume_of(&deals), out)
+}
+
+/// The summary of a generated log whose history has these orders.
+fn summary(alloc: Global, start: u32, count: u32, orders: &[Order]) -> Result<Vec<u8>, NoMemory>
+    requires order_list { IsOrderList orders.now }
+    requires regular { Regular orders.now }
+    ensures { IfOk result (λ text. IsSummaryOf orders.now start count text.items) }
+{
+    let mut text = Vec::new(alloc);
+    append_generated_line(alloc, start, count, &mut text)?;
+    append_uniform(alloc, orders, &mut text)?;
+    append_maximum(alloc, orders, &mut text)?;
+    append_continuous(alloc, orders, &mut text)?;
+    Ok(text)
+}
+
+/// The report of the command `generate`: the summary of the log of START and COUNT.
+pub(crate) fn report_generate(alloc: Global, start: u32, count: u32) -> Result<Report, NoMemory>
+    requires start { IsStart start }
+    requires count { IsCount count }
+    ensures { IfOk result (SaysReport (IsDone (IsSummary start count))) }
+{
+    let history = generated_history(alloc, start, count)?;
+    let text = summary(alloc, start, count, history.orders())?;
+    Ok(done_report(text))
+}
