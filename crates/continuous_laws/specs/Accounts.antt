@@ -5,7 +5,7 @@ use Rattle.audit_base.specs.declared.terms.Side.TheVariants.{Buy, Sell}
 use Rattle.audit_base.specs.declared.terms.Life.TheVariants.{Rests}
 use Rattle.audit_base.specs.declared.orders.Order.{Order}
 use Rattle.audit_base.specs.declared.orders.Deal.{Deal}
-use Rattle.audit_base.specs.Orders.{order_at, place_at}
+use Rattle.audit_base.specs.Orders.{order_at, place_at, other_side}
 use Rattle.audit_base.specs.Priority.{outranks}
 use Rattle.audit_base.specs.Deals.{names}
 use Rattle.audit_base.specs.Continuous.{cause, traded_before, traded_at, uncancelled_before, size, rests, left}
@@ -27,10 +27,6 @@ meets_by Sell Sell a b = false
 
 abbrev pub meets : Order → Order → Bool
 meets o r = meets_by o.side r.side o.limit r.limit
-
-abbrev pub other : Side → Side
-other Buy = Sell
-other Sell = Buy
 
 pub record IsPlaced (orders : List Order) : Type 0 where
   pub rising : (i j : ℕ) → i < j → j < length orders → place_at orders i < place_at orders j
@@ -72,7 +68,7 @@ available orders past n k = if meets (order_at orders n) (order_at orders k)
     && rests orders past (place_at orders n) k then left orders past (place_at orders n) k else 0
 
 abbrev pub ranking : List Order → ℕ → ℕ → ℕ → Bool
-ranking orders n k j = outranks (other (order_at orders n).side) (order_at orders k)
+ranking orders n k j = outranks (other_side (order_at orders n).side) (order_at orders k)
     (order_at orders j)
 
 -- what the resting orders trade with the order at n
