@@ -8,6 +8,7 @@ ghost use Rattle.audit_base.specs.Orders.{same_name};
 use crate::pairs::{EarlierReports, PlacedReport, earlier};
 use audit_base::faults::NoMemory;
 use audit_base::names::Name;
+use seeded_hash::seed::HashSeed;
 use std::alloc::Global;
 
 /// The reports that wait for a second one, by their trade ids.
@@ -26,12 +27,12 @@ impl FirstReports {
     ghost use Rattle.fix_messages.specs.declared.pairs.PlacedReport.{PlacedReport};
 
     /// No reports. Takes no memory.
-    pub fn new(alloc: Global) -> FirstReports
+    pub fn new(alloc: Global, seed: HashSeed) -> FirstReports
         ensures { (id : List ℕ) → first_in result id ≡ None }
     {
         FirstReports {
             latest: None,
-            earlier: EarlierReports::new(alloc),
+            earlier: EarlierReports::new(alloc, seed),
         }
     }
 

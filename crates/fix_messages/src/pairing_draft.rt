@@ -14,6 +14,7 @@ use audit_base::findings::{Finding, Shown};
 use audit_base::records::TradeRecord;
 use audit_base::terms::Which;
 use log_source::collector::Collector;
+use seeded_hash::seed::HashSeed;
 use std::alloc::Global;
 
 /// What is known of the reports of a trade log after some of them: which wait for a second one, and
@@ -91,14 +92,15 @@ fn take_report<K: Collector<Entry = TradeRecord>>(
 }
 
 impl<K: Collector<Entry = TradeRecord>> PairingDraft<K> {
-    /// No reports, over a collector of trades that has been handed nothing.
-    pub fn over(alloc: Global, trades: K) -> Self
+    /// No reports, over a collector of trades that has been handed nothing. Ids are found by hashes of
+    /// this seed.
+    pub fn over(alloc: Global, seed: HashSeed, trades: K) -> Self
         requires { K.has_taken trades [] }
         ensures { IsPairingDraft K.has_taken result [] }
     {
         PairingDraft {
             count: 0,
-            firsts: FirstReports::new(alloc),
+            firsts: FirstReports::new(alloc, seed),
             finding: None,
             trades,
         }

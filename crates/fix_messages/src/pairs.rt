@@ -12,6 +12,7 @@ use audit_base::names::Name;
 use audit_base::records::TradeRecord;
 use audit_base::terms::{Side, Which};
 use indexmap::IndexMap;
+use seeded_hash::seed::HashSeed;
 use std::alloc::Global;
 
 /// A trade report, and its number among the trade reports of its log, from 1.
@@ -24,16 +25,16 @@ pub struct PlacedReport {
 /// Reports by their trade ids.
 #[derive(Drop)]
 pub(crate) struct EarlierReports {
-    map: IndexMap<Name, PlacedReport>,
+    map: IndexMap<Name, PlacedReport, HashSeed>,
 }
 
 impl EarlierReports {
     /// No reports. Takes no memory.
-    pub fn new(alloc: Global) -> EarlierReports
+    pub fn new(alloc: Global, seed: HashSeed) -> EarlierReports
         ensures { (id : List ℕ) → held_in result id ≡ None }
     {
         EarlierReports {
-            map: IndexMap::new(alloc),
+            map: IndexMap::with_hasher(alloc, seed),
         }
     }
 

@@ -11,6 +11,7 @@ use audit_base::findings::{Finding, Property};
 use audit_base::names::Name;
 use audit_base::records::{OrderRecord, Traded};
 use log_source::collector::Collector;
+use seeded_hash::seed::HashSeed;
 use std::marker::Brand;
 use std::process::Abort;
 
@@ -40,7 +41,7 @@ fn drafted<S: AuditedSymbol, R: AllocGlobal + Abort>(
     requires symbol { symbol ≡ S.symbol }
     requires few { length lines.now < 100 }
 {
-    let mut draft = HistoryDraft::<S>::new(rt.alloc(), symbol);
+    let mut draft = HistoryDraft::<S>::new(rt.alloc(), HashSeed::of(7, 11), symbol);
     for line in lines {
         let Ok(()) = hand(&mut draft, record(rt, *line), passes) else {
             panic!(rt; "out of memory");

@@ -18,6 +18,7 @@ use audit_base::findings::Finding;
 use audit_base::names::Name;
 use audit_base::records::{OrderRecord, is_of};
 use log_source::collector::Collector;
+use seeded_hash::seed::HashSeed;
 use std::alloc::Global;
 use std::marker::{Brand, PhantomData};
 
@@ -47,15 +48,15 @@ pub struct HistoryDraft<S> {
 }
 
 impl<S: AuditedSymbol> HistoryDraft<S> {
-    /// A draft that has been handed no records. Takes no memory.
-    pub fn new(alloc: Global, symbol: Name) -> HistoryDraft<S>
+    /// A draft that has been handed no records, and finds keys by hashes of this seed. Takes no memory.
+    pub fn new(alloc: Global, seed: HashSeed, symbol: Name) -> HistoryDraft<S>
         requires { symbol ≡ S.symbol }
         ensures { IsHistoryDraft S.symbol result [] }
     {
         HistoryDraft {
             symbol,
             count: 0,
-            so_far: HistorySoFar::new(alloc),
+            so_far: HistorySoFar::new(alloc, seed),
             finding: None,
             of: PhantomData,
         }
@@ -137,7 +138,7 @@ pub(crate) fn draft_of<S: AuditedSymbol>(
     requires few { length entries.now < 2 ^ 32 }
     ensures { IfOk result (λ draft. IsHistoryDraft S.symbol draft entries.now) }
 {
-    let mut draft = HistoryDraft::new(alloc, *symbol);
+    let mut draft = HistoryDraft::new(alloc, HashSeed::fixed(), *symbol);
     for entry in entries {
         draft.take_entry(entry)?;
     }

@@ -12,6 +12,7 @@ use audit_base::findings::Finding;
 use audit_base::orders::Order;
 use audit_base::records::OrderRecord;
 use audit_base::terms::Life;
+use seeded_hash::seed::HashSeed;
 use std::alloc::Global;
 
 /// The index, if the order there may be the target of the record.
@@ -167,12 +168,12 @@ impl HistorySoFar {
     ghost use Rattle.instruction_history.specs.Draft.{IsHistorySoFar, KnowsOneMore, AddsRecord};
 
     /// No records.
-    pub fn new(alloc: Global) -> HistorySoFar
+    pub fn new(alloc: Global, seed: HashSeed) -> HistorySoFar
         ensures { IsHistorySoFar [] result }
     {
         HistorySoFar {
             orders: Vec::new(alloc),
-            keys: Keys::new(alloc),
+            keys: Keys::new(alloc, seed),
             last: None,
         }
     }

@@ -5,6 +5,7 @@ ghost use Rattle.instruction_history.specs.Keys.{seen_in, AddsKey};
 
 use audit_base::faults::NoMemory;
 use audit_base::names::Key;
+use seeded_hash::seed::HashSeed;
 use std::alloc::Global;
 use std::collections::HashMap;
 
@@ -20,16 +21,16 @@ pub(crate) struct Seen {
 /// What the keys of the records so far name.
 #[derive(Drop)]
 pub(crate) struct Keys {
-    map: HashMap<Key, Seen>,
+    map: HashMap<Key, Seen, HashSeed>,
 }
 
 impl Keys {
     /// No keys.
-    pub fn new(alloc: Global) -> Keys
+    pub fn new(alloc: Global, seed: HashSeed) -> Keys
         ensures { (key : Key) → seen_in result key ≡ None }
     {
         Keys {
-            map: HashMap::new(alloc),
+            map: HashMap::with_hasher(alloc, seed),
         }
     }
 

@@ -18,6 +18,7 @@ use audit_base::orders::Deal;
 use audit_base::records::TradeRecord;
 use instruction_history::history::History;
 use log_source::collector::Collector;
+use seeded_hash::seed::HashSeed;
 use std::alloc::Global;
 
 /// What is known of the trades of a symbol after some records of a trade log: their deals, or their first
@@ -41,8 +42,8 @@ pub struct ResolvedTrades {
 }
 
 impl<M: AuditedHistory> DealsDraft<M> {
-    /// A draft that has been handed no records. Takes no memory.
-    pub fn new(alloc: Global, symbol: Name, history: History) -> DealsDraft<M>
+    /// A draft that has been handed no records, and finds ids by hashes of this seed. Takes no memory.
+    pub fn new(alloc: Global, seed: HashSeed, symbol: Name, history: History) -> DealsDraft<M>
         requires symbol { symbol ≡ M.symbol }
         requires orders { history ≡ M.orders }
         ensures { IsDealsDraft M.symbol M.orders result [] }
@@ -50,7 +51,7 @@ impl<M: AuditedHistory> DealsDraft<M> {
         DealsDraft {
             symbol,
             history,
-            so_far: DealsSoFar::new(alloc),
+            so_far: DealsSoFar::new(alloc, seed),
         }
     }
 

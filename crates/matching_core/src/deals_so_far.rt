@@ -11,6 +11,7 @@ use audit_base::findings::Finding;
 use audit_base::names::Name;
 use audit_base::records::{TradeRecord, is_of};
 use instruction_history::history::History;
+use seeded_hash::seed::HashSeed;
 use std::alloc::Global;
 use std::marker::{Brand, PhantomData};
 
@@ -44,12 +45,12 @@ pub(crate) struct DealsSoFar<M> {
 
 impl<M: AuditedHistory> DealsSoFar<M> {
     /// No records.
-    pub fn new(alloc: Global) -> DealsSoFar<M>
+    pub fn new(alloc: Global, seed: HashSeed) -> DealsSoFar<M>
         ensures { IsDealsSoFar M.orders M.symbol result [] }
     {
         DealsSoFar {
             count: 0,
-            sound: SoundDeals::new(alloc),
+            sound: SoundDeals::new(alloc, seed),
             finding: None,
             of: PhantomData,
         }

@@ -12,6 +12,7 @@ use audit_base::names::Name;
 use audit_base::records::TradeRecord;
 use instruction_history::history::History;
 use log_source::collector::Collector;
+use seeded_hash::seed::HashSeed;
 use std::marker::Brand;
 use std::process::Abort;
 
@@ -44,7 +45,7 @@ fn drafted<M: AuditedHistory, R: AllocGlobal + Abort>(
     requires orders { history ≡ M.orders }
     requires few { length lines.now < 100 }
 {
-    let mut draft = DealsDraft::<M>::new(rt.alloc(), symbol, history);
+    let mut draft = DealsDraft::<M>::new(rt.alloc(), HashSeed::of(7, 11), symbol, history);
     for line in lines {
         let Ok(()) = hand(&mut draft, trade(rt, *line), passes) else {
             panic!(rt; "out of memory");

@@ -13,6 +13,7 @@ use audit_base::names::Name;
 use audit_base::orders::Deal;
 use audit_base::records::TradeRecord;
 use instruction_history::history::History;
+use seeded_hash::seed::HashSeed;
 use std::alloc::Global;
 use std::marker::Brand;
 
@@ -28,7 +29,7 @@ fn deals_after<M: AuditedHistory>(
     requires few { length trades.now < 2 ^ 32 - 1 }
     ensures { IfOk result (λ so_far. IsDealsSoFar M.orders M.symbol so_far trades.now) }
 {
-    let mut so_far = DealsSoFar::new(alloc);
+    let mut so_far = DealsSoFar::new(alloc, HashSeed::fixed());
     for trade in trades {
         so_far.take(history, symbol, trade)?;
     }

@@ -12,6 +12,7 @@ use audit_base::orders::{Deal, Order};
 use audit_base::records::TradeRecord;
 use audit_base::terms::{Side, Which};
 use instruction_history::history::History;
+use seeded_hash::seed::HashSeed;
 use std::alloc::Global;
 
 /// The index, if the order there is of the side.
@@ -100,12 +101,12 @@ impl SoundDeals {
     ghost use Rattle.matching_core.specs.DealsSoFar.{IsResolved, KnowsOneMore, AddsDeal};
 
     /// No trades.
-    pub fn new(alloc: Global) -> SoundDeals
+    pub fn new(alloc: Global, seed: HashSeed) -> SoundDeals
         ensures { (orders : List Order) → IsResolved orders [] result }
     {
         SoundDeals {
             deals: Vec::new(alloc),
-            ids: TradeIds::new(alloc),
+            ids: TradeIds::new(alloc, seed),
         }
     }
 

@@ -4,22 +4,23 @@ ghost use Rattle.matching_core.specs.DealsSoFar.{first_in, AddsId};
 
 use audit_base::faults::NoMemory;
 use audit_base::names::Name;
+use seeded_hash::seed::HashSeed;
 use std::alloc::Global;
 use std::collections::HashMap;
 
 /// For each trade id the place of its first trade.
 #[derive(Drop)]
 pub(crate) struct TradeIds {
-    map: HashMap<Name, u32>,
+    map: HashMap<Name, u32, HashSeed>,
 }
 
 impl TradeIds {
     /// No ids.
-    pub fn new(alloc: Global) -> TradeIds
+    pub fn new(alloc: Global, seed: HashSeed) -> TradeIds
         ensures { (id : List ℕ) → first_in result id ≡ None }
     {
         TradeIds {
-            map: HashMap::new(alloc),
+            map: HashMap::with_hasher(alloc, seed),
         }
     }
 

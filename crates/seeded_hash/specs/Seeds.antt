@@ -1,0 +1,11 @@
+-- What a hash that has a seed begins with.
+use Rattle.std.specs.Prelude.{ℕ}
+use Rattle.std.specs.List.{fold}
+use Rattle.std.specs.Hash as fed
+use Rattle.std.specs.Hash.DefaultHasher as sip
+use Rattle.std.specs.declared.hash.DefaultHasher.{DefaultHasher}
+
+-- the hasher that the two numbers of a seed have been written to, one after the other
+abbrev pub seeded_hasher : ℕ → ℕ → DefaultHasher
+seeded_hasher first second =
+    fold sip.write (fold sip.write sip.initial (fed.u64 first)) (fed.u64 second)

@@ -1,0 +1,103 @@
+//! Seeds of hashes: drawn, or made of two numbers.
+ghost use Rattle.std.specs.Prelude.{◌≡◌};
+ghost use Rattle.seeded_hash.specs.Seeds.{seeded_hasher};
+
+use std::fmt::{Debug, Formatter};
+use std::hash::{BuildHasher, DefaultHasher, Hasher};
+use std::random::RandomSource;
+use std::{fmt, io};
+
+/// What the hashes of a map begin with: SipHash-1-3, with the seed in front of each key. No answer of a map
+/// depends on it.
+#[derive(Clone, Copy)]
+pub struct HashSeed {
+    start: DefaultHasher,
+}
+
+impl HashSeed {
+    /// The seed of two numbers.
+    pub fn of(first: u64, second: u64) -> HashSeed
+        ensures { result.start ≡ seeded_hasher first second }
+    {
+        let mut start = DefaultHasher::new();
+        start.write_u64(first);
+        start.write_u64(second);
+        HashSeed { start }
+    }
+
+    /// The seed that is the same at each run. Who knows it can choose keys that hash alike.
+    pub fn fixed() -> HashSeed {
+        HashSeed::of(0, 0)
+    }
+
+    /// A seed that nobody knows beforehand: 16 bytes of the source. An error comes exactly where the source
+    /// gives one.
+    pub fn random(source: &impl RandomSource) -> io::Result<HashSeed> {
+        let mut bytes = [0; 16];
+        source.fill_bytes(&mut bytes)?;
+        let both = u128::from_le_bytes(bytes);
+        let first = (both & 0xFFFF_FFFF_FFFF_FFFF) as u64;
+        let second = (both >> 64) as u64;
+        Ok(HashSeed::of(first, second))
+    }
+}
+
+impl BuildHasher for HashSeed {
+    type Hasher = DefaultHasher;
+
+    ghost build_hasher = { λ seed. seed.start };
+
+    fn build_hasher(&self) -> DefaultHasher {
+        self.start
+    }
+}
+
+/// Shows nothing of the seed.
+impl Debug for HashSeed {
+    fn fmt<W: fmt::Write>(&self, f: &mut Formatter<W>) -> fmt::Result {
+        f.debug_struct("HashSeed").finish_non_exhaustive()
+    }
+}
+
+#[cfg(test)]
+mod tests {
+    use super::*;
+    use std::io::{Error, ErrorKind};
+
+    /// Gives the bytes 1 to 16, or an error.
+    struct FakeSource {
+        fails: bool,
+    }
+
+    impl RandomSource for FakeSource {
+        fn fill_bytes(&self, buf: &mut [u8]) -> io::Result<()> {
+            if self.fails {
+                return Err(Error::from(ErrorKind::Other));
+            }
+            let mut next: u8 = 1;
+            for byte in buf.iter_mut() {
+                *byte = next;
+                next = next.wrapping_add(1);
+            }
+            Ok(())
+        }
+    }
+
+    #[test]
+    fn a_random_seed_is_what_the_source_gives(rt: HostRuntime) {
+        let seed = HashSeed::of(0x0807_0605_0403_0201, 0x100f_0e0d_0c0b_0a09);
+        let drawn = HashSeed::random(&FakeSource { fails: false });
+        assert_eq!(rt;
+            drawn.ok().map(|drawn| drawn.hash_one(7u8)),
+            Some(seed.hash_one(7u8))
+        );
+        assert!(rt; HashSeed::random(&FakeSource { fails: true }).is_err());
+    }
+
+    #[test]
+    fn hashes_depend_on_both_numbers(rt: HostRuntime) {
+        let fixed = HashSeed::fixed().hash_one(7u8);
+        assert_ne!(rt; HashSeed::of(1, 0).hash_one(7u8), fixed);
+        assert_ne!(rt; HashSeed::of(0, 1).hash_one(7u8), fixed);
+    }
+}
