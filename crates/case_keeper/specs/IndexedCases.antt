@@ -1,0 +1,15 @@
+-- An index of cases by their labels.
+use Rattle.std.specs.Prelude.{◌≡◌, ℕ, List, Option, position}
+use Rattle.std.specs.BTreeMap.{BTreeMap, get}
+use Rattle.std.specs.Cmp.Lexicographic.{slice_cmp}
+use Rattle.std.specs.Ordering.{nat_cmp}
+use Rattle.case_keeper.specs.Cases.{has_label}
+use Rattle.case_keeper.specs.declared.case.Case.{Case}
+
+-- where the first case with the label stands
+abbrev pub place_of : List Case → List ℕ → Option ℕ
+place_of cases label = position (has_label label) cases
+
+-- the index has under each label where its case stands
+abbrev pub IsIndex : BTreeMap (List ℕ) ℕ → List Case → Type 0
+IsIndex index cases = (label : List ℕ) → get (slice_cmp nat_cmp) index label ≡ place_of cases label

@@ -1,0 +1,54 @@
+//! A keeper: what holds cases under their labels.
+ghost use Rattle.std.specs.Prelude.{◌≡◌};
+ghost use Rattle.case_keeper.specs.Keepers.{KeeperState, HasOwnLabels, Lacks, Finds, Adds, Lists};
+
+use crate::case::{Case, Filter};
+use crate::case_list::CaseList;
+use audit_base::faults::NoMemory;
+use audit_base::names::Name;
+use thiserror::Error;
+
+/// Why a keeper did not do what it was asked. Its cases are then as before.
+#[derive(Clone, Copy, Debug, PartialEq, Eq, Error)]
+pub enum KeepFault {
+    /// The keeper failed, and its fault was counted.
+    #[error("the keeper of the cases failed")]
+    Failed,
+    #[error("out of memory")]
+    Memory,
+}
+
+impl From<NoMemory> for KeepFault {
+    ghost use Rattle.case_keeper.specs.declared.keeper.KeepFault.TheVariants.{Memory};
+
+    ghost from_gives = { λ _ fault. fault ≡ Memory };
+
+    fn from(_fault: NoMemory) -> KeepFault {
+        KeepFault::Memory
+    }
+}
+
+/// What holds cases under their labels, in the order of filing, no two under one label.
+///
+/// A keeper that tells has known cases. It counts its faults, which never fall; `Failed` comes only
+/// where they rose, and after a fault the cases are as before.
+pub trait Keeper {
+    // What the keeper stands at.
+    ghost state: { Self → KeeperState };
+
+    /// The case with this label. `None` comes, where the keeper tells, exactly where no case has it.
+    fn find(&mut self, label: &Name) -> Result<Option<Case>, KeepFault>
+        ensures { Finds (state self.old) (state self.new) result label.now };
+
+    /// Adds a case after the others.
+    fn add(&mut self, case: &Case) -> Result<(), KeepFault>
+        requires { Lacks (state self.old) case.now.label }
+        ensures { Adds (state self.old) (state self.new) result case.now };
+
+    /// The cases that pass the filter, in the order of filing.
+    fn list(&mut self, filter: &Filter) -> Result<CaseList, KeepFault>
+        ensures { Lists (state self.old) (state self.new) result filter.now };
+
+    // No two of the cases that it tells have one label.
+    ghost own_labels: { (keeper : Self) → HasOwnLabels (state keeper) };
+}

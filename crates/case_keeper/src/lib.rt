@@ -1,0 +1,13 @@
+//! Cases on file: a keeper holds the verdicts of audits under their labels, and a casebook files them,
+//! shows one and lists those that pass a filter. Of a keeper that tells its cases, contracts say which
+//! they are; of every keeper they say why a call failed.
+#![tactic(auto)]
+
+pub mod case;
+pub mod case_list;
+pub mod casebook;
+#[cfg(test)]
+mod casebook_tests;
+mod indexed_cases;
+pub mod keeper;
+pub mod map_keeper;
