@@ -1,10 +1,10 @@
--- What a reader must believe, in the order in which it is read: the status and the text of a verdict, the lines of a text and of
--- a summary, and how
--- the reason of a bad place is written.
+-- What a reader must believe, in the order in which it is read: the status and the text of a verdict, the lines of a text, of a
+-- summary and of what came of a certificate, and how the reason of a bad place is written.
 pub mod Statuses
 pub mod Texts
 pub mod Lines
 pub mod Summaries
+pub mod Certificates
 pub mod Reasons
 -- What private functions pass on to one another.
 pub mod LineParts

@@ -2,6 +2,7 @@
 //! program ends with. The definitions in `specs/` say each line as a function of its parts.
 #![tactic(auto)]
 
+pub mod certificates;
 mod line_parts;
 mod lines;
 mod reasons;

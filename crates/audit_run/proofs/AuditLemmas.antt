@@ -1,44 +1,32 @@
--- The audit of two logs: how what is known of one log goes over to both, and what the command `audit` reports of them.
-use Rattle.std.proofs.Common.{◌≡◌, ◌∙◌, sym, subst, refl, inl, inr, ⊎_elim, ℕ, true, false, ◌≤◌, List, [], ◌∷◌, length, None, Some, Result, Ok, Err, IsOk}
-use Rattle.std.specs.Prelude.{IfErr, IfOk}
-use Rattle.audit_base.specs.declared.faults.BadPlace.{BadPlace}
+-- Two logs up to the rule: how what is known of one log goes over to both.
+use Rattle.std.proofs.Common.{◌≡◌, ◌∙◌, sym, ap, subst, refl, inl, inr, ⊎_elim, ℕ, ◌≤◌, List, length, Option, None, Some, Result, Ok, Err, IsOk}
 use Rattle.audit_base.specs.declared.findings.Finding.{Finding}
 use Rattle.audit_base.specs.declared.orders.Order.{Order}
 use Rattle.audit_base.specs.declared.records.OrderRecord.{OrderRecord}
 use Rattle.audit_base.specs.declared.records.TradeRecord.{TradeRecord}
 use Rattle.audit_base.specs.declared.terms.Which.{Which}
 use Rattle.audit_base.specs.declared.terms.Which.TheVariants.{Orders, Trades}
-use Rattle.audit_report.specs.declared.verdicts.Verdict.{Verdict}
-use Rattle.audit_report.specs.declared.verdicts.Verdict.TheVariants as verdict
-use Rattle.audit_report.specs.Lines.{read_fault_line, too_long_line}
-use Rattle.audit_report.specs.Statuses.{verdict_status}
-use Rattle.audit_report.specs.Texts.{verdict_text}
-use Rattle.audit_base.specs.Deals.{AreDeals}
-use Rattle.audit_base.specs.Histories.{order_list, WellFormed}
-use Rattle.audit_base.specs.Verdicts.{call_finding}
+use Rattle.audit_base.specs.Histories.{history_finding, order_list, WellFormed}
 use Rattle.audit_base.specs.Trades.{deals_of, unsound_trade}
+use Rattle.audit_base.specs.Verdicts.{call_finding, log_finding}
 use Rattle.log_source.specs.declared.shelf.Shelf.{Ghosts as Shelf}
 use Rattle.log_source.specs.Sources.{Slot, longest_log}
 use Rattle.matching_core.specs.declared.deals_draft.ResolvedTrades.{ResolvedTrades}
+use Rattle.audit_run.specs.declared.before_rule.BeforeRule.{BeforeRule}
+use Rattle.audit_run.specs.declared.before_rule.BeforeRule.TheVariants as upto
 use Rattle.audit_run.specs.declared.collecting.Collected.{Collected}
 use Rattle.audit_run.specs.declared.collecting.Collected.TheVariants as collected
 use Rattle.audit_run.specs.declared.questions.Question.{Question}
 use Rattle.audit_run.specs.declared.questions.Source.{Source}
 use Rattle.audit_run.specs.declared.reading.Unread.{Unread}
 use Rattle.audit_run.specs.declared.reading.Unread.TheVariants as unread
-use Rattle.audit_run.specs.declared.requests.Request.{Request}
-use Rattle.audit_run.specs.declared.reports.Report.{Report}
 use Rattle.audit_run.specs.declared.stops.Stop.{Stop}
 use Rattle.audit_run.specs.declared.stops.Stop.TheVariants as stop
-use Rattle.audit_run.specs.Auditing.{audit_of, source_of, without_log, Decides, DecidesTrades, IsAfterOrders, IsAuditStop, IsAdmitted, IsEndOf, IsReportOf, IsOrdersVerdict, IsStarted, IsStop, IsVerdictOn, StaysWithin, StaysWithinAt}
+use Rattle.audit_run.specs.Auditing.{without_log, Decides, DecidesTrades, IsAfterOrders, IsAdmitted, IsEndOf, OrdersComeTo, StaysWithin, StaysWithinAt}
 use Rattle.audit_run.specs.Collecting.{step_of, HasCollected, HasTrades, IsReadAs}
-use Rattle.audit_run.specs.Judgements.{IsJudged}
-use Rattle.audit_run.specs.Phases.{IsJudgedDeals, IsJudgedTrades}
-use Rattle.audit_run.proofs.JudgeLemmas.{judged_alone, judged_by_order, judged_whole, trades_sound}
 use Rattle.audit_run.specs.LogVerdicts.{order_log, trade_log}
-use Rattle.audit_run.specs.Requests.{next_log}
-use Rattle.audit_run.specs.Runs.{IsText, ReportsLogs, StopsAtLog}
-use Rattle.audit_run.specs.Steps.{Reading, Step, IsRead, IsReadFault, IsTooLong, KeepsLogs, EndsWithin, Lead, NeverFall, with_slot}
+use Rattle.audit_run.specs.Steps.{Reading, IsReadFault, IsTooLong, KeepsLogs, EndsWithin, NeverFall}
+use Rattle.audit_run.specs.UpToRule.{found_or_sound, IsBeforeRule}
 
 -- a reading of the whole, from the reading of a part before and one after
 abbrev pub joined : Reading → Reading → Reading
@@ -88,11 +76,11 @@ module _ (first second : Reading) (after : Follows first second) where
   long_after name is = record { taken = is.taken; longer = λ t. rw (← after.logs Trades name) (is.longer (after.tells ∙ t)) }
 
   -- what is decided after the order log is decided of both
-  pub decides_after : (q : Question) (orders trades : Source) (entries : List OrderRecord) (result : Result Verdict Stop)
+  pub decides_after : (q : Question) (orders trades : Source) (entries : List OrderRecord) (result : Result BeforeRule Stop)
       → IsReadAs first Orders orders.name.now (λ bytes. order_log orders.form bytes ≡ Ok entries)
       → DecidesTrades second q trades entries result → Decides (joined first second) q orders trades result
-  decides_after q orders trades entries (Ok verdict) read is =
-      stays_read orders.name.now (λ bytes. order_log orders.form bytes ≡ Ok entries) (λ bytes. IsOrdersVerdict (joined first second) q trades (order_log orders.form bytes) verdict)
+  decides_after q orders trades entries (Ok reached) read is =
+      stays_read orders.name.now (λ bytes. order_log orders.form bytes ≡ Ok entries) (λ bytes. OrdersComeTo (joined first second) q trades (order_log orders.form bytes) reached)
       (λ bytes e. rw e (read_after trades.name.now _ is)) read
   decides_after q orders trades entries (Err (stop.ReadFault log)) read (is, fault) =
       rw is (record {
@@ -121,7 +109,7 @@ ends_within r orders trades Orders = orders
 ends_within r orders trades Trades = trades
 
 -- where the order log is within the longest log, and the trade log stays so
-pub within_after : (first second : Reading) → Follows first second → (result : Result Verdict Stop) → (first.after Orders).taken ≤ longest_log
+pub within_after : (first second : Reading) → Follows first second → (result : Result BeforeRule Stop) → (first.after Orders).taken ≤ longest_log
     → ((second.before Trades).taken ≤ longest_log → StaysWithinAt second Trades result) → StaysWithin (joined first second) result
 within_after first second after result orders stays begins =
     ⊎_elim (λ stop. inl stop)
@@ -129,7 +117,7 @@ within_after first second after result orders stays begins =
     (stays (subst (λ (s : Slot). s.taken ≤ longest_log) (sym after.trades) (begins Trades)))
 
 -- where the order log was not read into records
-pub within_unread : (r : Reading) (why : Unread) (result : Result Verdict Stop) → result ≡ without_log Orders why → ((why ≡ unread.TooLong → ⊥) → (r.after Orders).taken ≤ longest_log)
+pub within_unread : (r : Reading) (why : Unread) (result : Result BeforeRule Stop) → result ≡ without_log Orders why → ((why ≡ unread.TooLong → ⊥) → (r.after Orders).taken ≤ longest_log)
     → r.after Trades ≡ r.before Trades → StaysWithin r result
 within_unread r (unread.Bad bad) result is within same begins =
     inr (ends_within r (within (λ e. cc)) (subst (λ (s : Slot). s.taken ≤ longest_log) (sym same) (begins Trades)))
@@ -139,33 +127,65 @@ within_unread r unread.TooLong result is within same begins = inl (rw is tt)
 within_unread r unread.Memory result is within same begins =
     inr (ends_within r (within (λ e. cc)) (subst (λ (s : Slot). s.taken ≤ longest_log) (sym same) (begins Trades)))
 
+-- What is found of records, after an order list that the rule admits.
+
+-- a report without its partner
+alone_found : (q : Question) (entries : List OrderRecord) (history : List Order) (finding : Finding) → IsAdmitted q entries history → log_finding q.rule q.symbol entries (Err finding) ≡ Some finding
+alone_found q entries history finding is =
+    let admits : call_finding q.rule (order_list q.symbol entries) ≡ None = ap (call_finding q.rule) (sym is.orders) ∙ is.admits in
+    rw (is.formed, admits) refl
+
+-- else what is found of the trades
+trades_found : (q : Question) (entries : List OrderRecord) (ts : List TradeRecord) (history : List Order) (finding : Option Finding) → IsAdmitted q entries history → unsound_trade history q.symbol ts ≡ finding
+    → log_finding q.rule q.symbol entries (Ok ts) ≡ finding
+trades_found q entries ts history finding is found = by_finding finding (ap (λ (os : List Order). unsound_trade os q.symbol ts) (sym is.orders) ∙ found)
+  where
+    admits : call_finding q.rule (order_list q.symbol entries) ≡ None
+    admits = ap (call_finding q.rule) (sym is.orders) ∙ is.admits
+
+    by_finding : (finding : Option Finding) → unsound_trade (order_list q.symbol entries) q.symbol ts ≡ finding → log_finding q.rule q.symbol entries (Ok ts) ≡ finding
+    by_finding None e = rw (is.formed, admits, e) refl
+    by_finding (Some f) e = rw (is.formed, admits, e) refl
+
+-- what trades come to that have been gathered
+ended_before : (q : Question) (entries : List OrderRecord) (ts : List TradeRecord) (ended : ResolvedTrades) → IsAdmitted q entries ended.history → IsEndOf q ts ended
+    → IsBeforeRule q entries (Ok ts) (found_or_sound ended ended.finding)
+ended_before q entries ts ended is end = by_finding ended.finding refl
+  where
+    by_finding : (finding : Option Finding) → ended.finding ≡ finding → IsBeforeRule q entries (Ok ts) (found_or_sound ended finding)
+    by_finding None e = record {
+      none = trades_found q entries ts ended.history None is (end.finding ∙ e);
+      orders = is.orders;
+      deals = subst (λ (os : List Order). ended.deals.items ≡ deals_of os q.symbol ts) is.orders (end.deals e);
+      count = end.count;
+    }
+    by_finding (Some f) e = trades_found q entries ts ended.history (Some f) is (end.finding ∙ e)
+
 module _ (r : Reading) (q : Question) (trades : Source) (entries : List OrderRecord) where
-  -- the trade log was read, and whatever it says, this is the verdict
-  pub after_any : {K : Type 0} (has_taken : K → List TradeRecord → Type 0) (kept : Collected K) (the_verdict : Verdict) → ((paired : Result (List TradeRecord) Finding) → IsJudged q entries paired the_verdict)
-      → IsReadAs r Trades trades.name.now (λ bytes. HasCollected has_taken kept (trade_log trades.form bytes)) → IsAfterOrders r q trades entries the_verdict
-  after_any has_taken (collected.Trades collector) the_verdict judged is =
-      record { bytes = is.bytes; read = is.read; holds = rw is.holds.says (judged (Ok is.holds.trades)) }
-  after_any has_taken (collected.Alone finding) the_verdict judged is =
-      record { bytes = is.bytes; read = is.read; holds = rw is.holds (judged (Err finding)) }
+  -- the trade log was read, and whatever it says, this is found
+  pub after_any : {K : Type 0} (has_taken : K → List TradeRecord → Type 0) (kept : Collected K) (finding : Finding)
+      → ((paired : Result (List TradeRecord) Finding) → log_finding q.rule q.symbol entries paired ≡ Some finding)
+      → IsReadAs r Trades trades.name.now (λ bytes. HasCollected has_taken kept (trade_log trades.form bytes)) → IsAfterOrders r q trades entries (upto.Found finding)
+  after_any has_taken (collected.Trades collector) finding found is =
+      record { bytes = is.bytes; read = is.read; holds = rw is.holds.says (found (Ok is.holds.trades)) }
+  after_any has_taken (collected.Alone other) finding found is =
+      record { bytes = is.bytes; read = is.read; holds = rw is.holds (found (Err other)) }
 
-  -- a report without its partner is the verdict
+  -- a report without its partner is found
   pub after_alone : (finding : Finding) (history : List Order) → IsAdmitted q entries history
-      → IsReadAs r Trades trades.name.now (λ bytes. trade_log trades.form bytes ≡ Ok (Err finding)) → IsAfterOrders r q trades entries (verdict.Rejected finding)
+      → IsReadAs r Trades trades.name.now (λ bytes. trade_log trades.form bytes ≡ Ok (Err finding)) → IsAfterOrders r q trades entries (upto.Found finding)
   after_alone finding history is read =
-      record { bytes = read.bytes; read = read.read; holds = rw read.holds (judged_alone q entries history finding is.formed is.orders is.admits) }
+      record { bytes = read.bytes; read = read.read; holds = rw read.holds (alone_found q entries history finding is) }
 
-  -- what the trades come to that were handed to a collector is decided
-  pub decides_ended : (has_taken : List TradeRecord → Type 0) (ended : ResolvedTrades) (result : Result Verdict Stop) → IsAdmitted q entries ended.history
+  -- what the trades come to that were handed to a collector
+  pub after_ended : (has_taken : List TradeRecord → Type 0) (ended : ResolvedTrades) → IsAdmitted q entries ended.history
       → IsReadAs r Trades trades.name.now (λ bytes. HasTrades has_taken (trade_log trades.form bytes)) → ((ts : List TradeRecord) → has_taken ts → IsEndOf q ts ended)
-      → (ended.finding ≡ None → AreDeals ended.deals.items) → IfOk result (λ v. (ts : List TradeRecord) → IsEndOf q ts ended → IsJudgedTrades q ended.history ts v)
-      → IfErr result (λ why. why ≡ stop.Memory) → DecidesTrades r q trades entries result
-  decides_ended has_taken ended (Ok v) is read ends numbers judged memory =
-      let ts : List TradeRecord = read.holds.trades in
-      let end : IsEndOf q ts ended = ends ts read.holds.has in
-      let whole = judged_whole q entries ts ended.history v is.formed is.orders is.admits
-      (λ sound. let none : ended.finding ≡ None = sym end.finding ∙ sound in subst AreDeals (end.deals none) (numbers none)) (judged ts end) in
-      record { bytes = read.bytes; read = read.read; holds = rw read.holds.says whole }
-  decides_ended has_taken ended (Err why) is read ends numbers judged memory = rw memory tt
+      → IsAfterOrders r q trades entries (found_or_sound ended ended.finding)
+  after_ended has_taken ended is read ends = record {
+    bytes = read.bytes;
+    read = read.read;
+    holds = rw read.holds.says (ended_before q entries read.holds.trades ended is (ends read.holds.trades read.holds.has));
+  }
 
 -- what was gathered of the trades of a symbol, in the words of the question
 pub ends_as : (q : Question) (symbol : List ℕ) (orders : List Order) (ts : List TradeRecord) (ended : ResolvedTrades) → q.symbol ≡ symbol → ended.history ≡ orders → ended.count ≡ length ts
@@ -176,14 +196,6 @@ ends_as q symbol orders ts ended named among counts finds makes = record {
   deals = λ none. subst (λ (s : List ℕ). ended.deals.items ≡ deals_of ended.history s ts) (sym named) (subst (λ (os : List Order). ended.deals.items ≡ deals_of os symbol ts) (sym among) (makes none));
 }
 
--- the verdict on the trades that have been gathered
-pub ended_sound : (q : Question) (ts : List TradeRecord) (ended : ResolvedTrades) (orders : List Order) (v : Verdict) → IsEndOf q ts ended → ended.finding ≡ None → orders ≡ ended.history
-    → IsJudgedDeals q orders ended.deals.items ended.count v → IsJudgedTrades q ended.history ts v
-ended_sound q ts ended orders v end none same is =
-    trades_sound q ended.history ts ended.deals.items v (end.finding ∙ none) (end.deals none)
-    (subst (λ (n : ℕ). IsJudgedDeals q ended.history ended.deals.items n v) end.count
-    (subst (λ (os : List Order). IsJudgedDeals q os ended.deals.items ended.count v) same is))
-
 -- the orders of a history whose orders the rule admits
 pub admitted : (q : Question) (symbol : List ℕ) (entries : List OrderRecord) (history : List Order) → q.symbol ≡ symbol → WellFormed symbol entries → history ≡ order_list symbol entries → call_finding q.rule history ≡ None
     → IsAdmitted q entries history
@@ -193,108 +205,18 @@ admitted q symbol entries history named formed orders admits = record {
   admits = admits;
 }
 
--- an order of a history that the rule does not admit is the verdict, whatever the trade log says
-pub refused_order : (q : Question) (symbol : List ℕ) (entries : List OrderRecord) (history : List Order) (finding : Finding) → q.symbol ≡ symbol → WellFormed symbol entries → history ≡ order_list symbol entries
-    → call_finding q.rule history ≡ Some finding → (paired : Result (List TradeRecord) Finding) → IsJudged q entries paired (verdict.Rejected finding)
-refused_order q symbol entries history finding named formed orders instant paired =
-    judged_by_order q entries paired finding (subst (λ (s : List ℕ). WellFormed s entries) (sym named) formed)
-    (subst (λ (s : List ℕ). call_finding q.rule (order_list s entries) ≡ Some finding) (sym named) (subst (λ (os : List Order). call_finding q.rule os ≡ Some finding) orders instant))
+-- an order of a history that the rule does not admit is found, whatever the trade log says
+pub order_found : (q : Question) (symbol : List ℕ) (entries : List OrderRecord) (history : List Order) (finding : Finding) → q.symbol ≡ symbol → WellFormed symbol entries → history ≡ order_list symbol entries
+    → call_finding q.rule history ≡ Some finding → (paired : Result (List TradeRecord) Finding) → log_finding q.rule q.symbol entries paired ≡ Some finding
+order_found q symbol entries history finding named formed orders instant paired =
+    let formed' : WellFormed q.symbol entries = subst (λ (s : List ℕ). WellFormed s entries) (sym named) formed in
+    let instant' : call_finding q.rule (order_list q.symbol entries) ≡ Some finding =
+    subst (λ (s : List ℕ). call_finding q.rule (order_list s entries) ≡ Some finding) (sym named) (subst (λ (os : List Order). call_finding q.rule os ≡ Some finding) orders instant) in
+    rw (formed', instant') refl
 
--- The command `audit`: which steps lead to its report, and where it stops.
-
-module _ (r : Reading) (later : NeverFall r) (q : Question) (orders trades : Source) where
-  abbrev audit : Request
-  audit = audit_of q orders trades
-
-  abbrev first_step : Step
-  first_step = step_of r Orders orders.name.now
-
-  abbrev second_step : Step
-  second_step = step_of r Trades trades.name.now
-
-  -- the order log alone was started
-  one_leads : r.after Trades ≡ r.before Trades → Lead r.before (first_step ∷ []) r.after
-  one_leads same = (record { at = refl; later = later Orders }, ends)
-    where
-      ends : (log : Which) → r.after log ≡ with_slot r.before Orders (r.after Orders) log
-      ends Orders = refl
-      ends Trades = same
-
-  -- the trade log alone, where the order log was not
-  both_lead : Lead r.before (first_step ∷ second_step ∷ []) r.after
-  both_lead = (record { at = refl; later = later Orders }, (record { at = refl; later = later Trades }, ends))
-    where
-      ends : (log : Which) → r.after log ≡ with_slot (with_slot r.before Orders (r.after Orders)) Trades (r.after Trades) log
-      ends Orders = refl
-      ends Trades = refl
-
-  one_next : (bytes : List ℕ) (bad : BadPlace) → order_log orders.form bytes ≡ Err bad → next_log audit (bytes ∷ []) ≡ None
-  one_next bytes bad e = rw e refl
-
-  both_next : (bytes : List ℕ) (said : Result (List OrderRecord) BadPlace) → order_log orders.form bytes ≡ said → IsOk said → next_log audit (bytes ∷ []) ≡ Some (Trades, trades.name.now)
-  both_next bytes (Ok entries) e good = rw e refl
-  both_next bytes (Err bad) e good = absurd (not_good good)
-    where
-      not_good : false ≡ true → ⊥
-      not_good e = cc
-
-  reports : (the_verdict : Verdict) (bytes : List ℕ) → IsRead r first_step bytes → (said : Result (List OrderRecord) BadPlace) → order_log orders.form bytes ≡ said
-      → IsOrdersVerdict r q trades said the_verdict → ReportsLogs r audit (verdict_status the_verdict) (verdict_text the_verdict)
-  reports the_verdict bytes read (Err bad) e (is, untouched) = record {
-    steps = first_step ∷ [];
-    logs = bytes ∷ [];
-    lead = one_leads untouched;
-    read = (bytes, record { next = refl; read = read }, refl);
-    all = one_next bytes bad e;
-    report = record { verdict = the_verdict; is = rw e is; status_is = refl; text_is = refl };
-  }
-  reports the_verdict bytes read (Ok entries) e is = record {
-    steps = first_step ∷ second_step ∷ [];
-    logs = bytes ∷ is.bytes ∷ [];
-    lead = both_lead;
-    read = (bytes, record { next = refl; read = read }, (is.bytes, record { next = both_next bytes (Ok entries) e refl; read = is.read }, refl));
-    all = refl;
-    report = record { verdict = the_verdict; is = rw e is.holds; status_is = refl; text_is = refl };
-  }
-
-  text_of : (the_verdict : Verdict) → ReportsLogs r audit (verdict_status the_verdict) (verdict_text the_verdict) → IsText r audit (verdict_status the_verdict) (verdict_text the_verdict)
-  text_of (verdict.Accepted a) is = is
-  text_of (verdict.Rejected f) is = is
-  text_of (verdict.Malformed log bad) is = is
-
-  -- the verdict on both logs is what the command reports
-  pub audit_text : (the_verdict : Verdict) → IsVerdictOn r q orders trades the_verdict → IsText r audit (verdict_status the_verdict) (verdict_text the_verdict)
-  audit_text the_verdict is = text_of the_verdict (reports the_verdict is.bytes is.read (order_log orders.form is.bytes) refl is.holds)
-
-  stops_at : (why : Reading → Step → Type 0) (line : Which → List ℕ) (log : Which) → IsStarted r orders log → why r (step_of r log (source_of orders trades log).name.now)
-      → StopsAtLog why line r audit (line log)
-  stops_at why line Orders untouched cause = record {
-    steps = [];
-    logs = [];
-    last = first_step;
-    lead = one_leads untouched;
-    read = refl;
-    next = refl;
-    cause = cause;
-    text_is = refl;
-  }
-  stops_at why line Trades good cause = record {
-    steps = first_step ∷ [];
-    logs = good.bytes ∷ [];
-    last = second_step;
-    lead = both_lead;
-    read = (good.bytes, record { next = refl; read = good.read }, refl);
-    next = both_next good.bytes (order_log orders.form good.bytes) refl good.holds;
-    cause = cause;
-    text_is = refl;
-  }
-
-  -- where there is no verdict, the line says at which log reading stopped
-  pub audit_stop : (the_stop : Stop) → IsAuditStop r orders trades the_stop → IsStop r audit the_stop
-  audit_stop (stop.ReadFault log) is = stops_at IsReadFault read_fault_line log is.is_started is.fault
-  audit_stop (stop.TooLong log) is = stops_at IsTooLong too_long_line log is.is_started is.long
-  audit_stop stop.Memory is = tt
-
-  -- the report of the verdict
-  pub audit_report_text : (the_verdict : Verdict) (report : Report) → IsVerdictOn r q orders trades the_verdict → IsReportOf the_verdict report → IsText r audit report.status report.text.items
-  audit_report_text the_verdict report is made = rw (made.status_is, made.text_is) (audit_text the_verdict is)
+-- a finding of the history is found, whatever the trade log says
+pub history_found : (q : Question) (symbol : List ℕ) (entries : List OrderRecord) (finding : Finding) → q.symbol ≡ symbol → history_finding symbol entries ≡ Some finding
+    → (paired : Result (List TradeRecord) Finding) → log_finding q.rule q.symbol entries paired ≡ Some finding
+history_found q symbol entries finding named found paired =
+    let found' : history_finding q.symbol entries ≡ Some finding = subst (λ (s : List ℕ). history_finding s entries ≡ Some finding) (sym named) found in
+    rw found' refl

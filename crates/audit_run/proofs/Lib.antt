@@ -5,9 +5,17 @@ pub mod JudgeLemmas
 pub mod RuleLemmas
 pub mod AuditLemmas
 pub mod ReportLemmas
+pub mod BothLogsLemmas
+pub mod JudgedReportLemmas
+pub mod VerifyReportLemmas
+pub mod CertificateLemmas
+pub mod CertificateLawLemmas
 pub mod StepLemmas
 pub mod RunLemmas
+pub mod RoomLemmas
 pub mod ReadyLemmas
 pub mod LawLemmas
+pub mod ExpectLemmas
+pub mod AcceptLemmas
 pub mod GenerateLemmas
 pub mod MemoryLemmas

@@ -47,7 +47,8 @@ never_unread asked old new before after status.WriteFault runs e = cc
 never_unread asked old new before after status.TooLong runs e = cc
 never_unread asked old new before after status.Memory runs e = cc
 
-no_fails : (fails : List ℕ) (room : ℕ) → fails ≡ [] → sure_room fails room ≡ room
+-- such a sink takes its whole room for sure
+pub no_fails : (fails : List ℕ) (room : ℕ) → fails ≡ [] → sure_room fails room ≡ room
 no_fails fails room none = rw none refl
 
 -- where the sink has room for the report, it is written

@@ -1,7 +1,6 @@
 -- Where shelf and sink tell, the logs are held and no fault rises, the report is written, or memory ran out.
-use Rattle.std.proofs.Common.{◌≡◌, ◌∙◌, ap, subst, refl, inl, inr, ⊎_elim, ℕ, ◌+◌, ◌<◌, ◌≤◌, true, List, [], length, take, Option, Some, None, arith, length-append, length-take}
-use Rattle.std.specs.Prelude.{IfSome, IsSomeAnd}
-use Rattle.std.specs.Io.KnownBytes.{Appends}
+use Rattle.std.proofs.Common.{◌≡◌, subst, refl, inl, inr, ⊎_elim, ℕ, ◌+◌, ◌<◌, ◌≤◌, true, List, [], length, Option, Some, None, arith}
+use Rattle.std.specs.Prelude.{IsSomeAnd}
 use Rattle.audit_base.specs.declared.terms.Which.{Which}
 use Rattle.audit_report.specs.declared.statuses.Status.{Status}
 use Rattle.audit_report.specs.declared.statuses.Status.TheVariants as status
@@ -12,6 +11,7 @@ use Rattle.audit_run.specs.InMemory.{HasRoomForReport}
 use Rattle.audit_run.specs.Requests.{IsReport}
 use Rattle.audit_run.specs.Runs.{Answers, HoldsLogs, IsReady, IsSomeText, IsText, ReportsLogs, StopsAtLog, WritesPart, WritesReport}
 use Rattle.audit_run.specs.Steps.{Reading, IsReadFault, IsTooLong}
+use Rattle.audit_run.proofs.RoomLemmas.{never_cut}
 use Rattle.audit_run.proofs.StepLemmas.{held-after, held-next, held-all, rose-in}
 
 -- a held log isn't missing
@@ -73,19 +73,8 @@ module _ (r : Reading) (request : Request) (logs : List (List ℕ)) (tells : r.t
   fits written room ready status.WriteFault text is = absurd is
   fits written room ready status.Memory text is = absurd is
 
-  -- a sink that takes so much for sure doesn't fail at a proper prefix
-  never_part : (before : List ℕ) (now : Option (List ℕ)) (text : List ℕ) (count sure room : ℕ) → count < length text → Appends (Some before) now (take count text) → sure ≡ room
-      → IfSome now (λ bytes. sure ≤ length bytes) → length before + length text ≤ room → ⊥
-  never_part before None text count sure room short part same reached within = part
-  never_part before (Some bytes) text count sure room short part same reached within =
-      let size : length bytes ≡ length before + length (take count text) = ap length part ∙ length-append before (take count text) in
-      let front : length (take count text) ≤ count = omega (arith, length-take count text) in
-      omega arith
-
   pub report_in_room : (old new : SinkState) (before : List ℕ) (room : ℕ) (result : Status) → old.wrote ≡ Some before → old.sure ≡ room → Stays old new → HasRoomForReport r request logs (length before) room
       → Answers r request old new result → WritesReport request logs old new result
   report_in_room old new before room result wrote sure stays ready is =
       report_unless r request logs tells ready.held quiet old new result
-      (λ e part. never_part before new.wrote part.text part.wrote.count new.sure room part.wrote.short
-      (subst (λ (o : Option (List ℕ)). Appends o new.wrote (take part.wrote.count part.text)) wrote part.wrote.part) (stays.sure ∙ sure) part.cause.reached
-      (fits (length before) room ready part.is.0 part.text part.is.1)) is
+      (λ e part. never_cut (IsSomeText r request) old new before room wrote sure stays (λ text some. fits (length before) room ready some.0 text some.1) part) is

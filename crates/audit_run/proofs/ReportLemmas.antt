@@ -3,13 +3,17 @@ use Rattle.std.proofs.Common.{◌≡◌, sym, subst, refl, inl, inr, ⊎_elim, �
 use Rattle.std.specs.Prelude.{MatchOption, MatchResult}
 use Rattle.audit_base.specs.declared.faults.BadPlace.{BadPlace}
 use Rattle.audit_base.specs.declared.findings.Finding.{Finding}
+use Rattle.audit_base.specs.declared.orders.Deal.{Deal}
+use Rattle.audit_base.specs.declared.orders.Order.{Order}
 use Rattle.audit_base.specs.declared.records.OrderRecord.{OrderRecord}
 use Rattle.audit_base.specs.declared.records.TradeRecord.{TradeRecord}
 use Rattle.audit_base.specs.declared.terms.Rule.{Rule}
+use Rattle.audit_base.specs.declared.terms.Rule.TheVariants as rule
 use Rattle.audit_base.specs.declared.terms.Which.{Which}
 use Rattle.audit_base.specs.declared.terms.Which.TheVariants.{Orders, Trades}
 use Rattle.audit_base.specs.Histories.{history_finding, order_list, WellFormed}
-use Rattle.audit_base.specs.Verdicts.{call_finding}
+use Rattle.audit_base.specs.Trades.{deals_of}
+use Rattle.audit_base.specs.Verdicts.{call_finding, log_finding, paired_trades}
 use Rattle.audit_report.specs.declared.statuses.Status.{Status}
 use Rattle.audit_report.specs.declared.statuses.Status.TheVariants as status
 use Rattle.audit_report.specs.declared.verdicts.Verdict.{Verdict}
@@ -24,13 +28,15 @@ use Rattle.audit_run.specs.declared.reports.Report.{Report}
 use Rattle.audit_run.specs.declared.requests.Request.{Request}
 use Rattle.audit_run.specs.declared.stops.Stop.{Stop}
 use Rattle.audit_run.specs.declared.stops.Stop.TheVariants as stop
+use Rattle.audit_run.specs.declared.questions.Question.{Question}
+use Rattle.audit_run.specs.Certificates.{IsCertificateOf, IsCertifyReport, IsVerifyReport, ReportsWith, Verifies, VerifiesRecords}
 use Rattle.audit_run.specs.Auditing.{DecidesReport, IsReportOf, StaysWithin, StaysWithinAt}
 use Rattle.audit_run.specs.Collecting.{step_of, IsUnread, TouchesOnly}
 use Rattle.csv_logs.specs.Written.{orders_text, trades_text}
 use Rattle.audit_run.specs.LogVerdicts.{Log, order_log, trade_log}
 use Rattle.audit_run.specs.OtherTexts.{orders_finding, ConvertsTrades, ExpectsOf, IsConvertReport, IsDone, IsExpectedLog, IsRefused}
 use Rattle.audit_run.specs.Reporting.{DecidesLog, IsReportStatus, IsWithoutLog, SaysReport}
-use Rattle.audit_run.specs.Requests.{next_log, IsReport}
+use Rattle.audit_run.specs.Requests.{next_log, IsReport, ReportsVerdict}
 use Rattle.audit_run.specs.Runs.{IsText, ReportsLogs, StopsAtLog}
 use Rattle.audit_run.specs.Steps.{Reading, Step, IsReadFault, IsTooLong, BeginsWithin, Lead, NeverFall, with_slot}
 
@@ -44,11 +50,39 @@ refused-status v s text is = subst IsReportStatus (sym is.status_is) (one v)
     one (verdict.Rejected f) = tt
     one (verdict.Malformed log bad) = tt
 
+pub verdict-status : (is_verdict : Verdict → Type 0) (s : Status) (text : List ℕ) → ReportsVerdict is_verdict s text → IsReportStatus s
+verdict-status is_verdict s text is = refused-status is.verdict s text (record { status_is = is.status_is; text_is = is.text_is })
+
 pub done-status : (is_text : List ℕ → Type 0) (s : Status) (text : List ℕ) → IsDone is_text s text → IsReportStatus s
 done-status is_text s text is = subst IsReportStatus (sym is.done) tt
 
+with-status : (is_text : List ℕ → Type 0) (v : Verdict) (s : Status) (text : List ℕ) → ReportsWith is_text v s text → IsReportStatus s
+with-status is_text (verdict.Accepted a) s text is = done-status is_text s text is
+with-status is_text (verdict.Rejected f) s text is = refused-status (verdict.Rejected f) s text is
+with-status is_text (verdict.Malformed log bad) s text is = refused-status (verdict.Malformed log bad) s text is
+
+pub certify-status : (q : Question) (orders trades : Log) (s : Status) (text : List ℕ) → IsCertifyReport q orders trades s text → IsReportStatus s
+certify-status q orders trades s text is = with-status (IsCertificateOf q orders trades) is.verdict s text is.reports
+
+verifies-status : (symbol : List ℕ) (orders : List Order) (deals : List Deal) (certificate : List ℕ) (found : Option Finding) (s : Status) (text : List ℕ)
+    → MatchOption found (Verifies symbol orders deals certificate s text) (λ finding. IsRefused (verdict.Rejected finding) s text) → IsReportStatus s
+verifies-status symbol orders deals certificate None s text (inl is) = subst IsReportStatus (sym is.status_is) tt
+verifies-status symbol orders deals certificate None s text (inr is) = subst IsReportStatus (sym is.status_is) tt
+verifies-status symbol orders deals certificate (Some finding) s text is = refused-status (verdict.Rejected finding) s text is
+
+pub verify-status : (symbol : List ℕ) (orders trades : Log) (certificate : List ℕ) (s : Status) (text : List ℕ) → IsVerifyReport symbol orders trades certificate s text → IsReportStatus s
+verify-status symbol orders trades certificate s text is = of_said (order_log orders.form orders.bytes) (trade_log trades.form trades.bytes) is
+  where
+    of_said : (first : Result (List OrderRecord) BadPlace) (second : Result (Result (List TradeRecord) Finding) BadPlace)
+        → MatchResult first (λ entries. MatchResult second (λ paired. VerifiesRecords symbol certificate entries paired s text) (λ bad. IsRefused (verdict.Malformed Trades bad) s text))
+        (λ bad. IsRefused (verdict.Malformed Orders bad) s text) → IsReportStatus s
+    of_said (Ok entries) (Ok paired) is =
+        verifies-status symbol (order_list symbol entries) (deals_of (order_list symbol entries) symbol (paired_trades paired)) certificate (log_finding rule.Uniform symbol entries paired) s text is
+    of_said (Ok entries) (Err bad) is = refused-status (verdict.Malformed Trades bad) s text is
+    of_said (Err bad) second is = refused-status (verdict.Malformed Orders bad) s text is
+
 expects-status : (the_rule : Rule) (symbol : List ℕ) (entries : List OrderRecord) (found : Option Finding) (s : Status) (text : List ℕ)
-    → MatchOption found (IsDone (IsExpectedLog the_rule symbol (order_list symbol entries)) s text) (λ finding. IsRefused (verdict.Rejected finding) s text) → IsReportStatus s
+    → MatchOption found (IsDone (IsExpectedLog the_rule symbol entries) s text) (λ finding. IsRefused (verdict.Rejected finding) s text) → IsReportStatus s
 expects-status the_rule symbol entries None s text is = done-status _ s text is
 expects-status the_rule symbol entries (Some finding) s text is = refused-status _ s text is
 
@@ -201,7 +235,7 @@ pub expects-order : (the_rule : Rule) (symbol : List ℕ) (entries : List OrderR
 expects-order the_rule symbol entries finding report formed found made = expects-found the_rule symbol entries finding report (rw (formed, found) refl) made
 
 pub expects-done : (the_rule : Rule) (symbol : List ℕ) (entries : List OrderRecord) (report : Report) → WellFormed symbol entries → call_finding the_rule (order_list symbol entries) ≡ None
-    → report.status ≡ status.Accepted → IsExpectedLog the_rule symbol (order_list symbol entries) report.text.items → SaysReport (ExpectsOf the_rule symbol entries) report
+    → report.status ≡ status.Accepted → IsExpectedLog the_rule symbol entries report.text.items → SaysReport (ExpectsOf the_rule symbol entries) report
 expects-done the_rule symbol entries report formed admits done is = rw none (record { done = done; is = is })
   where
     none : orders_finding the_rule symbol entries ≡ None

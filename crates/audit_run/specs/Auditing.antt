@@ -1,5 +1,6 @@
--- The audit of two logs, as its functions pass it on: the verdict, or why there is none.
-use Rattle.std.specs.Prelude.{◌≡◌, ◌≤◌, ◌⊎◌, ℕ, List, None, Result, Ok, Err, IsOk, length, MatchResult}
+-- Two logs up to the rule, as the functions that read them pass it on: what they come to, or why that is not known.
+use Rattle.std.specs.Prelude.{◌≡◌, ◌≤◌, ◌⊎◌, ℕ, List, [], ◌∷◌, None, Some, Result, Ok, Err, IsOk, is_ok, length, MatchResult}
+use Rattle.audit_base.specs.declared.terms.Rule.{Rule}
 use Rattle.audit_base.specs.declared.terms.Which.{Which}
 use Rattle.audit_base.specs.declared.terms.Which.TheVariants.{Orders, Trades}
 use Rattle.audit_base.specs.declared.faults.BadPlace.{BadPlace}
@@ -8,12 +9,12 @@ use Rattle.audit_base.specs.declared.records.OrderRecord.{OrderRecord}
 use Rattle.audit_base.specs.declared.records.TradeRecord.{TradeRecord}
 use Rattle.audit_base.specs.declared.orders.Order.{Order}
 use Rattle.audit_base.specs.Histories.{order_list, WellFormed}
+use Rattle.audit_base.specs.Least.{only_if}
 use Rattle.audit_base.specs.Trades.{deals_of, unsound_trade}
 use Rattle.audit_base.specs.Verdicts.{call_finding}
 use Rattle.matching_core.specs.declared.deals_draft.ResolvedTrades.{ResolvedTrades}
 use Rattle.audit_report.specs.declared.statuses.Status.TheVariants as status
 use Rattle.audit_report.specs.declared.verdicts.Verdict.{Verdict}
-use Rattle.audit_report.specs.declared.verdicts.Verdict.TheVariants.{Malformed}
 use Rattle.audit_report.specs.Lines.{read_fault_line, too_long_line}
 use Rattle.audit_report.specs.Statuses.{verdict_status}
 use Rattle.audit_report.specs.Texts.{verdict_text}
@@ -21,47 +22,50 @@ use Rattle.audit_run.specs.declared.stops.Stop.{Stop}
 use Rattle.audit_run.specs.declared.stops.Stop.TheVariants as stop
 use Rattle.audit_run.specs.declared.reading.Unread.{Unread}
 use Rattle.audit_run.specs.declared.reading.Unread.TheVariants as unread
+use Rattle.audit_run.specs.declared.before_rule.BeforeRule.{BeforeRule}
+use Rattle.audit_run.specs.declared.before_rule.BeforeRule.TheVariants as upto
 use Rattle.audit_run.specs.declared.questions.Question.{Question}
 use Rattle.audit_run.specs.declared.questions.Source.{Source}
 use Rattle.audit_run.specs.declared.reports.Report.{Report}
 use Rattle.audit_run.specs.declared.requests.Request.{Request}
-use Rattle.audit_run.specs.declared.requests.Request.TheVariants.{Audit}
+use Rattle.audit_run.specs.declared.requests.Request.TheVariants.{Audit, Certify, Verify}
 use Rattle.audit_run.specs.Collecting.{step_of, IsReadAs}
-use Rattle.audit_run.specs.Judgements.{IsJudged}
 use Rattle.audit_run.specs.LogVerdicts.{order_log, trade_log}
+use Rattle.audit_run.specs.Requests.{next_log}
 use Rattle.audit_run.specs.Runs.{IsText}
 use Rattle.log_source.specs.Sources.{longest_log}
+use Rattle.audit_run.specs.UpToRule.{IsBeforeRule}
 use Rattle.audit_run.specs.Steps.{Reading, IsReadFault, IsTooLong, BeginsWithin, EndsWithin}
 
 -- nothing was done to the slot
 abbrev pub IsUntouched : Reading → Which → Type 0
 IsUntouched r log = r.after log ≡ r.before log
 
--- a trade log out of its grammar has its first bad place as the verdict; else what was read is judged
-abbrev pub IsTradesVerdict : Question → List OrderRecord
-    → Result (Result (List TradeRecord) Finding) BadPlace → Verdict → Type 0
-IsTradesVerdict q entries said verdict =
-    MatchResult said (λ paired. IsJudged q entries paired verdict)
-    (λ bad. verdict ≡ Malformed Trades bad)
+-- what the trade log says, after the records of the order log, comes to this
+abbrev pub TradesComeTo : Question → List OrderRecord
+    → Result (Result (List TradeRecord) Finding) BadPlace → BeforeRule → Type 0
+TradesComeTo q entries said reached =
+    MatchResult said (λ paired. IsBeforeRule q entries paired reached)
+    (λ bad. reached ≡ upto.Malformed Trades bad)
 
--- the trade log was read to its end, and the verdict is that of its bytes
-abbrev pub IsAfterOrders : Reading → Question → Source → List OrderRecord → Verdict → Type 0
-IsAfterOrders r q trades entries verdict =
+-- the trade log was read to its end, and its bytes come to this
+abbrev pub IsAfterOrders : Reading → Question → Source → List OrderRecord → BeforeRule → Type 0
+IsAfterOrders r q trades entries reached =
     IsReadAs r Trades trades.name.now
-    (λ bytes. IsTradesVerdict q entries (trade_log trades.form bytes) verdict)
+    (λ bytes. TradesComeTo q entries (trade_log trades.form bytes) reached)
 
--- an order log out of its grammar has its first bad place as the verdict, and the trade log is not started
-abbrev pub IsOrdersVerdict : Reading → Question → Source → Result (List OrderRecord) BadPlace
-    → Verdict → Type 0
-IsOrdersVerdict r q trades (Err bad) verdict =
-    (verdict ≡ Malformed Orders bad) × IsUntouched r Trades
-IsOrdersVerdict r q trades (Ok entries) verdict = IsAfterOrders r q trades entries verdict
+-- an order log out of its grammar comes to its first bad place, and the trade log is not started
+abbrev pub OrdersComeTo : Reading → Question → Source → Result (List OrderRecord) BadPlace
+    → BeforeRule → Type 0
+OrdersComeTo r q trades (Err bad) reached =
+    (reached ≡ upto.Malformed Orders bad) × IsUntouched r Trades
+OrdersComeTo r q trades (Ok entries) reached = IsAfterOrders r q trades entries reached
 
--- the order log was read to its end, and the verdict is that of its bytes and of the trade log's
-abbrev pub IsVerdictOn : Reading → Question → Source → Source → Verdict → Type 0
-IsVerdictOn r q orders trades verdict =
+-- the order log was read to its end, and its bytes and those of the trade log come to this
+abbrev pub ReadsUpToRule : Reading → Question → Source → Source → BeforeRule → Type 0
+ReadsUpToRule r q orders trades reached =
     IsReadAs r Orders orders.name.now
-    (λ bytes. IsOrdersVerdict r q trades (order_log orders.form bytes) verdict)
+    (λ bytes. OrdersComeTo r q trades (order_log orders.form bytes) reached)
 
 -- the trade log is started only after an order log that was read to its end and is in its grammar
 abbrev pub IsAfterGoodOrders : Reading → Source → Type 0
@@ -88,15 +92,15 @@ pub record StopsAtLength (r : Reading) (orders trades : Source) (log : Which) : 
   pub is_started : IsStarted r orders log
   pub long : IsTooLong r (step_of r log (source_of orders trades log).name.now)
 
--- why there is no verdict
+-- why it is not known what two logs come to
 abbrev pub IsAuditStop : Reading → Source → Source → Stop → Type 0
 IsAuditStop r orders trades (stop.ReadFault log) = StopsAtFault r orders trades log
 IsAuditStop r orders trades (stop.TooLong log) = StopsAtLength r orders trades log
 IsAuditStop r orders trades stop.Memory = Unit {0}
 
 -- what is answered where a log was not read into records
-abbrev pub without_log : Which → Unread → Result Verdict Stop
-without_log log (unread.Bad bad) = Ok (Malformed log bad)
+abbrev pub without_log : Which → Unread → Result BeforeRule Stop
+without_log log (unread.Bad bad) = Ok (upto.Malformed log bad)
 without_log log unread.ReadFault = Err (stop.ReadFault log)
 without_log log unread.TooLong = Err (stop.TooLong log)
 without_log log unread.Memory = Err stop.Memory
@@ -114,17 +118,17 @@ IsLogStop r log name (stop.ReadFault which) = (which ≡ log) × IsReadFault r (
 IsLogStop r log name (stop.TooLong which) = (which ≡ log) × IsTooLong r (step_of r log name)
 IsLogStop r log name stop.Memory = Unit {0}
 
--- the verdict after the order log, or why there is none
-abbrev pub DecidesTrades : Reading → Question → Source → List OrderRecord → Result Verdict Stop
-    → Type 0
+-- what is known after the order log, or why nothing is
+abbrev pub DecidesTrades : Reading → Question → Source → List OrderRecord
+    → Result BeforeRule Stop → Type 0
 DecidesTrades r q trades entries result =
     MatchResult result (IsAfterOrders r q trades entries)
     (IsLogStop r Trades trades.name.now)
 
--- the verdict, or why there is none
-abbrev pub Decides : Reading → Question → Source → Source → Result Verdict Stop → Type 0
+-- what both logs come to, or why that is not known
+abbrev pub Decides : Reading → Question → Source → Source → Result BeforeRule Stop → Type 0
 Decides r q orders trades result =
-    MatchResult result (IsVerdictOn r q orders trades) (IsAuditStop r orders trades)
+    MatchResult result (ReadsUpToRule r q orders trades) (IsAuditStop r orders trades)
 
 -- where no log was too long, both slots end within the longest log if they began so
 abbrev pub StaysWithin : {T : Type 0} → Reading → Result T Stop → Type 0
@@ -140,10 +144,25 @@ IsStop r request (stop.ReadFault log) = IsText r request status.ReadFault (read_
 IsStop r request (stop.TooLong log) = IsText r request status.TooLong (too_long_line log)
 IsStop r request stop.Memory = Unit {0}
 
--- the request of an audit of these logs
+-- the request of an audit of these logs, and of a certificate of them
 abbrev pub audit_of : Question → Source → Source → Request
 audit_of q orders trades =
     Audit q.rule q.symbol orders.name.now trades.name.now orders.form trades.form q.table
+
+abbrev pub certify_of : Rule → List ℕ → Source → Source → Request
+certify_of rule symbol orders trades =
+    Certify rule symbol orders.name.now trades.name.now orders.form trades.form
+
+-- the request to verify a certificate of these logs
+abbrev pub verify_of : List ℕ → Source → Source → List ℕ → Request
+verify_of symbol orders trades certificate =
+    Verify symbol orders.name.now trades.name.now certificate orders.form trades.form
+
+-- The command starts the order log, and where that is good the trade log.
+pub record StartsBoth (request : Request) (orders trades : Source) : Type 0 where
+  pub first : next_log request [] ≡ Some (Orders, orders.name.now)
+  pub second : (bytes : List ℕ) → next_log request (bytes ∷ [])
+      ≡ only_if (is_ok (order_log orders.form bytes)) (Trades, trades.name.now)
 
 -- the report of a command, or why there is none
 abbrev pub DecidesReport : Reading → Request → Result Report Stop → Type 0

@@ -1,22 +1,24 @@
--- That two logs have one verdict, whatever forms they are in.
-use Rattle.std.specs.Prelude.{◌≡◌, List, Result, Ok}
+-- That two logs have one verdict, whatever forms they are in, what `generate` answers, and that a certificate that was
+-- written is verified.
+use Rattle.std.specs.Prelude.{◌≡◌, ◌⊎◌, ℕ, List, Some, Result}
 use Rattle.audit_base.specs.declared.findings.Finding.{Finding}
 use Rattle.audit_base.specs.declared.records.OrderRecord.{OrderRecord}
 use Rattle.audit_base.specs.declared.records.TradeRecord.{TradeRecord}
+use Rattle.audit_report.specs.declared.statuses.Status.{Status}
+use Rattle.audit_report.specs.declared.statuses.Status.TheVariants as status
 use Rattle.audit_report.specs.declared.verdicts.Verdict.{Verdict}
+use Rattle.log_source.specs.Sinks.{SinkState}
 use Rattle.audit_run.specs.declared.questions.Question.{Question}
-use Rattle.audit_run.specs.LogVerdicts.{Log, order_log, trade_log, IsLogVerdict}
+use Rattle.audit_run.specs.declared.requests.Request.TheVariants.{Generate}
+use Rattle.audit_run.specs.Certificates.{IsCertifyReport, IsVerifyReport}
+use Rattle.audit_run.specs.LogVerdicts.{Log, HaveRecords, IsLogVerdict}
+use Rattle.audit_run.specs.Runs.{Runs}
+use Rattle.audit_run.specs.Steps.{Reading}
 
 -- one verdict: two logs have one verdict on a question
 abbrev pub OneVerdict : Type 0
 OneVerdict = (q : Question) (orders trades : Log) (a b : Verdict)
     → IsLogVerdict q orders trades a → IsLogVerdict q orders trades b → a ≡ b
-
--- the logs have these records and these trades
-pub record HaveRecords (orders trades : Log) (entries : List OrderRecord)
-    (paired : Result (List TradeRecord) Finding) : Type 0 where
-  pub records : order_log orders.form orders.bytes ≡ Ok entries
-  pub trades_are : trade_log trades.form trades.bytes ≡ Ok paired
 
 -- forms agree: two pairs of logs of the same records and trades have the same verdict on a question
 abbrev pub FormsAgree : Type 0
@@ -24,3 +26,15 @@ FormsAgree = (q : Question) (orders trades orders' trades' : Log) (entries : Lis
     (paired : Result (List TradeRecord) Finding) (a b : Verdict)
     → HaveRecords orders trades entries paired → HaveRecords orders' trades' entries paired
     → IsLogVerdict q orders trades a → IsLogVerdict q orders' trades' b → a ≡ b
+
+-- `generate` reads no log and always writes a summary: it answers 0, 5 (the sink failed) or 7 (memory ran out)
+abbrev pub GenerateWrites : Type 0
+GenerateWrites = (start count : ℕ) (r : Reading) (old new : SinkState) (answer : Status)
+    → Runs (Some (Generate start count)) r old new answer
+    → (answer ≡ status.Accepted) ⊎ ((answer ≡ status.WriteFault) ⊎ (answer ≡ status.Memory))
+
+-- certified is verified: over the same logs, what `certify` wrote as a certificate is not refused
+abbrev pub CertifiedIsVerified : Type 0
+CertifiedIsVerified = (q : Question) (orders trades : Log) (certificate text : List ℕ)
+    (the_status : Status) → IsCertifyReport q orders trades status.Accepted certificate
+    → IsVerifyReport q.symbol orders trades certificate the_status text → the_status ≡ status.Accepted

@@ -1,5 +1,6 @@
 -- What a log says in its form, and the verdict on two logs.
 use Rattle.std.specs.Prelude.{◌≡◌, ℕ, List, Result, Ok, Err, MatchResult}
+use Rattle.audit_base.specs.declared.terms.Which.{Which}
 use Rattle.audit_base.specs.declared.terms.Which.TheVariants.{Orders, Trades}
 use Rattle.audit_base.specs.declared.terms.Form.{Form}
 use Rattle.audit_base.specs.declared.terms.Form.TheVariants.{Csv, Fix}
@@ -48,15 +49,26 @@ abbrev pub trade_log : Form → List ℕ → Result (Result (List TradeRecord) F
 trade_log Csv bytes = all_paired (csv.trade_log bytes)
 trade_log Fix bytes = paired_reports (fix.report_log bytes)
 
--- Verdict: an order log out of its grammar has its first bad place as the verdict, and the trade log is not looked at; else a trade
--- log out of its grammar has its own; else the records of both are judged
+-- the logs have these records and these trades
+pub record HaveRecords (orders trades : Log) (entries : List OrderRecord)
+    (paired : Result (List TradeRecord) Finding) : Type 0 where
+  pub records : order_log orders.form orders.bytes ≡ Ok entries
+  pub trades_are : trade_log trades.form trades.bytes ≡ Ok paired
+
+-- of two logs: an order log out of its grammar is answered by its first bad place, and the trade log is not looked at; else a trade
+-- log out of its grammar is by its own; else the records of both are
+abbrev pub OfLogs : (List OrderRecord → Result (List TradeRecord) Finding → Type 0)
+    → (Which → BadPlace → Type 0) → Log → Log → Type 0
+OfLogs of_records of_bad orders trades =
+    MatchResult (order_log orders.form orders.bytes)
+    (λ entries. MatchResult (trade_log trades.form trades.bytes) (of_records entries) (of_bad Trades))
+    (of_bad Orders)
+
+-- Verdict: that of the first bad place, or else that of the records
 abbrev pub IsLogVerdict : Question → Log → Log → Verdict → Type 0
 IsLogVerdict question orders trades verdict =
-    MatchResult (order_log orders.form orders.bytes)
-    (λ entries. MatchResult (trade_log trades.form trades.bytes)
-    (λ paired. IsJudged question entries paired verdict)
-    (λ bad. verdict ≡ Malformed Trades bad))
-    (λ bad. verdict ≡ Malformed Orders bad)
+    OfLogs (λ entries paired. IsJudged question entries paired verdict)
+    (λ log bad. verdict ≡ Malformed log bad) orders trades
 
 -- why a log is not decoded: it is bad there, or memory ran out
 abbrev pub IsDecodeFault : {R : Type 0} → Result R BadPlace → LogFault → Type 0

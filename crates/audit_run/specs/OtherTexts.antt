@@ -1,11 +1,13 @@
 -- What the commands that write logs report: `expect`, `convert` and `generate`.
-use Rattle.std.specs.Prelude.{◌≡◌, ℕ, List, [], ◌∷◌, ◌++◌, Option, Result, length, MatchOption, MatchResult}
+use Rattle.std.specs.Prelude.{◌≡◌, ℕ, Bool, List, [], ◌∷◌, ◌++◌, Option, Result, Ok, length, MatchOption, MatchResult}
+use Rattle.audit_base.specs.declared.faults.BadPlace.{BadPlace}
 use Rattle.audit_base.specs.declared.findings.Finding.{Finding}
 use Rattle.audit_base.specs.declared.orders.Cut.{Cut}
 use Rattle.audit_base.specs.declared.orders.Deal.{Deal}
 use Rattle.audit_base.specs.declared.orders.Order.{Order}
 use Rattle.audit_base.specs.declared.records.OrderRecord.{OrderRecord}
 use Rattle.audit_base.specs.declared.records.TradeRecord.{TradeRecord}
+use Rattle.audit_base.specs.declared.terms.Form.TheVariants.{Csv}
 use Rattle.audit_base.specs.declared.terms.Rule.{Rule}
 use Rattle.audit_base.specs.declared.terms.Rule.TheVariants as rule
 use Rattle.audit_base.specs.declared.terms.Which.{Which}
@@ -18,13 +20,17 @@ use Rattle.audit_base.specs.Least.{first_of}
 use Rattle.audit_base.specs.Verdicts.{call_finding}
 use Rattle.audit_report.specs.declared.statuses.Status.{Status}
 use Rattle.audit_report.specs.declared.statuses.Status.TheVariants.{Accepted}
+use Rattle.audit_report.specs.declared.verdicts.Accepted.{Accepted as AcceptedLog}
 use Rattle.audit_report.specs.declared.verdicts.Verdict.{Verdict}
+use Rattle.audit_report.specs.declared.verdicts.Verdict.TheVariants as verdict
 use Rattle.audit_report.specs.declared.verdicts.Verdict.TheVariants.{Rejected, Malformed}
 use Rattle.audit_report.specs.Summaries.{generated_line, call_line, continuous_line}
 use Rattle.audit_report.specs.Statuses.{verdict_status}
 use Rattle.audit_report.specs.Texts.{verdict_text}
 use Rattle.csv_logs.specs.Written.{orders_text, trades_text}
 use Rattle.log_maker.specs.Generator.{generated_orders, generated_records}
+use Rattle.audit_run.specs.declared.questions.Question.{Question}
+use Rattle.audit_run.specs.Judgements.{question, IsJudged}
 use Rattle.audit_run.specs.LogVerdicts.{Log, order_log, trade_log}
 
 -- The command refuses what it read: the report is that of the verdict which says why.
@@ -42,18 +48,28 @@ abbrev pub orders_finding : Rule → List ℕ → List OrderRecord → Option Fi
 orders_finding the_rule symbol entries =
     first_of (history_finding symbol entries ∷ call_finding the_rule (order_list symbol entries) ∷ [])
 
--- The text is the CSV log of the Expected trades of these orders.
-pub record IsExpectedLog (the_rule : Rule) (symbol : List ℕ) (orders : List Order)
+-- What a trade log says is accepted beside these records of orders.
+pub record IsAcceptedBeside (q : Question) (entries : List OrderRecord)
+    (said : Result (Result (List TradeRecord) Finding) BadPlace) : Type 0 where
+  pub trades : List TradeRecord
+  pub says : said ≡ Ok (Ok trades)
+  pub acceptance : AcceptedLog
+  pub judged : IsJudged q entries (Ok trades) (verdict.Accepted acceptance)
+
+-- The text is the CSV log of the Expected trades of these records of orders. An audit accepts it beside them.
+pub record IsExpectedLog (the_rule : Rule) (symbol : List ℕ) (entries : List OrderRecord)
     (text : List ℕ) : Type 0 where
   pub deals : List Deal
-  pub expected : IsExpected the_rule orders deals
-  pub text_is : text ≡ trades_text (trades_of_deals orders symbol deals)
+  pub expected : IsExpected the_rule (order_list symbol entries) deals
+  pub text_is : text ≡ trades_text (trades_of_deals (order_list symbol entries) symbol deals)
+  pub accepted : (table : Bool)
+      → IsAcceptedBeside (question the_rule symbol table) entries (trade_log Csv text)
 
 -- records of orders with a finding are refused; else the Expected trades are written
 abbrev pub ExpectsOf : Rule → List ℕ → List OrderRecord → Status → List ℕ → Type 0
 ExpectsOf the_rule symbol entries status text =
     MatchOption (orders_finding the_rule symbol entries)
-    (IsDone (IsExpectedLog the_rule symbol (order_list symbol entries)) status text)
+    (IsDone (IsExpectedLog the_rule symbol entries) status text)
     (λ finding. IsRefused (Rejected finding) status text)
 
 -- `expect`: an order log out of its grammar is refused; else what its records come to is reported

@@ -4,12 +4,13 @@ use Rattle.audit_base.specs.declared.terms.Which.{Which}
 use Rattle.audit_report.specs.declared.statuses.Status.{Status}
 use Rattle.audit_report.specs.declared.statuses.Status.TheVariants as status
 use Rattle.audit_report.specs.declared.verdicts.Verdict.TheVariants.{Malformed}
+use Rattle.call_laws.specs.Laws.{asks_for_greatest}
 use Rattle.log_maker.specs.Generator.{IsStart, IsCount}
 use Rattle.audit_run.specs.declared.reading.Unread.{Unread}
 use Rattle.audit_run.specs.declared.reading.Unread.TheVariants as unread
 use Rattle.audit_run.specs.declared.reports.Report.{Report}
 use Rattle.audit_run.specs.declared.requests.Request.{Request}
-use Rattle.audit_run.specs.declared.requests.Request.TheVariants.{Audit, Expect, Convert, Generate}
+use Rattle.audit_run.specs.declared.requests.Request.TheVariants.{Audit, Expect, Convert, Generate, Certify, Verify}
 use Rattle.audit_run.specs.declared.stops.Stop.{Stop}
 use Rattle.audit_run.specs.declared.stops.Stop.TheVariants as stop
 use Rattle.audit_run.specs.Auditing.{IsLogStop, IsReportOf}
@@ -17,12 +18,16 @@ use Rattle.audit_run.specs.Collecting.{IsReadAs}
 use Rattle.audit_run.specs.Steps.{Reading}
 use Rattle.audit_run.specs.Words.{has_table}
 
--- what words may ask for: Expected trades of a rule that has such, and a log of numbers in their limits
+-- what words may ask for: Expected trades of a rule that has such, a log of numbers in their limits, and a certificate of a rule
+-- that asks for a greatest volume
 abbrev pub MayBeAsked : Request → Type 0
 MayBeAsked (Audit rule symbol orders trades orders_form trades_form table) = Unit {0}
 MayBeAsked (Expect rule symbol orders orders_form) = IsTrue (has_table rule)
 MayBeAsked (Convert log form path) = Unit {0}
 MayBeAsked (Generate start count) = IsStart start × IsCount count
+MayBeAsked (Certify rule symbol orders trades orders_form trades_form) =
+    IsTrue (asks_for_greatest rule)
+MayBeAsked (Verify symbol orders trades certificate orders_form trades_form) = Unit {0}
 
 -- a report is reported of a log with this status and text
 abbrev pub SaysReport : (Status → List ℕ → Type 0) → Report → Type 0

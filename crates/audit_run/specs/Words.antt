@@ -10,9 +10,10 @@ use Rattle.audit_base.specs.declared.terms.Form.{Form}
 use Rattle.audit_base.specs.declared.terms.Form.TheVariants.{Csv}
 use Rattle.audit_base.specs.declared.terms.Which.{Which}
 use Rattle.audit_base.specs.declared.terms.Which.TheVariants.{Orders, Trades}
+use Rattle.call_laws.specs.Laws.{asks_for_greatest}
 use Rattle.audit_run.specs.declared.options.Options.{Options}
 use Rattle.audit_run.specs.declared.requests.Request.{Request}
-use Rattle.audit_run.specs.declared.requests.Request.TheVariants.{Audit, Expect, Convert, Generate}
+use Rattle.audit_run.specs.declared.requests.Request.TheVariants.{Audit, Expect, Convert, Generate, Certify, Verify}
 use Rattle.audit_run.specs.Options.{form_named, is_word, options_in}
 
 -- the word at a place, from 0
@@ -47,10 +48,14 @@ has_table rule.Uniform = true
 has_table rule.Maximum = true
 has_table rule.Continuous = true
 
--- `audit RULE SYMBOL ORDERS TRADES`: the first five words, but that RULE may be any word
-abbrev pub is_audit : List (List ℕ) → Bool
-is_audit words = nat_le 5 (length words) && is_word (word_at words 0) (codes "audit")
+-- COMMAND RULE SYMBOL ORDERS TRADES: the first five words, but that RULE may be any word
+abbrev pub asks_of_both : List ℕ → List (List ℕ) → Bool
+asks_of_both command words = nat_le 5 (length words) && is_word (word_at words 0) command
     && is_symbol (word_at words 2) && is_path (word_at words 3) && is_path (word_at words 4)
+
+-- `audit RULE SYMBOL ORDERS TRADES`, but that RULE may be any word
+abbrev pub is_audit : List (List ℕ) → Bool
+is_audit words = asks_of_both (codes "audit") words
 
 -- `--table` may stand under a rule that has a table alone
 abbrev pub fits_rule : Rule → Options → Bool
@@ -157,7 +162,60 @@ abbrev pub generate_request : List (List ℕ) → Option Request
 generate_request words =
     option_map (λ choice. Generate choice.0 choice.1) (generate_choice words)
 
+-- `certify RULE SYMBOL ORDERS TRADES`, but that RULE may be any word
+abbrev pub is_certify : List (List ℕ) → Bool
+is_certify words = asks_of_both (codes "certify") words
+
+-- the rule that the second word names, which asks for a greatest volume, with the forms that the options after the fifth word give
+abbrev pub certify_under : List (List ℕ) → Rule → Option (Rule × Options)
+certify_under words the_rule =
+    option_and_then (λ options. only_if (asks_for_greatest the_rule && not options.table)
+    (the_rule, options)) (options_in (drop 5 words))
+
+abbrev pub certify_choice : List (List ℕ) → Option (Rule × Options)
+certify_choice words =
+    if is_certify words
+    then option_and_then (certify_under words) (rule_named (word_at words 1))
+    else None
+
+abbrev pub certify_with : List (List ℕ) → Rule × Options → Request
+certify_with words choice =
+    Certify choice.0 (word_at words 2) (word_at words 3) (word_at words 4)
+    (unwrap_or choice.1.orders_form Csv) (unwrap_or choice.1.trades_form Csv)
+
+-- `certify RULE SYMBOL ORDERS TRADES` with its options
+abbrev pub certify_request : List (List ℕ) → Option Request
+certify_request words = option_map (certify_with words) (certify_choice words)
+
+-- the third, fourth and fifth word are paths
+abbrev pub are_three_paths : List (List ℕ) → Bool
+are_three_paths words =
+    is_path (word_at words 2) && is_path (word_at words 3) && is_path (word_at words 4)
+
+-- the first five words of `verify SYMBOL ORDERS TRADES CERTIFICATE`
+abbrev pub is_verify : List (List ℕ) → Bool
+is_verify words = nat_le 5 (length words) && is_word (word_at words 0) (codes "verify")
+    && is_symbol (word_at words 1) && are_three_paths words
+
+-- the options after the fifth word, which ask for no table
+abbrev pub forms_after : List (List ℕ) → Option Options
+forms_after words =
+    option_and_then (λ options. only_if (not options.table) options) (options_in (drop 5 words))
+
+abbrev pub verify_choice : List (List ℕ) → Option Options
+verify_choice words = if is_verify words then forms_after words else None
+
+abbrev pub verify_with : List (List ℕ) → Options → Request
+verify_with words options =
+    Verify (word_at words 1) (word_at words 2) (word_at words 3) (word_at words 4)
+    (unwrap_or options.orders_form Csv) (unwrap_or options.trades_form Csv)
+
+-- `verify SYMBOL ORDERS TRADES CERTIFICATE` with its options
+abbrev pub verify_request : List (List ℕ) → Option Request
+verify_request words = option_map (verify_with words) (verify_choice words)
+
 -- what words ask for, one row a command; nothing where they are not well-formed
 abbrev pub request_of : List (List ℕ) → Option Request
 request_of words = first_of (audit_request words ∷ expect_request words
-    ∷ convert_request words ∷ generate_request words ∷ [])
+    ∷ convert_request words ∷ generate_request words ∷ certify_request words
+    ∷ verify_request words ∷ [])

@@ -2,12 +2,13 @@
 //! well-formed, and nothing here takes memory.
 ghost use Rattle.std.specs.Prelude.{◌≡◌, ◌<◌, ◌≤◌, ◌≢◌, length, map, IfSome, IsTrue};
 ghost use Rattle.std.specs.String.{string_bytes};
+ghost use Rattle.call_laws.specs.Laws.{asks_for_greatest};
 ghost use Rattle.log_maker.specs.Generator.{IsCount, IsStart};
 ghost use Rattle.audit_run.specs.Words as spec;
 
 use super::options::{Options, form_named, options_in};
 use super::word_forms::{
-    has_table, is_path, is_symbol, is_word, log_named, number_upto, rule_named,
+    has_certificate, has_table, is_path, is_symbol, is_word, log_named, number_upto, rule_named,
 };
 use audit_base::terms::{Form, Rule, Which};
 
@@ -19,15 +20,22 @@ pub(crate) fn word_at(words: &[String], place: usize) -> &str
     words[place].as_str()
 }
 
-/// Whether the first five words are `audit`, a word for the rule, SYMBOL, ORDERS and TRADES.
-fn is_audit(words: &[String]) -> bool
-    ensures { result ≡ spec.is_audit (map string_bytes words.now) }
+/// Whether the first five words are that of the command, a word for the rule, SYMBOL, ORDERS and TRADES.
+fn asks_of_both(command: &[u8], words: &[String]) -> bool
+    ensures { result ≡ spec.asks_of_both command.now (map string_bytes words.now) }
 {
     words.len() >= 5
-        && is_word(word_at(words, 0), b"audit")
+        && is_word(word_at(words, 0), command)
         && is_symbol(word_at(words, 2))
         && is_path(word_at(words, 3))
         && is_path(word_at(words, 4))
+}
+
+/// Whether the words begin with those of an audit.
+fn is_audit(words: &[String]) -> bool
+    ensures { result ≡ spec.is_audit (map string_bytes words.now) }
+{
+    asks_of_both(b"audit", words)
 }
 
 /// Whether the rule has a table, if one is asked for.
@@ -140,4 +148,77 @@ pub(crate) fn generate_choice(words: &[String]) -> Option<(u32, u32)>
     let start = number_upto(word_at(words, 1), 2_147_483_646)?;
     let count = number_upto(word_at(words, 2), 1_000_000)?;
     Some((start, count))
+}
+
+/// Whether the words begin with those of a certificate.
+fn is_certify(words: &[String]) -> bool
+    ensures { result ≡ spec.is_certify (map string_bytes words.now) }
+{
+    asks_of_both(b"certify", words)
+}
+
+/// The rule, with the options after the first five words, which ask for no table.
+fn certify_under(words: &[String], rule: Rule) -> Option<(Rule, Options)>
+    requires { 5 ≤ length words.now }
+    ensures choice { result ≡ spec.certify_under (map string_bytes words.now) rule }
+    ensures certified { IfSome result (λ choice. IsTrue (asks_for_greatest choice.0)) }
+{
+    let options = options_in(&words[5..])?;
+    if has_certificate(rule) && !options.table {
+        return Some((rule, options));
+    }
+    None
+}
+
+/// The rule and the options, where the words ask for a certificate.
+pub(crate) fn certify_choice(words: &[String]) -> Option<(Rule, Options)>
+    ensures choice { result ≡ spec.certify_choice (map string_bytes words.now) }
+    ensures words { IfSome result (λ _. IsTrue (spec.is_certify (map string_bytes words.now))) }
+    ensures certified { IfSome result (λ choice. IsTrue (asks_for_greatest choice.0)) }
+{
+    if !is_certify(words) {
+        return None;
+    }
+    certify_under(words, rule_named(word_at(words, 1))?)
+}
+
+/// Whether the third, fourth and fifth word are paths.
+fn are_three_paths(words: &[String]) -> bool
+    requires { 5 ≤ length words.now }
+    ensures { result ≡ spec.are_three_paths (map string_bytes words.now) }
+{
+    is_path(word_at(words, 2)) && is_path(word_at(words, 3)) && is_path(word_at(words, 4))
+}
+
+/// Whether the first five words are `verify`, SYMBOL, ORDERS, TRADES and CERTIFICATE.
+fn is_verify(words: &[String]) -> bool
+    ensures { result ≡ spec.is_verify (map string_bytes words.now) }
+{
+    words.len() >= 5
+        && is_word(word_at(words, 0), b"verify")
+        && is_symbol(word_at(words, 1))
+        && are_three_paths(words)
+}
+
+/// The options after the first five words, which ask for no table.
+fn forms_after(words: &[String]) -> Option<Options>
+    requires { 5 ≤ length words.now }
+    ensures { result ≡ spec.forms_after (map string_bytes words.now) }
+{
+    let options = options_in(&words[5..])?;
+    if options.table {
+        return None;
+    }
+    Some(options)
+}
+
+/// The options, where the words ask to verify a certificate.
+pub(crate) fn verify_choice(words: &[String]) -> Option<Options>
+    ensures choice { result ≡ spec.verify_choice (map string_bytes words.now) }
+    ensures words { IfSome result (λ _. IsTrue (spec.is_verify (map string_bytes words.now))) }
+{
+    if !is_verify(words) {
+        return None;
+    }
+    forms_after(words)
 }

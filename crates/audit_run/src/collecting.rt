@@ -66,24 +66,24 @@ pub(crate) fn collect_orders<F: Shelf, K: Collector<Entry = OrderRecord>>(
 fn collect_pairs<F: Shelf, K: Collector<Entry = TradeRecord>>(
     alloc: Global,
     shelf: &mut F,
-    name: &str,
+    source: &Source<'_>,
     collector: K,
 ) -> Result<Collected<K>, Unread>
     requires fresh { K.has_taken collector [] }
     ensures logs { KeepsLogs F.Shelf shelf.old shelf.new }
     ensures only { TouchesOnly (reading F.Shelf shelf.old shelf.new) Which.Trades }
     ensures read { CollectsTrades K.has_taken (λ bytes. paired_reports (report_log bytes))
-        (reading F.Shelf shelf.old shelf.new) Which.Trades name.now result }
+        (reading F.Shelf shelf.old shelf.new) Which.Trades source.now.name.now result }
     ensures within { result ≢ Err Unread.TooLong
         → (F.slot shelf.new Which.Trades).taken ≤ longest_log }
     ensures few { IfOk result (HasFewCollected K.has_taken) }
 {
-    let draft = PairingDraft::over(alloc, collector);
+    let draft = PairingDraft::over(alloc, source.seed, collector);
     let draft = collect_fix::<F, Report, PairingDraft<K>>(
         alloc,
         shelf,
         Which::Trades,
-        name,
+        source.name,
         draft,
     )?;
     match draft.end() {
@@ -119,6 +119,6 @@ pub(crate) fn collect_trades<F: Shelf, K: Collector<Entry = TradeRecord>>(
             )?;
             Ok(Collected::Trades(collector))
         }
-        Form::Fix => collect_pairs(alloc, shelf, source.name, collector),
+        Form::Fix => collect_pairs(alloc, shelf, source, collector),
     }
 }

@@ -1,24 +1,28 @@
 //! The report of each command. A command is an arm of `report_on`.
-ghost use Rattle.std.specs.Prelude.{◌≡◌};
-ghost use Rattle.audit_run.specs.Auditing.{audit_of, DecidesReport, StaysWithin};
+ghost use Rattle.std.specs.Prelude.{◌≡◌, IsTrue};
+ghost use Rattle.call_laws.specs.Laws.{asks_for_greatest};
+ghost use Rattle.audit_run.specs.Auditing.{audit_of, certify_of, DecidesReport, StaysWithin};
 ghost use Rattle.audit_run.specs.Reporting.{MayBeAsked};
 ghost use Rattle.audit_run.specs.Steps.{reading, KeepsLogs, NeverFall};
 
-use super::auditing::verdict_on;
+use super::auditing::read_both;
 use super::converting::report_convert;
 use super::expecting::report_expect;
 use super::generating::report_generate;
+use super::judged_reports::{audit_report, certify_report};
 use super::paths::PathText;
 use super::questions::{Question, Source};
-use super::reports::{Report, verdict_report};
+use super::reports::Report;
 use super::requests::Request;
 use super::stops::Stop;
-use audit_base::faults::NoMemory;
-use audit_base::terms::Form;
+use super::verifying::report_verify;
+use audit_base::names::Name;
+use audit_base::terms::{Form, Rule};
 use log_source::shelf::Shelf;
+use seeded_hash::seed::HashSeed;
 use std::alloc::Global;
 
-/// The report of the command `audit`: that of the verdict on two logs.
+/// The report of the command `audit`.
 fn report_audit<F: Shelf>(
     alloc: Global,
     shelf: &mut F,
@@ -32,29 +36,55 @@ fn report_audit<F: Shelf>(
         (audit_of question.now orders.now trades.now) result }
     ensures within { StaysWithin (reading F.Shelf shelf.old shelf.new) result }
 {
-    match verdict_on(alloc, shelf, question, orders, trades) {
-        Ok(verdict) => match verdict_report(alloc, &verdict) {
-            Ok(report) => Ok(report),
-            Err(NoMemory) => Err(Stop::Memory),
-        },
+    match read_both(alloc, shelf, question, orders, trades) {
+        Ok(reached) => Ok(audit_report(alloc, question, &reached)?),
         Err(stop) => Err(stop),
     }
 }
 
-/// The log of this path, in this form.
-fn source_of(path: &PathText, form: Form) -> Source<'_>
+/// The report of the command `certify`.
+fn report_certify<F: Shelf>(
+    alloc: Global,
+    shelf: &mut F,
+    rule: Rule,
+    symbol: &Name,
+    orders: &Source<'_>,
+    trades: &Source<'_>,
+) -> Result<Report, Stop>
+    requires { IsTrue (asks_for_greatest rule) }
+    ensures logs { KeepsLogs F.Shelf shelf.old shelf.new }
+    ensures later { NeverFall (reading F.Shelf shelf.old shelf.new) }
+    ensures decides { DecidesReport (reading F.Shelf shelf.old shelf.new)
+        (certify_of rule symbol.now orders.now trades.now) result }
+    ensures within { StaysWithin (reading F.Shelf shelf.old shelf.new) result }
+{
+    let question = Question {
+        rule,
+        symbol: *symbol,
+        table: false,
+    };
+    match read_both(alloc, shelf, &question, orders, trades) {
+        Ok(reached) => Ok(certify_report(alloc, &question, &reached)?),
+        Err(stop) => Err(stop),
+    }
+}
+
+/// The log of this path, in this form, read with hashes of this seed.
+fn source_of(path: &PathText, form: Form, seed: HashSeed) -> Source<'_>
     ensures name { result.name.now ≡ path.now }
     ensures form { result.form ≡ form }
 {
     Source {
         name: path.as_str(),
         form,
+        seed,
     }
 }
 
 /// The report of the command that the request is.
 pub(crate) fn report_on<F: Shelf>(
     alloc: Global,
+    seed: HashSeed,
     shelf: &mut F,
     request: &Request,
 ) -> Result<Report, Stop>
@@ -79,8 +109,8 @@ pub(crate) fn report_on<F: Shelf>(
                 symbol: *symbol,
                 table: *table,
             };
-            let orders = source_of(orders, *orders_form);
-            let trades = source_of(trades, *trades_form);
+            let orders = source_of(orders, *orders_form, seed);
+            let trades = source_of(trades, *trades_form, seed);
             report_audit(alloc, shelf, &question, &orders, &trades)
         }
         Request::Expect {
@@ -89,12 +119,36 @@ pub(crate) fn report_on<F: Shelf>(
             orders,
             orders_form,
         } => {
-            let orders = source_of(orders, *orders_form);
+            let orders = source_of(orders, *orders_form, seed);
             report_expect(alloc, shelf, *rule, symbol, &orders)
         }
         Request::Convert { log, form, path } => {
-            report_convert(alloc, shelf, *log, &source_of(path, *form))
+            report_convert(alloc, shelf, *log, &source_of(path, *form, seed))
         }
         Request::Generate { start, count } => Ok(report_generate(alloc, *start, *count)?),
+        Request::Certify {
+            rule,
+            symbol,
+            orders,
+            trades,
+            orders_form,
+            trades_form,
+        } => {
+            let orders = source_of(orders, *orders_form, seed);
+            let trades = source_of(trades, *trades_form, seed);
+            report_certify(alloc, shelf, *rule, symbol, &orders, &trades)
+        }
+        Request::Verify {
+            symbol,
+            orders,
+            trades,
+            certificate,
+            orders_form,
+            trades_form,
+        } => {
+            let orders = source_of(orders, *orders_form, seed);
+            let trades = source_of(trades, *trades_form, seed);
+            report_verify(alloc, shelf, symbol, &orders, &trades, certificate.as_str())
+        }
     }
 }

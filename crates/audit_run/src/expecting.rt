@@ -1,17 +1,20 @@
 //! The command `expect`: the Expected trades of an order log, as a trade log.
-ghost use Rattle.std.specs.Prelude.{◌≡◌, List, IfOk, IsTrue};
+ghost use Rattle.std.specs.Prelude.{◌≡◌, List, None, IfOk, IsTrue};
 ghost use Rattle.audit_base.specs.declared.records.OrderRecord.{OrderRecord};
 ghost use Rattle.audit_base.specs.declared.terms.Which.{Which};
 ghost use Rattle.audit_base.specs.Deals.{IsDealList};
 ghost use Rattle.audit_base.specs.Expected.{IsExpected};
 ghost use Rattle.audit_base.specs.Histories.{Regular};
-ghost use Rattle.audit_base.specs.Orders.{IsOrderList};
+ghost use Rattle.audit_base.specs.Orders.{AreOrders, HaveOwnKeys, IsOrderList};
+ghost use Rattle.audit_base.specs.Rules.{Conforms};
+ghost use Rattle.audit_base.specs.Verdicts as spec;
 ghost use Rattle.instruction_history.specs.HistoryDraft.{IsHistoryDraft};
 ghost use Rattle.log_source.specs.Collectors.{HasPlace};
 ghost use Rattle.audit_run.specs.Auditing.{StaysWithinAt};
 ghost use Rattle.audit_run.specs.Collecting.{TouchesOnly};
 ghost use Rattle.audit_run.specs.LogVerdicts.{log_in};
-ghost use Rattle.audit_run.specs.OtherTexts.{ExpectsOf, IsExpectedLog, IsExpectReport};
+ghost use Rattle.audit_run.specs.Expecting.{IsConformingLog, IsLogOfOrders};
+ghost use Rattle.audit_run.specs.OtherTexts.{ExpectsOf, IsExpectReport};
 ghost use Rattle.audit_run.specs.Reporting.{DecidesLog, SaysReport};
 ghost use Rattle.audit_run.specs.Steps.{reading, KeepsLogs};
 ghost use Rattle.audit_run.specs.Words as words;
@@ -19,14 +22,19 @@ ghost use Rattle.audit_run.specs.Words as words;
 use super::collecting::collect_orders;
 use super::judging::call_finding;
 use super::questions::Source;
+use super::ranges::each_in_range;
 use super::reports::{Report, done_report, finding_report, report_without};
 use super::stops::Stop;
 use audit_base::faults::NoMemory;
 use audit_base::names::Name;
 use audit_base::orders::{Deal, Order};
 use audit_base::terms::{Rule, Which};
-use canonical_form::trades::trades_of_deals;
+use call_laws::existence::extremes_exist;
+use call_laws::laws::only_quantities;
+use call_laws::optimum::maximum_trades_are_expected;
+use canonical_form::trades::{trades_give_their_deals_back, trades_of_deals};
 use continuous_audit::expecting::continuous_matching;
+use continuous_laws::laws::continuous_uniqueness;
 use csv_logs::writers::write_trades;
 use instruction_history::history_draft::{AuditedSymbol, HistoryDraft};
 use log_source::shelf::Shelf;
@@ -41,6 +49,7 @@ fn expected_deals(alloc: Global, rule: Rule, orders: &[Order]) -> Result<Vec<Dea
     requires order_list { IsOrderList orders.now }
     requires regular { Regular orders.now }
     ensures expected { IfOk result (λ deals. IsExpected rule orders.now deals.items) }
+    ensures conforms { IfOk result (λ deals. Conforms rule orders.now deals.items) }
     ensures deal_list { IfOk result (λ deals. IsDealList orders.now deals.items) }
 {
     match rule {
@@ -52,6 +61,26 @@ fn expected_deals(alloc: Global, rule: Rule, orders: &[Order]) -> Result<Vec<Dea
 }
 
 /// The trade log of the Expected trades.
+fn conforming_log(
+    alloc: Global,
+    rule: Rule,
+    symbol: &Name,
+    orders: &[Order],
+) -> Result<Vec<u8>, NoMemory>
+    requires rule { IsTrue (words.has_table rule) }
+    requires order_list { IsOrderList orders.now }
+    requires regular { Regular orders.now }
+    ensures { IfOk result (λ text. IsConformingLog rule symbol.now orders.now text.items) }
+{
+    let deals = expected_deals(alloc, rule, orders)?;
+    let trades = trades_of_deals(alloc, orders, &deals, symbol)?;
+    each_in_range(&trades);
+    let mut text = Vec::new(alloc);
+    write_trades(alloc, &trades, &mut text)?;
+    Ok(text)
+}
+
+/// The trade log of the Expected trades of a history, which an audit accepts.
 fn expected_log(
     alloc: Global,
     rule: Rule,
@@ -61,13 +90,18 @@ fn expected_log(
     requires rule { IsTrue (words.has_table rule) }
     requires order_list { IsOrderList orders.now }
     requires regular { Regular orders.now }
-    ensures { IfOk result (λ text. IsExpectedLog rule symbol.now orders.now text.items) }
+    requires numbers { AreOrders orders.now }
+    requires keys { HaveOwnKeys orders.now }
+    requires admits { spec.call_finding rule orders.now ≡ None }
+    ensures { IfOk result (λ text. IsLogOfOrders rule symbol.now orders.now text.items) }
 {
-    let deals = expected_deals(alloc, rule, orders)?;
-    let trades = trades_of_deals(alloc, orders, &deals, symbol)?;
-    let mut text = Vec::new(alloc);
-    write_trades(alloc, &trades, &mut text)?;
-    Ok(text)
+    // Laws that the answer rests on. They compute nothing.
+    trades_give_their_deals_back();
+    extremes_exist();
+    maximum_trades_are_expected();
+    only_quantities();
+    continuous_uniqueness();
+    conforming_log(alloc, rule, symbol, orders)
 }
 
 /// What is reported of the records of an order log.
@@ -112,7 +146,7 @@ fn report_about<S: AuditedSymbol, F: Shelf>(
         (λ bytes. IsExpectReport rule symbol.now (log_in orders.now.form bytes)) result }
     ensures within { StaysWithinAt (reading F.Shelf shelf.old shelf.new) Which.Orders result }
 {
-    let draft = HistoryDraft::<S>::new(alloc, *symbol);
+    let draft = HistoryDraft::<S>::new(alloc, orders.seed, *symbol);
     match collect_orders::<F, HistoryDraft<S>>(alloc, shelf, orders, draft) {
         Ok(draft) => Ok(report_records(alloc, rule, symbol, draft)?),
         Err(unread) => report_without(alloc, Which::Orders, unread),

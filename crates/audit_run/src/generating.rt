@@ -81,7 +81,7 @@ fn append_maximum(alloc: Global, orders: &[Order], out: &mut Vec<u8>) -> Result<
 }
 
 /// The quantities of the deals, added.
-fn volume_of(deals: &[Deal]) -> u128
+pub(crate) fn volume_of(deals: &[Deal]) -> u128
     requires { length deals.now < 2 ^ 32 }
     ensures { result ≡ volume deals.now }
 {

@@ -16,7 +16,7 @@ fn trade_in_range(trade: &TradeRecord)
 }
 
 /// The numbers of all trades are in their ranges, as their types say.
-fn each_in_range(trades: &[TradeRecord])
+pub(crate) fn each_in_range(trades: &[TradeRecord])
     ensures { AreTrades trades.now }
 {
     for trade in trades {

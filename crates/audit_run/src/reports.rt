@@ -7,7 +7,7 @@ ghost use Rattle.audit_run.specs.Reporting.{IsWithoutLog};
 
 use super::reading::Unread;
 use super::stops::Stop;
-use audit_base::faults::NoMemory;
+use audit_base::faults::{BadPlace, NoMemory};
 use audit_base::findings::Finding;
 use audit_base::terms::Which;
 use audit_report::reports::report_text;
@@ -41,6 +41,17 @@ pub(crate) fn finding_report(alloc: Global, finding: Finding) -> Result<Report, 
     verdict_report(alloc, &Verdict::Rejected(finding))
 }
 
+/// The report of a bad place.
+pub(crate) fn malformed_report(
+    alloc: Global,
+    log: Which,
+    bad: &BadPlace,
+) -> Result<Report, NoMemory>
+    ensures { IfOk result (IsReportOf (verdict.Malformed log bad.now)) }
+{
+    verdict_report(alloc, &Verdict::Malformed { log, bad: *bad })
+}
+
 /// The report of a command that was done in full.
 pub(crate) fn done_report(text: Vec<u8>) -> Report
     ensures status { result.status ≡ Status.Accepted }
@@ -57,7 +68,7 @@ pub(crate) fn report_without(alloc: Global, log: Which, unread: Unread) -> Resul
     ensures { IsWithoutLog log unread result }
 {
     match unread {
-        Unread::Bad(bad) => Ok(verdict_report(alloc, &Verdict::Malformed { log, bad })?),
+        Unread::Bad(bad) => Ok(malformed_report(alloc, log, &bad)?),
         Unread::ReadFault => Err(Stop::ReadFault(log)),
         Unread::TooLong => Err(Stop::TooLong(log)),
         Unread::Memory => Err(Stop::Memory),

@@ -5,7 +5,10 @@ ghost use Rattle.std.specs.String.{string_bytes};
 ghost use Rattle.audit_run.specs.Reporting.{MayBeAsked};
 ghost use Rattle.audit_run.specs.Words as spec;
 
-use super::choices::{audit_choice, convert_choice, expect_choice, generate_choice, word_at};
+use super::choices::{
+    audit_choice, certify_choice, convert_choice, expect_choice, generate_choice, verify_choice,
+    word_at,
+};
 use super::options::Options;
 use super::paths::PathText;
 use audit_base::faults::NoMemory;
@@ -44,6 +47,24 @@ pub enum Request {
     Generate {
         start: u32,
         count: u32,
+    },
+    /// To judge the trades of a symbol by a rule and, where they conform, to write their certificate.
+    Certify {
+        rule: Rule,
+        symbol: Name,
+        orders: PathText,
+        trades: PathText,
+        orders_form: Form,
+        trades_form: Form,
+    },
+    /// To verify that a certificate shows that the trades of a symbol conform.
+    Verify {
+        symbol: Name,
+        orders: PathText,
+        trades: PathText,
+        certificate: PathText,
+        orders_form: Form,
+        trades_form: Form,
     },
 }
 
@@ -148,6 +169,50 @@ fn convert_with(
     Ok(Request::Convert { log, form, path })
 }
 
+/// The request of words that ask for a certificate.
+fn certify_with(
+    alloc: Global,
+    words: &[String],
+    rule: Rule,
+    options: Options,
+) -> Result<Request, NoMemory>
+    requires { IsTrue (spec.is_certify (map string_bytes words.now)) }
+    ensures { IfOk result (λ request.
+        request ≡ spec.certify_with (map string_bytes words.now) (rule, options)) }
+{
+    let symbol = symbol_at(words, 2);
+    let orders = path_of(alloc, word_at(words, 3))?;
+    let trades = path_of(alloc, word_at(words, 4))?;
+    Ok(Request::Certify {
+        rule,
+        symbol,
+        orders,
+        trades,
+        orders_form: options.orders_form.unwrap_or(Form::Csv),
+        trades_form: options.trades_form.unwrap_or(Form::Csv),
+    })
+}
+
+/// The request of words that ask to verify a certificate.
+fn verify_with(alloc: Global, words: &[String], options: Options) -> Result<Request, NoMemory>
+    requires { IsTrue (spec.is_verify (map string_bytes words.now)) }
+    ensures { IfOk result (λ request.
+        request ≡ spec.verify_with (map string_bytes words.now) options) }
+{
+    let symbol = symbol_at(words, 1);
+    let orders = path_of(alloc, word_at(words, 2))?;
+    let trades = path_of(alloc, word_at(words, 3))?;
+    let certificate = path_of(alloc, word_at(words, 4))?;
+    Ok(Request::Verify {
+        symbol,
+        orders,
+        trades,
+        certificate,
+        orders_form: options.orders_form.unwrap_or(Form::Csv),
+        trades_form: options.trades_form.unwrap_or(Form::Csv),
+    })
+}
+
 /// What the words ask for, one row a command:
 ///
 /// - `audit RULE SYMBOL ORDERS TRADES`, and after them, in any order and each at most once,
@@ -155,7 +220,10 @@ fn convert_with(
 /// - `expect RULE SYMBOL ORDERS` of a rule with Expected trades, and after them `--orders-form FORM`;
 /// - `convert orders|trades FORM PATH`;
 /// - `generate START COUNT`, START from 1 to 2,147,483,646 and COUNT from 1 to 1,000,000, each of 1 to 10
-///   digits.
+///   digits;
+/// - `certify RULE SYMBOL ORDERS TRADES`, where RULE is `uniform` or `maximum`, and after them, in any
+///   order and each at most once, `--orders-form FORM` and `--trades-form FORM`;
+/// - `verify SYMBOL ORDERS TRADES CERTIFICATE`, and after them the same options.
 ///
 /// RULE is the word of a rule, and FORM is `csv` or `fix`. `Usage` comes exactly where they are not
 /// well-formed, and takes no memory.
@@ -179,6 +247,12 @@ pub fn read_words(alloc: Global, words: &[String]) -> Result<Request, WordsFault
     }
     if let Some((start, count)) = generate_choice(words) {
         return Ok(Request::Generate { start, count });
+    }
+    if let Some((rule, options)) = certify_choice(words) {
+        return Ok(certify_with(alloc, words, rule, options)?);
+    }
+    if let Some(options) = verify_choice(words) {
+        return Ok(verify_with(alloc, words, options)?);
     }
     Err(WordsFault::Usage)
 }

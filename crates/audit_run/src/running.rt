@@ -3,8 +3,9 @@ ghost use Rattle.std.specs.Prelude.{map};
 ghost use Rattle.std.specs.String.{string_bytes};
 ghost use Rattle.log_source.specs.Sinks.{Stays};
 ghost use Rattle.audit_run.specs.Reporting.{MayBeAsked};
-ghost use Rattle.audit_run.specs.Runs.{Answers, AnswersLength, Runs, ReportsHeldLogs};
+ghost use Rattle.audit_run.specs.Runs.{Answers, AnswersLength};
 ghost use Rattle.audit_run.specs.Steps.{reading, KeepsLogs, NeverFall};
+ghost use Rattle.audit_run.specs.TopCall.{IsRun};
 ghost use Rattle.audit_run.specs.Words.{request_of};
 
 use super::commands::report_on;
@@ -14,10 +15,17 @@ use audit_report::reports::usage_text;
 use audit_report::statuses::Status;
 use log_source::shelf::Shelf;
 use log_source::sink::Sink;
+use seeded_hash::seed::HashSeed;
 use std::alloc::Global;
 
 /// Answers well-formed words: the whole report is made, and then written.
-fn answer<F: Shelf, K: Sink>(alloc: Global, shelf: &mut F, out: &mut K, request: &Request) -> Status
+fn answer<F: Shelf, K: Sink>(
+    alloc: Global,
+    seed: HashSeed,
+    shelf: &mut F,
+    out: &mut K,
+    request: &Request,
+) -> Status
     requires { MayBeAsked request.now }
     ensures logs { KeepsLogs F.Shelf shelf.old shelf.new }
     ensures later { NeverFall (reading F.Shelf shelf.old shelf.new) }
@@ -26,7 +34,7 @@ fn answer<F: Shelf, K: Sink>(alloc: Global, shelf: &mut F, out: &mut K, request:
         (K.state out.old) (K.state out.new) result }
     ensures length { AnswersLength (reading F.Shelf shelf.old shelf.new) result }
 {
-    match report_on(alloc, shelf, request) {
+    match report_on(alloc, seed, shelf, request) {
         Ok(report) => write_text(out, &report.text, report.status),
         Err(stop) => write_stop(out, stop),
     }
@@ -39,18 +47,30 @@ fn answer<F: Shelf, K: Sink>(alloc: Global, shelf: &mut F, out: &mut K, request:
 /// they are not well-formed, `ReadFault` only where a log could not be read, `TooLong` where one has
 /// more than 67,108,864 bytes, `WriteFault` only where the sink's faults rose, and `Memory` where
 /// memory ran out, with nothing written. What the shelf has under its names stays as it was.
+///
+/// The hashes by which names are found begin with the fixed seed: see `run_seeded` for logs whose names
+/// may have been chosen to make this slow.
 pub fn run<F: Shelf, K: Sink>(alloc: Global, words: &[String], shelf: &mut F, out: &mut K) -> Status
-    ensures headline { ReportsHeldLogs (request_of (map string_bytes words.now))
-        (reading F.Shelf shelf.old shelf.new) (K.state out.old) (K.state out.new) result }
-    ensures runs { Runs (request_of (map string_bytes words.now))
-        (reading F.Shelf shelf.old shelf.new) (K.state out.old) (K.state out.new) result }
-    ensures length { AnswersLength (reading F.Shelf shelf.old shelf.new) result }
-    ensures logs { KeepsLogs F.Shelf shelf.old shelf.new }
-    ensures later { NeverFall (reading F.Shelf shelf.old shelf.new) }
-    ensures sink { Stays (K.state out.old) (K.state out.new) }
+    ensures { IsRun F.Shelf (request_of (map string_bytes words.now)) shelf.old shelf.new
+        (K.state out.old) (K.state out.new) result }
+{
+    run_seeded(alloc, HashSeed::fixed(), words, shelf, out)
+}
+
+/// The same as `run`, with hashes of this seed. No answer depends on the seed, and with one that nobody
+/// knows beforehand, no log can be made to be slow.
+pub fn run_seeded<F: Shelf, K: Sink>(
+    alloc: Global,
+    seed: HashSeed,
+    words: &[String],
+    shelf: &mut F,
+    out: &mut K,
+) -> Status
+    ensures { IsRun F.Shelf (request_of (map string_bytes words.now)) shelf.old shelf.new
+        (K.state out.old) (K.state out.new) result }
 {
     match read_words(alloc, words) {
-        Ok(request) => answer(alloc, shelf, out, &request),
+        Ok(request) => answer(alloc, seed, shelf, out, &request),
         Err(fault) => match fault {
             WordsFault::Usage => write_text(out, usage_text(), Status::Usage),
             WordsFault::Memory => Status::Memory,

@@ -1,5 +1,6 @@
 //! The forms of single words of a command line.
 ghost use Rattle.std.specs.Prelude.{◌≡◌, ◌≤◌, IfSome};
+ghost use Rattle.call_laws.specs.Laws.{asks_for_greatest};
 ghost use Rattle.audit_run.specs.Options as option;
 ghost use Rattle.audit_run.specs.Words as spec;
 
@@ -92,5 +93,15 @@ pub(crate) fn has_table(rule: Rule) -> bool
     match rule {
         Rule::Matching | Rule::Fair => false,
         Rule::Uniform | Rule::Maximum | Rule::Continuous => true,
+    }
+}
+
+/// Whether a certificate may be asked for: the rule asks for a greatest volume.
+pub(crate) fn has_certificate(rule: Rule) -> bool
+    ensures { result ≡ asks_for_greatest rule }
+{
+    match rule {
+        Rule::Uniform | Rule::Maximum => true,
+        Rule::Matching | Rule::Fair | Rule::Continuous => false,
     }
 }

@@ -1,10 +1,11 @@
-//! The program `auditor`: its words, files and standard output handed to `run`.
+//! The program `auditor`: its words, files, standard output and a random seed handed to `run_seeded`.
 #![tactic(auto)]
 
 use audit_report::statuses::Status;
-use audit_run::running::run;
+use audit_run::running::run_seeded;
 use log_source::file_shelf::FileShelf;
 use log_source::std_sink::StdSink;
+use seeded_hash::seed::HashSeed;
 use std::io::ErrorKind;
 use std::process::ExitCode;
 use std::{env, io};
@@ -30,6 +31,12 @@ fn words_of(rt: &HostRuntime) -> io::Result<Vec<String>> {
     Ok(words)
 }
 
+/// A seed that whoever made the logs did not know. Where the system gives no random bytes it is the fixed
+/// one: the answer is the same, and only logs that were made for that seed are slow.
+fn seed_of(rt: &HostRuntime) -> HashSeed {
+    HashSeed::random(rt).unwrap_or(HashSeed::fixed())
+}
+
 fn audit(rt: HostRuntime) -> Status {
     let Ok(words) = words_of(&rt) else {
         return Status::Memory;
@@ -39,5 +46,5 @@ fn audit(rt: HostRuntime) -> Status {
         return Status::Memory;
     };
     let mut shelf = FileShelf::new(files);
-    run(rt.alloc(), &words, &mut shelf, &mut out)
+    run_seeded(rt.alloc(), seed_of(&rt), &words, &mut shelf, &mut out)
 }

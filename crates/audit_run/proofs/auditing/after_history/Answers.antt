@@ -3,18 +3,18 @@ use Rattle.audit_base.specs.declared.orders.Order.{Order}
 use Rattle.matching_core.specs.DealsDraft.{IsDealsDraft}
 use Rattle.audit_run.specs.Auditing.{IsAdmitted}
 use Rattle.audit_run.specs.Steps.{reading}
-use Rattle.audit_run.proofs.AuditLemmas.{after_alone, decides_ended, ends_as}
-use Rattle.audit_run.proofs.auditing.verdict_of_trades.Goals as goal
+use Rattle.audit_run.proofs.AuditLemmas.{after_alone, after_ended, ends_as}
+use Rattle.audit_run.proofs.auditing.after_history.Goals as goal
 
 pub returns-in-Ok-Trades-clause-decides : goal.returns-in-Ok-Trades-clause-decides
 returns-in-Ok-Trades-clause-decides g c = λ entries is.
     let read = rw c.in-Ok-Trades.field-0-is at c.in-Ok-Trades.ensures.read in
-    decides_ended (reading g.F.Shelf c.args.shelf.now c.collect_trades.new.shelf) c.args.question.now c.args.trades.now entries
-    (IsDealsDraft g.M.AuditedHistory.symbol g.M.AuditedHistory.orders c.in-Ok-Trades.deals) c.end.result c.verdict_of_ended.result
+    rw c.of.ensures.found
+    (after_ended (reading g.F.Shelf c.args.shelf.now c.collect_trades.new.shelf) c.args.question.now c.args.trades.now entries
+    (IsDealsDraft g.M.AuditedHistory.symbol g.M.AuditedHistory.orders c.in-Ok-Trades.deals) c.end.result
     (subst (λ (os : List Order). IsAdmitted c.args.question.now entries os) (c.requires.orders ∙ sym c.end.ensures.history) is) read
     (λ ts has. ends_as c.args.question.now g.M.AuditedHistory.symbol g.M.AuditedHistory.orders ts c.end.result c.requires.symbol c.end.ensures.history
-    (c.end.ensures.count ts has) (c.end.ensures.finding ts has) (c.end.ensures.deals ts has))
-    c.end.ensures.numbers c.verdict_of_ended.ensures.verdict c.verdict_of_ended.ensures.memory
+    (c.end.ensures.count ts has) (c.end.ensures.finding ts has) (c.end.ensures.deals ts has)))
 
 pub returns-in-Ok-Alone-clause-decides : goal.returns-in-Ok-Alone-clause-decides
 returns-in-Ok-Alone-clause-decides g c = λ entries is.

@@ -1,0 +1,114 @@
+-- The commands that read two logs up to the rule: which steps lead to a report, and where they stop.
+use Rattle.std.proofs.Common.{◌≡◌, ◌∙◌, refl, ℕ, true, false, List, [], ◌∷◌, None, Some, Result, Ok, Err, IsOk}
+use Rattle.audit_base.specs.declared.faults.BadPlace.{BadPlace}
+use Rattle.audit_base.specs.declared.records.OrderRecord.{OrderRecord}
+use Rattle.audit_base.specs.declared.terms.Which.{Which}
+use Rattle.audit_base.specs.declared.terms.Which.TheVariants.{Orders, Trades}
+use Rattle.audit_report.specs.declared.statuses.Status.{Status}
+use Rattle.audit_report.specs.Lines.{read_fault_line, too_long_line}
+use Rattle.audit_run.specs.declared.before_rule.BeforeRule.{BeforeRule}
+use Rattle.audit_run.specs.declared.questions.Question.{Question}
+use Rattle.audit_run.specs.declared.questions.Source.{Source}
+use Rattle.audit_run.specs.declared.requests.Request.{Request}
+use Rattle.audit_run.specs.declared.stops.Stop.{Stop}
+use Rattle.audit_run.specs.declared.stops.Stop.TheVariants as stop
+use Rattle.audit_run.specs.Auditing.{source_of, IsAuditStop, IsStarted, IsStop, OrdersComeTo, ReadsUpToRule, StartsBoth, TradesComeTo}
+use Rattle.audit_run.specs.Collecting.{step_of}
+use Rattle.audit_run.specs.LogVerdicts.{log_in, order_log, trade_log}
+use Rattle.audit_run.specs.Reporting.{IsReportStatus}
+use Rattle.audit_run.specs.Requests.{log_at, next_log, IsReport}
+use Rattle.audit_run.specs.Runs.{IsText, ReportsLogs, StopsAtLog}
+use Rattle.audit_run.specs.Steps.{Reading, Step, IsRead, IsReadFault, IsTooLong, Lead, NeverFall, with_slot}
+use Rattle.audit_run.specs.UpToRule.{LogsComeTo}
+use Rattle.audit_run.proofs.ReportLemmas.{text-of}
+
+module _ (r : Reading) (later : NeverFall r) (q : Question) (orders trades : Source) (request : Request) (starts : StartsBoth request orders trades) where
+  abbrev first_step : Step
+  first_step = step_of r Orders orders.name.now
+
+  abbrev second_step : Step
+  second_step = step_of r Trades trades.name.now
+
+  -- the order log alone was started
+  one_leads : r.after Trades ≡ r.before Trades → Lead r.before (first_step ∷ []) r.after
+  one_leads same = (record { at = refl; later = later Orders }, ends)
+    where
+      ends : (log : Which) → r.after log ≡ with_slot r.before Orders (r.after Orders) log
+      ends Orders = refl
+      ends Trades = same
+
+  -- both logs were started
+  both_lead : Lead r.before (first_step ∷ second_step ∷ []) r.after
+  both_lead = (record { at = refl; later = later Orders }, (record { at = refl; later = later Trades }, ends))
+    where
+      ends : (log : Which) → r.after log ≡ with_slot (with_slot r.before Orders (r.after Orders)) Trades (r.after Trades) log
+      ends Orders = refl
+      ends Trades = refl
+
+  one_next : (bytes : List ℕ) (bad : BadPlace) → order_log orders.form bytes ≡ Err bad → next_log request (bytes ∷ []) ≡ None
+  one_next bytes bad e = starts.second bytes ∙ (rw e refl)
+
+  both_next : (bytes : List ℕ) (said : Result (List OrderRecord) BadPlace) → order_log orders.form bytes ≡ said → IsOk said → next_log request (bytes ∷ []) ≡ Some (Trades, trades.name.now)
+  both_next bytes (Ok entries) e good = starts.second bytes ∙ (rw e refl)
+  both_next bytes (Err bad) e good = absurd (not_good good)
+    where
+      not_good : false ≡ true → ⊥
+      not_good e = cc
+
+  -- a report on what both logs come to, where the command needs no third log then
+  module _ (reached : BeforeRule) (the_status : Status) (text : List ℕ)
+      (reports : (logs : List (List ℕ)) → log_at logs 2 ≡ [] → LogsComeTo q (log_in orders.form (log_at logs 0)) (log_in trades.form (log_at logs 1)) reached → IsReport request logs the_status text)
+      (ends : (first second : List ℕ) (entries : List OrderRecord) → order_log orders.form first ≡ Ok entries → TradesComeTo q entries (trade_log trades.form second) reached
+      → next_log request (first ∷ second ∷ []) ≡ None) where
+    both_reports : (bytes : List ℕ) → IsRead r first_step bytes → (said : Result (List OrderRecord) BadPlace) → order_log orders.form bytes ≡ said
+        → OrdersComeTo r q trades said reached → ReportsLogs r request the_status text
+    both_reports bytes read (Err bad) e (is, untouched) = record {
+      steps = first_step ∷ [];
+      logs = bytes ∷ [];
+      lead = one_leads untouched;
+      read = (bytes, record { next = starts.first; read = read }, refl);
+      all = one_next bytes bad e;
+      report = reports (bytes ∷ []) refl (rw e is);
+    }
+    both_reports bytes read (Ok entries) e is = record {
+      steps = first_step ∷ second_step ∷ [];
+      logs = bytes ∷ is.bytes ∷ [];
+      lead = both_lead;
+      read = (bytes, record { next = starts.first; read = read }, (is.bytes, record { next = both_next bytes (Ok entries) e refl; read = is.read }, refl));
+      all = ends bytes is.bytes entries e is.holds;
+      report = reports (bytes ∷ is.bytes ∷ []) refl (rw e is.holds);
+    }
+
+    pub both_text : ((logs : List (List ℕ)) → IsReport request logs the_status text → IsReportStatus the_status) → ReadsUpToRule r q orders trades reached → IsText r request the_status text
+    both_text answers is =
+        let whole = both_reports is.bytes is.read (order_log orders.form is.bytes) refl is.holds in
+        text-of r request the_status text (answers whole.logs whole.report) whole
+
+  stops_at : (why : Reading → Step → Type 0) (line : Which → List ℕ) (log : Which) → IsStarted r orders log → why r (step_of r log (source_of orders trades log).name.now)
+      → StopsAtLog why line r request (line log)
+  stops_at why line Orders untouched cause = record {
+    steps = [];
+    logs = [];
+    last = first_step;
+    lead = one_leads untouched;
+    read = refl;
+    next = starts.first;
+    cause = cause;
+    text_is = refl;
+  }
+  stops_at why line Trades good cause = record {
+    steps = first_step ∷ [];
+    logs = good.bytes ∷ [];
+    last = second_step;
+    lead = both_lead;
+    read = (good.bytes, record { next = starts.first; read = good.read }, refl);
+    next = both_next good.bytes (order_log orders.form good.bytes) refl good.holds;
+    cause = cause;
+    text_is = refl;
+  }
+
+  -- where it is not known what both logs come to, the line says at which log reading stopped
+  pub both_stop : (the_stop : Stop) → IsAuditStop r orders trades the_stop → IsStop r request the_stop
+  both_stop (stop.ReadFault log) is = stops_at IsReadFault read_fault_line log is.is_started is.fault
+  both_stop (stop.TooLong log) is = stops_at IsTooLong too_long_line log is.is_started is.long
+  both_stop stop.Memory is = tt

@@ -1,0 +1,102 @@
+-- What was written as a certificate is verified over the same logs.
+use Rattle.std.proofs.Common.{◌≡◌, ◌∙◌, sym, ap, subst, refl, ⊎_elim, ℕ, false, List, [], ◌∷◌, length, Option, None, Some, Result, arith}
+use Rattle.std.specs.Prelude.{IsSomeAnd, IsTrue, MatchOption}
+use Rattle.audit_base.specs.declared.findings.Finding.{Finding}
+use Rattle.audit_base.specs.declared.orders.Deal.{Deal}
+use Rattle.audit_base.specs.declared.orders.Order.{Order}
+use Rattle.audit_base.specs.declared.records.OrderRecord.{OrderRecord}
+use Rattle.audit_base.specs.declared.records.TradeRecord.{TradeRecord}
+use Rattle.audit_base.specs.declared.terms.Rule.{Rule}
+use Rattle.audit_base.specs.declared.terms.Rule.TheVariants as rule
+use Rattle.audit_base.specs.Histories.{history_finding, order_list}
+use Rattle.audit_base.specs.Least.{first_of}
+use Rattle.audit_base.specs.Trades.{deals_of, unsound_trade}
+use Rattle.audit_base.specs.Verdicts.{call_finding, log_finding, paired_trades, pairing_finding, IsRuleVerdict}
+use Rattle.audit_certificate.specs.Agreement.{Agrees, IsHeadLine}
+use Rattle.audit_certificate.specs.Lines.{behind_lines, ended_line}
+use Rattle.audit_report.specs.declared.statuses.Status.{Status}
+use Rattle.audit_report.specs.declared.statuses.Status.TheVariants as status
+use Rattle.audit_report.specs.declared.verdicts.Accepted.{Accepted}
+use Rattle.audit_report.specs.declared.verdicts.Verdict.{Verdict}
+use Rattle.audit_report.specs.declared.verdicts.Verdict.TheVariants as verdict
+use Rattle.call_laws.specs.Laws.{asks_for_greatest}
+use Rattle.audit_run.specs.declared.questions.Question.{Question}
+use Rattle.audit_run.specs.Certificates.{IsCertificateOf, ReportsWith, Verifies, VerifiesRecords}
+use Rattle.audit_run.specs.Judgements.{IsJudged, IsOutcome}
+use Rattle.audit_run.specs.Laws.{CertifiedIsVerified}
+use Rattle.audit_run.specs.LogVerdicts.{IsLogVerdict, Log}
+
+-- a certificate that agrees is of a rule that asks for a greatest volume
+asks : (the_rule : Rule) (symbol : List ℕ) (orders : List Order) (deals : List Deal) (text : List ℕ) → Agrees the_rule symbol orders deals text → IsTrue (asks_for_greatest the_rule)
+asks the_rule symbol orders deals text agrees = of_line (ended_line (behind_lines 0 text)) (agrees 1 (omega arith))
+  where
+    of_line : (line : Option (List ℕ)) → IsSomeAnd line (IsHeadLine the_rule symbol orders deals) → IsTrue (asks_for_greatest the_rule)
+    of_line (Some line) is = is.asks
+    of_line None is = absurd is
+
+-- such rules admit the same orders
+same_call : (the_rule : Rule) (orders : List Order) → IsTrue (asks_for_greatest the_rule) → call_finding the_rule orders ≡ call_finding rule.Uniform orders
+same_call rule.Uniform orders is = refl
+same_call rule.Maximum orders is = refl
+same_call rule.Matching orders is = absurd (never is)
+  where
+    never : IsTrue false → ⊥
+    never e = cc
+same_call rule.Fair orders is = absurd (never is)
+  where
+    never : IsTrue false → ⊥
+    never e = cc
+same_call rule.Continuous orders is = absurd (never is)
+  where
+    never : IsTrue false → ⊥
+    never e = cc
+
+-- where records are accepted, nothing is found before the rule
+none_before : (q : Question) (entries : List OrderRecord) (paired : Result (List TradeRecord) Finding) (a : Accepted) → IsJudged q entries paired (verdict.Accepted a)
+    → log_finding q.rule q.symbol entries paired ≡ None
+none_before q entries paired a is = of_before (log_finding q.rule q.symbol entries paired) is.found is.by_the_rules is.outcome
+  where
+    orders : List Order
+    orders = order_list q.symbol entries
+
+    deals : List Deal
+    deals = deals_of orders q.symbol (paired_trades paired)
+
+    apart : (finding : Finding) → verdict.Accepted a ≡ verdict.Rejected finding → ⊥
+    apart finding e = cc
+
+    of_before : (before found : Option Finding) → MatchOption before (IsRuleVerdict q.rule orders deals (length (paired_trades paired)) found) (λ finding. found ≡ Some finding)
+        → IsOutcome q orders deals found (verdict.Accepted a) → before ≡ None
+    of_before None found rules outcome = refl
+    of_before (Some finding) found rules outcome =
+        absurd (apart finding (subst (λ (o : Option Finding). IsOutcome q orders deals o (verdict.Accepted a)) rules outcome))
+
+module _ (q : Question) (orders trades : Log) (certificate text : List ℕ) (the_status : Status) where
+  -- what was written agrees, so that it is not refused
+  agreed : (a : Accepted) → IsLogVerdict q orders trades (verdict.Accepted a) → (is : IsCertificateOf q orders trades certificate) → VerifiesRecords q.symbol certificate is.entries is.paired the_status text
+      → the_status ≡ status.Accepted
+  agreed a accepted is verified =
+      let judged : IsJudged q is.entries is.paired (verdict.Accepted a) = rw (is.logs.records, is.logs.trades_are) at accepted in
+      let none : log_finding q.rule q.symbol is.entries is.paired ≡ None = none_before q is.entries is.paired a judged in
+      let admits = same_call q.rule (order_list q.symbol is.entries) (asks q.rule q.symbol _ _ certificate is.agrees) in
+      let same : log_finding rule.Uniform q.symbol is.entries is.paired ≡ None =
+      ap (λ (i : Option Finding). first_of (history_finding q.symbol is.entries ∷ i ∷ pairing_finding is.paired ∷ unsound_trade (order_list q.symbol is.entries) q.symbol (paired_trades is.paired) ∷ [])) (sym admits) ∙ none in
+      let came : Verifies q.symbol (order_list q.symbol is.entries) (deals_of (order_list q.symbol is.entries) q.symbol (paired_trades is.paired)) certificate the_status text = rw same at verified in
+      ⊎_elim (λ verified. verified.status_is) (λ disproved. absurd (disproved.none q.rule is.agrees)) came
+
+  of_verdict : (v : Verdict) → IsLogVerdict q orders trades v → ReportsWith (IsCertificateOf q orders trades) v status.Accepted certificate
+      → ((is : IsCertificateOf q orders trades certificate) → VerifiesRecords q.symbol certificate is.entries is.paired the_status text) → the_status ≡ status.Accepted
+  of_verdict (verdict.Accepted a) accepted reports verified = agreed a accepted reports.is (verified reports.is)
+  of_verdict (verdict.Rejected f) accepted reports verified = absurd (apart reports.status_is)
+    where
+      apart : status.Accepted ≡ status.Rejected → ⊥
+      apart e = cc
+  of_verdict (verdict.Malformed log bad) accepted reports verified = absurd (apart reports.status_is)
+    where
+      apart : status.Accepted ≡ status.Malformed → ⊥
+      apart e = cc
+
+pub certified-verified : CertifiedIsVerified
+certified-verified q orders trades certificate text the_status certified verified =
+    of_verdict q orders trades certificate text the_status certified.verdict certified.is certified.reports
+    (λ is. rw (is.logs.records, is.logs.trades_are) at verified)

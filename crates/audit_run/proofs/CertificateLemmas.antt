@@ -1,0 +1,205 @@
+-- The command `verify`: the certificate is read after both logs.
+use Rattle.std.proofs.Common.{◌≡◌, ◌∙◌, sym, subst, refl, inl, inr, ⊎_elim, ℕ, ◌≤◌, true, false, List, [], ◌∷◌, Some, Result, Ok, Err, arith}
+use Rattle.std.specs.Prelude.{is_ok}
+use Rattle.audit_base.specs.declared.faults.BadPlace.{BadPlace}
+use Rattle.audit_base.specs.declared.findings.Finding.{Finding}
+use Rattle.audit_base.specs.declared.records.OrderRecord.{OrderRecord}
+use Rattle.audit_base.specs.declared.records.TradeRecord.{TradeRecord}
+use Rattle.audit_base.specs.declared.terms.Rule.TheVariants as rule
+use Rattle.audit_base.specs.declared.terms.Which.{Which}
+use Rattle.audit_base.specs.declared.terms.Which.TheVariants.{Orders, Trades}
+use Rattle.audit_report.specs.Lines.{read_fault_line, too_long_line}
+use Rattle.log_source.specs.Sources.{Slot, longest_log}
+use Rattle.audit_run.specs.declared.before_rule.BeforeRule.{BeforeRule}
+use Rattle.audit_run.specs.declared.before_rule.BeforeRule.TheVariants as upto
+use Rattle.audit_run.specs.declared.questions.Question.{Question}
+use Rattle.audit_run.specs.declared.questions.Source.{Source}
+use Rattle.audit_run.specs.declared.reports.Report.{Report}
+use Rattle.audit_run.specs.declared.requests.Request.{Request}
+use Rattle.audit_run.specs.declared.stops.Stop.{Stop}
+use Rattle.audit_run.specs.declared.stops.Stop.TheVariants as stop
+use Rattle.audit_run.specs.Auditing.{verify_of, DecidesReport, IsAfterOrders, IsLogStop, IsStop, OrdersComeTo, ReadsUpToRule, StaysWithin, StaysWithinAt, TradesComeTo}
+use Rattle.audit_run.specs.Certificates.{IsVerifyReport}
+use Rattle.audit_run.specs.Collecting.{step_of, IsReadAs, TouchesOnly}
+use Rattle.audit_run.specs.Judgements.{question}
+use Rattle.audit_run.specs.JudgedReports.{VerifiesAs}
+use Rattle.audit_run.specs.LogVerdicts.{log_in, order_log, trade_log}
+use Rattle.audit_run.specs.Reporting.{DecidesLog, SaysReport}
+use Rattle.audit_run.specs.Requests.{next_log}
+use Rattle.audit_run.specs.Runs.{IsText, ReadsOn, StopsAtLog}
+use Rattle.audit_run.specs.Steps.{Reading, Step, IsRead, IsReadFault, IsTooLong, Lead, NeverFall, with_slot}
+use Rattle.audit_run.specs.UpToRule.{is_malformed, IsBeforeRule}
+use Rattle.audit_run.proofs.AuditLemmas.{joined}
+use Rattle.audit_run.proofs.ReportLemmas.{text-of, verify-status}
+
+not_both : true ≡ false → ⊥
+not_both e = cc
+
+-- a trade log that is not in its grammar starts no certificate
+pub bad_trades : (q : Question) (entries : List OrderRecord) (said : Result (Result (List TradeRecord) Finding) BadPlace) (reached : BeforeRule) → TradesComeTo q entries said reached → is_malformed reached ≡ true
+    → is_ok said ≡ false
+bad_trades q entries (Err bad) reached come malformed = refl
+bad_trades q entries (Ok paired) (upto.Malformed log bad) come malformed = absurd come
+bad_trades q entries (Ok paired) (upto.Found finding) come malformed = absurd (not_both (sym malformed))
+bad_trades q entries (Ok paired) (upto.Sound resolved) come malformed = absurd (not_both (sym malformed))
+
+-- Both logs were read, are in their grammars, and come to this.
+pub record BothRead (r : Reading) (q : Question) (orders trades : Source) (reached : BeforeRule) : Type 0 where
+  pub one : List ℕ
+  pub two : List ℕ
+  pub entries : List OrderRecord
+  pub paired : Result (List TradeRecord) Finding
+  pub read_one : IsRead r (step_of r Orders orders.name.now) one
+  pub read_two : IsRead r (step_of r Trades trades.name.now) two
+  pub orders_are : order_log orders.form one ≡ Ok entries
+  pub trades_are : trade_log trades.form two ≡ Ok paired
+  pub come : IsBeforeRule q entries paired reached
+
+pub both_read : (r : Reading) (q : Question) (orders trades : Source) (reached : BeforeRule) → is_malformed reached ≡ false → ReadsUpToRule r q orders trades reached → BothRead r q orders trades reached
+both_read r q orders trades reached good is = of_orders (order_log orders.form is.bytes) refl is.holds
+  where
+    no_bad : (log : Which) (bad : BadPlace) → reached ≡ upto.Malformed log bad → ⊥
+    no_bad log bad e = not_both (rw e at good)
+
+    of_trades : (entries : List OrderRecord) → order_log orders.form is.bytes ≡ Ok entries → (after : IsAfterOrders r q trades entries reached) → (said : Result (Result (List TradeRecord) Finding) BadPlace)
+        → trade_log trades.form after.bytes ≡ said → TradesComeTo q entries said reached → BothRead r q orders trades reached
+    of_trades entries e after (Ok paired) f come = record {
+      one = is.bytes;
+      two = after.bytes;
+      entries = entries;
+      paired = paired;
+      read_one = is.read;
+      read_two = after.read;
+      orders_are = e;
+      trades_are = f;
+      come = come;
+    }
+    of_trades entries e after (Err bad) f come = absurd (no_bad Trades bad come)
+
+    of_orders : (said : Result (List OrderRecord) BadPlace) → order_log orders.form is.bytes ≡ said → OrdersComeTo r q trades said reached → BothRead r q orders trades reached
+    of_orders (Ok entries) e after = of_trades entries e after (trade_log trades.form after.bytes) refl after.holds
+    of_orders (Err bad) e (same, untouched) = absurd (no_bad Orders bad same)
+
+-- The second reading goes on where the first ended, on the same shelf.
+pub record Continues (first second : Reading) : Type 0 where
+  pub tells : second.tells ≡ first.tells
+  pub logs : (log : Which) (name : List ℕ) → second.log_of log name ≡ first.log_of log name
+  pub slots : (log : Which) → second.before log ≡ first.after log
+
+module _ (first second : Reading) (after : Continues first second) (later : NeverFall first) (only : TouchesOnly second Trades) (symbol : List ℕ) (orders trades : Source) (certificate : List ℕ) where
+  abbrev whole : Reading
+  whole = joined first second
+
+  abbrev asked : Question
+  asked = question rule.Uniform symbol false
+
+  abbrev request : Request
+  request = verify_of symbol orders trades certificate
+
+  abbrev first_step : Step
+  first_step = step_of first Orders orders.name.now
+
+  abbrev second_step : Step
+  second_step = step_of first Trades trades.name.now
+
+  abbrev third_step : Step
+  third_step = step_of second Trades certificate
+
+  three_lead : Lead whole.before (first_step ∷ second_step ∷ third_step ∷ []) whole.after
+  three_lead = (record { at = refl; later = later Orders }, (record { at = refl; later = later Trades }, (record { at = after.slots Trades; later = only.later }, ends)))
+    where
+      ends : (log : Which) → whole.after log ≡ with_slot (with_slot (with_slot whole.before Orders (first.after Orders)) Trades (first.after Trades)) Trades (second.after Trades) log
+      ends Orders = only.other ∙ after.slots Orders
+      ends Trades = refl
+
+  read_first : (step : Step) (bytes : List ℕ) → IsRead first step bytes → IsRead whole step bytes
+  read_first step bytes is = record { started = is.started; at_end = is.at_end; within = is.within; taken = is.taken; known = is.known }
+
+  read_third : (bytes : List ℕ) → IsRead second third_step bytes → IsRead whole third_step bytes
+  read_third bytes is = record {
+    started = is.started;
+    at_end = is.at_end;
+    within = is.within;
+    taken = is.taken;
+    known = λ t. sym (after.logs Trades certificate) ∙ is.known (after.tells ∙ t);
+  }
+
+  module _ (reached : BeforeRule) (both : BothRead first asked orders trades reached) where
+    second_next : next_log request (both.one ∷ []) ≡ Some (Trades, trades.name.now)
+    second_next = rw both.orders_are refl
+
+    third_next : next_log request (both.one ∷ both.two ∷ []) ≡ Some (Trades, certificate)
+    third_next = rw both.trades_are refl
+
+    two_read : ReadsOn whole request [] (first_step ∷ second_step ∷ []) (both.one ∷ both.two ∷ [])
+    two_read = (both.one, record { next = refl; read = read_first first_step both.one both.read_one }, (both.two, record { next = second_next; read = read_first second_step both.two both.read_two }, refl))
+
+    three_read : (bytes : List ℕ) → IsRead second third_step bytes → ReadsOn whole request [] (first_step ∷ second_step ∷ third_step ∷ []) (both.one ∷ both.two ∷ bytes ∷ [])
+    three_read bytes read = (
+      both.one,
+      record { next = refl; read = read_first first_step both.one both.read_one },
+      (
+        both.two,
+        record { next = second_next; read = read_first second_step both.two both.read_two },
+        (bytes, record { next = third_next; read = read_third bytes read }, refl),
+      ),
+    )
+
+    certificate_text : (report : Report) → IsReadAs second Trades certificate (λ bytes. SaysReport (VerifiesAs symbol reached bytes) report) → IsText whole request report.status report.text.items
+    certificate_text report is =
+        let verified : IsVerifyReport symbol (log_in orders.form both.one) (log_in trades.form both.two) is.bytes report.status report.text.items =
+        is.holds (log_in orders.form both.one) (log_in trades.form both.two) (rw (both.orders_are, both.trades_are) both.come) in
+        text-of whole request report.status report.text.items (verify-status symbol (log_in orders.form both.one) (log_in trades.form both.two) is.bytes report.status report.text.items verified)
+        (record {
+          steps = first_step ∷ second_step ∷ third_step ∷ [];
+          logs = both.one ∷ both.two ∷ is.bytes ∷ [];
+          lead = three_lead;
+          read = three_read is.bytes is.read;
+          all = refl;
+          report = verified;
+        })
+
+    stops_third : (why : Reading → Step → Type 0) (line : Which → List ℕ) → why whole third_step → StopsAtLog why line whole request (line Trades)
+    stops_third why line cause = record {
+      steps = first_step ∷ second_step ∷ [];
+      logs = both.one ∷ both.two ∷ [];
+      last = third_step;
+      lead = three_lead;
+      read = two_read;
+      next = third_next;
+      cause = cause;
+      text_is = refl;
+    }
+
+    third_fault : IsReadFault second third_step → IsReadFault whole third_step
+    third_fault (inl rose) = inl rose
+    third_fault (inr (t, none)) = inr (sym after.tells ∙ t, sym (after.logs Trades certificate) ∙ none)
+
+    third_long : IsTooLong second third_step → IsTooLong whole third_step
+    third_long is = record { taken = is.taken; longer = λ t. rw (← after.logs Trades certificate) (is.longer (after.tells ∙ t)) }
+
+    certificate_stop : (the_stop : Stop) → IsLogStop second Trades certificate the_stop → IsStop whole request the_stop
+    certificate_stop (stop.ReadFault log) (is, fault) = rw is (stops_third IsReadFault read_fault_line (third_fault fault))
+    certificate_stop (stop.TooLong log) (is, long) = rw is (stops_third IsTooLong too_long_line (third_long long))
+    certificate_stop stop.Memory is = tt
+
+    -- what is decided of the certificate is decided of the whole call
+    pub decides_certificate : (result : Result Report Stop) → DecidesLog second Trades certificate (VerifiesAs symbol reached) result → DecidesReport whole request result
+    decides_certificate (Ok report) is = certificate_text report is
+    decides_certificate (Err the_stop) is = certificate_stop the_stop is
+
+  at_most : (a b c : ℕ) → a ≤ b → b ≤ c → a ≤ c
+  at_most a b c x y = omega arith
+
+  pub later_certificate : NeverFall whole
+  later_certificate Orders = subst (λ (s : Slot). (first.before Orders).faults ≤ s.faults) (sym (only.other ∙ after.slots Orders)) (later Orders)
+  later_certificate Trades =
+      at_most (first.before Trades).faults (first.after Trades).faults (second.after Trades).faults (later Trades)
+      (subst (λ (s : Slot). s.faults ≤ (second.after Trades).faults) (after.slots Trades) only.later)
+
+  pub within_certificate : (reached : BeforeRule) (result : Result Report Stop) → StaysWithin {T = BeforeRule} first (Ok reached) → StaysWithinAt second Trades result → StaysWithin whole result
+  within_certificate reached result before stays begins = ⊎_elim (λ stop. inl stop) (λ taken. ⊎_elim (λ none. absurd none) (λ ends. inr (all_within taken ends)) (before begins)) stays
+    where
+      all_within : (second.after Trades).taken ≤ longest_log → ((log : Which) → (first.after log).taken ≤ longest_log) → (log : Which) → (whole.after log).taken ≤ longest_log
+      all_within taken ends Orders = subst (λ (s : Slot). s.taken ≤ longest_log) (sym (only.other ∙ after.slots Orders)) (ends Orders)
+      all_within taken ends Trades = taken

@@ -1,0 +1,20 @@
+use Rattle.std.proofs.Common.{◌∙◌, ap, inl, inr}
+use Rattle.audit_report.specs.Certificates.{verified_line}
+use Rattle.audit_run.proofs.JudgeLemmas.{ok-then}
+use Rattle.audit_run.proofs.verifying.report_sound.Goals as goal
+
+pub returns-in-Ok : goal.returns-in-Ok
+returns-in-Ok c =
+    let agrees = rw (c.orders-orders.ensures.same, c.deref.ensures.value) at c.in-Ok.ensures.agrees in
+    let conforms = rw (c.orders-orders.ensures.same, c.deref.ensures.value) at c.in-Ok.ensures.conforms in
+    ok-then c.verified_report.result _ _
+    (λ report made. inl (record { the_rule = c.in-Ok.rule; agrees = agrees; conforms = conforms; status_is = made.status_is; text_is = made.text_is ∙ ap (verified_line c.in-Ok.rule c.args.symbol.now) (rw c.deref-in-Ok.ensures.value at c.volume_of.ensures) }))
+    c.verified_report.ensures
+
+pub returns-in-No : goal.returns-in-No
+returns-in-No c =
+    let first = rw (c.in-No.is, c.orders-orders.ensures.same, c.deref.ensures.value) at c.in-Err.ensures.refused in
+    let none = rw (c.in-No.is, c.orders-orders.ensures.same, c.deref.ensures.value) at c.in-Err.ensures.only in
+    ok-then c.refused_report.result _ _
+    (λ report made. inr (record { line = c.in-No.line; first = first; none = none; status_is = made.status_is; text_is = made.text_is }))
+    c.refused_report.ensures

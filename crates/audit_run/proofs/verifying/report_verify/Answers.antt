@@ -1,0 +1,37 @@
+use Rattle.std.proofs.Common.{refl, sym, subst, ◌∙◌, false, ℕ, List}
+use Rattle.audit_base.specs.declared.terms.Rule.TheVariants as rule
+use Rattle.audit_run.specs.Auditing.{verify_of}
+use Rattle.audit_run.specs.Certificates.{IsVerifyReport}
+use Rattle.audit_run.specs.Judgements.{question}
+use Rattle.audit_run.specs.LogVerdicts.{log_in, trade_log}
+use Rattle.audit_run.specs.Requests.{log_at}
+use Rattle.audit_run.specs.Steps.{reading}
+use Rattle.audit_run.proofs.BothLogsLemmas.{both_stop, both_text}
+use Rattle.audit_run.proofs.CertificateLemmas.{bad_trades, both_read, decides_certificate}
+use Rattle.audit_run.proofs.ReportLemmas.{verify-status}
+use Rattle.audit_run.proofs.verifying.report_verify.Goals as goal
+
+pub returns-then-is_malformed-clause-decides : goal.returns-then-is_malformed-clause-decides
+returns-then-is_malformed-clause-decides g c =
+    let malformed = sym c.is_malformed.ensures ∙ c.if-is_malformed.true in
+    both_text (reading g.F.Shelf c.args.shelf.now c.read_both.new.shelf) c.in-Ok.ensures.later (question rule.Uniform c.args.symbol.now false) c.args.orders.now c.args.trades.now
+    (verify_of c.args.symbol.now c.args.orders.now c.args.trades.now c.args.certificate.now) (record { first = refl; second = λ bytes. refl }) c.in-Ok.reached
+    _ _
+    (λ logs short come. subst (λ (bytes : List ℕ). IsVerifyReport c.args.symbol.now (log_in c.args.orders.now.form (log_at logs 0)) (log_in c.args.trades.now.form (log_at logs 1)) bytes
+    c.in_ok-verify_report-in-Ok.field-0.status c.in_ok-verify_report-in-Ok.field-0.text.items) (sym short) (c.in_ok-verify_report-in-Ok.ensures _ _ come))
+    (λ first second entries e come. rw (bad_trades (question rule.Uniform c.args.symbol.now false) entries (trade_log c.args.trades.now.form second) c.in-Ok.reached come malformed) refl)
+    (λ logs is. verify-status _ _ _ _ _ _ is) c.in-Ok.ensures.decides
+
+pub returns-else-is_malformed-clause-decides : goal.returns-else-is_malformed-clause-decides
+returns-else-is_malformed-clause-decides g c =
+    let good = sym c.is_malformed.ensures ∙ c.if-is_malformed.false in
+    decides_certificate (reading g.F.Shelf c.args.shelf.now c.read_both.new.shelf) (reading g.F.Shelf c.read_both.new.shelf c.report_certificate.new.shelf)
+    (record { tells = c.in-Ok.ensures.logs.tells; logs = c.in-Ok.ensures.logs.logs; slots = λ log. refl }) c.in-Ok.ensures.later c.report_certificate.ensures.only
+    c.args.symbol.now c.args.orders.now c.args.trades.now c.args.certificate.now c.in-Ok.reached
+    (both_read (reading g.F.Shelf c.args.shelf.now c.read_both.new.shelf) (question rule.Uniform c.args.symbol.now false) c.args.orders.now c.args.trades.now c.in-Ok.reached good c.in-Ok.ensures.decides)
+    c.report_certificate.result c.report_certificate.ensures.decides
+
+pub returns-in-Err-clause-decides : goal.returns-in-Err-clause-decides
+returns-in-Err-clause-decides g c =
+    both_stop (reading g.F.Shelf c.args.shelf.now c.read_both.new.shelf) c.in-Err.ensures.later (question rule.Uniform c.args.symbol.now false) c.args.orders.now c.args.trades.now
+    (verify_of c.args.symbol.now c.args.orders.now c.args.trades.now c.args.certificate.now) (record { first = refl; second = λ bytes. refl }) c.in-Err.stop c.in-Err.ensures.decides

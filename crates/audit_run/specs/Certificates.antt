@@ -1,0 +1,85 @@
+-- What the commands about certificates report: `certify` and `verify`.
+use Rattle.std.specs.Prelude.{◌≡◌, ◌⊎◌, ℕ, List, Result, MatchOption}
+use Rattle.audit_base.specs.declared.findings.Finding.{Finding}
+use Rattle.audit_base.specs.declared.orders.Deal.{Deal}
+use Rattle.audit_base.specs.declared.orders.Order.{Order}
+use Rattle.audit_base.specs.declared.records.OrderRecord.{OrderRecord}
+use Rattle.audit_base.specs.declared.records.TradeRecord.{TradeRecord}
+use Rattle.audit_base.specs.declared.terms.Rule.{Rule}
+use Rattle.audit_base.specs.declared.terms.Rule.TheVariants as rule
+use Rattle.audit_base.specs.Deals.{volume}
+use Rattle.audit_base.specs.Histories.{order_list}
+use Rattle.audit_base.specs.Rules.{Conforms}
+use Rattle.audit_base.specs.Trades.{deals_of}
+use Rattle.audit_base.specs.Verdicts.{log_finding, paired_trades}
+use Rattle.audit_certificate.specs.Agreement.{Agrees, AgreesUnderNone, IsCertificate, IsFirstRefused}
+use Rattle.audit_report.specs.declared.statuses.Status.{Status}
+use Rattle.audit_report.specs.declared.statuses.Status.TheVariants as status
+use Rattle.audit_report.specs.declared.verdicts.Verdict.{Verdict}
+use Rattle.audit_report.specs.declared.verdicts.Verdict.TheVariants.{Accepted, Rejected, Malformed}
+use Rattle.audit_report.specs.Certificates.{refused_line, verified_line}
+use Rattle.audit_run.specs.declared.questions.Question.{Question}
+use Rattle.audit_run.specs.LogVerdicts.{Log, HaveRecords, IsLogVerdict, OfLogs}
+use Rattle.audit_run.specs.OtherTexts.{IsDone, IsRefused}
+
+-- The logs have orders and deals, and the text is their certificate, which agrees.
+pub record IsCertificateOf (q : Question) (orders trades : Log) (text : List ℕ) : Type 0 where
+  pub entries : List OrderRecord
+  pub paired : Result (List TradeRecord) Finding
+  pub logs : HaveRecords orders trades entries paired
+  pub certificate : let history = order_list q.symbol entries in
+      IsCertificate q.rule q.symbol history (deals_of history q.symbol (paired_trades paired)) text
+  pub agrees : let history = order_list q.symbol entries in
+      Agrees q.rule q.symbol history (deals_of history q.symbol (paired_trades paired)) text
+
+-- what `audit` reports of a verdict, with a text of this kind in the place of the accepted text
+abbrev pub ReportsWith : (List ℕ → Type 0) → Verdict → Status → List ℕ → Type 0
+ReportsWith is_text (Accepted accepted) status text = IsDone is_text status text
+ReportsWith is_text (Rejected finding) status text = IsRefused (Rejected finding) status text
+ReportsWith is_text (Malformed log bad) status text = IsRefused (Malformed log bad) status text
+
+-- `certify`: what `audit` reports of two logs, with their certificate in the place of the accepted text
+pub record IsCertifyReport (q : Question) (orders trades : Log) (status : Status)
+    (text : List ℕ) : Type 0 where
+  pub verdict : Verdict
+  pub is : IsLogVerdict q orders trades verdict
+  pub reports : ReportsWith (IsCertificateOf q orders trades) verdict status text
+
+-- The certificate agrees under a rule, to which the deals then conform, and the line says so.
+pub record IsVerified (symbol : List ℕ) (orders : List Order) (deals : List Deal)
+    (certificate : List ℕ) (the_status : Status) (text : List ℕ) : Type 0 where
+  pub the_rule : Rule
+  pub agrees : Agrees the_rule symbol orders deals certificate
+  pub conforms : Conforms the_rule orders deals
+  pub status_is : the_status ≡ status.Accepted
+  pub text_is : text ≡ verified_line the_rule symbol (volume deals)
+
+-- The certificate agrees under no rule, and the line has the number of its first line that is refused.
+pub record IsDisproved (symbol : List ℕ) (orders : List Order) (deals : List Deal)
+    (certificate : List ℕ) (the_status : Status) (text : List ℕ) : Type 0 where
+  pub line : ℕ
+  pub first : IsFirstRefused symbol orders deals certificate line
+  pub none : AgreesUnderNone symbol orders deals certificate
+  pub status_is : the_status ≡ status.Rejected
+  pub text_is : text ≡ refused_line line
+
+-- what is reported of a certificate over sound trades
+abbrev pub Verifies : List ℕ → List Order → List Deal → List ℕ → Status → List ℕ → Type 0
+Verifies symbol orders deals certificate the_status text =
+    IsVerified symbol orders deals certificate the_status text
+    ⊎ IsDisproved symbol orders deals certificate the_status text
+
+-- records with a finding before a rule of a call is looked at are refused; else what came of the certificate is reported
+abbrev pub VerifiesRecords : List ℕ → List ℕ → List OrderRecord
+    → Result (List TradeRecord) Finding → Status → List ℕ → Type 0
+VerifiesRecords symbol certificate entries paired the_status text =
+    let orders = order_list symbol entries in
+    MatchOption (log_finding rule.Uniform symbol entries paired)
+    (Verifies symbol orders (deals_of orders symbol (paired_trades paired)) certificate the_status text)
+    (λ finding. IsRefused (Rejected finding) the_status text)
+
+-- `verify`: logs out of their grammar are refused; else what their records and the certificate come to is reported
+abbrev pub IsVerifyReport : List ℕ → Log → Log → List ℕ → Status → List ℕ → Type 0
+IsVerifyReport symbol orders trades certificate the_status text =
+    OfLogs (λ entries paired. VerifiesRecords symbol certificate entries paired the_status text)
+    (λ log bad. IsRefused (Malformed log bad) the_status text) orders trades

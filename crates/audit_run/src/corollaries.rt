@@ -1,0 +1,31 @@
+//! What follows from the contract of `run` where the shelf or the sink is one in memory.
+ghost use Rattle.std.specs.Prelude.{◌≡◌, ◌≢◌, [], Option};
+ghost use Rattle.audit_report.specs.declared.statuses.Status.{Status};
+ghost use Rattle.log_source.specs.MemorySinks.{failing_writes, length_of, memory_state, room_of};
+ghost use Rattle.log_source.specs.Sinks.{SinkState, Stays};
+ghost use Rattle.log_source.specs.declared.memory_sink.MemorySink.{MemorySink};
+ghost use Rattle.log_source.specs.declared.quiet_shelf.QuietShelf.{QuietShelf};
+ghost use Rattle.audit_run.specs.declared.requests.Request.{Request};
+ghost use Rattle.audit_run.specs.Corollaries.{HasRoomForText};
+ghost use Rattle.audit_run.specs.Runs.{Runs};
+ghost use Rattle.audit_run.specs.Steps.{Reading, reading};
+
+use log_source::quiet_shelf::QuietShelf;
+use log_source::shelf::Shelf;
+
+/// Over a shelf that never fails the answer is never `ReadFault`, whatever the words and the sink.
+pub fn a_quiet_shelf_is_read()
+    ensures { (asked : Option Request) (old new : QuietShelf) (before after : SinkState)
+        (answer : Status) → Runs asked (reading ⟦<QuietShelf as Shelf>⟧ old new) before after answer
+        → answer ≢ Status.ReadFault }
+{}
+
+/// Into a sink in memory none of whose writes is to fail, and which has room for every text that the call
+/// may write, the answer is never `WriteFault`, whatever the words and the shelf.
+pub fn a_sink_with_room_is_written()
+    ensures { (asked : Option Request) (r : Reading) (old new : MemorySink) (answer : Status)
+        → failing_writes old ≡ [] → HasRoomForText asked r (length_of old) (room_of old)
+        → Stays (memory_state old) (memory_state new)
+        → Runs asked r (memory_state old) (memory_state new) answer
+        → answer ≢ Status.WriteFault }
+{}
