@@ -1,0 +1,2 @@
+-- What an example wants of a run.
+pub mod Comparisons
