@@ -23,7 +23,8 @@ abbrev pub IfFound : {A : Type 0} → Result A HistoryFault → (Finding → Typ
 IfFound result P = (finding : Finding) → result ≡ Err (Found finding) → P finding
 
 -- the answer to an order log
-pub record IsAnswer (symbol : List ℕ) (entries : List OrderRecord) (result : Result (List Order) HistoryFault) : Type 0 where
+pub record IsAnswer (symbol : List ℕ) (entries : List OrderRecord)
+    (result : Result (List Order) HistoryFault) : Type 0 where
   pub well_formed : OnOk result (WellFormed symbol entries)
   pub orders : IfOk result (λ orders. orders ≡ order_list symbol entries)
   pub market : AreRecordsMarketPriced entries → IfOk result AreMarketPriced

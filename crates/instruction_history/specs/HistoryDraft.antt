@@ -9,7 +9,8 @@ use Rattle.instruction_history.specs.Draft.{IsKnown}
 use Rattle.instruction_history.specs.MarketPrices.{AreRecordsMarketPriced, AreMarketPriced}
 
 -- the draft of the symbol's history has been handed exactly these records of the order log
-pub record IsHistoryDraft {S : Type 0} (symbol : List ℕ) (draft : HistoryDraft S) (entries : List OrderRecord) : Type 0 where
+pub record IsHistoryDraft {S : Type 0} (symbol : List ℕ) (draft : HistoryDraft S)
+    (entries : List OrderRecord) : Type 0 where
   pub named : draft.symbol ≡ symbol
   pub count : draft.count ≡ length entries
   pub known : IsKnown (history symbol entries) draft.so_far draft.finding

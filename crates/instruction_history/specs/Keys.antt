@@ -1,6 +1,6 @@
 -- What the keys of a history name, as a map holds it.
 use Rattle.std.specs.Prelude.{◌≡◌, Option, Some, if◌then◌else◌}
-use Rattle.std.specs.HashMap.{get}
+use Rattle.indexmap.specs.IndexMap.{get}
 use Rattle.audit_base.specs.declared.names.Key.{Key}
 use Rattle.audit_base.specs.Orders.{same_key}
 use Rattle.instruction_history.specs.declared.keys.Keys.{Keys}

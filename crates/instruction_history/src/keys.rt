@@ -5,9 +5,9 @@ ghost use Rattle.instruction_history.specs.Keys.{seen_in, AddsKey};
 
 use audit_base::faults::NoMemory;
 use audit_base::names::Key;
+use indexmap::IndexMap;
 use seeded_hash::seed::HashSeed;
 use std::alloc::Global;
-use std::collections::HashMap;
 
 /// What a key names.
 #[derive(Clone, Copy)]
@@ -21,7 +21,7 @@ pub(crate) struct Seen {
 /// What the keys of the records so far name.
 #[derive(Drop)]
 pub(crate) struct Keys {
-    map: HashMap<Key, Seen, HashSeed>,
+    map: IndexMap<Key, Seen, HashSeed>,
 }
 
 impl Keys {
@@ -30,7 +30,7 @@ impl Keys {
         ensures { (key : Key) → seen_in result key ≡ None }
     {
         Keys {
-            map: HashMap::with_hasher(alloc, seed),
+            map: IndexMap::with_hasher(alloc, seed),
         }
     }
 

@@ -11,7 +11,8 @@ sure_room (_ ∷ _) room = 0
 
 -- what the sink stands at: it tells all that was written
 abbrev pub memory_state : MemorySink → SinkState
-memory_state sink = record { wrote = Some (sink.bytes.items); faults = sink.faults; sure = sure_room sink.fails.items sink.room }
+memory_state sink =
+    record { wrote = Some (sink.bytes.items); faults = sink.faults; sure = sure_room sink.fails.items sink.room }
 
 -- how many bytes the sink can hold
 abbrev pub room_of : MemorySink → ℕ

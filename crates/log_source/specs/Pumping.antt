@@ -13,7 +13,8 @@ IsFront shelves which name shelf bytes =
     shelves.tells shelf ≡ true → IfSome (shelves.log_of shelf which name) (λ log. StartsWith log bytes)
 
 -- The feed stands for the bytes that were taken, which are the whole log where the shelf tells.
-pub record StandsForWhole {F D : Type 0} (shelves : shelf.Ghosts F) (feeds : feed.Ghosts D) (which : Which) (name : List ℕ) (old new : F) (feed : D) : Type 0 where
+pub record StandsForWhole {F D : Type 0} (shelves : shelf.Ghosts F) (feeds : feed.Ghosts D)
+    (which : Which) (name : List ℕ) (old new : F) (feed : D) : Type 0 where
   pub bytes : List ℕ
   pub stands : feeds.stands_for feed bytes
   pub within : length bytes ≤ longest_log
@@ -21,7 +22,8 @@ pub record StandsForWhole {F D : Type 0} (shelves : shelf.Ghosts F) (feeds : fee
   pub whole : IsWhole shelves which name old bytes
 
 -- The feed stands for exactly the bytes that were taken, a front of the log.
-pub record StandsForTaken {F D : Type 0} (shelves : shelf.Ghosts F) (feeds : feed.Ghosts D) (which : Which) (name : List ℕ) (old new : F) (feed : D) : Type 0 where
+pub record StandsForTaken {F D : Type 0} (shelves : shelf.Ghosts F) (feeds : feed.Ghosts D)
+    (which : Which) (name : List ℕ) (old new : F) (feed : D) : Type 0 where
   pub bytes : List ℕ
   pub stands : feeds.stands_for feed bytes
   pub within : length bytes ≤ longest_log
@@ -29,7 +31,8 @@ pub record StandsForTaken {F D : Type 0} (shelves : shelf.Ghosts F) (feeds : fee
   pub front : IsFront shelves which name old bytes
 
 -- The feed stands for a front of the log, no longer than a log may be.
-pub record StandsForFront {F D : Type 0} (shelves : shelf.Ghosts F) (feeds : feed.Ghosts D) (which : Which) (name : List ℕ) (old new : F) (feed : D) : Type 0 where
+pub record StandsForFront {F D : Type 0} (shelves : shelf.Ghosts F) (feeds : feed.Ghosts D)
+    (which : Which) (name : List ℕ) (old new : F) (feed : D) : Type 0 where
   pub bytes : List ℕ
   pub stands : feeds.stands_for feed bytes
   pub within : length bytes ≤ longest_log

@@ -31,13 +31,16 @@ abbrev pub Rose : ℕ → ℕ → Type 0
 Rose old new = (old < new) ⊎ (new ≡ 2 ^ 64 - 1)
 
 -- Only this slot may have changed: whether the shelf tells, its logs and its other slot stay.
-pub record ChangesOnly {F : Type 0} (tells : F → Bool) (log_of : F → Which → List ℕ → Option (List ℕ)) (slot : F → Which → Slot) (which : Which) (old new : F) : Type 0 where
+pub record ChangesOnly {F : Type 0} (tells : F → Bool)
+    (log_of : F → Which → List ℕ → Option (List ℕ)) (slot : F → Which → Slot) (which : Which)
+    (old new : F) : Type 0 where
   pub tells_stays : tells new ≡ tells old
   pub logs_stay : (w : Which) (n : List ℕ) → log_of new w n ≡ log_of old w n
   pub other_stays : slot new (other_of which) ≡ slot old (other_of which)
 
 -- What a start does to its slot. `log` is what the shelf has under the name, known where it tells.
-pub record Starts {T : Type 0} (tells : Bool) (log : Option (List ℕ)) (old new : Slot) (result : Result T StartFault) : Type 0 where
+pub record Starts {T : Type 0} (tells : Bool) (log : Option (List ℕ)) (old new : Slot)
+    (result : Result T StartFault) : Type 0 where
   pub fresh : new.taken ≡ 0
   pub later : old.faults ≤ new.faults
   pub started : new.started ≡ is_ok result

@@ -25,13 +25,15 @@ IsWhole shelves which name shelf bytes = shelves.tells shelf ≡ true → shelve
 -- What taking a whole log does to its slot. After `Ok` the log was read to its end. It is too long
 -- exactly where more was taken than a log may hold. `Fault` comes only where the slot's faults rose, or
 -- where the shelf tells and has no such log.
-pub record Takes {F T : Type 0} (shelves : shelf.Ghosts F) (which : Which) (name : List ℕ) (old new : F) (result : Result T TakeFault) : Type 0 where
+pub record Takes {F T : Type 0} (shelves : shelf.Ghosts F) (which : Which) (name : List ℕ)
+    (old new : F) (result : Result T TakeFault) : Type 0 where
   pub later : (shelves.slot old which).faults ≤ (shelves.slot new which).faults
   pub started : OnOk result ((shelves.slot new which).started ≡ true)
   pub at_end : OnOk result (IsAtEnd (shelves.slot new which).left)
   pub too_long : IsErrOf result take.TooLong ↔ (longest_log < (shelves.slot new which).taken)
   pub longer : IsErrOf result take.TooLong → HasTooLong shelves which name old
-  pub fault : IsErrOf result take.Fault → Rose (shelves.slot old which).faults (shelves.slot new which).faults ⊎ LacksLog shelves which name old
+  pub fault : IsErrOf result take.Fault
+      → Rose (shelves.slot old which).faults (shelves.slot new which).faults ⊎ LacksLog shelves which name old
 
 -- what a call that takes a whole log answers where the start failed so
 abbrev pub of_start : StartFault → TakeFault

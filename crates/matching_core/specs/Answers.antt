@@ -25,7 +25,8 @@ abbrev pub IsNoMatching : Bool → List Order → List Deal → Type 0
 IsNoMatching uniform orders deals = Matching orders deals → OnTrue uniform (OnePrice deals) → ⊥
 
 -- the answer to the trades of a symbol
-pub record AreResolved (orders : List Order) (symbol : List ℕ) (trades : List TradeRecord) (result : Result (Vec Deal Global) CheckFault) : Type 0 where
+pub record AreResolved (orders : List Order) (symbol : List ℕ) (trades : List TradeRecord)
+    (result : Result (Vec Deal Global) CheckFault) : Type 0 where
   pub sound : OnOk result (Sound orders symbol trades)
   pub deals : IfOk result (λ deals. deals.items ≡ deals_of orders symbol trades)
   pub deal_list : IfOk result (λ deals. IsDealList orders deals.items)

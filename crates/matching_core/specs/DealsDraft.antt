@@ -9,7 +9,8 @@ use Rattle.matching_core.specs.declared.deals_draft.DealsDraft.{DealsDraft}
 use Rattle.matching_core.specs.DealsSoFar.{IsDealsSoFar}
 
 -- the draft of the symbol's deals between these orders has been handed exactly these records of the trade log
-pub record IsDealsDraft {M : Type 0} (symbol : List ℕ) (orders : List Order) (draft : DealsDraft M) (trades : List TradeRecord) : Type 0 where
+pub record IsDealsDraft {M : Type 0} (symbol : List ℕ) (orders : List Order)
+    (draft : DealsDraft M) (trades : List TradeRecord) : Type 0 where
   pub named : draft.symbol ≡ symbol
   pub among : draft.history ≡ orders
   pub so_far : IsDealsSoFar orders symbol draft.so_far trades

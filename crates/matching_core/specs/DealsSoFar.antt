@@ -1,7 +1,7 @@
 -- The trades of a symbol one by one: what is known after some of them.
 use Rattle.std.specs.Prelude.{◌≡◌, ℕ, List, [], ◌∷◌, ◌++◌, Option, None, Some, is_none, map, option_map, option_and_then, length, slice_get, if◌then◌else◌}
 use Rattle.std.specs.Option.{option_or}
-use Rattle.std.specs.HashMap.{get}
+use Rattle.indexmap.specs.IndexMap.{get}
 use Rattle.audit_base.specs.declared.names.Key.{Key}
 use Rattle.audit_base.specs.declared.terms.Side.{Side}
 use Rattle.audit_base.specs.declared.terms.Side.TheVariants.{Buy, Sell}
@@ -77,7 +77,8 @@ IsKnown orders listed kept None = IsResolved orders listed kept
 IsKnown orders listed kept (Some finding) = finding_in orders listed ≡ Some finding
 
 -- the symbol's part of exactly these records of the trade log is known
-pub record IsDealsSoFar {M : Type 0} (orders : List Order) (symbol : List ℕ) (so_far : DealsSoFar M) (trades : List TradeRecord) : Type 0 where
+pub record IsDealsSoFar {M : Type 0} (orders : List Order) (symbol : List ℕ)
+    (so_far : DealsSoFar M) (trades : List TradeRecord) : Type 0 where
   pub count : so_far.count ≡ length trades
   pub known : IsKnown orders (trades_of symbol trades) so_far.sound so_far.finding
 

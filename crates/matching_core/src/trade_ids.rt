@@ -4,14 +4,14 @@ ghost use Rattle.matching_core.specs.DealsSoFar.{first_in, AddsId};
 
 use audit_base::faults::NoMemory;
 use audit_base::names::Name;
+use indexmap::IndexMap;
 use seeded_hash::seed::HashSeed;
 use std::alloc::Global;
-use std::collections::HashMap;
 
 /// For each trade id the place of its first trade.
 #[derive(Drop)]
 pub(crate) struct TradeIds {
-    map: HashMap<Name, u32, HashSeed>,
+    map: IndexMap<Name, u32, HashSeed>,
 }
 
 impl TradeIds {
@@ -20,7 +20,7 @@ impl TradeIds {
         ensures { (id : List ℕ) → first_in result id ≡ None }
     {
         TradeIds {
-            map: HashMap::with_hasher(alloc, seed),
+            map: IndexMap::with_hasher(alloc, seed),
         }
     }
 

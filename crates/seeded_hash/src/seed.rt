@@ -1,6 +1,6 @@
 //! Seeds of hashes: drawn, or made of two numbers.
-ghost use Rattle.std.specs.Prelude.{◌≡◌};
-ghost use Rattle.seeded_hash.specs.Seeds.{seeded_hasher};
+ghost use Rattle.std.specs.Prelude.{◌≡◌, IfOk};
+ghost use Rattle.seeded_hash.specs.Seeds.{seeded_hasher, IsOfTwoNumbers};
 
 use std::fmt::{Debug, Formatter};
 use std::hash::{BuildHasher, DefaultHasher, Hasher};
@@ -26,13 +26,17 @@ impl HashSeed {
     }
 
     /// The seed that is the same at each run. Who knows it can choose keys that hash alike.
-    pub fn fixed() -> HashSeed {
+    pub fn fixed() -> HashSeed
+        ensures { result.start ≡ seeded_hasher 0 0 }
+    {
         HashSeed::of(0, 0)
     }
 
     /// A seed that nobody knows beforehand: 16 bytes of the source. An error comes exactly where the source
     /// gives one.
-    pub fn random(source: &impl RandomSource) -> io::Result<HashSeed> {
+    pub fn random(source: &impl RandomSource) -> io::Result<HashSeed>
+        ensures { IfOk result IsOfTwoNumbers }
+    {
         let mut bytes = [0; 16];
         source.fill_bytes(&mut bytes)?;
         let both = u128::from_le_bytes(bytes);
