@@ -1,5 +1,5 @@
 //! The bytes of one line: what is taken off it, whether it may be read, and its fields.
-ghost use Rattle.std.specs.Prelude.{◌≡◌, ◌==◌, ◌+◌, ◌<◌, ◌^◌, ◌++◌, ◌∷◌, false, not, IfOk, IsTrue, MatchOption, drop, count_by};
+ghost use Rattle.std.specs.Prelude.{◌≡◌, ◌==◌, ◌%◌, ◌+◌, ◌<◌, ◌^◌, ◌++◌, ◌∷◌, false, not, IfOk, IsTrue, MatchOption, drop, count_by};
 ghost use Rattle.std.specs.List.{list_all, list_any};
 ghost use Rattle.csv.specs.Reading.{default_config, strip_bom};
 ghost use Rattle.csv_logs.specs.Columns.{is_broken, is_printable, is_quote, is_unquoted_byte, line_fields};
@@ -64,23 +64,40 @@ pub(crate) fn split_line(text: &[u8]) -> Option<(&[u8], &[u8])>
     Some((&text[..at], &text[at + 1..]))
 }
 
+/// Whether a byte is printable.
+fn is_printable_byte(byte: u8) -> bool
+    ensures { result ≡ is_printable byte }
+{
+    (0x20 <= byte) & (byte <= 0x7E)
+}
+
+/// Whether a line has printable bytes alone. A loop with no way out takes many bytes at once.
 fn is_printable(line: &[u8]) -> bool
     ensures { result ≡ list_all is_printable line.now }
 {
-    line.iter().all(|byte| *byte >= 0x20 && *byte <= 0x7E)
+    let mut printable = true;
+    for byte in line {
+        printable &= is_printable_byte(*byte);
+    }
+    printable
 }
 
-fn count_quotes(line: &[u8]) -> usize
-    ensures { result ≡ count_by is_quote line.now }
+/// Whether a line has an odd number of quotes.
+fn has_odd_quotes(line: &[u8]) -> bool
+    ensures { result ≡ (count_by is_quote line.now % 2 == 1) }
 {
-    line.iter().filter(|byte| **byte == b'"').count()
+    let mut odd = false;
+    for byte in line {
+        odd ^= *byte == b'"';
+    }
+    odd
 }
 
 /// Whether a line has a byte outside 0x20 to 0x7E, or an odd number of quotes.
 pub(crate) fn is_broken(line: &[u8]) -> bool
     ensures { result ≡ is_broken line.now }
 {
-    !is_printable(line) || count_quotes(line) % 2 == 1
+    !is_printable(line) || has_odd_quotes(line)
 }
 
 /// Whether a byte is printable and no quote.
@@ -90,8 +107,7 @@ fn is_unquoted_byte(byte: u8) -> bool
     (0x20 <= byte) & (byte <= 0x7E) & (byte != b'"')
 }
 
-/// Whether a line has printable bytes alone, and no quote. A loop with no way out takes many bytes at
-/// once.
+/// Whether a line has printable bytes alone, and no quote.
 pub(crate) fn is_unquoted(line: &[u8]) -> bool
     ensures { result ≡ list_all is_unquoted_byte line.now }
 {
@@ -112,17 +128,29 @@ pub(crate) enum Place {
     AfterQuote,
 }
 
-/// The place behind one more byte of a line.
+/// The place behind a byte that is read outside of quotes.
+fn place_behind_unquoted(place: Place, byte: u8) -> Place
+    requires outside { IsTrue (not (is_quoted (state_of place))) }
+    requires printable { IsTrue (is_printable byte) }
+    ensures { state_of result ≡ (step default_config (state_of place) byte).0 }
+{
+    match place {
+        Place::FieldStart | Place::AfterQuote if byte == b'"' => Place::InQuotes,
+        _ if byte == b',' => Place::FieldStart,
+        _ => Place::InField,
+    }
+}
+
+/// The place behind one more byte of a line. Most bytes of a quoted line stand within quotes, where
+/// only a quote is looked for.
 fn place_behind(place: Place, byte: u8) -> Place
     requires { IsTrue (is_printable byte) }
     ensures { state_of result ≡ (step default_config (state_of place) byte).0 }
 {
     match place {
-        Place::FieldStart | Place::AfterQuote if byte == b'"' => Place::InQuotes,
         Place::InQuotes if byte == b'"' => Place::AfterQuote,
         Place::InQuotes => Place::InQuotes,
-        _ if byte == b',' => Place::FieldStart,
-        _ => Place::InField,
+        _ => place_behind_unquoted(place, byte),
     }
 }
 

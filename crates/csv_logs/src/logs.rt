@@ -1,5 +1,5 @@
 //! Reading a log that is there as a whole.
-ghost use Rattle.std.specs.Prelude.{◌≤◌, All, IfOk, length};
+ghost use Rattle.std.specs.Prelude.{◌≤◌, All, IfOk, length, vec_len};
 ghost use Rattle.audit_base.specs.Columns.{order_columns, trade_columns};
 ghost use Rattle.csv_logs.specs.Logs.{read_log, order_log, trade_log, IsOnlyReading};
 ghost use Rattle.csv_logs.specs.OrderLines.{order_entry};
@@ -20,6 +20,7 @@ fn entries_of<R: LogEntry>(alloc: Global, bytes: &[u8]) -> Result<Vec<R>, LogFau
     requires { length bytes.now ≤ longest_log }
     ensures reads { IsReadAs (read_log R.names R.meaning bytes.now) result }
     ensures sound { IfOk result (λ entries. All R.sound entries.items) }
+    ensures few { IfOk result (λ entries. vec_len entries ≤ longest_log) }
     ensures unique { let reading = read_log R.names R.meaning bytes.now in
         IsOnlyReading R.names R.meaning bytes.now reading }
 {
@@ -33,11 +34,13 @@ fn entries_of<R: LogEntry>(alloc: Global, bytes: &[u8]) -> Result<Vec<R>, LogFau
 /// the first bad line, over all symbols; its offset is that of the line's first byte, the byte order
 /// mark and empty lines counted; its reason is the first test that the line fails. A missing header is
 /// bad at the log's length. Each log is good with one list or bad at one place, and never both. A
-/// market order has the market price of its side. The answer is `Memory` where there was too little.
+/// market order has the market price of its side. The answer is `Memory` where there was too little. There
+/// are no more records than the log has bytes.
 pub fn csv_orders_of(alloc: Global, bytes: &[u8]) -> Result<Vec<OrderRecord>, LogFault>
     requires { length bytes.now ≤ longest_log }
     ensures reads { IsReadAs (order_log bytes.now) result }
     ensures priced { IfOk result (λ entries. All HasMarketPrice entries.items) }
+    ensures few { IfOk result (λ entries. vec_len entries ≤ longest_log) }
     ensures unique { IsOnlyReading order_columns order_entry bytes.now (order_log bytes.now) }
 {
     entries_of(alloc, bytes)
@@ -48,6 +51,7 @@ pub fn csv_orders_of(alloc: Global, bytes: &[u8]) -> Result<Vec<OrderRecord>, Lo
 pub fn csv_trades_of(alloc: Global, bytes: &[u8]) -> Result<Vec<TradeRecord>, LogFault>
     requires { length bytes.now ≤ longest_log }
     ensures reads { IsReadAs (trade_log bytes.now) result }
+    ensures few { IfOk result (λ entries. vec_len entries ≤ longest_log) }
     ensures unique { IsOnlyReading trade_columns trade_entry bytes.now (trade_log bytes.now) }
 {
     entries_of(alloc, bytes)

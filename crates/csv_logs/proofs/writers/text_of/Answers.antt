@@ -1,4 +1,4 @@
-use Rattle.std.proofs.Common.{◌≡◌, sym, subst, Result, Ok, Err}
+use Rattle.std.proofs.Common.{sym, subst, Result, Ok, Err}
 use Rattle.std.specs.Prelude.{OnOk}
 use Rattle.std.proofs.lemmas.List.{take_all, take_more}
 use Rattle.csv_logs.specs.WrittenLines.{IsLogText}
