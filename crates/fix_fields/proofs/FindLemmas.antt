@@ -11,7 +11,7 @@ use Rattle.fix_fields.specs.TagSearch.{found_of, has_tag}
 use Rattle.fix_fields.proofs.SearchLemmas.{first_is}
 
 -- what fails everywhere is counted nowhere
-count_none : {X : Type 0} (p : X → Bool) (xs : List X) → All (λ x. p x ≡ false) xs → count_by p xs ≡ 0
+pub count_none : {X : Type 0} (p : X → Bool) (xs : List X) → All (λ x. p x ≡ false) xs → count_by p xs ≡ 0
 count_none p [] h = refl
 count_none {X} p (x ∷ xs) h =
     let here : p x ≡ false = All-head (λ (y : X). p y ≡ false) x xs h in

@@ -1,3 +1,4 @@
+mod EndLemmas
 pub mod FindLemmas
 pub mod GrammarLemmas
 pub mod LawLemmas
@@ -6,3 +7,5 @@ pub mod RefusalLemmas
 pub mod SearchLemmas
 pub mod TagLemmas
 pub mod PlaceLemmas
+pub mod NoteLemmas
+pub mod ShortTagLemmas

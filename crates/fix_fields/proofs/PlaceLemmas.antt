@@ -6,7 +6,7 @@ use Rattle.memchr.specs.Find.{IsFirst, IsFirstByte, Nowhere, Passes, TakesFirst,
 
 module _ (test : ℕ → Bool) (hay : List ℕ) where
   -- where a place fails, the first one is that of the places behind it
-  fails-here : (i j : ℕ) → test (get_or hay i 0) ≡ false → Nowhere (Passes test hay) (i + 1) j → Nowhere (Passes test hay) i j
+  pub fails-here : (i j : ℕ) → test (get_or hay i 0) ≡ false → Nowhere (Passes test hay) (i + 1) j → Nowhere (Passes test hay) i j
   fails-here i j fails none k low high passes = elim (cases_lt i k) [
     | inl later ↦ none k (omega (arith, later)) high passes
     | inr here ↦

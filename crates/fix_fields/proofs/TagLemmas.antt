@@ -51,7 +51,7 @@ both_true true b h = (refl, h)
 both_true false b h = (cc)
 
 -- a text in the form of a tag is read as the number that its digits write
-form_of : (text : List ℕ) (tag : ℕ) → 48 < get_or text 0 0 → 0 < length text → length text ≤ 9 → list_all is_ascii_digit text ≡ true → digits_value 10 text ≡ tag → tag_form text ≡ Some tag
+pub form_of : (text : List ℕ) (tag : ℕ) → 48 < get_or text 0 0 → 0 < length text → length text ≤ 9 → list_all is_ascii_digit text ≡ true → digits_value 10 text ≡ tag → tag_form text ≡ Some tag
 form_of text tag first some short digits value =
     let first_test : eqb (get_or text 0 0) 48 ≡ false = search (rules, nat_tests) in
     let some_test : leb 1 (length text) ≡ true = search (rules, nat_tests) in

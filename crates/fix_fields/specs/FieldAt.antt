@@ -1,13 +1,20 @@
 -- One field of a body, by the byte at which it begins.
 use Rattle.std.specs.Prelude.{◌≡◌, ◌≢◌, ℕ, Bool, false, ◌+◌, ◌<◌, ◌==◌, Option, List, [], ◌∷◌, ◌++◌, length, take, drop}
+use Rattle.std.specs.Fmt.{decimal}
 use Rattle.audit_base.specs.Sizes.{soh}
 use Rattle.fix_fields.specs.declared.field.Field.{Field}
-use Rattle.fix_fields.specs.Grammar.{TagValue, IsField, field_bytes}
+use Rattle.fix_fields.specs.Grammar.{TagValue, IsField, IsTag, field_bytes}
 use Rattle.fix_fields.specs.Ranges.{HasRangeIn, shown, range_of}
 
 -- whether the byte is `=` (61)
 abbrev pub is_equals_sign : ℕ → Bool
 is_equals_sign byte = byte == 61
+
+-- the tag and `=` stand at the front, as so many bytes
+pub record IsTagAt (bytes : List ℕ) (tag size : ℕ) : Type 0 where
+  pub form : IsTag tag
+  pub split : bytes ≡ decimal tag ++ 61 ∷ drop size bytes
+  pub counted : size ≡ length (decimal tag) + 1
 
 -- a value of n bytes stands at the front, and SOH behind it
 pub record EndsAt (bytes : List ℕ) (n : ℕ) : Type 0 where

@@ -8,7 +8,9 @@ pub mod Grammar
 pub mod Ranges
 pub mod Refusals
 pub mod TagSearch
+pub mod TagNotes
 -- fields that are read again as they were written
 pub mod Ordinary
 -- Part 2. What the private functions pass on to one another.
 pub mod FieldAt
+pub mod Ends

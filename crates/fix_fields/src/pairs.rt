@@ -8,6 +8,10 @@ ghost use Rattle.fix_fields.specs.Pairs.{length_tag_of};
 pub fn length_tag(data_tag: u32) -> Option<u32>
     ensures { result ≡ length_tag_of data_tag }
 {
+    // All data tags are greater than those that most fields have.
+    if data_tag < 89 {
+        return None;
+    }
     match data_tag {
         91 => Some(90),
         89 => Some(93),

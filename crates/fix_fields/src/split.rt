@@ -1,16 +1,19 @@
 //! Reads a body as its list of fields, in one pass from left to right.
-ghost use Rattle.std.specs.Prelude.{◌≡◌, ◌≤◌, ℕ, List, [], length, drop, IfOk, IfErr, IfSome, IfNone, IsOk, IsOkAnd, OnOk, OnErr};
+ghost use Rattle.std.specs.Prelude.{◌≡◌, ◌≤◌, ◌+◌, ℕ, List, [], length, drop, IfOk, IfErr, IfSome, IfNone, IsOk, IsOkAnd, OnOk, OnErr};
 ghost use Rattle.std.specs.Option.{option_map, ForSome};
 ghost use Rattle.std.specs.Result.{IsErrOf};
 ghost use Rattle.audit_base.specs.Sizes.{longest_body};
+ghost use Rattle.fix_fields.specs.Ends.{HoldsEnds};
 ghost use Rattle.fix_fields.specs.Refusals.{Refuses, OrMemory};
 ghost use Rattle.fix_fields.specs.Grammar.{TagValue, Fields, IsUnreadable, LacksType, NoField};
 ghost use Rattle.fix_fields.specs.Ranges.{AreFieldsOf, HasRangeIn, all_shown, shown};
 ghost use Rattle.fix_fields.specs.FieldAt.{BeginsAt, first_is_type};
 
+use crate::ends::ends_of;
 use crate::field::{Field, FieldFault};
 use crate::tags::tag_at;
 use crate::values::value_size;
+use memchr::Memchr;
 use std::alloc::Global;
 
 const MSG_TYPE: u32 = 35;
@@ -78,10 +81,11 @@ fn append_fields(body: &[u8], list: &mut Vec<Field>) -> Result<(), FieldFault>
         → OrMemory result (IsErrOf result (FieldFault.Field n)) }
     ensures untyped { LacksType body.now → OrMemory result (IsErrOf result FieldFault.MsgType) }
 {
+    let mut ends = ends_of(body);
     let mut before = None;
     let mut at = 0;
     while at < body.len() {
-        let Some(field) = field_at(body, at, before) else {
+        let Some(field) = field_at(body, at, before, &mut ends) else {
             return Err(FieldFault::Field(at as u32));
         };
         list.push(field)?;
@@ -95,17 +99,19 @@ fn append_fields(body: &[u8], list: &mut Vec<Field>) -> Result<(), FieldFault>
     }
 }
 
-/// The field that begins at byte `at`, where `before` is the field right before it; None exactly
-/// where no field can be read there.
-fn field_at(body: &[u8], at: usize, before: Option<Field>) -> Option<Field>
+/// The field that begins at byte `at`, where `before` is the field right before it, and `ends` gives
+/// the SOH bytes from there on; None exactly where no field can be read there.
+fn field_at(body: &[u8], at: usize, before: Option<Field>, ends: &mut Memchr<'_>) -> Option<Field>
     requires before { ForSome before (λ f. HasRangeIn body.now f) }
     requires at { at ≤ length body.now }
+    requires ends { HoldsEnds body.now at ends.old }
     ensures found { IfSome result (BeginsAt body.now at (option_map (shown body.now) before)) }
     ensures none { IfNone result (NoField (option_map (shown body.now) before) (drop at body.now)) }
+    ensures ends { IfSome result (λ field. HoldsEnds body.now (field.to + 1) ends.new) }
 {
     let (tag, size) = tag_at(&body[at..])?;
     let from = at + size;
-    let size = value_size(body, before, tag, &body[from..])?;
+    let size = value_size(body, before, tag, from, ends)?;
     Some(Field {
         tag,
         from,

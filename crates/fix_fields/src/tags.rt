@@ -1,9 +1,9 @@
 //! The tag of a field: 1 to 9 digits without a leading zero, and `=`.
-ghost use Rattle.std.specs.Prelude.{◌≡◌, ◌≢◌, ◌+◌, ◌∷◌, ◌++◌, ℕ, List, length, take, drop, position, IfSome, IfNone};
+ghost use Rattle.std.specs.Prelude.{◌≡◌, ◌≢◌, ◌≤◌, ◌+◌, ◌∷◌, ◌++◌, ℕ, List, length, take, drop, position, slice_index, IfSome, IfNone};
 ghost use Rattle.std.specs.Fmt.{decimal};
 ghost use Rattle.fix_fields.specs.Forms.{tag_form};
 ghost use Rattle.fix_fields.specs.Grammar.{IsTag};
-ghost use Rattle.fix_fields.specs.FieldAt.{is_equals_sign};
+ghost use Rattle.fix_fields.specs.FieldAt.{IsTagAt, is_equals_sign};
 
 use audit_base::digits::read_digits;
 
@@ -19,9 +19,57 @@ pub fn tag_at(bytes: &[u8]) -> Option<(u32, usize)>
     ensures none { IfNone result ((tag : ℕ) (more : List ℕ)
         → IsTag tag → bytes.now ≢ decimal tag ++ 61 ∷ more) }
 {
+    if let Some(found) = short_tag_at(bytes) {
+        return Some(found);
+    }
     let size = equals_sign(bytes)?;
     let tag = tag_of(&bytes[..size])?;
     Some((tag, size + 1))
+}
+
+/// The same of a tag of two or three digits, as most tags are, with no loop. None says nothing.
+fn short_tag_at(bytes: &[u8]) -> Option<(u32, usize)>
+    ensures { IfSome result (λ t. IsTagAt bytes.now t.0 t.1) }
+{
+    if bytes.len() < 4 {
+        None
+    } else if bytes[2] == b'=' {
+        two_digits(bytes)
+    } else if bytes[3] == b'=' {
+        three_digits(bytes)
+    } else {
+        None
+    }
+}
+
+/// The same of a tag of two digits.
+fn two_digits(bytes: &[u8]) -> Option<(u32, usize)>
+    requires long { 4 ≤ length bytes.now }
+    requires here { slice_index bytes.now 2 ≡ 61 }
+    ensures { IfSome result (λ t. IsTagAt bytes.now t.0 t.1) }
+{
+    if bytes[0] == b'0' || !bytes[0].is_ascii_digit() || !bytes[1].is_ascii_digit() {
+        return None;
+    }
+    let (tens, ones) = ((bytes[0] - b'0') as u32, (bytes[1] - b'0') as u32);
+    Some((tens * 10 + ones, 3))
+}
+
+/// The same of a tag of three digits.
+fn three_digits(bytes: &[u8]) -> Option<(u32, usize)>
+    requires long { 4 ≤ length bytes.now }
+    requires here { slice_index bytes.now 3 ≡ 61 }
+    ensures { IfSome result (λ t. IsTagAt bytes.now t.0 t.1) }
+{
+    if bytes[0] == b'0'
+        || !bytes[0].is_ascii_digit()
+        || !bytes[1].is_ascii_digit()
+        || !bytes[2].is_ascii_digit()
+    {
+        return None;
+    }
+    let (hundreds, tens) = ((bytes[0] - b'0') as u32, (bytes[1] - b'0') as u32);
+    Some((hundreds * 100 + tens * 10 + (bytes[2] - b'0') as u32, 4))
 }
 
 /// Where the first `=` stands among the bytes that a tag and its `=` may have.

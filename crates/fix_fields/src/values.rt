@@ -1,35 +1,46 @@
 //! The value of a field, and the SOH behind it.
-ghost use Rattle.std.specs.Prelude.{◌≡◌, Some, length, take, IfSome, IfNone};
+ghost use Rattle.std.specs.Prelude.{◌≡◌, ◌≤◌, ◌+◌, Some, length, take, drop, IfSome, IfNone};
 ghost use Rattle.std.specs.Option.{option_map, ForSome};
 ghost use Rattle.audit_base.specs.Sizes.{soh};
 ghost use Rattle.memchr.specs.Find.{IsFirstByte, is_byte};
+ghost use Rattle.fix_fields.specs.Ends.{HoldsEnds};
 ghost use Rattle.fix_fields.specs.Forms.{length_form};
 ghost use Rattle.fix_fields.specs.Grammar.{IsDelimited, HasForm};
 ghost use Rattle.fix_fields.specs.Ranges.{HasRangeIn, shown};
 ghost use Rattle.fix_fields.specs.FieldAt.{EndsAt, NoValue};
 
+use crate::ends::next_end;
 use crate::field::Field;
 use crate::pairs::length_tag;
 use audit_base::digits::read_digits;
 use audit_base::sizes::SOH;
-use memchr::memchr_iter;
+use memchr::Memchr;
 
-/// The number of bytes of the value at the front of the bytes, where `before` is the field of the
-/// body right before the field with this tag. None exactly where no value in its form and SOH stand
-/// at the front.
-pub fn value_size(body: &[u8], before: Option<Field>, tag: u32, bytes: &[u8]) -> Option<usize>
-    requires { ForSome before (λ f. HasRangeIn body.now f) }
-    ensures end { IfSome result (EndsAt bytes.now) }
+/// The number of bytes of the value at the byte `from` of the body, where `before` is the field right
+/// before the field with this tag, and `ends` gives the SOH bytes from there on. None exactly where no
+/// value in its form and SOH stand there.
+pub fn value_size(
+    body: &[u8],
+    before: Option<Field>,
+    tag: u32,
+    from: usize,
+    ends: &mut Memchr<'_>,
+) -> Option<usize>
+    requires before { ForSome before (λ f. HasRangeIn body.now f) }
+    requires from { from ≤ length body.now }
+    requires ends { HoldsEnds body.now from ends.old }
+    ensures end { IfSome result (EndsAt (drop from body.now)) }
     ensures form { IfSome result (λ n.
-        HasForm (option_map (shown body.now) before) tag (take n bytes.now)) }
+        HasForm (option_map (shown body.now) before) tag (take n (drop from body.now))) }
     ensures none { IfNone result
-        (NoValue (HasForm (option_map (shown body.now) before) tag) bytes.now) }
+        (NoValue (HasForm (option_map (shown body.now) before) tag) (drop from body.now)) }
+    ensures ends { IfSome result (λ n. HoldsEnds body.now (from + n + 1) ends.new) }
 {
     match before {
         Some(length) if length_tag(tag) == Some(length.tag) => {
-            data_size(&body[length.from..length.to], bytes)
+            data_size(&body[length.from..length.to], &body[from..])
         }
-        _ => delimited_size(bytes),
+        _ => delimited_size(body, from, ends),
     }
 }
 
@@ -48,20 +59,26 @@ fn data_size(count: &[u8], bytes: &[u8]) -> Option<usize>
     }
 }
 
-/// Where the first SOH stands. It is mostly near, and there the iterator of `memchr` looks first.
-fn first_soh(bytes: &[u8]) -> Option<usize>
-    ensures { IsFirstByte (is_byte soh) bytes.now result }
+/// How far the first SOH at the byte `from` or behind it is from there.
+fn first_soh(body: &[u8], from: usize, ends: &mut Memchr<'_>) -> Option<usize>
+    requires from { from ≤ length body.now }
+    requires ends { HoldsEnds body.now from ends.old }
+    ensures first { IsFirstByte (is_byte soh) (drop from body.now) result }
+    ensures ends { IfSome result (λ n. HoldsEnds body.now (from + n + 1) ends.new) }
 {
-    let mut places = memchr_iter(SOH, bytes);
-    places.next()
+    let end = next_end(body, ends, from)?;
+    Some(end - from)
 }
 
 /// The same of any other field.
-fn delimited_size(bytes: &[u8]) -> Option<usize>
-    ensures end { IfSome result (EndsAt bytes.now) }
-    ensures form { IfSome result (λ n. IsDelimited (take n bytes.now)) }
-    ensures none { IfNone result (NoValue IsDelimited bytes.now) }
+fn delimited_size(body: &[u8], from: usize, ends: &mut Memchr<'_>) -> Option<usize>
+    requires from { from ≤ length body.now }
+    requires ends { HoldsEnds body.now from ends.old }
+    ensures end { IfSome result (EndsAt (drop from body.now)) }
+    ensures form { IfSome result (λ n. IsDelimited (take n (drop from body.now))) }
+    ensures none { IfNone result (NoValue IsDelimited (drop from body.now)) }
+    ensures ends { IfSome result (λ n. HoldsEnds body.now (from + n + 1) ends.new) }
 {
-    let size = first_soh(bytes)?;
+    let size = first_soh(body, from, ends)?;
     if size > 0 { Some(size) } else { None }
 }

@@ -3,17 +3,20 @@ ghost use Rattle.std.specs.Prelude.{◌≡◌, ◌≤◌, ◌∷◌, [], IfOk, I
 ghost use Rattle.fix_fields.specs.Grammar.{TagValue};
 ghost use Rattle.fix_fields.specs.Ranges.{AreFieldsOf, all_shown};
 ghost use Rattle.fix_messages.specs.declared.meanings.MessageFault.{MessageFault};
-ghost use Rattle.fix_messages.specs.Bodies.{body_says, fault_reason, reasoned};
+ghost use Rattle.fix_messages.specs.Bodies.{body_says, fault_reason, reasoned, report_said};
 ghost use Rattle.fix_messages.specs.Steps.{TakesSaid};
 ghost use Rattle.log_source.specs.Collectors.{HasPlace};
 ghost use Rattle.log_source.specs.Handing.{Adds};
 
-use crate::meanings::{MessageFault, OrderMeaning, Report, ReportMeaning};
-use crate::orders::order_of;
+use crate::meanings::{MessageFault, Report, ReportMeaning};
+use crate::message::Message;
+use crate::order_texts::OrderText;
+use crate::orders::order_text;
 use crate::reports::report_of;
 use audit_base::faults::{NoMemory, Reason};
 use audit_base::records::{OrderRecord, Traded};
 use fix_fields::field::{Field, FieldFault};
+use fix_fields::notes::TagNotes;
 use fix_fields::split::read_fields;
 use log_source::collector::Collector;
 
@@ -25,10 +28,17 @@ pub trait FixEntry: Traded {
     // What holds of every record that fields mean.
     ghost sound: { Self → Type 0 };
 
-    /// The record that the fields of a body mean, or nothing, or the first test that they fail.
-    fn of_fields(body: &[u8], fields: &[Field]) -> Result<Option<Self>, MessageFault>
-        requires { AreFieldsOf body.now fields.now }
-        ensures { result ≡ meaning (all_shown body.now fields.now) };
+    /// Hands the record that the fields of a body mean to a collector, if they mean one, and gives the
+    /// first test that they fail.
+    fn take_fields<K: Collector<Entry = Self>>(
+        entries: &mut K,
+        body: &[u8],
+        fields: &[Field],
+    ) -> Result<Result<(), Reason>, NoMemory>
+        requires fields { AreFieldsOf body.now fields.now }
+        requires place { HasPlace K.has_taken entries.old }
+        ensures { IfOk result (TakesSaid (reasoned (meaning (all_shown body.now fields.now)))
+            (K.has_taken entries.old) (K.has_taken entries.new)) };
 
     /// Every record that fields mean is sound. This call does nothing: it only has its contract.
     fn means_sound_records()
@@ -43,11 +53,14 @@ impl FixEntry for OrderRecord {
 
     ghost sound = { HasMarketPrice };
 
-    fn of_fields(body: &[u8], fields: &[Field]) -> Result<Option<OrderRecord>, MessageFault> {
-        match order_of(body, fields)? {
-            OrderMeaning::Skip => Ok(None),
-            OrderMeaning::Entry(entry) => Ok(Some(entry)),
-        }
+    fn take_fields<K: Collector<Entry = OrderRecord>>(
+        entries: &mut K,
+        body: &[u8],
+        fields: &[Field],
+    ) -> Result<Result<(), Reason>, NoMemory> {
+        let mut notes = TagNotes::new();
+        let message = Message::of(body, fields, &mut notes);
+        take_order(entries, order_text(&message))
     }
 
     fn means_sound_records() {}
@@ -61,11 +74,12 @@ impl FixEntry for Report {
 
     ghost sound = { λ _. ⊤ };
 
-    fn of_fields(body: &[u8], fields: &[Field]) -> Result<Option<Report>, MessageFault> {
-        match report_of(body, fields)? {
-            ReportMeaning::Skip => Ok(None),
-            ReportMeaning::Entry(report) => Ok(Some(report)),
-        }
+    fn take_fields<K: Collector<Entry = Report>>(
+        entries: &mut K,
+        body: &[u8],
+        fields: &[Field],
+    ) -> Result<Result<(), Reason>, NoMemory> {
+        take_report(entries, report_of(body, fields))
     }
 
     fn means_sound_records() {}
@@ -98,22 +112,57 @@ pub(crate) fn hand_on<R: Traded, K: Collector<Entry = R>>(
     }
 }
 
-/// Hands on the record that the fields of a message mean, if they mean one, and gives the first test that
-/// they fail.
-fn take_meaning<R: FixEntry, K: Collector<Entry = R>>(
+/// Hands on an order that stands in a message. Its record is made only where the collector looks at it.
+fn hand_on_order<K: Collector<Entry = OrderRecord>>(
     entries: &mut K,
-    meaning: Result<Option<R>, MessageFault>,
+    order: &OrderText<'_>,
+) -> Result<(), NoMemory>
+    requires { HasPlace K.has_taken entries.old }
+    ensures { OnOk result
+        (Adds (K.has_taken entries.old) (K.has_taken entries.new) (order.now ∷ [])) }
+{
+    if entries.wants(order.symbol()) {
+        entries.take(order.record())
+    } else {
+        entries.pass_over();
+        Ok(())
+    }
+}
+
+/// Hands on the order that a message means, if it means one, and gives the first test that it fails.
+fn take_order<K: Collector<Entry = OrderRecord>>(
+    entries: &mut K,
+    meaning: Result<Option<OrderText<'_>>, MessageFault>,
 ) -> Result<Result<(), Reason>, NoMemory>
     requires { HasPlace K.has_taken entries.old }
-    ensures { IfOk result (TakesSaid (reasoned meaning) (K.has_taken entries.old)
+    ensures { IfOk result (TakesSaid (reasoned meaning.entry) (K.has_taken entries.old)
         (K.has_taken entries.new)) }
 {
     match meaning {
-        Ok(Some(entry)) => {
-            hand_on(entries, entry)?;
+        Ok(Some(order)) => {
+            hand_on_order(entries, &order)?;
             Ok(Ok(()))
         }
         Ok(None) => Ok(Ok(())),
+        Err(fault) => Ok(Err(reason_of(fault))),
+    }
+}
+
+/// The same of a report.
+fn take_report<K: Collector<Entry = Report>>(
+    entries: &mut K,
+    meaning: Result<ReportMeaning, MessageFault>,
+) -> Result<Result<(), Reason>, NoMemory>
+    requires { HasPlace K.has_taken entries.old }
+    ensures { IfOk result (TakesSaid (reasoned (report_said meaning)) (K.has_taken entries.old)
+        (K.has_taken entries.new)) }
+{
+    match meaning {
+        Ok(ReportMeaning::Entry(report)) => {
+            hand_on(entries, report)?;
+            Ok(Ok(()))
+        }
+        Ok(ReportMeaning::Skip) => Ok(Ok(())),
         Err(fault) => Ok(Err(reason_of(fault))),
     }
 }
@@ -131,7 +180,7 @@ pub(crate) fn take_body<R: FixEntry, K: Collector<Entry = R>>(
         (K.has_taken entries.new)) }
 {
     match read_fields(body, fields) {
-        Ok(()) => take_meaning(entries, R::of_fields(body, fields)),
+        Ok(()) => R::take_fields(entries, body, fields),
         Err(fault) => match fault {
             FieldFault::Field(at) => Ok(Err(Reason::Field(at))),
             FieldFault::MsgType => Ok(Err(Reason::MsgType)),

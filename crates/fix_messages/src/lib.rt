@@ -19,6 +19,8 @@ mod log_tests;
 pub mod logs;
 pub mod meanings;
 mod message;
+mod name_text;
+mod order_texts;
 pub mod orders;
 pub mod pairing;
 pub mod pairing_draft;

@@ -35,11 +35,12 @@ fn entries_of<R: FixEntry>(alloc: Global, bytes: &[u8]) -> Result<Vec<R>, LogFau
 /// behind CR and LF bytes; its reason is the first test that the message fails: the tests of its
 /// frame, of its fields, and of the table of its type. Each log is good with one list or bad at one
 /// place, and never both. A market order has the market price of its side. The answer is `Memory` where
-/// there was too little.
+/// there was too little. There are no more records than the log has bytes.
 pub fn fix_orders_of(alloc: Global, bytes: &[u8]) -> Result<Vec<OrderRecord>, LogFault>
     requires { length bytes.now ≤ longest_log }
     ensures reads { IsReadAs (order_log bytes.now) result }
     ensures priced { IfOk result (λ entries. All HasMarketPrice entries.items) }
+    ensures few { IfOk result (λ entries. vec_len entries ≤ longest_log) }
     ensures unique { IsOnlyReading order_entry bytes.now (order_log bytes.now) }
 {
     entries_of(alloc, bytes)

@@ -6,14 +6,16 @@ ghost use Rattle.fix_messages.specs.Steps.{as_some_bytes};
 
 use crate::meanings::MessageFault;
 use fix_fields::field::{Field, Found};
-use fix_fields::find::find_field;
+use fix_fields::notes::TagNotes;
 use std::marker::Model;
 
-/// The body of a message, and where its fields stand in it. Contracts see the list of the fields.
+/// The body of a message, where its fields stand in it, and where their tags stand among these.
+/// Contracts see the list of the fields.
 #[derive(Drop)]
 pub(crate) struct Message<'a> {
     body: &'a [u8],
     fields: &'a [Field],
+    notes: &'a TagNotes,
 }
 
 impl<'a> Model for Message<'a> {
@@ -21,21 +23,28 @@ impl<'a> Model for Message<'a> {
     ghost use Rattle.std.specs.List.{All};
     ghost use Rattle.fix_fields.specs.Grammar.{TagValue};
     ghost use Rattle.fix_fields.specs.Ranges.{HasRangeIn, all_shown};
+    ghost use Rattle.fix_fields.specs.TagNotes.{AreNotesOf};
 
     ghost Value = { List TagValue };
 
     ghost view = { λ m. all_shown m.body.now m.fields.now };
 
-    ghost invariant = { λ m. All (HasRangeIn m.body.now) m.fields.now };
+    ghost invariant = { λ m.
+        All (HasRangeIn m.body.now) m.fields.now × AreNotesOf m.notes.now m.fields.now };
 }
 
 impl<'a> Message<'a> {
-    /// The message with these fields.
-    pub(crate) fn of(body: &'a [u8], fields: &'a [Field]) -> Message<'a>
+    /// The message with these fields, whose tags it notes.
+    pub(crate) fn of(body: &'a [u8], fields: &'a [Field], notes: &'a mut TagNotes) -> Message<'a>
         requires { AreFieldsOf body.now fields.now }
         ensures { result ≡ all_shown body.now fields.now }
     {
-        Message { body, fields }
+        notes.note(fields);
+        Message {
+            body,
+            fields,
+            notes,
+        }
     }
 
     /// The value of the first field, which is the message's type.
@@ -49,7 +58,7 @@ impl<'a> Message<'a> {
     pub(crate) fn only(&self, tag: u32) -> Result<Option<&[u8]>, MessageFault>
         ensures { as_some_bytes result ≡ only tag self.now }
     {
-        match find_field(self.fields, tag) {
+        match self.notes.find_field(self.fields, tag) {
             Found::Absent => Ok(None),
             Found::One(at) => Ok(Some(self.value(at))),
             Found::Many(_) => Err(MessageFault::Repeated(tag)),
@@ -70,7 +79,7 @@ impl<'a> Message<'a> {
     pub(crate) fn first(&self, tag: u32) -> &[u8]
         ensures { result.now ≡ value_of tag self.now }
     {
-        match find_field(self.fields, tag) {
+        match self.notes.find_field(self.fields, tag) {
             Found::Absent => &[],
             Found::One(at) => self.value(at),
             Found::Many(at) => self.value(at),

@@ -1,19 +1,20 @@
 //! The messages of an order log: new orders, cancels and replacements, by the table of each.
 ghost use Rattle.std.specs.Prelude.{◌≡◌};
 ghost use Rattle.fix_fields.specs.Ranges.{AreFieldsOf, all_shown};
+ghost use Rattle.fix_messages.specs.Bodies.{order_entry, order_said};
 ghost use Rattle.fix_messages.specs.OrderTables.{limits_form, limits_at, price_by, life_form, life_at, life_by, limit_form, limit_at, resting_form, resting_at, new_order, cancel, replacement, order_by, order_meaning};
 
 use crate::meanings::{MessageFault, OrderMeaning};
 use crate::message::Message;
+use crate::order_texts::{OrderParts, OrderText};
 use crate::rows::{
     absent_at, flag_at, is_copy, is_word, name_at, price_at, quantity_at, required, side_at,
     stamp_at, supported, word_at,
 };
-use audit_base::names::Key;
 use audit_base::numbers::{Price, market_price};
-use audit_base::records::OrderRecord;
 use audit_base::terms::{Life, Side};
 use fix_fields::field::Field;
+use fix_fields::notes::TagNotes;
 
 /// Whether an order takes any price (tag 40).
 #[derive(Clone, Copy)]
@@ -120,7 +121,7 @@ fn resting_at(tag: u32, message: &Message<'_>) -> Result<(), MessageFault>
 
 /// Type D, a new order.
 #[tactic(auto, unfolding(crate::specs::OrderTables::new_order))]
-fn new_order(message: &Message<'_>) -> Result<OrderRecord, MessageFault>
+fn new_order<'m>(message: &'m Message<'_>) -> Result<OrderText<'m>, MessageFault>
     ensures { result ≡ new_order message.now }
 {
     word_at(b"D", 35, message)?;
@@ -136,21 +137,22 @@ fn new_order(message: &Message<'_>) -> Result<OrderRecord, MessageFault>
     let life = life_by(limits, life_at(59, message)?);
     absent_at(110, message)?;
     absent_at(111, message)?;
-    let key = Key { firm, id };
-    Ok(OrderRecord::New {
-        key,
+    let parts = OrderParts::New {
+        firm,
+        id,
         time,
         symbol,
         side,
         quantity,
         price,
         life,
-    })
+    };
+    Ok(OrderText { parts })
 }
 
 /// Type F, a cancel.
 #[tactic(auto, unfolding(crate::specs::OrderTables::cancel))]
-fn cancel(message: &Message<'_>) -> Result<OrderRecord, MessageFault>
+fn cancel<'m>(message: &'m Message<'_>) -> Result<OrderText<'m>, MessageFault>
     ensures { result ≡ cancel message.now }
 {
     word_at(b"F", 35, message)?;
@@ -160,18 +162,19 @@ fn cancel(message: &Message<'_>) -> Result<OrderRecord, MessageFault>
     let time = stamp_at(60, message)?;
     let symbol = name_at(55, message)?;
     let target = name_at(41, message)?;
-    let key = Key { firm, id };
-    Ok(OrderRecord::Cancel {
-        key,
+    let parts = OrderParts::Cancel {
+        firm,
+        id,
         time,
         symbol,
         target,
-    })
+    };
+    Ok(OrderText { parts })
 }
 
 /// Type G, a replacement.
 #[tactic(auto, unfolding(crate::specs::OrderTables::replacement))]
-fn replacement(message: &Message<'_>) -> Result<OrderRecord, MessageFault>
+fn replacement<'m>(message: &'m Message<'_>) -> Result<OrderText<'m>, MessageFault>
     ensures { result ≡ replacement message.now }
 {
     word_at(b"G", 35, message)?;
@@ -188,29 +191,62 @@ fn replacement(message: &Message<'_>) -> Result<OrderRecord, MessageFault>
     resting_at(59, message)?;
     absent_at(110, message)?;
     absent_at(111, message)?;
-    let key = Key { firm, id };
-    Ok(OrderRecord::Replace {
-        key,
+    let parts = OrderParts::Replace {
+        firm,
+        id,
         time,
         symbol,
         target,
         side,
         quantity,
         price,
-    })
+    };
+    Ok(OrderText { parts })
 }
 
 fn order_by(kind: &[u8], message: &Message<'_>) -> Result<OrderMeaning, MessageFault>
     ensures { result ≡ order_by kind.now message.now }
 {
     if is_word(b"D", kind) {
-        Ok(OrderMeaning::Entry(new_order(message)?))
+        Ok(OrderMeaning::Entry(new_order(message)?.record()))
     } else if is_word(b"F", kind) {
-        Ok(OrderMeaning::Entry(cancel(message)?))
+        Ok(OrderMeaning::Entry(cancel(message)?.record()))
     } else if is_word(b"G", kind) {
-        Ok(OrderMeaning::Entry(replacement(message)?))
+        Ok(OrderMeaning::Entry(replacement(message)?.record()))
     } else {
         Ok(OrderMeaning::Skip)
+    }
+}
+
+fn order_text_by<'m>(
+    kind: &[u8],
+    message: &'m Message<'_>,
+) -> Result<Option<OrderText<'m>>, MessageFault>
+    ensures { result ≡ order_said (order_by kind.now message.now) }
+{
+    if is_word(b"D", kind) {
+        Ok(Some(new_order(message)?))
+    } else if is_word(b"F", kind) {
+        Ok(Some(cancel(message)?))
+    } else if is_word(b"G", kind) {
+        Ok(Some(replacement(message)?))
+    } else {
+        Ok(None)
+    }
+}
+
+/// The order that a message means, where it stands in the message, or nothing, or the first test that
+/// fails.
+#[tactic(auto, unfolding(crate::specs::OrderTables::order_meaning))]
+pub(crate) fn order_text<'m>(
+    message: &'m Message<'_>,
+) -> Result<Option<OrderText<'m>>, MessageFault>
+    ensures { result ≡ order_entry message.now }
+{
+    if is_copy(message) {
+        Ok(None)
+    } else {
+        order_text_by(message.kind(), message)
     }
 }
 
@@ -221,7 +257,8 @@ pub fn order_of(body: &[u8], fields: &[Field]) -> Result<OrderMeaning, MessageFa
     requires { AreFieldsOf body.now fields.now }
     ensures { result ≡ order_meaning (all_shown body.now fields.now) }
 {
-    let message = Message::of(body, fields);
+    let mut notes = TagNotes::new();
+    let message = Message::of(body, fields, &mut notes);
     if is_copy(&message) {
         Ok(OrderMeaning::Skip)
     } else {

@@ -10,6 +10,7 @@ use crate::rows::{
 };
 use audit_base::names::Key;
 use fix_fields::field::Field;
+use fix_fields::notes::TagNotes;
 
 /// Type 8 with execution type F, a report of a trade.
 #[tactic(auto, unfolding(crate::specs::ReportTable::trade_report))]
@@ -27,12 +28,15 @@ fn trade_report(message: &Message<'_>) -> Result<Report, MessageFault>
     let side = side_at(54, message)?;
     let quantity = quantity_at(32, message)?;
     let price = price_at(31, message)?;
-    let key = Key { firm, id };
+    let key = Key {
+        firm: firm.name(),
+        id: id.name(),
+    };
     Ok(Report {
-        trade,
+        trade: trade.name(),
         key,
         time,
-        symbol,
+        symbol: symbol.name(),
         side,
         quantity,
         price,
@@ -59,7 +63,8 @@ pub fn report_of(body: &[u8], fields: &[Field]) -> Result<ReportMeaning, Message
     requires { AreFieldsOf body.now fields.now }
     ensures { result ≡ report_meaning (all_shown body.now fields.now) }
 {
-    let message = Message::of(body, fields);
+    let mut notes = TagNotes::new();
+    let message = Message::of(body, fields, &mut notes);
     if is_passed_over(&message) {
         Ok(ReportMeaning::Skip)
     } else {

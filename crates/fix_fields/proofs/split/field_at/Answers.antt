@@ -1,4 +1,4 @@
-use Rattle.std.proofs.Common.{◌≢◌, ℕ, ◌+◌, ◌-◌, List, ◌∷◌, ◌++◌, length, take, drop, ap, subst, sym, ◌∙◌}
+use Rattle.std.proofs.Common.{◌≢◌, ℕ, ◌-◌, List, ◌∷◌, ◌++◌, length, take, drop, ap, subst, sym, ◌∙◌}
 use Rattle.std.specs.Option.{option_map}
 use Rattle.std.proofs.lemmas.List.{take_rest, drop-drop}
 use Rattle.fix_fields.specs.Grammar.{HasForm, NoField}
@@ -14,7 +14,7 @@ returns-in_err-size-clause-none c =
     let size = c.in_ok-tag.size in
     let before = option_map (shown body) c.args.before in
     let bytes = take (length body - at) (drop at body) in
-    let value_bytes = take_rest body (at + size) ∙ sym (drop-drop size at body) ∙ ap (drop size) (sym (take_rest body at)) in
+    let value_bytes = sym (drop-drop size at body) ∙ ap (drop size) (sym (take_rest body at)) in
     let none =
     subst (λ (r : List ℕ). (value more : List ℕ) → HasForm before tag value → r ≢ value ++ 1 ∷ more) value_bytes c.in_err-size.ensures.none in
     let here = no_value before bytes (drop size bytes) tag c.in_ok-tag.ensures.tag c.in_ok-tag.ensures.bytes none in

@@ -13,9 +13,9 @@ returns-in-Ok g c =
     let meaning = g.R.FixEntry.meaning in
     let body = c.args.body.now in
     let shown = all_shown body c.read_fields.new.list.items in
-    let says : reasoned c.of_fields.result ≡ body_says meaning body =
-    ap reasoned (c.of_fields.ensures ∙ ap (λ (f : _). meaning (all_shown body f)) c.deref.ensures.value) ∙ sym (fields-say meaning body shown c.in-Ok.ensures.fields.read) in
-    subst (λ (said : Result (Option _) Reason). IfOk c.take_meaning.result (TakesSaid said (g.K.Collector.has_taken c.args.entries.now) (g.K.Collector.has_taken c.take_meaning.new.entries))) says c.take_meaning.ensures
+    let says : reasoned (meaning (all_shown body c.deref.result.now)) ≡ body_says meaning body =
+    ap reasoned (ap (λ (f : _). meaning (all_shown body f)) c.deref.ensures.value) ∙ sym (fields-say meaning body shown c.in-Ok.ensures.fields.read) in
+    subst (λ (said : Result (Option _) Reason). IfOk c.take_fields.result (TakesSaid said (g.K.Collector.has_taken c.args.entries.now) (g.K.Collector.has_taken c.take_fields.new.entries))) says c.take_fields.ensures
 
 pub returns-in-Field : goal.returns-in-Field
 returns-in-Field g c =

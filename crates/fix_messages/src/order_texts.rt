@@ -1,0 +1,137 @@
+//! An order where it stands in a message.
+ghost use Rattle.std.specs.Prelude.{◌≡◌};
+ghost use Rattle.audit_base.specs.Histories.{symbol_of};
+
+use crate::name_text::NameText;
+use audit_base::names::Key;
+use audit_base::numbers::{Price, Quantity};
+use audit_base::records::OrderRecord;
+use audit_base::stamps::Stamp;
+use audit_base::terms::{Life, Side};
+use std::marker::Model;
+
+/// The parts of an order, by its kind.
+#[derive(Drop)]
+pub(crate) enum OrderParts<'m> {
+    New {
+        firm: NameText<'m>,
+        id: NameText<'m>,
+        time: Stamp,
+        symbol: NameText<'m>,
+        side: Side,
+        quantity: Quantity,
+        price: Price,
+        life: Life,
+    },
+    Cancel {
+        firm: NameText<'m>,
+        id: NameText<'m>,
+        time: Stamp,
+        symbol: NameText<'m>,
+        target: NameText<'m>,
+    },
+    Replace {
+        firm: NameText<'m>,
+        id: NameText<'m>,
+        time: Stamp,
+        symbol: NameText<'m>,
+        target: NameText<'m>,
+        side: Side,
+        quantity: Quantity,
+        price: Price,
+    },
+}
+
+/// A record of an order log whose names stand in a message: it is made only where it is looked at.
+/// Contracts see the record.
+#[derive(Drop)]
+pub(crate) struct OrderText<'m> {
+    pub(crate) parts: OrderParts<'m>,
+}
+
+impl<'m> Model for OrderText<'m> {
+    ghost use Rattle.audit_base.specs.declared.records.OrderRecord.{OrderRecord};
+    ghost use Rattle.fix_messages.specs.OrderTexts.{order_of_text};
+
+    ghost Value = { OrderRecord };
+
+    ghost view = { λ order. order_of_text order.parts };
+}
+
+fn key_of(firm: &NameText<'_>, id: &NameText<'_>) -> Key
+    ensures { result ≡ record { firm = firm.now; id = id.now } }
+{
+    Key {
+        firm: firm.name(),
+        id: id.name(),
+    }
+}
+
+impl<'m> OrderText<'m> {
+    /// The symbol that it trades.
+    pub(crate) fn symbol(&self) -> &[u8]
+        ensures { result.now ≡ symbol_of self.now }
+    {
+        match &self.parts {
+            OrderParts::New { symbol, .. } => symbol.bytes(),
+            OrderParts::Cancel { symbol, .. } => symbol.bytes(),
+            OrderParts::Replace { symbol, .. } => symbol.bytes(),
+        }
+    }
+
+    /// The record.
+    pub(crate) fn record(&self) -> OrderRecord
+        ensures { result ≡ self.now }
+    {
+        match &self.parts {
+            OrderParts::New {
+                firm,
+                id,
+                time,
+                symbol,
+                side,
+                quantity,
+                price,
+                life,
+            } => OrderRecord::New {
+                key: key_of(firm, id),
+                time: *time,
+                symbol: symbol.name(),
+                side: *side,
+                quantity: *quantity,
+                price: *price,
+                life: *life,
+            },
+            OrderParts::Cancel {
+                firm,
+                id,
+                time,
+                symbol,
+                target,
+            } => OrderRecord::Cancel {
+                key: key_of(firm, id),
+                time: *time,
+                symbol: symbol.name(),
+                target: target.name(),
+            },
+            OrderParts::Replace {
+                firm,
+                id,
+                time,
+                symbol,
+                target,
+                side,
+                quantity,
+                price,
+            } => OrderRecord::Replace {
+                key: key_of(firm, id),
+                time: *time,
+                symbol: symbol.name(),
+                target: target.name(),
+                side: *side,
+                quantity: *quantity,
+                price: *price,
+            },
+        }
+    }
+}
