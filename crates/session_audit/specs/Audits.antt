@@ -1,0 +1,36 @@
+-- What the audit of a day answers.
+use Rattle.std.specs.Prelude.{◌≡◌, ◌<◌, ℕ, ◌%◌, ◌^◌, List, sum}
+use Rattle.audit_base.specs.declared.orders.Order.{Order}
+use Rattle.audit_base.specs.declared.orders.Deal.{Deal}
+use Rattle.audit_base.specs.declared.findings.Finding.{Finding}
+use Rattle.short_order.specs.Totals.{AreTotals}
+use Rattle.session_audit.specs.declared.days.Day.{Day}
+use Rattle.session_audit.specs.declared.days.Day.TheVariants as day
+use Rattle.session_audit.specs.declared.phases.Phase.{Phase}
+use Rattle.session_audit.specs.Days.{ConformsDay, IsDayOffence}
+
+-- totals of which the volume is half the sum: this is even, and fits a number of 128 bits
+pub record CanHalve (totals : List ℕ) : Type 0 where
+  pub even : sum totals % 2 ≡ 0
+  pub small : sum totals < 2 ^ 128
+
+-- the day conforms, with what each order traded over the whole day
+pub record IsConformingDay (phases : List Phase) (orders : List Order) (deals : List Deal)
+    (totals : List ℕ) : Type 0 where
+  pub conforms : ConformsDay phases orders deals
+  pub totals_are : AreTotals orders deals totals
+  pub halves : CanHalve totals
+
+-- the day doesn't conform, and this is its first offence
+pub record IsBrokenDay (phases : List Phase) (orders : List Order) (deals : List Deal) (count : ℕ)
+    (finding : Finding) : Type 0 where
+  pub offence : IsDayOffence phases orders deals count finding
+  pub fails : ConformsDay phases orders deals → ⊥
+
+-- what the audit answers: that the day conforms, or its first offence. `count` is the number of trades of
+-- the whole log
+abbrev pub IsAuditedDay : List Phase → List Order → List Deal → ℕ → Day → Type 0
+IsAuditedDay phases orders deals count (day.Conforms totals) =
+    IsConformingDay phases orders deals totals
+IsAuditedDay phases orders deals count (day.Broken finding) =
+    IsBrokenDay phases orders deals count finding

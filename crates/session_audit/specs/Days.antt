@@ -1,0 +1,58 @@
+-- When a day conforms, and its first offence.
+use Rattle.std.specs.Prelude.{◌≡◌, ◌<◌, ℕ, Bool, ◌&&◌, not, nat_lt, List, Option, None, length, option_map, EachIndex, MatchOption}
+use Rattle.audit_base.specs.declared.terms.Which.TheVariants as which
+use Rattle.audit_base.specs.declared.orders.Order.{Order}
+use Rattle.audit_base.specs.declared.orders.Deal.{Deal}
+use Rattle.audit_base.specs.declared.findings.Property.TheVariants as property
+use Rattle.audit_base.specs.declared.findings.Finding.{Finding}
+use Rattle.audit_base.specs.Least.{least_with, any_below}
+use Rattle.audit_base.specs.Orders.{order_at, place_at, is_rests}
+use Rattle.audit_base.specs.Rules.{Conforms}
+use Rattle.audit_base.specs.Shows.{found}
+use Rattle.audit_base.specs.Verdicts.{IsFirstOffence}
+use Rattle.session_audit.specs.declared.phases.Phase.{Phase}
+use Rattle.session_audit.specs.Phases.{rule_of, is_call, kind_at, lies_in, phase_deals}
+use Rattle.session_audit.specs.PhaseOrders.{brought_into, phase_orders}
+
+-- the order at i is an own order of the k-th phase: its place lies in the phase, and it isn't gone
+abbrev pub is_own : List Phase → List Order → List Deal → ℕ → ℕ → Bool
+is_own phases orders deals k i = lies_in phases k (place_at orders i)
+    && nat_lt 0 (brought_into phases orders deals k i)
+
+-- it is an own order of a call phase, and its life isn't Rests
+abbrev pub is_instant : List Phase → List Order → List Deal → ℕ → Bool
+is_instant phases orders deals i = not (is_rests (order_at orders i).life)
+    && any_below (λ k. is_call (kind_at phases k) && is_own phases orders deals k i) (length phases)
+
+-- 16: the least such order
+unfoldable pub instant_finding : List Phase → List Order → List Deal → Option Finding
+instant_finding phases orders deals =
+    option_map (λ i. found property.InstantOrder which.Orders (place_at orders i) None None)
+    (least_with (is_instant phases orders deals) (length orders))
+
+-- the deals of the k-th phase are as its rule asks of its order list
+abbrev pub PhaseConforms : List Phase → List Order → List Deal → ℕ → Type 0
+PhaseConforms phases orders deals k = Conforms (rule_of (kind_at phases k))
+    (phase_orders phases orders deals k) (phase_deals phases orders deals k)
+
+-- Conforms (day): no call phase has an own order whose life isn't Rests, and each phase conforms
+pub record ConformsDay (phases : List Phase) (orders : List Order) (deals : List Deal)
+    : Type 0 where
+  pub admitted : instant_finding phases orders deals ≡ None
+  pub each : EachIndex phases (PhaseConforms phases orders deals)
+
+-- the first offence of the least phase that fails, over its order list and its deals. `count` is the
+-- number of trades of the whole log, behind which a volume finding stands
+pub record IsPhaseOffence (phases : List Phase) (orders : List Order) (deals : List Deal)
+    (count : ℕ) (finding : Finding) : Type 0 where
+  pub phase : ℕ
+  pub inside : phase < length phases
+  pub before : (j : ℕ) → j < phase → PhaseConforms phases orders deals j
+  pub fails : PhaseConforms phases orders deals phase → ⊥
+  pub here : IsFirstOffence (rule_of (kind_at phases phase)) (phase_orders phases orders deals phase)
+      (phase_deals phases orders deals phase) count finding
+
+-- the first offence of a day: finding 16, which is looked for in all call phases, else that of a phase
+abbrev pub IsDayOffence : List Phase → List Order → List Deal → ℕ → Finding → Type 0
+IsDayOffence phases orders deals count finding = MatchOption (instant_finding phases orders deals)
+    (IsPhaseOffence phases orders deals count finding) (λ f. finding ≡ f)

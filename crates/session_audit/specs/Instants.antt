@@ -1,0 +1,28 @@
+-- Finding 16 by what is known of an order by itself, where replacements rest: an order with another life has
+-- no target, so it is an own order of its phase unless it is cancelled at its own place.
+use Rattle.std.specs.Prelude.{ℕ, Bool, ◌&&◌, not, List, Option, None, option_map, length}
+use Rattle.audit_base.specs.declared.terms.Which.TheVariants as which
+use Rattle.audit_base.specs.declared.orders.Order.{Order}
+use Rattle.audit_base.specs.declared.findings.Property.TheVariants as property
+use Rattle.audit_base.specs.declared.findings.Finding.{Finding}
+use Rattle.audit_base.specs.Least.{any_below, least_with}
+use Rattle.audit_base.specs.Orders.{order_at, place_at, is_rests}
+use Rattle.audit_base.specs.Continuous.{is_own_place}
+use Rattle.audit_base.specs.Shows.{found}
+use Rattle.session_audit.specs.declared.phases.Phase.{Phase}
+use Rattle.session_audit.specs.Phases.{is_call, kind_at, lies_in}
+
+-- the place lies in a call phase
+abbrev pub in_call : List Phase → ℕ → Bool
+in_call phases place = any_below (λ k. is_call (kind_at phases k) && lies_in phases k place) (length phases)
+
+-- the order was placed in a call phase, and its life isn't Rests
+abbrev pub is_instant_order : List Phase → Order → Bool
+is_instant_order phases o = not (is_rests o.life)
+    && (not (is_own_place o.cancelled o.place) && in_call phases o.place)
+
+-- the least such order
+abbrev pub first_instant : List Phase → List Order → Option Finding
+first_instant phases orders =
+    option_map (λ i. found property.InstantOrder which.Orders (place_at orders i) None None)
+    (least_with (λ i. is_instant_order phases (order_at orders i)) (length orders))

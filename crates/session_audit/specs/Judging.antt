@@ -1,0 +1,30 @@
+-- What the audit of one phase answers, whatever its rule is.
+use Rattle.std.specs.Prelude.{ℕ, List}
+use Rattle.audit_base.specs.declared.terms.Rule.{Rule}
+use Rattle.audit_base.specs.declared.orders.Order.{Order}
+use Rattle.audit_base.specs.declared.orders.Deal.{Deal}
+use Rattle.audit_base.specs.declared.findings.Finding.{Finding}
+use Rattle.audit_base.specs.Rules.{Conforms}
+use Rattle.audit_base.specs.Verdicts.{IsFirstOffence}
+use Rattle.short_order.specs.Totals.{AreTotals}
+use Rattle.matching_core.specs.declared.outcomes.Reached.{Reached}
+use Rattle.matching_core.specs.declared.outcomes.Outcome.{Outcome}
+use Rattle.matching_core.specs.declared.outcomes.Outcome.TheVariants as outcome
+
+-- the deals conform, with what each order traded
+pub record IsConformingPhase (the_rule : Rule) (orders : List Order) (deals : List Deal)
+    (reached : Reached) : Type 0 where
+  pub conforms : Conforms the_rule orders deals
+  pub totals : AreTotals orders deals reached.traded.0
+
+-- the deals don't conform, and this is the first offence
+pub record IsBrokenPhase (the_rule : Rule) (orders : List Order) (deals : List Deal) (count : ℕ)
+    (finding : Finding) : Type 0 where
+  pub offence : IsFirstOffence the_rule orders deals count finding
+  pub fails : Conforms the_rule orders deals → ⊥
+
+abbrev pub IsAuditedPhase : Rule → List Order → List Deal → ℕ → Outcome → Type 0
+IsAuditedPhase the_rule orders deals count (outcome.Conforms reached) =
+    IsConformingPhase the_rule orders deals reached
+IsAuditedPhase the_rule orders deals count (outcome.Broken finding) =
+    IsBrokenPhase the_rule orders deals count finding

@@ -1,0 +1,17 @@
+-- What a reader must believe, in the order in which it is best read: the phases of a day, the order list
+-- of each, when a day conforms, what the audit answers, the text of a day, and the laws.
+pub mod Phases
+pub mod PhaseOrders
+pub mod Days
+pub mod Audits
+pub mod Texts
+pub mod Laws
+-- What private functions pass on.
+pub mod Numbers
+pub mod Entering
+pub mod Dealing
+pub mod Judging
+pub mod Leaving
+pub mod Progress
+pub mod Instants
+pub mod TextParts

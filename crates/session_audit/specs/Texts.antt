@@ -1,0 +1,51 @@
+-- The text of a day that conforms. The parts of a line are joined by commas, and a line ends with LF.
+-- The codes of `,`, `@` and LF are 44, 64 and 10.
+use Rattle.std.specs.Prelude.{ℕ, zero, suc, ◌/◌, Bool, List, [], ◌∷◌, ◌++◌, codes, decimal, length, map, slice_index, sum, if◌then◌else◌}
+use Rattle.std.specs.List.{join_with_byte}
+use Rattle.audit_base.specs.Words.{rule_word}
+use Rattle.audit_base.specs.declared.orders.Order.{Order}
+use Rattle.audit_base.specs.Orders.{place_at}
+use Rattle.session_audit.specs.declared.phases.Phase.{Phase}
+use Rattle.session_audit.specs.Phases.{rule_of}
+
+-- `KIND@FIRST`
+abbrev pub phase_text : Phase → List ℕ
+phase_text p = rule_word (rule_of p.kind) ++ 64 ∷ decimal p.first
+
+-- the phases, joined by commas
+abbrev pub phases_text : List Phase → List ℕ
+phases_text phases = join_with_byte 44 (map phase_text phases)
+
+-- `session,SYMBOL,PHASES`
+abbrev pub session_line : List ℕ → List Phase → List ℕ
+session_line symbol phases = codes "session," ++ symbol ++ 44 ∷ phases_text phases ++ 10 ∷ []
+
+-- a part of a line behind its first: a comma and a number
+abbrev pub number_part : ℕ → List ℕ
+number_part number = 44 ∷ decimal number
+
+-- `totals,ORDERS,TRADES,VOLUME`
+abbrev pub totals_line : ℕ → ℕ → ℕ → List ℕ
+totals_line orders trades volume =
+    codes "totals" ++ number_part orders ++ number_part trades ++ number_part volume ++ 10 ∷ []
+
+-- `order,PLACE,TRADED`
+abbrev pub order_line : ℕ → ℕ → List ℕ
+order_line place traded =
+    codes "order" ++ number_part place ++ number_part traded ++ 10 ∷ []
+
+-- the lines of the first n orders
+unfoldable pub order_lines : List Order → List ℕ → ℕ → List ℕ
+order_lines orders totals zero = []
+order_lines orders totals (suc n) =
+    order_lines orders totals n ++ order_line (place_at orders n) (slice_index totals n)
+
+-- with the option, a line for each order
+abbrev pub table_lines : Bool → List Order → List ℕ → List ℕ
+table_lines table orders totals =
+    if table then order_lines orders totals (length orders) else []
+
+-- the accepted text of a day, from what each order traded over it. The volume is half the sum of these
+abbrev pub day_text : List ℕ → List Phase → List Order → List ℕ → ℕ → Bool → List ℕ
+day_text symbol phases orders totals trades table = session_line symbol phases
+    ++ totals_line (length orders) trades (sum totals / 2) ++ table_lines table orders totals

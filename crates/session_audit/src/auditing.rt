@@ -1,0 +1,94 @@
+//! Whether the deals of a day conform, phase by phase.
+ghost use Rattle.std.specs.Prelude.{◌≡◌, ◌<◌, ◌≤◌, ◌-◌, ◌^◌, All, IfOk, None, OnOk, length};
+ghost use Rattle.audit_base.specs.Orders.{IsOrder, IsOrderList, AreOrders};
+ghost use Rattle.audit_base.specs.Deals.{IsDealList};
+ghost use Rattle.audit_base.specs.Histories.{Regular};
+ghost use Rattle.session_audit.specs.Phases.{ArePhases};
+ghost use Rattle.session_audit.specs.PhaseOrders.{ReplacementsRest};
+ghost use Rattle.session_audit.specs.Days.{instant_finding};
+ghost use Rattle.session_audit.specs.Audits.{IsAuditedDay};
+
+use super::days::{Day, DayTotals};
+use super::dealing::{causes_of, deals_between};
+use super::instants::first_instant;
+use super::phases::Phase;
+use super::progress::{first_place, judge_phase, kind_at, last_place, list_phase, start};
+use audit_base::faults::NoMemory;
+use audit_base::orders::{Deal, Order};
+use std::alloc::Global;
+
+/// Tells the proof the ranges of the numbers of an order, which its type keeps.
+fn order_in_range(order: &Order)
+    ensures { IsOrder order.now }
+{
+    let _ = (order.quantity.value(), order.limit.units());
+}
+
+/// Tells the proof that the numbers of all orders are in range.
+fn orders_in_range(orders: &[Order])
+    ensures { AreOrders orders.now }
+{
+    for order in orders {
+        order_in_range(order);
+    }
+}
+
+/// The audit of the phases of a day, in whose calls all orders rest.
+fn audit_phases(
+    alloc: Global,
+    orders: &[Order],
+    phases: &[Phase],
+    deals: &[Deal],
+    count: u32,
+) -> Result<Day, NoMemory>
+    requires order_list { IsOrderList orders.now }
+    requires regular { Regular orders.now }
+    requires phases { ArePhases phases.now }
+    requires deal_list { IsDealList orders.now deals.now }
+    requires few { count < 2 ^ 32 - 1 }
+    requires admitted { instant_finding phases.now orders.now deals.now ≡ None }
+    ensures { IfOk result (IsAuditedDay phases.now orders.now deals.now count) }
+{
+    let causes = causes_of(alloc, orders, deals)?;
+    let mut so_far = start(alloc, orders.len())?;
+    for index in 0..phases.len() {
+        let (first, last) = (first_place(phases, index), last_place(phases, index));
+        let dealt = deals_between(alloc, deals, &causes, first, last)?;
+        let list = list_phase(alloc, orders, phases, index, &so_far)?;
+        let kind = kind_at(phases, index);
+        if let Some(finding) = judge_phase(alloc, kind, &list, &dealt, count, last, &mut so_far)? {
+            return Ok(Day::Broken(finding));
+        }
+    }
+    Ok(Day::Conforms(DayTotals::of(so_far.traded)))
+}
+
+/// The audit of a day over the deals of a log of `count` trades. Conforms exactly where no call phase has
+/// an own order whose life isn't Rests and each phase conforms, out of memory aside: with what each order
+/// traded over the day. Else Broken has the first offence: the least such order, or the first offence
+/// of the least phase that fails.
+///
+/// For p phases, n orders and m deals, beside the audits of the phases: p passes over the orders up to the
+/// phase's end and over the causes of all deals.
+pub fn audit_session(
+    alloc: Global,
+    orders: &[Order],
+    phases: &[Phase],
+    deals: &[Deal],
+    count: u32,
+) -> Result<Day, NoMemory>
+    requires order_list { IsOrderList orders.now }
+    requires regular { Regular orders.now }
+    requires replacements { ReplacementsRest orders.now }
+    requires phases { ArePhases phases.now }
+    requires deal_list { IsDealList orders.now deals.now }
+    requires counted { length deals.now ≤ count }
+    requires few { count < 2 ^ 32 - 1 }
+    ensures { IfOk result (IsAuditedDay phases.now orders.now deals.now count) }
+{
+    orders_in_range(orders);
+    if let Some(finding) = first_instant(phases, orders) {
+        return Ok(Day::Broken(finding));
+    }
+    audit_phases(alloc, orders, phases, deals, count)
+}

@@ -1,0 +1,81 @@
+//! The deals of a phase: those whose cause lies in it.
+ghost use Rattle.std.specs.Prelude.{◌≡◌, ◌≤◌, ◌++◌, All, IfOk, OnOk, length};
+ghost use Rattle.audit_base.specs.Continuous.{cause};
+ghost use Rattle.audit_base.specs.Deals.{NamesOrders, AreDeals, IsDeal};
+ghost use Rattle.session_audit.specs.Dealing.{HaveSmallCauses, causes_upto, lies_between, deals_if, deals_between};
+
+use audit_base::faults::NoMemory;
+use audit_base::orders::{Deal, Order};
+use std::alloc::Global;
+
+/// The cause of a deal: the later of the places of its two orders.
+fn cause_of(orders: &[Order], deal: &Deal) -> u32
+    requires { NamesOrders orders.now deal.now }
+    ensures cause { result ≡ cause orders.now deal.now }
+    ensures fits { cause orders.now deal.now ≤ 4294967295 }
+    ensures numbers { IsDeal deal.now }
+{
+    // These calls tell the proof the ranges of the numbers of a deal.
+    let _ = (deal.quantity.value(), deal.price.units());
+    let bid = orders[deal.bid].place;
+    let ask = orders[deal.ask].place;
+    if bid < ask { ask } else { bid }
+}
+
+/// The causes of the deals, in log order. Err only out of memory.
+pub fn causes_of(alloc: Global, orders: &[Order], deals: &[Deal]) -> Result<Vec<u32>, NoMemory>
+    requires { All (NamesOrders orders.now) deals.now }
+    ensures causes { IfOk result (λ causes.
+        causes.items ≡ causes_upto orders.now deals.now (length deals.now)) }
+    ensures numbers { OnOk result (AreDeals deals.now) }
+    ensures fits { OnOk result (HaveSmallCauses orders.now deals.now) }
+{
+    let mut causes = Vec::with_capacity(alloc, deals.len())?;
+    for index in 0..deals.len() {
+        causes.push(cause_of(orders, &deals[index]))?;
+    }
+    Ok(causes)
+}
+
+/// Whether a place is from `first` to `last`.
+fn lies_between(place: u32, first: u32, last: u32) -> bool
+    ensures { result ≡ lies_between first last place }
+{
+    first <= place && place <= last
+}
+
+/// Adds a deal, if its cause lies between these places.
+fn add_deal(
+    part: &mut Vec<Deal>,
+    deal: &Deal,
+    cause: u32,
+    first: u32,
+    last: u32,
+) -> Result<(), NoMemory>
+    ensures { OnOk result (part.new.items
+        ≡ part.old.items ++ deals_if (lies_between first last cause) deal.now) }
+{
+    if lies_between(cause, first, last) {
+        part.push(*deal)?;
+    }
+    Ok(())
+}
+
+/// The deals whose cause lies between these places, in log order. Err only out of memory.
+pub fn deals_between(
+    alloc: Global,
+    deals: &[Deal],
+    causes: &[u32],
+    first: u32,
+    last: u32,
+) -> Result<Vec<Deal>, NoMemory>
+    requires { length causes.now ≡ length deals.now }
+    ensures { IfOk result (λ part. part.items
+        ≡ deals_between deals.now causes.now first last (length deals.now)) }
+{
+    let mut part = Vec::new(alloc);
+    for index in 0..deals.len() {
+        add_deal(&mut part, &deals[index], causes[index], first, last)?;
+    }
+    Ok(part)
+}

@@ -1,0 +1,184 @@
+//! The order list of a phase: what each order brings into it, and how it stands there.
+ghost use Rattle.std.specs.Prelude.{◌≡◌, ◌<◌, ◌≤◌, ◌-◌, ◌&&◌, not, nat_lt, if◌then◌else◌, IfOk, length};
+ghost use Rattle.audit_base.specs.Continuous.{is_own_place};
+ghost use Rattle.audit_base.specs.Orders.{IsOrderList, order_at};
+ghost use Rattle.session_audit.specs.Entering as entering;
+ghost use Rattle.session_audit.specs.Numbers.{number_in};
+ghost use Rattle.session_audit.specs.PhaseOrders as spec;
+
+use audit_base::faults::NoMemory;
+use audit_base::numbers::Quantity;
+use audit_base::orders::Order;
+use std::alloc::Global;
+
+/// Whether the order was placed: it isn't cancelled at its own place.
+pub fn was_placed(order: &Order) -> bool
+    ensures { result ≡ not (is_own_place order.now.cancelled order.now.place) }
+{
+    match order.cancelled {
+        Some(end) => end != order.place,
+        None => true,
+    }
+}
+
+/// How many orders, from the first on, have a place of at most `last`.
+pub fn orders_upto(orders: &[Order], last: u32) -> usize
+    ensures { result ≡ spec.orders_upto orders.now last }
+{
+    let mut count = 0;
+    while count < orders.len() && orders[count].place <= last {
+        count += 1;
+    }
+    count
+}
+
+/// What an order of the phase brings, if it was placed and its target isn't gone: its written quantity
+/// less what its chain traded.
+fn own_amount(order: &Order, there: bool, spent: u128) -> u64
+    ensures { result ≡ entering.own_amount order.now there spent }
+{
+    if was_placed(order) && there {
+        left_of(order.quantity.value(), spent)
+    } else {
+        0
+    }
+}
+
+/// A size less what has traded of it, or 0.
+pub fn left_of(size: u64, traded: u128) -> u64
+    ensures { result ≡ size - traded }
+{
+    if traded < u128::from(size) {
+        size - traded as u64
+    } else {
+        0
+    }
+}
+
+/// The number at an index, or 0 past the end.
+fn number_at(numbers: &[u64], index: usize) -> u64
+    ensures { result ≡ number_in numbers.now index }
+{
+    match numbers.get(index) {
+        Some(number) => *number,
+        None => 0,
+    }
+}
+
+/// Whether an order has no target, or one that brings something into the phase.
+fn target_brings(target: Option<usize>, amounts: &[u64]) -> bool
+    ensures { result ≡ entering.target_brings target amounts.now }
+{
+    match target {
+        Some(index) => 0 < number_at(amounts, index),
+        None => true,
+    }
+}
+
+/// What the order at an index brings into the phase that begins at `first`, from what the orders before it
+/// bring.
+fn amount_of(
+    orders: &[Order],
+    first: u32,
+    rest: &[u64],
+    spent: &[u128],
+    amounts: &[u64],
+    index: usize,
+) -> u64
+    requires inside { index < length orders.now }
+    requires counted { index < length spent.now }
+    ensures { result ≡ entering.amount_of orders.now first rest.now spent.now amounts.now index }
+{
+    let order = &orders[index];
+    if order.place < first {
+        number_at(rest, index)
+    } else {
+        own_amount(order, target_brings(order.target, amounts), spent[index])
+    }
+}
+
+/// What each of the first `count` orders brings into the phase that begins at `first`, from what is left of
+/// each (0 past the end) and what its chain has traded.
+pub fn amounts_of(
+    alloc: Global,
+    orders: &[Order],
+    count: usize,
+    first: u32,
+    rest: &[u64],
+    spent: &[u128],
+) -> Result<Vec<u64>, NoMemory>
+    requires order_list { IsOrderList orders.now }
+    requires inside { count ≤ length orders.now }
+    requires counted { count ≤ length spent.now }
+    ensures { IfOk result (λ amounts.
+        amounts.items ≡ entering.amounts orders.now first rest.now spent.now count) }
+{
+    let mut amounts = Vec::with_capacity(alloc, count)?;
+    for index in 0..count {
+        amounts.push(amount_of(orders, first, rest, spent, &amounts, index))?;
+    }
+    Ok(amounts)
+}
+
+/// The place of the record that ends an order, where it is at most `last`.
+fn ended_upto(cancelled: Option<u32>, last: u32) -> Option<u32>
+    ensures { result ≡ spec.ended_upto last cancelled }
+{
+    match cancelled {
+        Some(end) if end <= last => Some(end),
+        _ => None,
+    }
+}
+
+/// The target of an order, where its place is from `first` on.
+fn own_target(order: &Order, first: u32) -> Option<usize>
+    ensures { result ≡ (if nat_lt order.now.place first then None else order.now.target) }
+{
+    if order.place < first {
+        None
+    } else {
+        order.target
+    }
+}
+
+/// An order as it stands in the list of a phase, by what it brings.
+fn phase_order(order: &Order, first: u32, last: u32, amount: u64) -> Order
+    requires { amount ≤ order.now.quantity }
+    ensures { result ≡ spec.phase_order first last amount order.now }
+{
+    // This call tells the proof the range of a quantity.
+    let _ = order.quantity.value();
+    match Quantity::of(amount) {
+        Some(quantity) => Order {
+            quantity,
+            cancelled: ended_upto(order.cancelled, last),
+            target: own_target(order, first),
+            ..*order
+        },
+        None => Order {
+            cancelled: Some(order.place),
+            target: None,
+            ..*order
+        },
+    }
+}
+
+/// The order list of a phase from what each of its orders brings.
+pub fn list_orders(
+    alloc: Global,
+    orders: &[Order],
+    first: u32,
+    last: u32,
+    amounts: &[u64],
+) -> Result<Vec<Order>, NoMemory>
+    requires inside { length amounts.now ≤ length orders.now }
+    requires most { entering.AreAmounts orders.now amounts.now }
+    ensures { IfOk result (λ list.
+        list.items ≡ entering.orders_with orders.now first last amounts.now (length amounts.now)) }
+{
+    let mut list = Vec::with_capacity(alloc, amounts.len())?;
+    for index in 0..amounts.len() {
+        list.push(phase_order(&orders[index], first, last, amounts[index]))?;
+    }
+    Ok(list)
+}

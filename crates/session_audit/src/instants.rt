@@ -1,0 +1,80 @@
+//! Orders that a call does not admit: immediate and market orders.
+ghost use Rattle.std.specs.Prelude.{◌≡◌, ◌<◌, ◌&&◌, length};
+ghost use Rattle.session_audit.specs.Instants as spec;
+ghost use Rattle.session_audit.specs.Phases.{ArePhases, is_call, kind_at, lies_in};
+
+use super::entering::was_placed;
+use super::phases::{Phase, PhaseKind};
+use super::progress::{first_place, kind_at, last_place};
+use audit_base::findings::{Finding, Property};
+use audit_base::orders::Order;
+use audit_base::terms::Which;
+
+/// Whether all orders of a phase meet at once.
+fn is_call(kind: PhaseKind) -> bool
+    ensures { result ≡ is_call kind }
+{
+    match kind {
+        PhaseKind::Uniform | PhaseKind::Maximum => true,
+        PhaseKind::Continuous => false,
+    }
+}
+
+/// Whether a place lies in a phase.
+fn lies_in(phases: &[Phase], index: usize, place: u32) -> bool
+    requires phases { ArePhases phases.now }
+    requires inside { index < length phases.now }
+    ensures { result ≡ lies_in phases.now index place }
+{
+    first_place(phases, index) <= place && place <= last_place(phases, index)
+}
+
+/// Whether a phase is a call, and a place lies in it.
+fn lies_in_call(phases: &[Phase], index: usize, place: u32) -> bool
+    requires phases { ArePhases phases.now }
+    requires inside { index < length phases.now }
+    ensures { result ≡ (is_call (kind_at phases.now index) && lies_in phases.now index place) }
+{
+    is_call(kind_at(phases, index)) && lies_in(phases, index, place)
+}
+
+/// Whether a place lies in a call phase.
+fn in_call(phases: &[Phase], place: u32) -> bool
+    requires { ArePhases phases.now }
+    ensures { result ≡ spec.in_call phases.now place }
+{
+    for index in 0..phases.len() {
+        if lies_in_call(phases, index, place) {
+            return true;
+        }
+    }
+    false
+}
+
+/// Whether an order that does not rest was placed in a call phase.
+fn is_instant_order(phases: &[Phase], order: &Order) -> bool
+    requires { ArePhases phases.now }
+    ensures { result ≡ spec.is_instant_order phases.now order.now }
+{
+    !order.life.rests() && (was_placed(order) && in_call(phases, order.place))
+}
+
+/// Finding 16: the least order that does not rest and was placed in a call phase.
+pub fn first_instant(phases: &[Phase], orders: &[Order]) -> Option<Finding>
+    requires { ArePhases phases.now }
+    ensures { result ≡ spec.first_instant phases.now orders.now }
+{
+    for index in 0..orders.len() {
+        if is_instant_order(phases, &orders[index]) {
+            return Some(Finding {
+                property: Property::InstantOrder,
+                log: Which::Orders,
+                place: orders[index].place,
+                first: None,
+                second: None,
+                short: None,
+            });
+        }
+    }
+    None
+}

@@ -1,0 +1,171 @@
+//! From one phase to the next: the order list of a phase from what the earlier ones came to, and what it
+//! leaves and adds.
+ghost use Rattle.std.specs.Prelude.{◌≡◌, ◌<◌, ◌≤◌, ◌+◌, ◌-◌, ◌^◌, [], ℕ, IfOk, List, None, Ok, Some, length, replicate, vec_len};
+ghost use Rattle.audit_base.specs.declared.findings.Finding.{Finding as AFinding};
+ghost use Rattle.audit_base.specs.declared.orders.Deal.{Deal as ADeal};
+ghost use Rattle.audit_base.specs.Deals.{IsDealList, traded};
+ghost use Rattle.audit_base.specs.Histories.{Regular};
+ghost use Rattle.audit_base.specs.Orders.{IsOrderList};
+ghost use Rattle.session_audit.specs.Judging.{IsBrokenPhase};
+ghost use Rattle.session_audit.specs.Leaving.{EndsBy};
+ghost use Rattle.session_audit.specs.Numbers.{AreSmall};
+ghost use Rattle.session_audit.specs.PhaseOrders.{phase_orders};
+ghost use Rattle.session_audit.specs.Phases as spec;
+ghost use Rattle.session_audit.specs.Progress.{AreAdded, AreLeft, IsPassed, IsPlayed, IsSoFar, lefts_of};
+
+use super::chains::chain_totals;
+use super::entering::{amounts_of, list_orders, orders_upto};
+use super::judging::audit_phase;
+use super::leaving::{leave_call, leave_continuous};
+use super::phases::{Phase, PhaseKind};
+use audit_base::faults::NoMemory;
+use audit_base::findings::Finding;
+use audit_base::orders::{Deal, Order};
+use matching_core::outcomes::Outcome;
+use std::alloc::Global;
+
+/// What the phases so far have come to.
+#[derive(Debug, Drop)]
+pub struct SoFar {
+    /// What each order has traded, by its index.
+    pub traded: Vec<u128>,
+    /// What is left of each order, by its index; 0 past the end.
+    pub rest: Vec<u64>,
+}
+
+/// Nothing, before the first phase. Err only out of memory.
+pub fn start(alloc: Global, count: usize) -> Result<SoFar, NoMemory>
+    ensures traded { IfOk result (λ so_far. so_far.traded.items ≡ replicate count 0) }
+    ensures rest { IfOk result (λ so_far. so_far.rest.items ≡ []) }
+{
+    let traded = vec![in alloc; 0u128; count]?;
+    Ok(SoFar {
+        traded,
+        rest: Vec::new(alloc),
+    })
+}
+
+/// The first place of a phase.
+pub fn first_place(phases: &[Phase], index: usize) -> u32
+    requires { index < length phases.now }
+    ensures { result ≡ spec.first_place phases.now index }
+{
+    phases[index].first
+}
+
+/// How a phase trades.
+pub fn kind_at(phases: &[Phase], index: usize) -> PhaseKind
+    requires { index < length phases.now }
+    ensures { result ≡ spec.kind_at phases.now index }
+{
+    phases[index].kind
+}
+
+/// The last place of a phase: the one before the next phase begins, or the greatest place there is.
+pub fn last_place(phases: &[Phase], index: usize) -> u32
+    requires phases { spec.ArePhases phases.now }
+    requires inside { index < length phases.now }
+    ensures { result ≡ spec.last_place phases.now index }
+{
+    if index + 1 < phases.len() {
+        phases[index + 1].first - 1
+    } else {
+        u32::MAX
+    }
+}
+
+/// The order list of the phase at an index. Err only out of memory.
+pub fn list_phase(
+    alloc: Global,
+    orders: &[Order],
+    phases: &[Phase],
+    index: usize,
+    so_far: &SoFar,
+) -> Result<Vec<Order>, NoMemory>
+    requires order_list { IsOrderList orders.now }
+    requires regular { Regular orders.now }
+    requires phases { spec.ArePhases phases.now }
+    requires inside { index < length phases.now }
+    requires counted { length so_far.now.traded.items ≡ length orders.now }
+    requires small { AreSmall so_far.now.traded.items }
+    requires most { AreLeft orders.now so_far.now.rest.items }
+    ensures { IfOk result (λ list. (deals : List ADeal)
+        → IsSoFar phases.now orders.now deals index so_far.now.traded.items so_far.now.rest.items
+        → list.items ≡ phase_orders phases.now orders.now deals index) }
+{
+    let first = first_place(phases, index);
+    let last = last_place(phases, index);
+    let spent = chain_totals(alloc, orders, &so_far.traded)?;
+    let count = orders_upto(orders, last);
+    let amounts = amounts_of(alloc, orders, count, first, &so_far.rest, &spent)?;
+    list_orders(alloc, orders, first, last, &amounts)
+}
+
+/// What a phase that conforms leaves of each of its orders. Err only out of memory.
+pub fn leave_phase(
+    alloc: Global,
+    kind: PhaseKind,
+    orders: &[Order],
+    traded: &[u128],
+    last: u32,
+) -> Result<Vec<u64>, NoMemory>
+    requires order_list { IsOrderList orders.now }
+    requires regular { Regular orders.now }
+    requires counted { length traded.now ≡ length orders.now }
+    requires small { AreSmall traded.now }
+    ensures { IfOk result (λ left. (deals : List ADeal)
+        → IsPlayed kind orders.now deals last traded.now
+        → left.items ≡ lefts_of kind orders.now deals last) }
+{
+    match kind {
+        PhaseKind::Uniform | PhaseKind::Maximum => leave_call(alloc, orders, traded),
+        PhaseKind::Continuous => leave_continuous(alloc, orders, traded, last),
+    }
+}
+
+/// Adds what each order traded in a phase to what it traded before.
+pub fn add_totals(totals: &mut Vec<u128>, traded: &[u128])
+    requires counted { length traded.now ≤ vec_len totals.old }
+    requires small { AreSmall totals.old.items }
+    requires more { AreSmall traded.now }
+    ensures { AreAdded totals.old.items traded.now totals.new.items }
+{
+    for index in 0..traded.len() {
+        totals[index] += traded[index];
+    }
+}
+
+/// The audit of one phase, over its order list and its deals. It conforms where nothing is found, and
+/// then what it comes to is added to what the phases so far have come to. Err only out of memory.
+pub fn judge_phase(
+    alloc: Global,
+    kind: PhaseKind,
+    orders: &[Order],
+    deals: &[Deal],
+    count: u32,
+    last: u32,
+    so_far: &mut SoFar,
+) -> Result<Option<Finding>, NoMemory>
+    requires order_list { IsOrderList orders.now }
+    requires regular { Regular orders.now }
+    requires deal_list { IsDealList orders.now deals.now }
+    requires few { count < 2 ^ 32 - 1 }
+    requires ends { EndsBy orders.now deals.now last }
+    requires more { (i : ℕ) → traded deals.now i ≤ 2 ^ 72 }
+    requires small { AreSmall so_far.old.traded.items }
+    requires counted { length orders.now ≤ length so_far.old.traded.items }
+    ensures found { (finding : AFinding) → result ≡ Ok (Some finding)
+        → IsBrokenPhase (spec.rule_of kind) orders.now deals.now count finding }
+    ensures passed { result ≡ Ok None → IsPassed kind orders.now deals.now last
+        so_far.old.traded.items so_far.new.traded.items so_far.new.rest.items }
+{
+    match audit_phase(alloc, kind, orders, deals, count)? {
+        Outcome::Broken(finding) => Ok(Some(finding)),
+        Outcome::Conforms(reached) => {
+            let traded = reached.traded.as_slice();
+            so_far.rest = leave_phase(alloc, kind, orders, traded, last)?;
+            add_totals(&mut so_far.traded, traded);
+            Ok(None)
+        }
+    }
+}

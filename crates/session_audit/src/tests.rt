@@ -1,0 +1,263 @@
+//! Days over few orders. Most begin with a bid of 5 at 10 and an ask of 3 at 9 in a call, which leaves 2 of
+//! the bid.
+ghost use Rattle.session_audit.specs.PhaseOrders.{ReplacementsRest};
+ghost use Rattle.session_audit.specs.Phases.{ArePhases};
+
+use super::auditing::audit_session;
+use super::days::Day;
+use super::laws::replacements_rest;
+use super::phases::{Phase, PhaseKind};
+use super::texts::session_text;
+use audit_base::findings::{Finding, Property};
+use audit_base::names::{Key, Name, read_name};
+use audit_base::numbers::{Quantity, read_price};
+use audit_base::records::{OrderRecord, TradeRecord};
+use audit_base::stamps::Stamp;
+use audit_base::terms::{Life, Side, Which};
+use instruction_history::history::History;
+use matching_core::resolving::resolve;
+use std::process::Abort;
+
+const PHASES: [Phase; 2] = [
+    Phase {
+        kind: PhaseKind::Uniform,
+        first: 1,
+    },
+    Phase {
+        kind: PhaseKind::Continuous,
+        first: 3,
+    },
+];
+
+fn name(rt: &impl Abort, text: &[u8]) -> Name {
+    read_name(text).expect(rt, "a name")
+}
+
+fn key(rt: &impl Abort, id: u8) -> Key {
+    Key {
+        firm: name(rt, b"A"),
+        id: name(rt, &[id]),
+    }
+}
+
+/// The new order with this digit as its id.
+fn order(rt: &impl Abort, id: u8, side: Side, quantity: u64, limit: &[u8]) -> OrderRecord {
+    OrderRecord::New {
+        key: key(rt, id),
+        time: Stamp { second: 5, nano: 0 },
+        symbol: name(rt, b"Z"),
+        side,
+        quantity: Quantity::of(quantity).expect(rt, "a quantity"),
+        price: read_price(limit).expect(rt, "a price"),
+        life: Life::Rests,
+    }
+}
+
+/// The same with the life of an immediate order.
+fn immediate(rt: &impl Abort, id: u8, side: Side, quantity: u64, limit: &[u8]) -> OrderRecord {
+    OrderRecord::New {
+        key: key(rt, id),
+        time: Stamp { second: 5, nano: 0 },
+        symbol: name(rt, b"Z"),
+        side,
+        quantity: Quantity::of(quantity).expect(rt, "a quantity"),
+        price: read_price(limit).expect(rt, "a price"),
+        life: Life::Immediate,
+    }
+}
+
+/// The replacement with this digit as its id of the bid with that one.
+fn replacement(rt: &impl Abort, id: u8, target: u8, quantity: u64, limit: &[u8]) -> OrderRecord {
+    OrderRecord::Replace {
+        key: key(rt, id),
+        time: Stamp { second: 5, nano: 0 },
+        symbol: name(rt, b"Z"),
+        target: name(rt, &[target]),
+        side: Side::Buy,
+        quantity: Quantity::of(quantity).expect(rt, "a quantity"),
+        price: read_price(limit).expect(rt, "a price"),
+    }
+}
+
+/// A trade between the bid and the ask with these digits as their ids.
+fn trade(rt: &impl Abort, bid: u8, ask: u8, quantity: u64, price: &[u8]) -> TradeRecord {
+    TradeRecord {
+        trade: name(rt, &[ask]),
+        time: Stamp { second: 5, nano: 0 },
+        symbol: name(rt, b"Z"),
+        buy: key(rt, bid),
+        sell: key(rt, ask),
+        quantity: Quantity::of(quantity).expect(rt, "a quantity"),
+        price: read_price(price).expect(rt, "a price"),
+    }
+}
+
+/// The history of these records.
+fn history_of<R: AllocGlobal + Abort>(rt: &R, entries: &[OrderRecord]) -> History
+    ensures { ReplacementsRest result }
+{
+    replacements_rest();
+    let symbol = name(rt, b"Z");
+    assert!(rt; entries.len() < 10);
+    let Ok(history) = History::build(rt.alloc(), entries, &symbol) else {
+        panic!(rt; "no history");
+    };
+    history
+}
+
+/// The text of the day, or its first offence.
+fn answer<R: AllocGlobal + Abort>(
+    rt: &R,
+    phases: &[Phase],
+    entries: &[OrderRecord],
+    trades: &[TradeRecord],
+) -> Result<Vec<u8>, Finding>
+    requires { ArePhases phases.now }
+{
+    let history = history_of(rt, entries);
+    let symbol = name(rt, b"Z");
+    assert!(rt; trades.len() < 10);
+    let Ok(deals) = resolve(rt.alloc(), &history, trades, &symbol) else {
+        panic!(rt; "unsound trades");
+    };
+    let count = trades.len() as u32;
+    assert!(rt; deals.len() <= trades.len());
+    let orders = history.orders();
+    match audit_session(rt.alloc(), orders, phases, &deals, count) {
+        Ok(Day::Conforms(totals)) => {
+            let Ok(text) = session_text(rt.alloc(), &symbol, phases, orders, &totals, count, true)
+            else {
+                panic!(rt; "no memory");
+            };
+            Ok(text)
+        }
+        Ok(Day::Broken(finding)) => Err(finding),
+        Err(_) => panic!(rt; "no memory"),
+    }
+}
+
+/// The three orders of a day of a call and a continuous phase.
+fn day_orders(rt: &impl Abort) -> [OrderRecord; 3] {
+    [
+        order(rt, b'1', Side::Buy, 5, b"10"),
+        order(rt, b'2', Side::Sell, 3, b"9"),
+        order(rt, b'3', Side::Sell, 4, b"10"),
+    ]
+}
+
+/// The text of a day that conforms.
+fn text_of<R: AllocGlobal + Abort>(
+    rt: &R,
+    phases: &[Phase],
+    entries: &[OrderRecord],
+    trades: &[TradeRecord],
+) -> Vec<u8>
+    requires { ArePhases phases.now }
+{
+    match answer(rt, phases, entries, trades) {
+        Ok(text) => text,
+        Err(_) => panic!(rt; "broken"),
+    }
+}
+
+/// The property, the log and the place of the first offence of a day of two phases.
+fn offence<R: AllocGlobal + Abort>(
+    rt: &R,
+    entries: &[OrderRecord],
+    trades: &[TradeRecord],
+) -> (Property, Which, u32) {
+    match answer(rt, &PHASES, entries, trades) {
+        Ok(_) => panic!(rt; "accepted"),
+        Err(finding) => (finding.property, finding.log, finding.place),
+    }
+}
+
+#[test]
+fn two_phase_day(rt: HostRuntime) {
+    let trades = [
+        trade(&rt, b'1', b'2', 3, b"9.5"),
+        trade(&rt, b'1', b'3', 2, b"10"),
+    ];
+    let text = text_of(&rt, &PHASES, &day_orders(&rt), &trades);
+    let wanted =
+        "session,Z,uniform@1,continuous@3\ntotals,3,2,5\norder,1,5\norder,2,3\norder,3,2\n";
+    assert_eq!(rt; text.as_slice(), wanted.as_bytes());
+}
+
+#[test]
+fn two_phase_spread(rt: HostRuntime) {
+    let trades = [trade(&rt, b'1', b'2', 3, b"9.5")];
+    let found = offence(&rt, &day_orders(&rt), &trades);
+    assert_eq!(rt; found, (Property::Spread, Which::Orders, 3));
+}
+
+#[test]
+fn carried_order_overfilled(rt: HostRuntime) {
+    let trades = [
+        trade(&rt, b'1', b'2', 3, b"9.5"),
+        trade(&rt, b'1', b'3', 4, b"10"),
+    ];
+    let found = offence(&rt, &day_orders(&rt), &trades);
+    assert_eq!(rt; found, (Property::BuyQuantity, Which::Trades, 2));
+}
+
+#[test]
+fn an_immediate_order_in_a_call(rt: HostRuntime) {
+    let entries = [
+        order(&rt, b'1', Side::Buy, 5, b"10"),
+        immediate(&rt, b'2', Side::Sell, 3, b"9"),
+    ];
+    let found = offence(&rt, &entries, &[]);
+    assert_eq!(rt; found, (Property::InstantOrder, Which::Orders, 2));
+}
+
+#[test]
+fn a_replacement_of_an_order_that_a_call_partly_filled(rt: HostRuntime) {
+    let entries = [
+        order(&rt, b'1', Side::Buy, 5, b"10"),
+        order(&rt, b'2', Side::Sell, 3, b"9"),
+        replacement(&rt, b'3', b'1', 5, b"10"),
+        order(&rt, b'4', Side::Sell, 4, b"10"),
+    ];
+    let trades = [
+        trade(&rt, b'1', b'2', 3, b"9.5"),
+        trade(&rt, b'3', b'4', 3, b"10"),
+    ];
+    let found = offence(&rt, &entries, &trades);
+    assert_eq!(rt; found, (Property::BuyQuantity, Which::Trades, 2));
+}
+
+/// Two calls with continuous trading between them.
+const THREE_PHASES: [Phase; 3] = [
+    Phase {
+        kind: PhaseKind::Uniform,
+        first: 1,
+    },
+    Phase {
+        kind: PhaseKind::Continuous,
+        first: 3,
+    },
+    Phase {
+        kind: PhaseKind::Maximum,
+        first: 4,
+    },
+];
+
+#[test]
+fn an_order_carried_over_three_phases(rt: HostRuntime) {
+    let entries = [
+        order(&rt, b'1', Side::Buy, 5, b"10"),
+        order(&rt, b'2', Side::Sell, 3, b"9"),
+        order(&rt, b'3', Side::Sell, 1, b"10"),
+        order(&rt, b'4', Side::Sell, 4, b"9"),
+    ];
+    let trades = [
+        trade(&rt, b'1', b'2', 3, b"9.5"),
+        trade(&rt, b'1', b'3', 1, b"10"),
+        trade(&rt, b'1', b'4', 1, b"9"),
+    ];
+    let text = text_of(&rt, &THREE_PHASES, &entries, &trades);
+    let wanted = "session,Z,uniform@1,continuous@3,maximum@4\ntotals,4,3,5\n\
+                  order,1,5\norder,2,3\norder,3,1\norder,4,1\n";
+    assert_eq!(rt; text.as_slice(), wanted.as_bytes());
+}
