@@ -1,5 +1,5 @@
--- The lines of reports. A line is its parts joined by commas, and ends with LF. Names hold no comma and no quote, so nothing is
--- quoted. The codes of `,` and LF are 44 and 10.
+-- The lines of reports. A line is its parts joined by commas, and ends with LF. Names hold no comma and no
+-- quote, so nothing is quoted. The codes of `,` and LF are 44 and 10.
 use Rattle.std.specs.Prelude.{ℕ, List, [], ◌∷◌, ◌++◌, codes, decimal}
 use Rattle.std.specs.List.{join_with_byte}
 use Rattle.audit_base.specs.Numbers.{price_text}
@@ -50,7 +50,8 @@ bound_line cut = line_text (codes "bound" ∷ price_text cut.price ∷ decimal c
 -- the parts `order`, PLACE, SIDE, FIRM, ID, QUANTITY, PRICE, TRADED
 abbrev pub order_parts : OrderLine → List (List ℕ)
 order_parts o =
-    codes "order" ∷ decimal o.place ∷ side_word o.side ∷ o.key.firm ∷ o.key.id ∷ decimal o.quantity ∷ price_text o.limit ∷ decimal o.traded ∷ []
+    codes "order" ∷ decimal o.place ∷ side_word o.side ∷ o.key.firm ∷ o.key.id ∷ decimal o.quantity
+    ∷ price_text o.limit ∷ decimal o.traded ∷ []
 
 -- `order,PLACE,SIDE,FIRM,ID,QUANTITY,PRICE,TRADED`
 abbrev pub order_line : OrderLine → List ℕ
@@ -95,7 +96,8 @@ shown_line (Due o due) = due_line o due
 -- `malformed,LOG,PLACE,OFFSET,REASON`
 abbrev pub malformed_line : Which → BadPlace → List ℕ
 malformed_line log bad =
-    line_text (codes "malformed" ∷ log_word log ∷ decimal bad.place ∷ decimal bad.offset ∷ reason_text log bad.reason ∷ [])
+    line_text (codes "malformed" ∷ log_word log ∷ decimal bad.place ∷ decimal bad.offset
+    ∷ reason_text log bad.reason ∷ [])
 
 -- `readfault,LOG`
 abbrev pub read_fault_line : Which → List ℕ
@@ -109,5 +111,6 @@ too_long_line log = line_text (codes "toolong" ∷ log_word log ∷ [])
 abbrev pub usage_line : List ℕ
 usage_line =
     codes "usage: audit RULE SYMBOL ORDERS TRADES" ++ codes " | expect RULE SYMBOL ORDERS"
-    ++ codes " | convert orders|trades csv|fix PATH" ++ codes " | generate START COUNT" ++ codes " | certify RULE SYMBOL ORDERS TRADES"
+    ++ codes " | convert orders|trades csv|fix PATH" ++ codes " | generate START COUNT"
+    ++ codes " | certify RULE SYMBOL ORDERS TRADES"
     ++ codes " | verify SYMBOL ORDERS TRADES CERTIFICATE" ++ codes " | session SYMBOL PHASES ORDERS TRADES" ++ 10 ∷ []

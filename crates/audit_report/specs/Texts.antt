@@ -17,12 +17,14 @@ line_if_there line (Some x) = line x
 -- an accepted log: the rule, the totals, the bound where there is one, and the table
 abbrev pub accepted_text : Accepted → List ℕ
 accepted_text a =
-    accepted_line a.rule a.symbol ++ totals_line a.orders a.trades a.volume ++ line_if_there bound_line a.bound ++ flat_map table_line a.table
+    accepted_line a.rule a.symbol ++ totals_line a.orders a.trades a.volume
+    ++ line_if_there bound_line a.bound ++ flat_map table_line a.table
 
 -- a rejected log: the finding, the volume where it is short, and what shows it
 abbrev pub rejected_text : Finding → List ℕ
 rejected_text f =
-    rejected_line f ++ line_if_there volume_line f.short ++ line_if_there shown_line f.first ++ line_if_there shown_line f.second
+    rejected_line f ++ line_if_there volume_line f.short
+    ++ line_if_there shown_line f.first ++ line_if_there shown_line f.second
 
 -- the text of a verdict
 abbrev pub verdict_text : Verdict → List ℕ

@@ -3,7 +3,7 @@
 #![tactic(auto)]
 
 pub mod certificates;
-mod line_parts;
+pub mod line_parts;
 mod lines;
 mod reasons;
 pub mod reports;
@@ -13,4 +13,4 @@ pub mod tables;
 #[cfg(test)]
 mod tests;
 pub mod verdicts;
-mod words;
+pub mod words;

@@ -1,5 +1,9 @@
 -- Two logs up to the rule: how what is known of one log goes over to both.
-use Rattle.std.proofs.Common.{◌≡◌, ◌∙◌, sym, ap, subst, refl, inl, inr, ⊎_elim, ℕ, ◌≤◌, List, length, Option, None, Some, Result, Ok, Err, IsOk}
+use Rattle.std.specs.List.{count_by, enumerate_from}
+use Rattle.std.proofs.lemmas.List.{length-map}
+use Rattle.std.proofs.lemmas.List.FromFn.{length-enumerate_from}
+use Rattle.std.proofs.lemmas.List.Sums.{count_by-le-length, length-filter}
+use Rattle.std.proofs.Common.{◌≡◌, ◌∙◌, sym, ap, subst, refl, inl, inr, ⊎_elim, arith, ℕ, ◌≤◌, Bool, List, length, Option, None, Some, Result, Ok, Err, IsOk}
 use Rattle.audit_base.specs.declared.findings.Finding.{Finding}
 use Rattle.audit_base.specs.declared.orders.Order.{Order}
 use Rattle.audit_base.specs.declared.records.OrderRecord.{OrderRecord}
@@ -7,7 +11,8 @@ use Rattle.audit_base.specs.declared.records.TradeRecord.{TradeRecord}
 use Rattle.audit_base.specs.declared.terms.Which.{Which}
 use Rattle.audit_base.specs.declared.terms.Which.TheVariants.{Orders, Trades}
 use Rattle.audit_base.specs.Histories.{history_finding, order_list, WellFormed}
-use Rattle.audit_base.specs.Trades.{deals_of, unsound_trade}
+use Rattle.audit_base.specs.Orders.{same_name}
+use Rattle.audit_base.specs.Trades.{deal_of, deals_of, trades_of, unsound_trade}
 use Rattle.audit_base.specs.Verdicts.{call_finding, log_finding}
 use Rattle.log_source.specs.declared.shelf.Shelf.{Ghosts as Shelf}
 use Rattle.log_source.specs.Sources.{Slot, longest_log}
@@ -220,3 +225,15 @@ pub history_found : (q : Question) (symbol : List ℕ) (entries : List OrderReco
 history_found q symbol entries finding named found paired =
     let found' : history_finding q.symbol entries ≡ Some finding = subst (λ (s : List ℕ). history_finding s entries ≡ Some finding) (sym named) found in
     rw found' refl
+
+deals_mapped : (orders : List Order) (symbol : List ℕ) (trades : List TradeRecord) → length (deals_of orders symbol trades) ≡ length (trades_of symbol trades)
+unfolding deals_of
+deals_mapped orders symbol trades = length-map (trades_of symbol trades) (deal_of orders)
+
+-- a log has at least as many trades as the symbol has deals
+pub deals_counted : (orders : List Order) (symbol : List ℕ) (trades : List TradeRecord) → length (deals_of orders symbol trades) ≤ length trades
+unfolding trades_of
+deals_counted orders symbol trades =
+    let is_own : ℕ × TradeRecord → Bool = λ e. same_name e.1.symbol symbol in
+    let counted : length (trades_of symbol trades) ≡ count_by is_own (enumerate_from 1 trades) = length-filter is_own (enumerate_from 1 trades) in
+    omega (arith, deals_mapped orders symbol trades, counted, count_by-le-length is_own (enumerate_from 1 trades), length-enumerate_from 1 trades)

@@ -5,6 +5,8 @@ pub mod JudgeLemmas
 pub mod RuleLemmas
 pub mod AuditLemmas
 pub mod ReportLemmas
+pub mod SessionReportLemmas
+pub mod PhaseWordLemmas
 pub mod BothLogsLemmas
 pub mod JudgedReportLemmas
 pub mod VerifyReportLemmas

@@ -1,5 +1,5 @@
 -- What a command that reads one log, or none, reports: from one log to the whole call.
-use Rattle.std.proofs.Common.{◌≡◌, sym, subst, refl, inl, inr, ⊎_elim, ℕ, ◌≤◌, List, [], ◌∷◌, Option, None, Some, Result, Ok, Err, arith}
+use Rattle.std.proofs.Common.{◌≡◌, sym, subst, refl, inl, inr, ⊎_elim, ℕ, ◌≤◌, Bool, List, [], ◌∷◌, length, Option, None, Some, Result, Ok, Err, arith}
 use Rattle.std.specs.Prelude.{MatchOption, MatchResult}
 use Rattle.audit_base.specs.declared.faults.BadPlace.{BadPlace}
 use Rattle.audit_base.specs.declared.findings.Finding.{Finding}
@@ -33,6 +33,8 @@ use Rattle.audit_run.specs.Certificates.{IsCertificateOf, IsCertifyReport, IsVer
 use Rattle.audit_run.specs.Auditing.{DecidesReport, IsReportOf, StaysWithin, StaysWithinAt}
 use Rattle.audit_run.specs.Collecting.{step_of, IsUnread, TouchesOnly}
 use Rattle.csv_logs.specs.Written.{orders_text, trades_text}
+use Rattle.session_audit.specs.declared.phases.Phase.{Phase}
+use Rattle.audit_run.specs.Sessions.{IsDayText, IsSessionReport, JudgesDay, JudgesDayOf}
 use Rattle.audit_run.specs.LogVerdicts.{Log, order_log, trade_log}
 use Rattle.audit_run.specs.OtherTexts.{orders_finding, ConvertsTrades, ExpectsOf, IsConvertReport, IsDone, IsExpectedLog, IsRefused}
 use Rattle.audit_run.specs.Reporting.{DecidesLog, IsReportStatus, IsWithoutLog, SaysReport}
@@ -78,6 +80,24 @@ verify-status symbol orders trades certificate s text is = of_said (order_log or
         (λ bad. IsRefused (verdict.Malformed Orders bad) s text) → IsReportStatus s
     of_said (Ok entries) (Ok paired) is =
         verifies-status symbol (order_list symbol entries) (deals_of (order_list symbol entries) symbol (paired_trades paired)) certificate (log_finding rule.Uniform symbol entries paired) s text is
+    of_said (Ok entries) (Err bad) is = refused-status (verdict.Malformed Trades bad) s text is
+    of_said (Err bad) second is = refused-status (verdict.Malformed Orders bad) s text is
+
+days-status : (symbol : List ℕ) (phases : List Phase) (table : Bool) (orders : List Order) (deals : List Deal) (count : ℕ) (found : Option Finding) (s : Status) (text : List ℕ)
+    → MatchOption found (JudgesDay symbol phases table orders deals count s text) (λ finding. IsRefused (verdict.Rejected finding) s text) → IsReportStatus s
+days-status symbol phases table orders deals count None s text (inl is) = done-status (IsDayText symbol phases table orders deals) s text is
+days-status symbol phases table orders deals count None s text (inr is) = refused-status (verdict.Rejected is.finding) s text is.refused
+days-status symbol phases table orders deals count (Some finding) s text is = refused-status (verdict.Rejected finding) s text is
+
+pub session-status : (symbol : List ℕ) (phases : List Phase) (table : Bool) (orders trades : Log) (s : Status) (text : List ℕ) → IsSessionReport symbol phases table orders trades s text → IsReportStatus s
+session-status symbol phases table orders trades s text is = of_said (order_log orders.form orders.bytes) (trade_log trades.form trades.bytes) is
+  where
+    of_said : (first : Result (List OrderRecord) BadPlace) (second : Result (Result (List TradeRecord) Finding) BadPlace)
+        → MatchResult first (λ entries. MatchResult second (λ paired. JudgesDayOf symbol phases table entries paired s text) (λ bad. IsRefused (verdict.Malformed Trades bad) s text))
+        (λ bad. IsRefused (verdict.Malformed Orders bad) s text) → IsReportStatus s
+    of_said (Ok entries) (Ok paired) is =
+        days-status symbol phases table (order_list symbol entries) (deals_of (order_list symbol entries) symbol (paired_trades paired)) (length (paired_trades paired))
+        (log_finding rule.Continuous symbol entries paired) s text is
     of_said (Ok entries) (Err bad) is = refused-status (verdict.Malformed Trades bad) s text is
     of_said (Err bad) second is = refused-status (verdict.Malformed Orders bad) s text is
 

@@ -1,5 +1,5 @@
 -- Two logs up to the rule, as the functions that read them pass it on: what they come to, or why that is not known.
-use Rattle.std.specs.Prelude.{◌≡◌, ◌≤◌, ◌⊎◌, ℕ, List, [], ◌∷◌, None, Some, Result, Ok, Err, IsOk, is_ok, length, MatchResult}
+use Rattle.std.specs.Prelude.{◌≡◌, ◌≤◌, ◌⊎◌, ℕ, Bool, List, [], ◌∷◌, None, Some, Result, Ok, Err, IsOk, is_ok, length, MatchResult}
 use Rattle.audit_base.specs.declared.terms.Rule.{Rule}
 use Rattle.audit_base.specs.declared.terms.Which.{Which}
 use Rattle.audit_base.specs.declared.terms.Which.TheVariants.{Orders, Trades}
@@ -28,12 +28,13 @@ use Rattle.audit_run.specs.declared.questions.Question.{Question}
 use Rattle.audit_run.specs.declared.questions.Source.{Source}
 use Rattle.audit_run.specs.declared.reports.Report.{Report}
 use Rattle.audit_run.specs.declared.requests.Request.{Request}
-use Rattle.audit_run.specs.declared.requests.Request.TheVariants.{Audit, Certify, Verify}
+use Rattle.audit_run.specs.declared.requests.Request.TheVariants.{Audit, Certify, Verify, Session}
 use Rattle.audit_run.specs.Collecting.{step_of, IsReadAs}
 use Rattle.audit_run.specs.LogVerdicts.{order_log, trade_log}
 use Rattle.audit_run.specs.Requests.{next_log}
 use Rattle.audit_run.specs.Runs.{IsText}
 use Rattle.log_source.specs.Sources.{longest_log}
+use Rattle.session_audit.specs.declared.phases.Phase.{Phase}
 use Rattle.audit_run.specs.UpToRule.{IsBeforeRule}
 use Rattle.audit_run.specs.Steps.{Reading, IsReadFault, IsTooLong, BeginsWithin, EndsWithin}
 
@@ -157,6 +158,11 @@ certify_of rule symbol orders trades =
 abbrev pub verify_of : List ℕ → Source → Source → List ℕ → Request
 verify_of symbol orders trades certificate =
     Verify symbol orders.name.now trades.name.now certificate orders.form trades.form
+
+-- the request to judge a day of these logs
+abbrev pub session_of : List ℕ → List Phase → Bool → Source → Source → Request
+session_of symbol phases table orders trades =
+    Session symbol phases orders.name.now trades.name.now orders.form trades.form table
 
 -- The command starts the order log, and where that is good the trade log.
 pub record StartsBoth (request : Request) (orders trades : Source) : Type 0 where

@@ -69,7 +69,8 @@ Verifies symbol orders deals certificate the_status text =
     IsVerified symbol orders deals certificate the_status text
     ⊎ IsDisproved symbol orders deals certificate the_status text
 
--- records with a finding before a rule of a call is looked at are refused; else what came of the certificate is reported
+-- records with a finding before a rule of a call is looked at are refused; else what came of the
+-- certificate is reported
 abbrev pub VerifiesRecords : List ℕ → List ℕ → List OrderRecord
     → Result (List TradeRecord) Finding → Status → List ℕ → Type 0
 VerifiesRecords symbol certificate entries paired the_status text =

@@ -1,4 +1,5 @@
--- Handing the records of one log to a collector: what is known of the log and of the collector afterwards, or why it was not done.
+-- Handing the records of one log to a collector: what is known of the log and of the collector afterwards,
+-- or why it was not done.
 use Rattle.std.specs.Prelude.{◌≡◌, ◌≤◌, ℕ, List, Result, Ok, Err, MatchResult}
 use Rattle.csv_logs.specs.Feeds.{HasRead}
 use Rattle.audit_base.specs.declared.terms.Which.{Which}
@@ -41,7 +42,8 @@ IsUnread meaning r log name unread.ReadFault = IsReadFault r (step_of r log name
 IsUnread meaning r log name unread.TooLong = IsTooLong r (step_of r log name)
 IsUnread meaning r log name unread.Memory = Unit {0}
 
--- a log was handed to a collector, which has been handed exactly the records that its bytes mean, or it was not for a cause
+-- a log was handed to a collector, which has been handed exactly the records that its bytes mean, or it was
+-- not for a cause
 abbrev pub CollectsLog : {K R : Type 0} → (K → List R → Type 0)
     → (List ℕ → Result (List R) BadPlace) → Reading → Which → List ℕ → Result K Unread → Type 0
 CollectsLog has_taken meaning r log name result =

@@ -5,8 +5,8 @@ use Rattle.audit_run.specs.declared.requests.Request.{Request}
 use Rattle.audit_run.specs.Runs.{IsSomeText}
 use Rattle.audit_run.specs.Steps.{Reading}
 
--- a text that a call may write: a report on the logs or the line of the log at which reading stopped; on words that are not
--- well-formed the usage line
+-- a text that a call may write: a report on the logs or the line of the log at which reading stopped; on
+-- words that are not well-formed the usage line
 abbrev pub MayBeWritten : Option Request → Reading → List ℕ → Type 0
 MayBeWritten None r text = text ≡ usage_line
 MayBeWritten (Some request) r text = IsSomeText r request text

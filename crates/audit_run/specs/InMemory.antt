@@ -7,14 +7,16 @@ use Rattle.audit_run.specs.Requests.{IsReport}
 use Rattle.audit_run.specs.Runs.{HoldsLogs, WritesReport}
 use Rattle.audit_run.specs.Steps.{Reading}
 
--- The shelf holds these logs, which are those of the command, and what was written leaves as many bytes free as any report on them has.
+-- The shelf holds these logs, which are those of the command, and what was written leaves as many bytes
+-- free as any report on them has.
 pub record HasRoomForReport (r : Reading) (request : Request) (logs : List (List ℕ))
     (written room : ℕ) : Type 0 where
   pub held : HoldsLogs r request [] logs
   pub room_left : (status : Status) (text : List ℕ) → IsReport request logs status text
       → written + length text ≤ room
 
--- on well-formed words, where there is room for the report on the logs that are held, it is written and its status is answered
+-- on well-formed words, where there is room for the report on the logs that are held, it is written and its
+-- status is answered
 abbrev pub ReportsInRoom : Option Request → Reading → ℕ → ℕ → SinkState → SinkState → Status
     → Type 0
 ReportsInRoom None r written room old new status = Unit {0}

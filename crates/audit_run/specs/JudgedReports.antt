@@ -1,9 +1,10 @@
 -- What is reported of two logs by what they come to before the rule is looked at.
-use Rattle.std.specs.Prelude.{◌≡◌, List, ℕ, false}
+use Rattle.std.specs.Prelude.{◌≡◌, List, ℕ, Bool, false}
 use Rattle.audit_base.specs.declared.terms.Rule.TheVariants as rule
 use Rattle.audit_certificate.specs.Agreement.{Agrees, IsCertificate}
 use Rattle.audit_report.specs.declared.statuses.Status.{Status}
 use Rattle.audit_report.specs.declared.verdicts.Verdict.{Verdict}
+use Rattle.session_audit.specs.declared.phases.Phase.{Phase}
 use Rattle.matching_core.specs.declared.deals_draft.ResolvedTrades.{ResolvedTrades}
 use Rattle.audit_run.specs.declared.before_rule.BeforeRule.{BeforeRule}
 use Rattle.audit_run.specs.declared.questions.Question.{Question}
@@ -14,6 +15,7 @@ use Rattle.audit_run.specs.LogVerdicts.{Log, IsLogVerdict}
 use Rattle.audit_run.specs.Phases.{IsJudgedDeals}
 use Rattle.audit_run.specs.Reporting.{SaysReport}
 use Rattle.audit_run.specs.Requests.{ReportsVerdict}
+use Rattle.audit_run.specs.Sessions.{IsSessionReport}
 use Rattle.audit_run.specs.UpToRule.{LogsComeTo}
 
 -- the verdict is that of whatever logs come to this
@@ -36,6 +38,12 @@ abbrev pub VerifiesAs : List ℕ → BeforeRule → List ℕ → Status → List
 VerifiesAs symbol reached certificate status text =
     (orders trades : Log) → LogsComeTo (question rule.Uniform symbol false) orders trades reached
     → IsVerifyReport symbol orders trades certificate status text
+
+-- the report is that of `session`, with these phases, on whatever logs come to this
+abbrev pub ReportsDay : List ℕ → List Phase → Bool → BeforeRule → Report → Type 0
+ReportsDay symbol phases table reached report =
+    (orders trades : Log) → LogsComeTo (question rule.Continuous symbol false) orders trades reached
+    → SaysReport (IsSessionReport symbol phases table orders trades) report
 
 -- The report has this status and this text.
 pub record IsLineReport (status : Status) (line : List ℕ) (report : Report) : Type 0 where

@@ -75,8 +75,8 @@ abbrev pub EachOnly : Rule → List Order → List Deal → Type 0
 EachOnly the_rule orders deals =
     (i : ℕ) → i < length orders → Only the_rule orders i (traded deals i)
 
--- the quantities are the only conforming ones: of `uniform` and `maximum` each order's, of `continuous` each pair's; the rules
--- `matching` and `fair` claim none
+-- the quantities are the only conforming ones: of `uniform` and `maximum` each order's, of `continuous`
+-- each pair's; the rules `matching` and `fair` claim none
 abbrev pub AreOnlyQuantities : Rule → List Order → List Deal → Type 0
 AreOnlyQuantities rule.Uniform orders deals = EachOnly rule.Uniform orders deals
 AreOnlyQuantities rule.Maximum orders deals = EachOnly rule.Maximum orders deals
@@ -109,8 +109,8 @@ IsOutcome q orders deals found the_verdict =
     MatchOption found (IsAcceptance q orders deals the_verdict)
     (λ finding. the_verdict ≡ verdict.Rejected finding)
 
--- The verdict on the records of two logs is that of the rules, which have no other. `trades` are those of the trade log, or finding
--- 4 in their place.
+-- The verdict on the records of two logs is that of the rules, which have no other. `trades` are those of
+-- the trade log, or finding 4 in their place.
 pub record IsJudged (q : Question) (entries : List OrderRecord)
     (trades : Result (List TradeRecord) Finding) (the_verdict : Verdict) : Type 0 where
   pub found : Option Finding

@@ -55,8 +55,8 @@ pub record HaveRecords (orders trades : Log) (entries : List OrderRecord)
   pub records : order_log orders.form orders.bytes ≡ Ok entries
   pub trades_are : trade_log trades.form trades.bytes ≡ Ok paired
 
--- of two logs: an order log out of its grammar is answered by its first bad place, and the trade log is not looked at; else a trade
--- log out of its grammar is by its own; else the records of both are
+-- of two logs: an order log out of its grammar is answered by its first bad place, and the trade log is not
+-- looked at; else a trade log out of its grammar is by its own; else the records of both are
 abbrev pub OfLogs : (List OrderRecord → Result (List TradeRecord) Finding → Type 0)
     → (Which → BadPlace → Type 0) → Log → Log → Type 0
 OfLogs of_records of_bad orders trades =

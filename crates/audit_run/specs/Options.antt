@@ -1,5 +1,5 @@
--- The options of a command. They stand after its positional words, in any order, each at most once, and the value of an option is
--- the next word.
+-- The options of a command. They stand after its positional words, in any order, each at most once, and the
+-- value of an option is the next word.
 use Rattle.std.specs.Prelude.{ℕ, Bool, true, false, not, ◌==◌, Option, None, Some, is_none, option_and_then, List, [], ◌∷◌, codes, if◌then◌else◌}
 use Rattle.std.specs.Cmp.Lexicographic.{pointwise}
 use Rattle.audit_base.specs.Least.{first_of, only_if}

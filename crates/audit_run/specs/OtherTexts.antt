@@ -43,7 +43,8 @@ pub record IsDone (is_text : List ℕ → Type 0) (status : Status) (text : List
   pub done : status ≡ Accepted
   pub is : is_text text
 
--- what is found in an order log before any trade is looked at: the history's finding, or an order that the rule does not admit
+-- what is found in an order log before any trade is looked at: the history's finding, or an order that the
+-- rule does not admit
 abbrev pub orders_finding : Rule → List ℕ → List OrderRecord → Option Finding
 orders_finding the_rule symbol entries =
     first_of (history_finding symbol entries ∷ call_finding the_rule (order_list symbol entries) ∷ [])
@@ -86,8 +87,8 @@ ConvertsTrades paired status text =
     (λ trades. IsDone (λ written. written ≡ trades_text trades) status text)
     (λ finding. IsRefused (Rejected finding) status text)
 
--- `convert`: a log out of its grammar is refused, and so is a trade log whose reports do not pair; else all its records are written
--- as a CSV log
+-- `convert`: a log out of its grammar is refused, and so is a trade log whose reports do not pair; else all
+-- its records are written as a CSV log
 abbrev pub IsConvertReport : Which → Log → Status → List ℕ → Type 0
 IsConvertReport Orders log status text =
     MatchResult (order_log log.form log.bytes)
@@ -113,7 +114,8 @@ pub record IsContinuousLine (orders : List Order) (line : List ℕ) : Type 0 whe
   pub expected : IsExpected rule.Continuous orders deals
   pub line_is : line ≡ continuous_line (length deals) (volume deals)
 
--- The summary of orders that were generated: a line of START and COUNT, and one of the Expected trades under each rule that has such.
+-- The summary of orders that were generated: a line of START and COUNT, and one of the Expected trades
+-- under each rule that has such.
 pub record IsSummaryOf (orders : List Order) (start count : ℕ) (text : List ℕ) : Type 0 where
   pub uniform : List ℕ
   pub maximum : List ℕ

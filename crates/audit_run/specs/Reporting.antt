@@ -6,11 +6,12 @@ use Rattle.audit_report.specs.declared.statuses.Status.TheVariants as status
 use Rattle.audit_report.specs.declared.verdicts.Verdict.TheVariants.{Malformed}
 use Rattle.call_laws.specs.Laws.{asks_for_greatest}
 use Rattle.log_maker.specs.Generator.{IsStart, IsCount}
+use Rattle.session_audit.specs.Phases.{ArePhases}
 use Rattle.audit_run.specs.declared.reading.Unread.{Unread}
 use Rattle.audit_run.specs.declared.reading.Unread.TheVariants as unread
 use Rattle.audit_run.specs.declared.reports.Report.{Report}
 use Rattle.audit_run.specs.declared.requests.Request.{Request}
-use Rattle.audit_run.specs.declared.requests.Request.TheVariants.{Audit, Expect, Convert, Generate, Certify, Verify}
+use Rattle.audit_run.specs.declared.requests.Request.TheVariants.{Audit, Expect, Convert, Generate, Certify, Verify, Session}
 use Rattle.audit_run.specs.declared.stops.Stop.{Stop}
 use Rattle.audit_run.specs.declared.stops.Stop.TheVariants as stop
 use Rattle.audit_run.specs.Auditing.{IsLogStop, IsReportOf}
@@ -18,8 +19,8 @@ use Rattle.audit_run.specs.Collecting.{IsReadAs}
 use Rattle.audit_run.specs.Steps.{Reading}
 use Rattle.audit_run.specs.Words.{has_table}
 
--- what words may ask for: Expected trades of a rule that has such, a log of numbers in their limits, and a certificate of a rule
--- that asks for a greatest volume
+-- what words may ask for: Expected trades of a rule that has such, a log of numbers in their limits, a
+-- certificate of a rule that asks for a greatest volume, and the phases of a day
 abbrev pub MayBeAsked : Request → Type 0
 MayBeAsked (Audit rule symbol orders trades orders_form trades_form table) = Unit {0}
 MayBeAsked (Expect rule symbol orders orders_form) = IsTrue (has_table rule)
@@ -28,6 +29,8 @@ MayBeAsked (Generate start count) = IsStart start × IsCount count
 MayBeAsked (Certify rule symbol orders trades orders_form trades_form) =
     IsTrue (asks_for_greatest rule)
 MayBeAsked (Verify symbol orders trades certificate orders_form trades_form) = Unit {0}
+MayBeAsked (Session symbol phases orders trades orders_form trades_form table) =
+    ArePhases phases
 
 -- a report is reported of a log with this status and text
 abbrev pub SaysReport : (Status → List ℕ → Type 0) → Report → Type 0

@@ -9,10 +9,11 @@ use Rattle.audit_report.specs.declared.verdicts.Verdict.{Verdict}
 use Rattle.audit_report.specs.Statuses.{verdict_status}
 use Rattle.audit_report.specs.Texts.{verdict_text}
 use Rattle.audit_run.specs.declared.requests.Request.{Request}
-use Rattle.audit_run.specs.declared.requests.Request.TheVariants.{Audit, Expect, Convert, Generate, Certify, Verify}
+use Rattle.audit_run.specs.declared.requests.Request.TheVariants.{Audit, Expect, Convert, Generate, Certify, Verify, Session}
 use Rattle.audit_run.specs.Certificates.{IsCertifyReport, IsVerifyReport}
 use Rattle.audit_run.specs.Judgements.{question}
 use Rattle.audit_run.specs.LogVerdicts.{order_log, trade_log, log_in, IsLogVerdict}
+use Rattle.audit_run.specs.Sessions.{IsSessionReport}
 use Rattle.audit_run.specs.OtherTexts.{IsConvertReport, IsDone, IsExpectReport, IsSummary}
 
 -- a command that needs one log starts it first, and no other
@@ -38,13 +39,15 @@ and_certificate orders trades certificate orders_form trades_form (first ∷ sec
 and_certificate orders trades certificate orders_form trades_form (first ∷ second ∷ third ∷ rest) =
     None
 
--- the log that a command starts after those that it has read, whose bytes these are: its slot and its name; nothing where it
--- needs no more. `audit` and `certify` start both logs, `verify` the certificate after them, `expect` the order log, `convert` its
--- one log, and `generate` none
+-- the log that a command starts after those that it has read, whose bytes these are: its slot and its name;
+-- nothing where it needs no more. `audit`, `certify` and `session` start both logs, `verify` the
+-- certificate after them, `expect` the order log, `convert` its one log, and `generate` none
 abbrev pub next_log : Request → List (List ℕ) → Option (Which × List ℕ)
 next_log (Audit rule symbol orders trades orders_form trades_form table) logs =
     both_logs orders trades orders_form logs
 next_log (Certify rule symbol orders trades orders_form trades_form) logs =
+    both_logs orders trades orders_form logs
+next_log (Session symbol phases orders trades orders_form trades_form table) logs =
     both_logs orders trades orders_form logs
 next_log (Verify symbol orders trades certificate orders_form trades_form) logs =
     and_certificate orders trades certificate orders_form trades_form logs
@@ -64,8 +67,9 @@ pub record ReportsVerdict (is_verdict : Verdict → Type 0) (status : Status)
   pub status_is : status ≡ verdict_status verdict
   pub text_is : text ≡ verdict_text verdict
 
--- the status and the text that a command reports of the logs that it has read: of an audit those of their verdict; `Certificates`
--- has those of `certify` and `verify`, and `OtherTexts` those of the commands that write logs
+-- the status and the text that a command reports of the logs that it has read: of an audit those of their
+-- verdict; `Certificates` has those of `certify` and `verify`, `Sessions` that of `session`, and
+-- `OtherTexts` those of the commands that write logs
 abbrev pub IsReport : Request → List (List ℕ) → Status → List ℕ → Type 0
 IsReport (Audit rule symbol orders trades orders_form trades_form table) logs status text =
     ReportsVerdict (IsLogVerdict (question rule symbol table)
@@ -77,6 +81,9 @@ IsReport (Certify rule symbol orders trades orders_form trades_form) logs status
 IsReport (Verify symbol orders trades certificate orders_form trades_form) logs status text =
     IsVerifyReport symbol (log_in orders_form (log_at logs 0)) (log_in trades_form (log_at logs 1))
     (log_at logs 2) status text
+IsReport (Session symbol phases orders trades orders_form trades_form table) logs status text =
+    IsSessionReport symbol phases table
+    (log_in orders_form (log_at logs 0)) (log_in trades_form (log_at logs 1)) status text
 IsReport (Expect rule symbol orders orders_form) logs status text =
     IsExpectReport rule symbol (log_in orders_form (log_at logs 0)) status text
 IsReport (Convert log form path) logs status text =

@@ -17,13 +17,15 @@ pub record ReadsNext (r : Reading) (request : Request) (earlier : List (List ℕ
   pub next : next_log request earlier ≡ Some (step.log, step.name)
   pub read : IsRead r step bytes
 
--- these steps read, one after another, the logs that the command needs: `earlier` are the bytes of those read before, `logs` of all
+-- these steps read, one after another, the logs that the command needs: `earlier` are the bytes of those
+-- read before, `logs` of all
 abbrev pub ReadsOn : Reading → Request → List (List ℕ) → List Step → List (List ℕ) → Type 0
 ReadsOn r request earlier [] logs = logs ≡ earlier
 ReadsOn r request earlier (step ∷ steps) logs = (bytes : List ℕ)
     × ReadsNext r request earlier step bytes × ReadsOn r request (earlier ++ bytes ∷ []) steps logs
 
--- All the logs that the command needs were read, each to its end, and no others were started; this is what it reports of them.
+-- All the logs that the command needs were read, each to its end, and no others were started; this is what
+-- it reports of them.
 pub record ReportsLogs (r : Reading) (request : Request) (status : Status)
     (text : List ℕ) : Type 0 where
   pub steps : List Step
@@ -112,7 +114,8 @@ HoldsLogs r request earlier [] = next_log request earlier ≡ None
 HoldsLogs r request earlier (bytes ∷ logs) =
     Holds r (next_log request earlier) bytes × HoldsLogs r request (earlier ++ bytes ∷ []) logs
 
--- All is there for a report on these logs: shelf and sink tell, the shelf holds the logs, and no fault was counted in the call.
+-- All is there for a report on these logs: shelf and sink tell, the shelf holds the logs, and no fault was
+-- counted in the call.
 pub record IsReady (r : Reading) (request : Request) (logs : List (List ℕ))
     (old new : SinkState) : Type 0 where
   pub shelf_tells : r.tells ≡ true
@@ -121,12 +124,14 @@ pub record IsReady (r : Reading) (request : Request) (logs : List (List ℕ))
   pub no_fault_of_shelf : (log : Which) → ¬ Rose (r.before log).faults (r.after log).faults
   pub no_fault_of_sink : ¬ Rose old.faults new.faults
 
--- the answer is the status of a report on these logs, and exactly its text was written; or memory ran out, and nothing was
+-- the answer is the status of a report on these logs, and exactly its text was written; or memory ran out,
+-- and nothing was
 abbrev pub WritesReport : Request → List (List ℕ) → SinkState → SinkState → Status → Type 0
 WritesReport request logs old new status =
     WritesText (IsReport request logs status) old new ⊎ ((status ≡ Memory) × (new ≡ old))
 
--- the headline: on well-formed words, where all is there, exactly the report on the logs is written and its status is answered
+-- the headline: on well-formed words, where all is there, exactly the report on the logs is written and its
+-- status is answered
 abbrev pub ReportsHeldLogs : Option Request → Reading → SinkState → SinkState → Status → Type 0
 ReportsHeldLogs None r old new status = Unit {0}
 ReportsHeldLogs (Some request) r old new status =

@@ -6,8 +6,8 @@ use Rattle.audit_base.specs.declared.terms.Which.TheVariants.{Orders, Trades}
 use Rattle.log_source.specs.declared.shelf.Shelf.{Ghosts as Shelf}
 use Rattle.log_source.specs.Sources.{Slot, Rose, longest_log}
 
--- What a call knows of a shelf: whether it tells what it has, what it has in each slot under a name, and its slots before and
--- after the call.
+-- What a call knows of a shelf: whether it tells what it has, what it has in each slot under a name, and
+-- its slots before and after the call.
 pub record Reading : Type 0 where
   pub tells : Bool
   pub log_of : Which → List ℕ → Option (List ℕ)
@@ -36,8 +36,8 @@ pub record Step : Type 0 where
   pub before : Slot
   pub after : Slot
 
--- The log was read to its end, and these are its bytes, whatever pieces they came in; where the shelf tells, they are what it has
--- under the name.
+-- The log was read to its end, and these are its bytes, whatever pieces they came in; where the shelf
+-- tells, they are what it has under the name.
 pub record IsRead (r : Reading) (step : Step) (bytes : List ℕ) : Type 0 where
   pub started : step.after.started ≡ true
   pub at_end : IsAtEnd step.after.left
@@ -69,7 +69,8 @@ pub record BeginsAt (slots : Which → Slot) (step : Step) : Type 0 where
   pub at : step.before ≡ slots step.log
   pub later : step.before.faults ≤ step.after.faults
 
--- the steps, one after another, lead from what stood in the slots before to what stands there after, and change nothing else
+-- the steps, one after another, lead from what stood in the slots before to what stands there after, and
+-- change nothing else
 abbrev pub Lead : (Which → Slot) → List Step → (Which → Slot) → Type 0
 Lead before [] after = (log : Which) → after log ≡ before log
 Lead before (step ∷ steps) after =

@@ -59,7 +59,8 @@ accepted_verdict q orders deals reached = verdict.Accepted (record {
   table = table_lines q.rule q.table orders deals;
 })
 
--- The deals conform to the rule, with what each order traded, the volume and the bound; the quantities are the only ones.
+-- The deals conform to the rule, with what each order traded, the volume and the bound; the quantities are
+-- the only ones.
 pub record IsRuleConforming (the_rule : Rule) (orders : List Order) (deals : List Deal)
     (count : ℕ) (reached : Reached) : Type 0 where
   pub conforms : IsRuleVerdict the_rule orders deals count None

@@ -7,9 +7,9 @@ use Rattle.audit_run.specs.declared.requests.Request.{Request}
 use Rattle.audit_run.specs.Runs.{AnswersLength, ReportsHeldLogs, Runs}
 use Rattle.audit_run.specs.Steps.{reading, KeepsLogs, NeverFall}
 
--- A call that was asked for this, where the words are well-formed: the headline; each status with its cause and with what
--- was written; too long a log is answered as such; the shelf has what it had; no count of faults falls; and the sink is
--- of the same kind as before.
+-- A call that was asked for this, where the words are well-formed: the headline; each status with its cause
+-- and with what was written; too long a log is answered as such; the shelf has what it had; no count of
+-- faults falls; and the sink is of the same kind as before.
 pub record IsRun {S : Type 0} (shelf : Shelf S) (asked : Option Request) (old new : S)
     (sink_old sink_new : SinkState) (status : Status) : Type 0 where
   pub headline : ReportsHeldLogs asked (reading shelf old new) sink_old sink_new status

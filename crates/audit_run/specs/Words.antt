@@ -1,6 +1,6 @@
--- The words of a command line without the program's name, and what they ask for where they are well-formed. The code of `-` is 45.
-use Rattle.std.specs.Prelude.{ℕ, Bool, true, false, not, ◌==◌, ◌&&◌, ◌||◌, Option, None, option_map, option_and_then, unwrap_or, is_none, List, [], ◌∷◌, length, drop, slice_index, slice_index_or, codes, nat_le, if◌then◌else◌}
-use Rattle.audit_base.specs.Digits.{digits_form}
+-- The words of a command line without the program's name, and what they ask for where they are well-formed.
+-- The code of `-` is 45.
+use Rattle.std.specs.Prelude.{ℕ, Bool, true, false, not, ◌==◌, ◌&&◌, ◌||◌, Option, None, option_map, option_and_then, unwrap_or, is_none, is_some, List, [], ◌∷◌, length, drop, slice_index, slice_index_or, codes, nat_le, if◌then◌else◌}
 use Rattle.audit_base.specs.Names.{is_name}
 use Rattle.audit_base.specs.Least.{first_of, only_if}
 use Rattle.audit_base.specs.Words.{rule_word}
@@ -13,8 +13,10 @@ use Rattle.audit_base.specs.declared.terms.Which.TheVariants.{Orders, Trades}
 use Rattle.call_laws.specs.Laws.{asks_for_greatest}
 use Rattle.audit_run.specs.declared.options.Options.{Options}
 use Rattle.audit_run.specs.declared.requests.Request.{Request}
-use Rattle.audit_run.specs.declared.requests.Request.TheVariants.{Audit, Expect, Convert, Generate, Certify, Verify}
+use Rattle.audit_run.specs.declared.requests.Request.TheVariants.{Audit, Expect, Convert, Generate, Certify, Verify, Session}
+use Rattle.audit_run.specs.Numbers.{number_upto}
 use Rattle.audit_run.specs.Options.{form_named, is_word, options_in}
+use Rattle.audit_run.specs.PhaseWords.{phases_named, phases_of}
 
 -- the word at a place, from 0
 abbrev pub word_at : List (List ℕ) → ℕ → List ℕ
@@ -134,11 +136,6 @@ convert_with words choice = Convert choice.0 choice.1 (word_at words 3)
 abbrev pub convert_request : List (List ℕ) → Option Request
 convert_request words = option_map (convert_with words) (convert_choice words)
 
--- the number from 1 to a greatest one that a word of 1 to 10 digits writes
-abbrev pub number_upto : ℕ → List ℕ → Option ℕ
-number_upto most word =
-    option_and_then (λ n. only_if (nat_le 1 n && nat_le n most) n) (digits_form 10 word)
-
 -- START is from 1 to 2,147,483,646, and COUNT from 1 to 1,000,000
 abbrev pub start_named : List ℕ → Option ℕ
 start_named word = number_upto 2147483646 word
@@ -166,7 +163,8 @@ generate_request words =
 abbrev pub is_certify : List (List ℕ) → Bool
 is_certify words = asks_of_both (codes "certify") words
 
--- the rule that the second word names, which asks for a greatest volume, with the forms that the options after the fifth word give
+-- the rule that the second word names, which asks for a greatest volume, with the forms that the options
+-- after the fifth word give
 abbrev pub certify_under : List (List ℕ) → Rule → Option (Rule × Options)
 certify_under words the_rule =
     option_and_then (λ options. only_if (asks_for_greatest the_rule && not options.table)
@@ -214,8 +212,34 @@ verify_with words options =
 abbrev pub verify_request : List (List ℕ) → Option Request
 verify_request words = option_map (verify_with words) (verify_choice words)
 
+-- the third word gives the phases of a day, and the fourth and the fifth are paths
+abbrev pub are_phases_and_logs : List (List ℕ) → Bool
+are_phases_and_logs words = is_some (phases_named (word_at words 2))
+    && is_path (word_at words 3) && is_path (word_at words 4)
+
+-- the first five words of `session SYMBOL PHASES ORDERS TRADES`
+abbrev pub is_session : List (List ℕ) → Bool
+is_session words = nat_le 5 (length words) && is_word (word_at words 0) (codes "session")
+    && is_symbol (word_at words 1) && are_phases_and_logs words
+
+-- the options after the fifth word
+abbrev pub options_after : List (List ℕ) → Option Options
+options_after words = options_in (drop 5 words)
+
+abbrev pub session_choice : List (List ℕ) → Option Options
+session_choice words = if is_session words then options_after words else None
+
+abbrev pub session_with : List (List ℕ) → Options → Request
+session_with words options =
+    Session (word_at words 1) (phases_of (word_at words 2)) (word_at words 3) (word_at words 4)
+    (unwrap_or options.orders_form Csv) (unwrap_or options.trades_form Csv) options.table
+
+-- `session SYMBOL PHASES ORDERS TRADES` with its options
+abbrev pub session_request : List (List ℕ) → Option Request
+session_request words = option_map (session_with words) (session_choice words)
+
 -- what words ask for, one row a command; nothing where they are not well-formed
 abbrev pub request_of : List (List ℕ) → Option Request
 request_of words = first_of (audit_request words ∷ expect_request words
     ∷ convert_request words ∷ generate_request words ∷ certify_request words
-    ∷ verify_request words ∷ [])
+    ∷ verify_request words ∷ session_request words ∷ [])

@@ -338,6 +338,17 @@ type CertificateRow = (
     &'static str,
 );
 
+/// Verifies the certificate of a row.
+fn assert_certificate<R: AllocGlobal + Abort>(rt: &R, row: CertificateRow) -> Result<(), Fail> {
+    let (name, orders, trades, certificate, status, report) = row;
+    let mut shelf = shelf_of(rt.alloc(), orders, trades)?;
+    shelf.put(
+        String::from_str(rt.alloc(), "certificate")?,
+        Vec::from_slice(rt.alloc(), certificate.as_bytes())?,
+    )?;
+    assert_verified(rt, name, &mut shelf, status, report)
+}
+
 #[test]
 fn certificates_of_other_logs(rt: HostRuntime) -> Result<(), Fail> {
     let rows: [CertificateRow; 8] = [
@@ -419,15 +430,145 @@ N,A,b1,20240102-09:00:00,Z,B,5,3,
             "malformed,trades,1,67,columns\n",
         ),
     ];
-    for (name, orders, trades, certificate, status, report) in rows {
-        let mut shelf = shelf_of(rt.alloc(), orders, trades)?;
-        shelf.put(
-            String::from_str(rt.alloc(), "certificate")?,
-            Vec::from_slice(rt.alloc(), certificate.as_bytes())?,
-        )?;
-        assert_verified(&rt, name, &mut shelf, status, report)?;
+    for row in rows {
+        assert_certificate(&rt, row)?;
     }
     Ok(())
+}
+
+/// Bids of 5 at 3 and at 2, then two asks of 4 at 1.
+const TWO_BIDS: &str = "N,A,b1,20240102-09:00:00,Z,B,5,3,
+N,A,b2,20240102-09:00:00,Z,B,5,2,
+N,B,s1,20240102-09:00:00,Z,S,4,1,
+N,B,s2,20240102-09:00:00,Z,S,4,1,
+";
+
+/// All of the asks, of which the second bid gets what the first leaves.
+const THREE_TRADES: &str = "T1,20240102-09:00:01,Z,A,b1,B,s1,4,2
+T2,20240102-09:00:01,Z,A,b1,B,s2,1,2
+T3,20240102-09:00:01,Z,A,b2,B,s2,3,2
+";
+
+#[test]
+fn certificates_of_other_quantities(rt: HostRuntime) -> Result<(), Fail> {
+    let changes: [(&str, u8, &str); 5] = [
+        (
+            "order,1,5\norder,2,3\norder,3,4\norder,4,4\n",
+            0,
+            "verified,maximum,Z,8\n",
+        ),
+        (
+            "order,1,4\norder,2,4\norder,3,4\norder,4,4\n",
+            1,
+            "refused,5\n",
+        ),
+        (
+            "order,1,6\norder,2,2\norder,3,4\norder,4,4\n",
+            1,
+            "refused,5\n",
+        ),
+        (
+            "order,1,5\norder,2,4\norder,3,3\norder,4,4\n",
+            1,
+            "refused,6\n",
+        ),
+        (
+            "order,1,5\norder,2,3\norder,3,3\norder,4,5\n",
+            1,
+            "refused,7\n",
+        ),
+    ];
+    for (lines, status, report) in changes {
+        let mut certificate = Vec::from_slice(
+            rt.alloc(),
+            b"certificate,maximum,Z\nbound,3.00000001,8\nlast,buy,2\nlast,sell,4\n",
+        )?;
+        certificate.extend_from_slice(lines.as_bytes())?;
+        let mut shelf = shelf_of(rt.alloc(), TWO_BIDS, THREE_TRADES)?;
+        shelf.put(String::from_str(rt.alloc(), "certificate")?, certificate)?;
+        assert_verified(&rt, lines, &mut shelf, status, report)?;
+    }
+    Ok(())
+}
+
+#[test]
+fn certificates_of_little(rt: HostRuntime) -> Result<(), Fail> {
+    let rows: [CertificateRow; 6] = [
+        (
+            "no orders under maximum, shown by the greatest price",
+            "",
+            "",
+            "certificate,maximum,Z\nbound,10000000000,0\nlast,buy,none\nlast,sell,none\n",
+            0,
+            "verified,maximum,Z,0\n",
+        ),
+        (
+            "no orders, and a price above the greatest",
+            "",
+            "",
+            "certificate,maximum,Z\nbound,10000000000.00000001,0\nlast,buy,none\nlast,sell,none\n",
+            1,
+            "refused,2\n",
+        ),
+        (
+            "no orders, and the line of one",
+            "",
+            "",
+            "certificate,uniform,Z\nbound,0,0\nlast,buy,none\nlast,sell,none\norder,1,0\n",
+            1,
+            "refused,5\n",
+        ),
+        (
+            "orders that meet, and no trades",
+            STAIRCASE,
+            "",
+            "certificate,uniform,Z\nbound,1.00000001,0\nlast,buy,none\nlast,sell,none\n",
+            1,
+            "refused,2\n",
+        ),
+        (
+            "no trades, and an order that is told to trade last",
+            "N,A,b1,20240102-09:00:00,Z,B,5,3,
+",
+            "",
+            "certificate,uniform,Z\nbound,3.00000001,0\nlast,buy,1\nlast,sell,none\norder,1,0\n",
+            1,
+            "refused,3\n",
+        ),
+        (
+            "a better ask that trades too much",
+            "N,B,s1,20240102-09:00:00,Z,S,1,1,
+N,B,s2,20240102-09:00:00,Z,S,2,2,
+N,A,b1,20240102-09:00:00,Z,B,3,3,
+",
+            "T1,20240102-09:00:01,Z,A,b1,B,s1,2,2
+T2,20240102-09:00:01,Z,A,b1,B,s2,1,2
+",
+            "certificate,maximum,Z\nbound,0,3\nlast,buy,3\nlast,sell,2\norder,1,2\norder,2,1\norder,3,3\n",
+            1,
+            "refused,4\n",
+        ),
+    ];
+    for row in rows {
+        assert_certificate(&rt, row)?;
+    }
+    Ok(())
+}
+
+/// The certificate of the staircase, and behind it one line more of such a length that the whole has this
+/// many bytes.
+fn certificate_of_size(alloc: Global, size: usize) -> Result<Vec<u8>, Fail> {
+    let mut certificate = staircase_with(alloc, 0, "", "\n")?;
+    certificate.resize(size, b'x')?;
+    Ok(certificate)
+}
+
+#[test]
+fn a_certificate_at_the_limit_and_one_above_it(rt: HostRuntime) -> Result<(), Fail> {
+    let at_limit = certificate_of_size(rt.alloc(), 67_108_864)?;
+    assert_staircase(&rt, "at the limit", at_limit, 1, "refused,11\n")?;
+    let too_long = certificate_of_size(rt.alloc(), 67_108_865)?;
+    assert_staircase(&rt, "one above it", too_long, 6, "toolong,trades\n")
 }
 
 // The certificate is read before any finding is told, and not where a log is malformed.

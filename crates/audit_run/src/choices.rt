@@ -7,13 +7,14 @@ ghost use Rattle.log_maker.specs.Generator.{IsCount, IsStart};
 ghost use Rattle.audit_run.specs.Words as spec;
 
 use super::options::{Options, form_named, options_in};
+use super::phase_words::gives_phases;
 use super::word_forms::{
     has_certificate, has_table, is_path, is_symbol, is_word, log_named, number_upto, rule_named,
 };
 use audit_base::terms::{Form, Rule, Which};
 
 /// The word at a place, from 0.
-pub(crate) fn word_at(words: &[String], place: usize) -> &str
+pub fn word_at(words: &[String], place: usize) -> &str
     requires { place < length words.now }
     ensures { result.now ≡ spec.word_at (map string_bytes words.now) place }
 {
@@ -221,4 +222,41 @@ pub(crate) fn verify_choice(words: &[String]) -> Option<Options>
         return None;
     }
     forms_after(words)
+}
+
+/// Whether the third word gives the phases of a day, and the fourth and the fifth are paths.
+fn are_phases_and_logs(words: &[String]) -> bool
+    requires { 5 ≤ length words.now }
+    ensures { result ≡ spec.are_phases_and_logs (map string_bytes words.now) }
+{
+    gives_phases(word_at(words, 2)) && is_path(word_at(words, 3)) && is_path(word_at(words, 4))
+}
+
+/// Whether the first five words are `session`, SYMBOL, PHASES, ORDERS and TRADES.
+fn is_session(words: &[String]) -> bool
+    ensures { result ≡ spec.is_session (map string_bytes words.now) }
+{
+    words.len() >= 5
+        && is_word(word_at(words, 0), b"session")
+        && is_symbol(word_at(words, 1))
+        && are_phases_and_logs(words)
+}
+
+/// The options after the first five words.
+fn options_after(words: &[String]) -> Option<Options>
+    requires { 5 ≤ length words.now }
+    ensures { result ≡ spec.options_after (map string_bytes words.now) }
+{
+    options_in(&words[5..])
+}
+
+/// The options, where the words ask to judge a day of phases.
+pub(crate) fn session_choice(words: &[String]) -> Option<Options>
+    ensures choice { result ≡ spec.session_choice (map string_bytes words.now) }
+    ensures words { IfSome result (λ _. IsTrue (spec.is_session (map string_bytes words.now))) }
+{
+    if !is_session(words) {
+        return None;
+    }
+    options_after(words)
 }

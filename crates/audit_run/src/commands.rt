@@ -14,6 +14,7 @@ use super::paths::PathText;
 use super::questions::{Question, Source};
 use super::reports::Report;
 use super::requests::Request;
+use super::sessions::report_session;
 use super::stops::Stop;
 use super::verifying::report_verify;
 use audit_base::names::Name;
@@ -149,6 +150,27 @@ pub(crate) fn report_on<F: Shelf>(
             let orders = source_of(orders, *orders_form, seed);
             let trades = source_of(trades, *trades_form, seed);
             report_verify(alloc, shelf, symbol, &orders, &trades, certificate.as_str())
+        }
+        Request::Session {
+            symbol,
+            phases,
+            orders,
+            trades,
+            orders_form,
+            trades_form,
+            table,
+        } => {
+            let orders = source_of(orders, *orders_form, seed);
+            let trades = source_of(trades, *trades_form, seed);
+            report_session(
+                alloc,
+                shelf,
+                symbol,
+                phases.as_slice(),
+                *table,
+                &orders,
+                &trades,
+            )
         }
     }
 }

@@ -1,5 +1,6 @@
 //! Reading a log that is there as a whole into records, in its form.
-ghost use Rattle.std.specs.Prelude.{◌≡◌, ◌≤◌, length, MatchResult, Ok};
+ghost use Rattle.std.specs.Prelude.{◌≡◌, ◌<◌, ◌≤◌, ◌-◌, ◌^◌, length, vec_len, IfOk, MatchResult, Ok};
+ghost use Rattle.audit_base.specs.Verdicts.{paired_trades};
 ghost use Rattle.fix_messages.specs.Pairings.{pairing_of};
 ghost use Rattle.log_source.specs.Sources.{longest_log};
 ghost use Rattle.audit_run.specs.LogVerdicts.{order_log, trade_log, IsDecodeFault};
@@ -13,11 +14,12 @@ use fix_messages::pairing::{Paired, TradeList, pair_reports};
 use std::alloc::Global;
 
 /// The records of an order log of at most 67,108,864 bytes, in order. `Bad` comes exactly where the log
-/// is bad, with its first bad place.
+/// is bad, with its first bad place. There are as few records as `judge` asks for, also of a trade log.
 pub fn decode_orders(alloc: Global, form: Form, bytes: &[u8]) -> Result<Vec<OrderRecord>, LogFault>
     requires within { length bytes.now ≤ longest_log }
-    ensures { MatchResult result (λ entries. order_log form bytes.now ≡ Ok entries.items)
+    ensures says { MatchResult result (λ entries. order_log form bytes.now ≡ Ok entries.items)
         (IsDecodeFault (order_log form bytes.now)) }
+    ensures few { IfOk result (λ entries. vec_len entries < 2 ^ 32 - 1) }
 {
     match form {
         Form::Csv => csv_orders_of(alloc, bytes),
@@ -29,8 +31,10 @@ pub fn decode_orders(alloc: Global, form: Form, bytes: &[u8]) -> Result<Vec<Orde
 /// report has no partner. `Bad` comes as for an order log.
 pub fn decode_trades(alloc: Global, form: Form, bytes: &[u8]) -> Result<Paired, LogFault>
     requires within { length bytes.now ≤ longest_log }
-    ensures { MatchResult result (λ paired. trade_log form bytes.now ≡ Ok (pairing_of paired))
+    ensures says { MatchResult result (λ paired. trade_log form bytes.now ≡ Ok (pairing_of paired))
         (IsDecodeFault (trade_log form bytes.now)) }
+    ensures few { IfOk result
+        (λ paired. length (paired_trades (pairing_of paired)) < 2 ^ 32 - 1) }
 {
     match form {
         Form::Csv => Ok(Paired::Trades(TradeList::of(csv_trades_of(alloc, bytes)?))),

@@ -30,7 +30,7 @@ fn no_options() -> Options
 }
 
 /// The form that a word names.
-pub(crate) fn form_named(word: &str) -> Option<Form>
+pub fn form_named(word: &str) -> Option<Form>
     ensures { result ≡ spec.form_named word.now }
 {
     if is_word(word, b"csv") {

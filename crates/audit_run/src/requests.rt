@@ -6,14 +6,16 @@ ghost use Rattle.audit_run.specs.Reporting.{MayBeAsked};
 ghost use Rattle.audit_run.specs.Words as spec;
 
 use super::choices::{
-    audit_choice, certify_choice, convert_choice, expect_choice, generate_choice, verify_choice,
-    word_at,
+    audit_choice, certify_choice, convert_choice, expect_choice, generate_choice, session_choice,
+    verify_choice, word_at,
 };
 use super::options::Options;
 use super::paths::PathText;
+use super::phase_words::phases_of;
 use audit_base::faults::NoMemory;
 use audit_base::names::{Name, read_name};
 use audit_base::terms::{Form, Rule, Which};
+use session_audit::phases::PhaseList;
 use std::alloc::Global;
 use thiserror::Error;
 
@@ -66,6 +68,16 @@ pub enum Request {
         orders_form: Form,
         trades_form: Form,
     },
+    /// To judge the trades of a symbol on a day of phases.
+    Session {
+        symbol: Name,
+        phases: PhaseList,
+        orders: PathText,
+        trades: PathText,
+        orders_form: Form,
+        trades_form: Form,
+        table: bool,
+    },
 }
 
 /// Why words are not read.
@@ -89,7 +101,7 @@ impl From<NoMemory> for WordsFault {
 }
 
 /// The path that a word names.
-fn path_of(alloc: Global, word: &str) -> Result<PathText, NoMemory>
+pub fn path_of(alloc: Global, word: &str) -> Result<PathText, NoMemory>
     ensures { IfOk result (λ path. path ≡ word.now) }
 {
     let text = String::from_str(alloc, word)?;
@@ -97,7 +109,7 @@ fn path_of(alloc: Global, word: &str) -> Result<PathText, NoMemory>
 }
 
 /// The name that a word is, which is a symbol.
-fn symbol_at(words: &[String], place: usize) -> Name
+pub fn symbol_at(words: &[String], place: usize) -> Name
     requires inside { place < length words.now }
     requires symbol { IsTrue (spec.is_symbol (spec.word_at (map string_bytes words.now) place)) }
     ensures { result ≡ spec.word_at (map string_bytes words.now) place }
@@ -213,6 +225,28 @@ fn verify_with(alloc: Global, words: &[String], options: Options) -> Result<Requ
     })
 }
 
+/// The request of words that ask to judge a day of phases.
+fn session_with(alloc: Global, words: &[String], options: Options) -> Result<Request, NoMemory>
+    requires { IsTrue (spec.is_session (map string_bytes words.now)) }
+    ensures request { IfOk result (λ request.
+        request ≡ spec.session_with (map string_bytes words.now) options) }
+    ensures asked { IfOk result MayBeAsked }
+{
+    let symbol = symbol_at(words, 1);
+    let phases = phases_of(alloc, word_at(words, 2))?;
+    let orders = path_of(alloc, word_at(words, 3))?;
+    let trades = path_of(alloc, word_at(words, 4))?;
+    Ok(Request::Session {
+        symbol,
+        phases,
+        orders,
+        trades,
+        orders_form: options.orders_form.unwrap_or(Form::Csv),
+        trades_form: options.trades_form.unwrap_or(Form::Csv),
+        table: options.table,
+    })
+}
+
 /// What the words ask for, one row a command:
 ///
 /// - `audit RULE SYMBOL ORDERS TRADES`, and after them, in any order and each at most once,
@@ -223,7 +257,11 @@ fn verify_with(alloc: Global, words: &[String], options: Options) -> Result<Requ
 ///   digits;
 /// - `certify RULE SYMBOL ORDERS TRADES`, where RULE is `uniform` or `maximum`, and after them, in any
 ///   order and each at most once, `--orders-form FORM` and `--trades-form FORM`;
-/// - `verify SYMBOL ORDERS TRADES CERTIFICATE`, and after them the same options.
+/// - `verify SYMBOL ORDERS TRADES CERTIFICATE`, and after them the same options;
+/// - `session SYMBOL PHASES ORDERS TRADES`, and after them the options of `audit`. PHASES is 1 to 64 parts
+///   `KIND@FIRST`, joined by commas: KIND is `uniform`, `maximum` or `continuous`, and FIRST the place with
+///   which the phase begins, from 1 to 4,294,967,295 without zeros at its front. The first FIRST is 1, and
+///   each is above the one before it.
 ///
 /// RULE is the word of a rule, and FORM is `csv` or `fix`. `Usage` comes exactly where they are not
 /// well-formed, and takes no memory.
@@ -253,6 +291,9 @@ pub fn read_words(alloc: Global, words: &[String]) -> Result<Request, WordsFault
     }
     if let Some(options) = verify_choice(words) {
         return Ok(verify_with(alloc, words, options)?);
+    }
+    if let Some(options) = session_choice(words) {
+        return Ok(session_with(alloc, words, options)?);
     }
     Err(WordsFault::Usage)
 }

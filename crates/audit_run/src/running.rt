@@ -57,8 +57,8 @@ pub fn run<F: Shelf, K: Sink>(alloc: Global, words: &[String], shelf: &mut F, ou
     run_seeded(alloc, HashSeed::fixed(), words, shelf, out)
 }
 
-/// The same as `run`, with hashes of this seed. No answer depends on the seed, and with one that nobody
-/// knows beforehand, no log can be made to be slow.
+/// The same as `run`, with hashes of this seed. No answer depends on the seed. One that nobody knows
+/// beforehand keeps who writes the logs from choosing names that hash alike.
 pub fn run_seeded<F: Shelf, K: Sink>(
     alloc: Global,
     seed: HashSeed,

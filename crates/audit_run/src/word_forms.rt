@@ -2,6 +2,7 @@
 ghost use Rattle.std.specs.Prelude.{◌≡◌, ◌≤◌, IfSome};
 ghost use Rattle.call_laws.specs.Laws.{asks_for_greatest};
 ghost use Rattle.audit_run.specs.Options as option;
+ghost use Rattle.audit_run.specs.Numbers.{number_upto};
 ghost use Rattle.audit_run.specs.Words as spec;
 
 use audit_base::digits::read_digits;
@@ -9,7 +10,7 @@ use audit_base::names::read_name;
 use audit_base::terms::{Rule, Which};
 
 /// Whether the word is this text.
-pub(crate) fn is_word(word: &str, text: &[u8]) -> bool
+pub fn is_word(word: &str, text: &[u8]) -> bool
     ensures { result ≡ option.is_word word.now text.now }
 {
     word.as_bytes() == text
@@ -26,21 +27,21 @@ fn is_option(word: &str) -> bool
 }
 
 /// Whether the word is a symbol.
-pub(crate) fn is_symbol(word: &str) -> bool
+pub fn is_symbol(word: &str) -> bool
     ensures { result ≡ spec.is_symbol word.now }
 {
     read_name(word.as_bytes()).is_some() && !is_option(word)
 }
 
 /// Whether the word is a path.
-pub(crate) fn is_path(word: &str) -> bool
+pub fn is_path(word: &str) -> bool
     ensures { result ≡ spec.is_path word.now }
 {
     !word.is_empty() && !is_option(word)
 }
 
 /// The rule that the word names.
-pub(crate) fn rule_named(word: &str) -> Option<Rule>
+pub fn rule_named(word: &str) -> Option<Rule>
     ensures { result ≡ spec.rule_named word.now }
 {
     if is_word(word, Rule::Matching.word()) {
@@ -76,7 +77,7 @@ pub(crate) fn log_named(word: &str) -> Option<Which>
 
 /// The number from 1 to a greatest one that the word writes in 1 to 10 digits.
 pub(crate) fn number_upto(word: &str, most: u32) -> Option<u32>
-    ensures number { result ≡ spec.number_upto most word.now }
+    ensures number { result ≡ number_upto most word.now }
     ensures limits { IfSome result (λ number. (1 ≤ number) × (number ≤ most)) }
 {
     let number = read_digits(word.as_bytes(), 10)?;

@@ -1,9 +1,10 @@
 use Rattle.std.proofs.Common.{sym, subst, ◌∙◌, List}
+use Rattle.session_audit.specs.PhaseOrders.{ReplacementsRest}
 use Rattle.audit_base.specs.declared.orders.Order.{Order}
 use Rattle.matching_core.specs.DealsDraft.{IsDealsDraft}
 use Rattle.audit_run.specs.Auditing.{IsAdmitted}
 use Rattle.audit_run.specs.Steps.{reading}
-use Rattle.audit_run.proofs.AuditLemmas.{after_alone, after_ended, ends_as}
+use Rattle.audit_run.proofs.AuditLemmas.{after_alone, after_ended, deals_counted, ends_as}
 use Rattle.audit_run.proofs.auditing.after_history.Goals as goal
 
 pub returns-in-Ok-Trades-clause-decides : goal.returns-in-Ok-Trades-clause-decides
@@ -21,3 +22,12 @@ returns-in-Ok-Alone-clause-decides g c = λ entries is.
     let read = rw c.in-Ok-Alone.field-0-is at c.in-Ok-Alone.ensures.read in
     after_alone (reading g.F.Shelf c.args.shelf.now c.collect_trades.new.shelf) c.args.question.now c.args.trades.now entries
     c.in-Ok-Alone.finding c.args.history is read
+
+pub of-requires-clause-counted : goal.of-requires-clause-counted
+of-requires-clause-counted g c = λ none.
+    let place = rw c.in-Ok-Trades.field-0-is at c.in-Ok-Trades.ensures.few in
+    rw (c.end.ensures.deals place.entries place.has none, c.end.ensures.count place.entries place.has)
+    (deals_counted g.M.AuditedHistory.orders g.M.AuditedHistory.symbol place.entries)
+
+pub of-requires-clause-replacements : goal.of-requires-clause-replacements
+of-requires-clause-replacements g c = subst ReplacementsRest (c.requires.orders ∙ sym c.end.ensures.history) c.requires.replacements

@@ -1,0 +1,75 @@
+-- What is reported of a day of phases by what two logs come to before the rule is looked at.
+use Rattle.std.proofs.Common.{◌≡◌, subst, ℕ, List, Bool, false, Result}
+use Rattle.audit_base.specs.declared.faults.BadPlace.{BadPlace}
+use Rattle.audit_base.specs.declared.findings.Finding.{Finding}
+use Rattle.audit_base.specs.declared.orders.Deal.{Deal}
+use Rattle.audit_base.specs.declared.orders.Order.{Order}
+use Rattle.audit_base.specs.declared.records.OrderRecord.{OrderRecord}
+use Rattle.audit_base.specs.declared.records.TradeRecord.{TradeRecord}
+use Rattle.audit_base.specs.declared.terms.Rule.TheVariants as rule
+use Rattle.audit_base.specs.declared.terms.Which.{Which}
+use Rattle.audit_base.specs.Histories.{order_list}
+use Rattle.audit_base.specs.Trades.{deals_of}
+use Rattle.audit_base.specs.Verdicts.{paired_trades}
+use Rattle.audit_report.specs.declared.verdicts.Verdict.{Verdict}
+use Rattle.audit_report.specs.declared.verdicts.Verdict.TheVariants as verdict
+use Rattle.matching_core.specs.declared.deals_draft.ResolvedTrades.{ResolvedTrades}
+use Rattle.session_audit.specs.declared.phases.Phase.{Phase}
+use Rattle.audit_run.specs.declared.before_rule.BeforeRule.TheVariants as upto
+use Rattle.audit_run.specs.declared.questions.Question.{Question}
+use Rattle.audit_run.specs.declared.reports.Report.{Report}
+use Rattle.audit_run.specs.Auditing.{IsReportOf}
+use Rattle.audit_run.specs.Judgements.{question}
+use Rattle.audit_run.specs.JudgedReports.{ReportsDay}
+use Rattle.audit_run.specs.OtherTexts.{IsRefused}
+use Rattle.audit_run.specs.Reporting.{SaysReport}
+use Rattle.audit_run.specs.Sessions.{JudgesDay, JudgesDayOf}
+use Rattle.audit_run.specs.UpToRule.{AreSound, IsBeforeRule}
+use Rattle.audit_run.proofs.JudgedReportLemmas.{of_logs}
+
+-- continuous trading admits every order
+abbrev pub asked : List ℕ → Question
+asked symbol = question rule.Continuous symbol false
+
+module _ (symbol : List ℕ) (phases : List Phase) (table : Bool) (report : Report) where
+  -- a bad place is reported, whatever the phases are
+  pub malformed_day : (log : Which) (bad : BadPlace) → IsReportOf (verdict.Malformed log bad) report → ReportsDay symbol phases table (upto.Malformed log bad) report
+  malformed_day log bad made orders trades come =
+      of_logs (λ entries paired. IsBeforeRule (asked symbol) entries paired (upto.Malformed log bad)) (λ entries paired. JudgesDayOf symbol phases table entries paired report.status report.text.items)
+      (λ other place. upto.Malformed log bad ≡ upto.Malformed other place) (λ other place. IsRefused (verdict.Malformed other place) report.status report.text.items)
+      (λ entries paired is. absurd is)
+      (λ other place e. subst (λ (v : Verdict). IsRefused v report.status report.text.items) (same other place e) (record { status_is = made.status_is; text_is = made.text_is }))
+      orders trades come
+    where
+      same : (other : Which) (place : BadPlace) → upto.Malformed log bad ≡ upto.Malformed other place → verdict.Malformed log bad ≡ verdict.Malformed other place
+      same other place e = cc
+
+  -- so is a finding
+  pub found_day : (finding : Finding) → IsReportOf (verdict.Rejected finding) report → ReportsDay symbol phases table (upto.Found finding) report
+  found_day finding made orders trades come =
+      of_logs (λ entries paired. IsBeforeRule (asked symbol) entries paired (upto.Found finding)) (λ entries paired. JudgesDayOf symbol phases table entries paired report.status report.text.items)
+      (λ other place. upto.Found finding ≡ upto.Malformed other place) (λ other place. IsRefused (verdict.Malformed other place) report.status report.text.items)
+      (λ entries paired is. rw is (record { status_is = made.status_is; text_is = made.text_is }))
+      (λ other place e. absurd (apart other place e)) orders trades come
+    where
+      apart : (other : Which) (place : BadPlace) → upto.Found finding ≡ upto.Malformed other place → ⊥
+      apart other place e = cc
+
+  -- else what came of the day is
+  pub sound_day : (resolved : ResolvedTrades) → SaysReport (JudgesDay symbol phases table resolved.history resolved.deals.items resolved.count) report
+      → ReportsDay symbol phases table (upto.Sound resolved) report
+  sound_day resolved is orders trades come =
+      of_logs (λ entries paired. IsBeforeRule (asked symbol) entries paired (upto.Sound resolved)) (λ entries paired. JudgesDayOf symbol phases table entries paired report.status report.text.items)
+      (λ other place. upto.Sound resolved ≡ upto.Malformed other place) (λ other place. IsRefused (verdict.Malformed other place) report.status report.text.items)
+      (λ entries paired sound. of_sound entries paired sound) (λ other place e. absurd (apart other place e)) orders trades come
+    where
+      apart : (other : Which) (place : BadPlace) → upto.Sound resolved ≡ upto.Malformed other place → ⊥
+      apart other place e = cc
+
+      of_sound : (entries : List OrderRecord) (paired : Result (List TradeRecord) Finding) → AreSound (asked symbol) entries paired resolved → JudgesDayOf symbol phases table entries paired report.status report.text.items
+      of_sound entries paired sound =
+          let history : List Order = order_list symbol entries in
+          rw sound.none
+          (subst (λ (n : ℕ). JudgesDay symbol phases table history (deals_of history symbol (paired_trades paired)) n report.status report.text.items) sound.count
+          (subst (λ (ds : List Deal). JudgesDay symbol phases table history ds resolved.count report.status report.text.items) sound.deals
+          (subst (λ (os : List Order). JudgesDay symbol phases table os resolved.deals.items resolved.count report.status report.text.items) sound.orders is)))

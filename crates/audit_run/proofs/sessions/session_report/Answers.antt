@@ -1,0 +1,21 @@
+use Rattle.audit_run.proofs.JudgeLemmas.{ok-then}
+use Rattle.audit_run.proofs.SessionReportLemmas.{found_day, malformed_day, sound_day}
+use Rattle.audit_run.proofs.sessions.session_report.Goals as goal
+
+pub returns-in-Malformed : goal.returns-in-Malformed
+returns-in-Malformed c =
+    ok-then c.malformed_report.result _ _
+    (λ report made. rw c.in-Malformed.is (malformed_day c.args.symbol.now c.args.phases.now c.args.table report c.in-Malformed.log c.in-Malformed.bad made))
+    c.malformed_report.ensures
+
+pub returns-in-Found : goal.returns-in-Found
+returns-in-Found c =
+    ok-then c.finding_report.result _ _
+    (λ report made. rw c.in-Found.is (found_day c.args.symbol.now c.args.phases.now c.args.table report c.in-Found.finding made))
+    c.finding_report.ensures
+
+pub returns-in-Sound : goal.returns-in-Sound
+returns-in-Sound c =
+    ok-then c.report_day.result _ _
+    (λ report is. rw c.in-Sound.is (sound_day c.args.symbol.now c.args.phases.now c.args.table report c.in-Sound.resolved is))
+    c.report_day.ensures
