@@ -1,0 +1,4 @@
+mod AnswerLemmas
+mod CodeLemmas
+mod KeeperLemmas
+mod RowLemmas

@@ -1,0 +1,11 @@
+-- What a keeper answers where the database refuses.
+use Rattle.case_keeper.specs.declared.keeper.KeepFault.{KeepFault}
+use Rattle.case_keeper.specs.declared.keeper.KeepFault.TheVariants.{Failed, Memory}
+use Rattle.sqlite.specs.declared.error.Error.{Error}
+use Rattle.sqlite.specs.declared.error.Error.TheVariants.{SqliteFailure}
+use Rattle.sqlite.specs.declared.error.ErrorCode.TheVariants.{OutOfMemory}
+
+-- want of memory is told from every other refusal
+abbrev pub fault_of : Error → KeepFault
+fault_of (SqliteFailure OutOfMemory) = Memory
+fault_of _ = Failed

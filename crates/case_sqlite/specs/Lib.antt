@@ -1,0 +1,9 @@
+-- Part 1. What a reader must believe: the row of a case, its numbers, what a keeper over a database
+-- stands at, and the laws of the rows.
+pub mod Codes
+pub mod CaseRows
+pub mod Laws
+pub mod Faults
+pub mod SqlKeepers
+-- Part 2. What the private functions pass on: rows read column by column.
+pub mod Readings

@@ -1,0 +1,153 @@
+//! A keeper that has its cases in a database.
+ghost use Rattle.std.specs.Prelude.{◌≡◌, None, IfOk, IfSome, All, IsTrue};
+ghost use Rattle.case_keeper.specs.Cases.{passes};
+ghost use Rattle.case_keeper.specs.Keepers.{Accounts};
+ghost use Rattle.case_sqlite.specs.SqlKeepers.{silent_state, CountsFailure};
+
+use crate::answers::{all_passing, one_with_label};
+use crate::table;
+use audit_base::names::Name;
+use case_keeper::case::{Case, Filter};
+use case_keeper::case_list::CaseList;
+use case_keeper::keeper::{KeepFault, Keeper};
+use sqlite::{Alter, Connection};
+use std::alloc::Global;
+
+/// A keeper over a connection to a database, whose table `cases` it makes at its first call where it is not there.
+///
+/// It does not tell its cases. A call fails, and its fault is counted, where the database refuses or gives a row that is
+/// no case, has another label or does not pass the filter. Want of memory is no failure and is not counted. After either
+/// no transaction is open, and what the call began is rolled back.
+#[derive(Drop)]
+pub struct SqlKeeper<S: Alter> {
+    connection: Connection<S>,
+    // Whether the table is known to be there.
+    has_table: bool,
+    faults: u64,
+    alloc: Global,
+}
+
+/// Counts a fault where a call failed. The count stays at its greatest value.
+fn count_failure<T>(faults: &mut u64, outcome: Result<T, KeepFault>) -> Result<T, KeepFault>
+    ensures outcome { result ≡ outcome }
+    ensures counted { CountsFailure (silent_state faults.old) (silent_state faults.new) result }
+    ensures accounts { Accounts (silent_state faults.old) (silent_state faults.new) result }
+{
+    if let Err(KeepFault::Failed) = outcome {
+        *faults = faults.saturating_add(1);
+    }
+    outcome
+}
+
+impl<S: Alter> SqlKeeper<S> {
+    ghost use Rattle.case_sqlite.specs.SqlKeepers.{sql_state, connection_of, EndsTransaction};
+
+    /// A keeper over this connection, with no fault counted. Takes no memory, and asks nothing of the database.
+    pub fn new(alloc: Global, connection: Connection<S>) -> SqlKeeper<S>
+        ensures state { sql_state result ≡ record { cases = None; faults = 0 } }
+        ensures connection { connection_of result ≡ connection }
+    {
+        SqlKeeper {
+            connection,
+            has_table: false,
+            faults: 0,
+            alloc,
+        }
+    }
+
+    /// The connection of the keeper. Takes no memory.
+    pub fn into_connection(self) -> Connection<S>
+        ensures { result ≡ connection_of self }
+    {
+        self.connection
+    }
+
+    /// Makes the table at the first call.
+    fn make_table(&mut self) -> Result<(), KeepFault>
+        ensures faults { self.new.faults ≡ self.old.faults }
+        ensures ends { EndsTransaction self.old.connection self.new.connection }
+    {
+        if !self.has_table {
+            table::make_table(&mut self.connection)?;
+            self.has_table = true;
+        }
+        Ok(())
+    }
+
+    /// The case with a label. A failure is not counted yet.
+    fn case_with_label(&mut self, label: &Name) -> Result<Option<Case>, KeepFault>
+        ensures labelled { IfOk result (λ found. IfSome found (λ case. case.label ≡ label.now)) }
+        ensures faults { self.new.faults ≡ self.old.faults }
+        ensures ends { EndsTransaction self.old.connection self.new.connection }
+    {
+        self.make_table()?;
+        let rows = table::rows_with_label(&mut self.connection, label)?;
+        one_with_label(&rows, label)
+    }
+
+    /// Adds the row of a case. A failure is not counted yet.
+    fn insert(&mut self, case: &Case) -> Result<(), KeepFault>
+        ensures faults { self.new.faults ≡ self.old.faults }
+        ensures ends { EndsTransaction self.old.connection self.new.connection }
+    {
+        self.make_table()?;
+        table::insert(&mut self.connection, case)
+    }
+
+    /// The cases that pass a filter. A failure is not counted yet.
+    fn cases_passing(&mut self, filter: &Filter) -> Result<CaseList, KeepFault>
+        ensures passing_only { IfOk result (λ given.
+            All (λ case. IsTrue (passes filter.now case)) given) }
+        ensures faults { self.new.faults ≡ self.old.faults }
+        ensures ends { EndsTransaction self.old.connection self.new.connection }
+    {
+        self.make_table()?;
+        let rows = table::rows_passing(&mut self.connection, filter)?;
+        match all_passing(self.alloc, &rows, filter)? {
+            Some(cases) => Ok(CaseList::of(cases)),
+            None => Err(KeepFault::Failed),
+        }
+    }
+}
+
+impl<S: Alter> Keeper for SqlKeeper<S> {
+    ghost use Rattle.case_keeper.specs.Keepers.{Finds, Adds, Lists, Lacks};
+    ghost use Rattle.case_sqlite.specs.SqlKeepers.{sql_state, connection_of, CountsFailure, EndsTransaction};
+
+    ghost state = { sql_state };
+
+    fn find(&mut self, label: &Name) -> Result<Option<Case>, KeepFault>
+        ensures found { Finds (sql_state self.old) (sql_state self.new) result label.now }
+        ensures counted { CountsFailure (sql_state self.old) (sql_state self.new) result }
+        ensures ends { EndsTransaction (connection_of self.old) (connection_of self.new) }
+    {
+        let found = self.case_with_label(label);
+        count_failure(&mut self.faults, found)
+    }
+
+    fn add(&mut self, case: &Case) -> Result<(), KeepFault>
+        requires { Lacks (sql_state self.old) case.now.label }
+        ensures added { Adds (sql_state self.old) (sql_state self.new) result case.now }
+        ensures counted { CountsFailure (sql_state self.old) (sql_state self.new) result }
+        ensures ends { EndsTransaction (connection_of self.old) (connection_of self.new) }
+    {
+        let added = self.insert(case);
+        count_failure(&mut self.faults, added)
+    }
+
+    fn list(&mut self, filter: &Filter) -> Result<CaseList, KeepFault>
+        ensures listed { Lists (sql_state self.old) (sql_state self.new) result filter.now }
+        ensures counted { CountsFailure (sql_state self.old) (sql_state self.new) result }
+        ensures ends { EndsTransaction (connection_of self.old) (connection_of self.new) }
+    {
+        let listed = self.cases_passing(filter);
+        count_failure(&mut self.faults, listed)
+    }
+
+    ghost own_labels = { λ _. tt };
+}
+
+#[cfg(test)]
+mod stopped_tests;
+#[cfg(test)]
+mod tests;
