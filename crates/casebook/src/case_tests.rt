@@ -1,0 +1,287 @@
+//! Runs of commands over a casebook in memory: the words, and the status and the lines.
+use super::books::run_book;
+use super::map_opener::MapOpener;
+use super::running::run_case;
+use super::statuses::CaseStatus;
+use audit_base::names::read_name;
+use case_keeper::casebook::Casebook;
+use case_keeper::keeper::Keeper;
+use case_keeper::map_keeper::MapKeeper;
+use log_source::memory_shelf::MemoryShelf;
+use log_source::memory_sink::MemorySink;
+use std::alloc::Global;
+use std::process::Abort;
+use std::test::Fail;
+
+/// The logs of the tests, by their names: those of one trade, a trade log of no trades, and a log that is in
+/// no grammar.
+const LOGS: [(&str, &str); 4] = [
+    (
+        "o",
+        "kind,firm,id,time,symbol,side,quantity,price,target
+N,A,b1,20240102-09:00:00,Z,B,100,10,
+N,B,s1,20240102-09:00:00,Z,S,100,9,
+",
+    ),
+    (
+        "t",
+        "trade,time,symbol,buy_firm,buy_id,sell_firm,sell_id,quantity,price
+T1,20240102-09:00:01,Z,A,b1,B,s1,100,9.5
+",
+    ),
+    (
+        "e",
+        "trade,time,symbol,buy_firm,buy_id,sell_firm,sell_id,quantity,price
+",
+    ),
+    ("x", "no header\n"),
+];
+
+pub(crate) const USAGE: &str =
+    "usage: DATABASE file LABEL RULE SYMBOL FORM ORDERS TRADES | list [SYMBOL [RESULT]] | show LABEL, joined by then
+";
+
+/// The words of a command line, which spaces part.
+pub(crate) fn split_words(alloc: Global, line: &str) -> Result<Vec<String>, Fail> {
+    let mut words = Vec::new(alloc);
+    for word in line.split(' ') {
+        if !word.is_empty() {
+            words.push(String::from_str(alloc, word)?)?;
+        }
+    }
+    Ok(words)
+}
+
+/// A shelf that has the logs, and whose call of this number fails.
+pub(crate) fn shelf_of(alloc: Global, fails: u32) -> Result<MemoryShelf, Fail> {
+    let mut shelf = MemoryShelf::new(alloc, 64, Vec::from_slice(alloc, &[fails])?);
+    for (name, log) in LOGS {
+        shelf.put(
+            String::from_str(alloc, name)?,
+            Vec::from_slice(alloc, log.as_bytes())?,
+        )?;
+    }
+    Ok(shelf)
+}
+
+/// A casebook in memory of no cases, whose keeper's call of this number fails.
+fn book_of(alloc: Global, fails: u32) -> Result<Casebook<MapKeeper>, Fail> {
+    let list = Vec::from_slice(alloc, &[fails])?;
+    Ok(Casebook::new(MapKeeper::new(alloc, list)))
+}
+
+/// What the words come to over a casebook.
+pub(crate) fn run_line<B: Keeper>(
+    alloc: Global,
+    line: &str,
+    book: &mut Casebook<B>,
+) -> Result<(CaseStatus, MemorySink), Fail> {
+    let words = split_words(alloc, line)?;
+    let mut shelf = shelf_of(alloc, 0)?;
+    let mut out = MemorySink::new(alloc, 4096, 4096, Vec::new(alloc))?;
+    let status = run_case(alloc, &words, &mut shelf, &mut out, book);
+    Ok((status, out))
+}
+
+/// A row: the words, the status, and the lines.
+pub(crate) type Row = (&'static str, u8, &'static str);
+
+pub(crate) fn assert_row<R: AllocGlobal + Abort, B: Keeper>(
+    rt: &R,
+    row: Row,
+    book: &mut Casebook<B>,
+) -> Result<(), Fail> {
+    let (line, number, lines) = row;
+    let (status, out) = run_line(rt.alloc(), line, book)?;
+    assert_eq!(rt; status.number(), number, "{line}");
+    assert_eq!(rt; out.bytes(), lines.as_bytes(), "{line}");
+    Ok(())
+}
+
+pub(crate) const FILED: [Row; 2] = [
+    (
+        "file c1 matching Z csv o t then file c1 fair Z csv o t then list",
+        0,
+        "case,c1,matching,Z,accepted
+known
+case,c1,matching,Z,accepted
+case,c1,matching,Z,accepted
+",
+    ),
+    (
+        "file c2 maximum Z csv o e then list Z volume then show c9",
+        1,
+        "case,c2,maximum,Z,volume,trades,1
+case,c2,maximum,Z,volume,trades,1
+nocase,c9
+",
+    ),
+];
+
+#[test]
+fn cases_are_filed_once_and_listed(rt: HostRuntime) -> Result<(), Fail> {
+    for row in FILED {
+        let mut book = book_of(rt.alloc(), 0)?;
+        assert_row(&rt, row, &mut book)?;
+    }
+    Ok(())
+}
+
+/// Words over one casebook, one line after another.
+const LINES: [Row; 14] = [
+    ("list", 0, ""),
+    ("show c1", 1, "nocase,c1\n"),
+    (
+        "file c1 matching Z csv o t",
+        0,
+        "case,c1,matching,Z,accepted\n",
+    ),
+    (
+        "file c2 maximum Z csv o e then show c1",
+        0,
+        "case,c2,maximum,Z,volume,trades,1\ncase,c1,matching,Z,accepted\n",
+    ),
+    ("list Z accepted", 0, "case,c1,matching,Z,accepted\n"),
+    ("list Z volume", 0, "case,c2,maximum,Z,volume,trades,1\n"),
+    ("list Z spread then list Y", 0, ""),
+    (
+        "file c3 fair Z csv x t then list",
+        3,
+        "malformed,orders,1,0,header\n",
+    ),
+    (
+        "file c3 fair Z csv o x then list",
+        3,
+        "malformed,trades,1,0,header\n",
+    ),
+    (
+        "list Y then file c3 fair Z csv n t then list",
+        4,
+        "readfault,orders\n",
+    ),
+    ("file c1 fair Z csv o n then list", 4, "readfault,trades\n"),
+    ("file c3 fair Z csv x n", 3, "malformed,orders,1,0,header\n"),
+    (
+        "show c9 then list Z",
+        0,
+        "nocase,c9\ncase,c1,matching,Z,accepted\ncase,c2,maximum,Z,volume,trades,1\n",
+    ),
+    (
+        "list then file c1 fair Z csv o e",
+        1,
+        "case,c1,matching,Z,accepted\ncase,c2,maximum,Z,volume,trades,1\nknown\ncase,c1,matching,Z,accepted\n",
+    ),
+];
+
+#[test]
+fn a_casebook_is_asked_again_and_again(rt: HostRuntime) -> Result<(), Fail> {
+    let mut book = book_of(rt.alloc(), 0)?;
+    for row in LINES {
+        assert_row(&rt, row, &mut book)?;
+    }
+    Ok(())
+}
+
+/// Words that are not well-formed.
+const FAULTY: [&str; 18] = [
+    "",
+    "then",
+    "list then",
+    "then list",
+    "list then then list",
+    "then then",
+    "lists",
+    "list -Z",
+    "list Z maximum",
+    "list Z accepted more",
+    "show",
+    "show c1 c2",
+    "show -c1",
+    "file c1 matching Z csv o",
+    "file c1 matching Z csv o t more",
+    "file c1 best Z csv o t",
+    "file c1 matching Z text o t",
+    "file then matching Z csv o t",
+];
+
+#[test]
+fn faulty_words_are_told_the_usage(rt: HostRuntime) -> Result<(), Fail> {
+    let mut book = book_of(rt.alloc(), 0)?;
+    for line in FAULTY {
+        assert_row(&rt, (line, 2, USAGE), &mut book)?;
+    }
+    Ok(())
+}
+
+// Filing makes two calls of the keeper: it finds the label, and adds the case.
+#[test]
+fn a_keeper_that_fails_keeps_its_cases(rt: HostRuntime) -> Result<(), Fail> {
+    for fails in [1, 2] {
+        let mut book = book_of(rt.alloc(), fails)?;
+        let row = ("file c1 matching Z csv o t", 8, "keeperfault\n");
+        assert_row(&rt, row, &mut book)?;
+        assert_row(&rt, ("list", 0, ""), &mut book)?;
+    }
+    Ok(())
+}
+
+// Into a sink of this much room: the case stays filed, also where its line is cut.
+#[test]
+fn a_case_whose_line_is_cut_stays_filed(rt: HostRuntime) -> Result<(), Fail> {
+    let words = split_words(rt.alloc(), "file c1 matching Z csv o t then list")?;
+    let label = read_name(b"c1").expect(&rt, "a name");
+    for room in [0, 10, 27, 28, 40] {
+        let mut book = book_of(rt.alloc(), 0)?;
+        let mut shelf = shelf_of(rt.alloc(), 0)?;
+        let mut out = MemorySink::new(rt.alloc(), room, 4096, Vec::new(rt.alloc()))?;
+        let status = run_case(rt.alloc(), &words, &mut shelf, &mut out, &mut book);
+        assert_eq!(rt; status, CaseStatus::WriteFault, "room {room}");
+        assert_eq!(rt; out.bytes().len(), room, "room {room}");
+        assert!(rt; book.show(&label)?.is_some(), "room {room}");
+    }
+    Ok(())
+}
+
+// The order log takes a start and three reads, the trade log a start and three.
+#[test]
+fn a_read_that_fails_files_nothing(rt: HostRuntime) -> Result<(), Fail> {
+    let words = split_words(rt.alloc(), "file c1 matching Z csv o t")?;
+    for (fails, line) in [
+        (1, "readfault,orders\n"),
+        (4, "readfault,orders\n"),
+        (6, "readfault,trades\n"),
+    ] {
+        let mut book = book_of(rt.alloc(), 0)?;
+        let mut shelf = shelf_of(rt.alloc(), fails)?;
+        let mut out = MemorySink::new(rt.alloc(), 4096, 4096, Vec::new(rt.alloc()))?;
+        let status = run_case(rt.alloc(), &words, &mut shelf, &mut out, &mut book);
+        assert_eq!(rt; status, CaseStatus::ReadFault, "call {fails}");
+        assert_eq!(rt; out.bytes(), line.as_bytes(), "call {fails}");
+        assert_row(&rt, ("list", 0, ""), &mut book)?;
+    }
+    Ok(())
+}
+
+// Words over an opener whose first call fails, or none; the status, the lines, and whether there is a casebook.
+const OPENINGS: [(&str, u32, u8, &str, bool); 4] = [
+    ("db list", 1, 8, "keeperfault\n", false),
+    ("", 1, 2, USAGE, false),
+    ("db list", 0, 0, "", true),
+    ("db lists", 0, 2, USAGE, true),
+];
+
+#[test]
+fn a_refused_opening_leaves_no_casebook(rt: HostRuntime) -> Result<(), Fail> {
+    for (line, fails, number, lines, opened) in OPENINGS {
+        let words = split_words(rt.alloc(), line)?;
+        let mut shelf = shelf_of(rt.alloc(), 0)?;
+        let mut out = MemorySink::new(rt.alloc(), 4096, 4096, Vec::new(rt.alloc()))?;
+        let list = Vec::from_slice(rt.alloc(), &[fails])?;
+        let mut opener = MapOpener::new(rt.alloc(), list);
+        let ended = run_book(rt.alloc(), &words, &mut shelf, &mut out, &mut opener);
+        assert_eq!(rt; ended.status.number(), number, "{line}");
+        assert_eq!(rt; out.bytes(), lines.as_bytes(), "{line}");
+        assert_eq!(rt; ended.book.is_some(), opened, "{line}");
+    }
+    Ok(())
+}

@@ -1,0 +1,28 @@
+//! The commands of a casebook.
+use audit_base::names::Name;
+use audit_base::terms::{Form, Rule};
+use audit_run::paths::PathText;
+use case_keeper::case::Filter;
+
+/// What is to be filed: the verdict of a rule on two logs about a symbol, under a label. Both logs are in
+/// the same form.
+#[derive(Debug, Drop)]
+pub struct Filing {
+    pub label: Name,
+    pub rule: Rule,
+    pub symbol: Name,
+    pub form: Form,
+    pub orders: PathText,
+    pub trades: PathText,
+}
+
+/// A command of a casebook.
+#[derive(Debug, Drop)]
+pub enum Command {
+    /// To audit two logs and file the verdict.
+    File(Filing),
+    /// To list the cases that pass the filter.
+    List(Filter),
+    /// To show the case of a label.
+    Show(Name),
+}

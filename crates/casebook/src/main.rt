@@ -1,0 +1,88 @@
+//! The program `casebook`: files the verdicts of audits under labels in a database, and lists and shows
+//! them.
+//!
+//! `books::run_book` is the top call: it opens the casebook that the first word names (`opener`) and hands
+//! the other words to `running::run_case`, which reads them (`words`) into commands (`commands`) and does
+//! these in order. Each is answered whole (`answers`, over `verdicts`, which reads and judges two logs, and
+//! `lines`), and then written (`writing`). The contracts of both calls cite Play, which says over the bytes
+//! of the logs, the cases and the commands what is left of all three.
+#![tactic(auto)]
+
+mod answers;
+mod books;
+#[cfg(test)]
+mod case_tests;
+mod commands;
+#[cfg(test)]
+mod database_tests;
+mod file_opener;
+mod halts;
+mod laws;
+mod lines;
+mod map_opener;
+mod opener;
+mod running;
+mod statuses;
+mod verdicts;
+mod words;
+mod writing;
+
+use books::{Ended, run_book};
+use case_keeper::casebook::Casebook;
+use case_sqlite::sql_keeper::SqlKeeper;
+use file_opener::FileOpener;
+use log_source::file_shelf::FileShelf;
+use log_source::std_sink::StdSink;
+use sqlite::{File, FileStore};
+use statuses::CaseStatus;
+use std::io::ErrorKind;
+use std::process::ExitCode;
+use std::{env, io};
+
+/// Ends with the number of the status.
+fn main(rt: HostRuntime) -> ExitCode {
+    ExitCode::from(keep_cases(rt).number())
+}
+
+/// The words of the command line without the program's name. A command line that is not text is a
+/// faulty one, and is answered as no words are.
+fn words_of(rt: &HostRuntime) -> io::Result<Vec<String>> {
+    let mut words = Vec::new(rt.alloc());
+    match env::args(rt) {
+        Ok(args) => {
+            for word in args.skip(1) {
+                words.push(word)?;
+            }
+        }
+        Err(error) if error.kind() == ErrorKind::OutOfMemory => return Err(error),
+        Err(_) => {}
+    }
+    Ok(words)
+}
+
+/// Closes the database, where one was opened. What was filed is in its files before that, so that a close
+/// that fails loses nothing.
+fn close_book(book: Option<Casebook<SqlKeeper<FileStore<File>>>>) {
+    if let Some(book) = book {
+        let _closed = book.into_keeper().into_connection().close();
+    }
+}
+
+/// Runs the commands over the database that the first word names, and closes it.
+fn keep_cases(rt: HostRuntime) -> CaseStatus {
+    let Ok(words) = words_of(&rt) else {
+        return CaseStatus::Memory;
+    };
+    let Ok(files) = rt.clone() else {
+        return CaseStatus::Memory;
+    };
+    let Ok(databases) = rt.clone() else {
+        return CaseStatus::Memory;
+    };
+    let mut out = StdSink::new(io::writer(&rt));
+    let mut shelf = FileShelf::new(files);
+    let mut opener = FileOpener::new(databases);
+    let Ended { status, book } = run_book(rt.alloc(), &words, &mut shelf, &mut out, &mut opener);
+    close_book(book);
+    status
+}
