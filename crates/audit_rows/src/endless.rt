@@ -44,6 +44,11 @@ const CERTIFICATES: [&str; 2] = [
     "verify Z orders trades certificate --orders-form fix",
 ];
 
+const DAYS: [&str; 2] = [
+    "session Z uniform@1,continuous@3 orders trades",
+    "session Z uniform@1,continuous@3 orders trades --orders-form fix --trades-form fix",
+];
+
 #[test]
 fn audits_of_a_source_without_end(rt: HostRuntime) -> Result<(), Fail> {
     Ok(check_all_endless(rt.alloc(), &AUDITS, TOO_LONG_ORDERS)?)
@@ -67,4 +72,9 @@ fn trade_logs_without_end_are_not_converted(rt: HostRuntime) -> Result<(), Fail>
 #[test]
 fn certificates_of_a_source_without_end(rt: HostRuntime) -> Result<(), Fail> {
     Ok(check_all_endless(rt.alloc(), &CERTIFICATES, TOO_LONG_ORDERS)?)
+}
+
+#[test]
+fn days_of_a_source_without_end(rt: HostRuntime) -> Result<(), Fail> {
+    Ok(check_all_endless(rt.alloc(), &DAYS, TOO_LONG_ORDERS)?)
 }

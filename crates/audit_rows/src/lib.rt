@@ -1,9 +1,12 @@
-//! Rows of runs over CSV logs: audits of calls, words that are not well-formed, logs in pieces of every size
-//! and cut at every length, sources and sinks that fail, and sources that are too long or have no end.
+//! Rows of runs over CSV logs: audits of calls and of days, words that are not well-formed, logs in pieces of
+//! every size and cut at every length, sources and sinks that fail, and sources that are too long or have no
+//! end.
 #![tactic(auto)]
 
 #[cfg(test)]
 mod cuts;
+#[cfg(test)]
+mod day_logs;
 #[cfg(test)]
 mod endless;
 #[cfg(test)]
@@ -18,6 +21,8 @@ mod malformed_rows;
 mod matching_rows;
 #[cfg(test)]
 mod maximum_rows;
+#[cfg(test)]
+mod session_rows;
 #[cfg(test)]
 mod sink_faults;
 #[cfg(test)]

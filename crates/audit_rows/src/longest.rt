@@ -12,12 +12,19 @@ const LONGEST: u64 = 67_108_864;
 type LongRow = (&'static str, u8, u8, &'static str, &'static str);
 
 /// A FIX log of line ends is one without messages.
-const EMPTY_LOGS: [LongRow; 4] = [
+const EMPTY_LOGS: [LongRow; 5] = [
     (
         "audit matching Z orders trades --orders-form fix --trades-form fix",
         b'\n',
         0,
         "accepted,matching,Z\ntotals,0,0,0\n",
+        "toolong,orders\n",
+    ),
+    (
+        "session Z uniform@1,continuous@3 orders trades --orders-form fix --trades-form fix",
+        b'\n',
+        0,
+        "session,Z,uniform@1,continuous@3\ntotals,0,0,0\n",
         "toolong,orders\n",
     ),
     (

@@ -1,4 +1,5 @@
 //! Runs whose sink fails: at each of its writes of 10 bytes, or for want of room after each byte.
+use crate::day_logs::{CALL_FIRST, CALL_TRADES, DAY_ACCEPTED, DAY_ORDERS, DAY_SPREAD, DAY_TRADES};
 use row_checks::inputs::{ORDERS, TRADES};
 use row_checks::rows::Row;
 use row_checks::sink_faults::check_sink_faults;
@@ -106,9 +107,34 @@ T1,20240102-09:00:01,Z,A,b1,B,s1,100,9.5
     },
 ];
 
+/// A day that conforms, and one that does not.
+const DAYS: [Row; 2] = [
+    Row {
+        name: "a day",
+        words: CALL_FIRST,
+        orders: &DAY_ORDERS,
+        trades: &DAY_TRADES,
+        status: 0,
+        report: DAY_ACCEPTED,
+    },
+    Row {
+        name: "a day that does not conform",
+        words: CALL_FIRST,
+        orders: &DAY_ORDERS,
+        trades: &CALL_TRADES,
+        status: 1,
+        report: DAY_SPREAD,
+    },
+];
+
 #[test]
 fn audits_whose_sink_fails_at_each_write(rt: HostRuntime) -> Result<(), Fail> {
     Ok(check_sink_faults(rt.alloc(), &AUDITS)?)
+}
+
+#[test]
+fn days_whose_sink_fails_at_each_write(rt: HostRuntime) -> Result<(), Fail> {
+    Ok(check_sink_faults(rt.alloc(), &DAYS)?)
 }
 
 #[test]

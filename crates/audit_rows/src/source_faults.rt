@@ -1,4 +1,5 @@
 //! Runs over CSV logs whose source fails, in pieces of 30 bytes.
+use crate::day_logs::{CALL_FIRST, CALL_TRADES, DAY_ACCEPTED, DAY_ORDERS, DAY_SPREAD, DAY_TRADES};
 use row_checks::inputs::{ORDERS, TRADES};
 use row_checks::rows::Row;
 use row_checks::source_faults::{SourceRow, check_source_faults};
@@ -93,7 +94,7 @@ const AUDITS: [SourceRow; 3] = [
 ];
 
 /// Names that the shelf does not have: the start fails by itself.
-const UNKNOWN_NAMES: [SourceRow; 2] = [
+const UNKNOWN_NAMES: [SourceRow; 3] = [
     SourceRow {
         row: Row {
             name: "an order log that is not there",
@@ -111,6 +112,19 @@ const UNKNOWN_NAMES: [SourceRow; 2] = [
         row: Row {
             name: "a trade log that is not there",
             words: "audit matching Z orders trade",
+            orders: &ONE_TRADE_ORDERS,
+            trades: &ONE_TRADE,
+            status: 4,
+            report: "readfault,trades\n",
+        },
+        certificate: &[],
+        order_calls: 7,
+        calls: 8,
+    },
+    SourceRow {
+        row: Row {
+            name: "a trade log of a day that is not there",
+            words: "session Z uniform@1 orders trade",
             orders: &ONE_TRADE_ORDERS,
             trades: &ONE_TRADE,
             status: 4,
@@ -217,6 +231,66 @@ const CERTIFICATES: [SourceRow; 2] = [
     },
 ];
 
+/// Days of two phases: one conforms, one does not, one has a finding of the history, after which the trade log
+/// is still read, and one has an order log that is malformed, after which it is not.
+const DAYS: [SourceRow; 4] = [
+    SourceRow {
+        row: Row {
+            name: "a day",
+            words: CALL_FIRST,
+            orders: &DAY_ORDERS,
+            trades: &DAY_TRADES,
+            status: 0,
+            report: DAY_ACCEPTED,
+        },
+        certificate: &[],
+        order_calls: 8,
+        calls: 15,
+    },
+    SourceRow {
+        row: Row {
+            name: "a day that does not conform",
+            words: CALL_FIRST,
+            orders: &DAY_ORDERS,
+            trades: &CALL_TRADES,
+            status: 1,
+            report: DAY_SPREAD,
+        },
+        certificate: &[],
+        order_calls: 8,
+        calls: 14,
+    },
+    SourceRow {
+        row: Row {
+            name: "a day with a finding of the history",
+            words: CALL_FIRST,
+            orders: &[
+                ORDERS,
+                "N,A,b1,20240102-09:00:00,Z,B,5,10,\nN,A,b1,20240102-09:00:00,Z,B,6,11,\n",
+            ],
+            trades: &DAY_TRADES,
+            status: 1,
+            report: "rejected,duplicate-id,orders,2\nsee,orders,1\n",
+        },
+        certificate: &[],
+        order_calls: 7,
+        calls: 14,
+    },
+    SourceRow {
+        row: Row {
+            name: "a day with a malformed order log",
+            words: CALL_FIRST,
+            orders: &[ORDERS, "N,A,b1,20240102-09:00:00,Z,B,1000000000001,10,\n"],
+            trades: &DAY_TRADES,
+            status: 3,
+            report: "malformed,orders,1,52,value:quantity\n",
+        },
+        certificate: &[],
+        order_calls: 6,
+        calls: 6,
+    },
+];
+
 #[test]
 fn an_audit_whose_source_fails_at_each_call(rt: HostRuntime) -> Result<(), Fail> {
     Ok(check_source_faults(rt.alloc(), &AUDITS, 30)?)
@@ -235,4 +309,9 @@ fn a_log_written_from_a_source_that_fails_at_each_call(rt: HostRuntime) -> Resul
 #[test]
 fn a_certificate_whose_source_fails_at_each_call(rt: HostRuntime) -> Result<(), Fail> {
     Ok(check_source_faults(rt.alloc(), &CERTIFICATES, 30)?)
+}
+
+#[test]
+fn a_day_whose_source_fails_at_each_call(rt: HostRuntime) -> Result<(), Fail> {
+    Ok(check_source_faults(rt.alloc(), &DAYS, 30)?)
 }

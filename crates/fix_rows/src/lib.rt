@@ -1,5 +1,5 @@
-//! Rows of runs over FIX logs: audits and conversions, in pieces of every size, cut at every length, and over
-//! a source that fails.
+//! Rows of runs over FIX logs: audits, days of several phases and conversions, in pieces of every size, cut at
+//! every length, and over a source that fails.
 #![tactic(auto)]
 
 #[cfg(test)]
@@ -8,6 +8,8 @@ mod audits;
 mod conversions;
 #[cfg(test)]
 mod cuts;
+#[cfg(test)]
+mod days;
 #[cfg(test)]
 mod messages;
 #[cfg(test)]

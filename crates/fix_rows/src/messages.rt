@@ -53,3 +53,20 @@ pub(crate) const DAY_TRADES: [&str; 5] = [BUY, BREAK, HEARTBEAT, BREAK, SELL];
 
 /// The report on the day.
 pub(crate) const ACCEPTED: &str = "accepted,matching,Z\ntotals,2,1,100\n";
+
+/// The words of a day of two phases, the bid alone in a call and then continuous trading, over two FIX logs.
+pub(crate) const SESSION: &str =
+    "session Z uniform@1,continuous@2 orders trades --orders-form fix --trades-form fix --table";
+
+/// The report on the day by its phases: the ask meets the bid that the call leaves.
+pub(crate) const SESSION_ACCEPTED: &str = "session,Z,uniform@1,continuous@2
+totals,2,1,100
+order,1,100
+order,2,100
+";
+
+/// The report on the day without its trade.
+pub(crate) const SESSION_SPREAD: &str = "rejected,spread,orders,2
+order,1,buy,A,1,100,10,0
+order,2,sell,B,2,100,9,0
+";

@@ -1,5 +1,8 @@
 //! Runs over FIX logs whose source fails, in pieces of 100 bytes.
-use crate::messages::{ACCEPTED, ASK, BID, BUY, DAY_ORDERS, DAY_TRADES, MATCHING, SELL};
+use crate::messages::{
+    ACCEPTED, ASK, BID, BUY, DAY_ORDERS, DAY_TRADES, MATCHING, SELL, SESSION, SESSION_ACCEPTED,
+    SESSION_SPREAD,
+};
 use row_checks::rows::Row;
 use row_checks::source_faults::{SourceRow, check_source_faults};
 use std::test::Fail;
@@ -9,7 +12,7 @@ const BOTH_ORDERS: [&str; 2] = [BID, ASK];
 
 const BOTH_REPORTS: [&str; 2] = [BUY, SELL];
 
-const ROWS: [SourceRow; 6] = [
+const ROWS: [SourceRow; 8] = [
     SourceRow {
         row: Row {
             name: "audit of a day",
@@ -48,6 +51,32 @@ const ROWS: [SourceRow; 6] = [
         certificate: &[],
         order_calls: 3,
         calls: 3,
+    },
+    SourceRow {
+        row: Row {
+            name: "session",
+            words: SESSION,
+            orders: &DAY_ORDERS,
+            trades: &DAY_TRADES,
+            status: 0,
+            report: SESSION_ACCEPTED,
+        },
+        certificate: &[],
+        order_calls: 6,
+        calls: 11,
+    },
+    SourceRow {
+        row: Row {
+            name: "session without trades",
+            words: SESSION,
+            orders: &BOTH_ORDERS,
+            trades: &[],
+            status: 1,
+            report: SESSION_SPREAD,
+        },
+        certificate: &[],
+        order_calls: 4,
+        calls: 6,
     },
     SourceRow {
         row: Row {
