@@ -122,18 +122,34 @@ pub struct Key {
     pub id: Name,
 }
 
-/// Whether a name may hold the byte.
+/// Each byte that a name may hold stands at its own place, and a comma at every other place.
+static NAME_BYTES: [u8; 256] = *b"\
+    ,,,,,,,,,,,,,,,,,,,,,,,,,,,,,,,,\
+    \x20!,#$%&'()*+,-./0123456789:;<=>?\
+    @ABCDEFGHIJKLMNOPQRSTUVWXYZ[\\]^_\
+    `abcdefghijklmnopqrstuvwxyz{|}~,\
+    ,,,,,,,,,,,,,,,,,,,,,,,,,,,,,,,,\
+    ,,,,,,,,,,,,,,,,,,,,,,,,,,,,,,,,\
+    ,,,,,,,,,,,,,,,,,,,,,,,,,,,,,,,,\
+    ,,,,,,,,,,,,,,,,,,,,,,,,,,,,,,,,";
+
+/// Whether a name may hold the byte. One look into the table costs less than four comparisons.
 fn is_name_byte(byte: u8) -> bool
     ensures { result ≡ form.is_name_byte byte }
 {
-    32 <= byte && byte <= 126 && byte != b'"' && byte != b','
+    NAME_BYTES[byte as usize] != b','
 }
 
-/// Whether a name may hold each of the bytes.
+/// Whether a name may hold each of the bytes. All are looked at, since a way out of the loop would cost
+/// more than it saves.
 fn all_name_bytes(text: &[u8]) -> bool
     ensures { result ≡ list_all form.is_name_byte text.now }
 {
-    text.iter().all(|byte| is_name_byte(*byte))
+    let mut all = true;
+    for byte in text {
+        all &= is_name_byte(*byte);
+    }
+    all
 }
 
 /// Whether the text is a name.
