@@ -45,48 +45,46 @@ fn hand_on_pair<K: Collector<Entry = TradeRecord>>(
     }
 }
 
-// Takes a pair: hands on its trade, unless it or a pair before it disagrees.
+// Takes a pair: hands on its trade, unless it or a pair before it disagrees. The finding is changed where
+// it stands, since it is large and mostly none.
 fn take_pair<K: Collector<Entry = TradeRecord>>(
     trades: &mut K,
-    finding: Option<Finding>,
+    finding: &mut Option<Finding>,
     first: &PlacedReport,
     second: &PlacedReport,
-) -> Result<Option<Finding>, NoMemory>
-    requires { finding ≡ None → HasPlace K.has_taken trades.old }
-    ensures { IfOk result
-        (TakesPair K.has_taken finding first.now second.now trades.old trades.new) }
+) -> Result<(), NoMemory>
+    requires { finding.old ≡ None → HasPlace K.has_taken trades.old }
+    ensures { OnOk result
+        (TakesPair K.has_taken finding.old first.now second.now trades.old trades.new finding.new) }
 {
     if finding.is_some() {
-        return Ok(finding);
+        return Ok(());
     }
     if !agree(&first.report, &second.report) {
         let shown = Shown::Place {
             log: Which::Trades,
             place: first.place,
         };
-        return Ok(Some(unpaired_at(second.place, Some(shown))));
+        *finding = Some(unpaired_at(second.place, Some(shown)));
+        return Ok(());
     }
-    hand_on_pair(trades, first, second)?;
-    Ok(None)
+    hand_on_pair(trades, first, second)
 }
 
 // Takes one more report.
 fn take_report<K: Collector<Entry = TradeRecord>>(
     firsts: &mut FirstReports,
     trades: &mut K,
-    finding: Option<Finding>,
+    finding: &mut Option<Finding>,
     report: &PlacedReport,
-) -> Result<Option<Finding>, NoMemory>
-    requires { finding ≡ None → HasPlace K.has_taken trades.old }
-    ensures { IfOk result (λ found. (all : List Report) → report.now.place ≡ length all + 1
-        → IsKnown K.has_taken firsts.old finding trades.old all
-        → IsKnown K.has_taken firsts.new found trades.new (report.now.report ∷ all)) }
+) -> Result<(), NoMemory>
+    requires { finding.old ≡ None → HasPlace K.has_taken trades.old }
+    ensures { OnOk result ((all : List Report) → report.now.place ≡ length all + 1
+        → IsKnown K.has_taken firsts.old finding.old trades.old all
+        → IsKnown K.has_taken firsts.new finding.new trades.new (report.now.report ∷ all)) }
 {
     match firsts.take(&report.report.trade) {
-        None => {
-            firsts.add(report)?;
-            Ok(finding)
-        }
+        None => firsts.add(report),
         Some(first) => take_pair(trades, finding, &first, report),
     }
 }
@@ -145,7 +143,12 @@ impl<K: Collector<Entry = TradeRecord>> Collector for PairingDraft<K> {
             place: self.count + 1,
             report,
         };
-        self.finding = take_report(&mut self.firsts, &mut self.trades, self.finding, &report)?;
+        take_report(
+            &mut self.firsts,
+            &mut self.trades,
+            &mut self.finding,
+            &report,
+        )?;
         self.count += 1;
         Ok(())
     }

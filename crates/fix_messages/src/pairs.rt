@@ -44,6 +44,10 @@ impl EarlierReports {
         ensures others { (q : List ℕ) → held_in self.new q ≡ (if same_name id.now q then None
             else held_in self.old q) }
     {
+        // Mostly none waits here, and then the id need not be hashed.
+        if self.map.is_empty() {
+            return None;
+        }
         self.map.swap_remove(id)
     }
 

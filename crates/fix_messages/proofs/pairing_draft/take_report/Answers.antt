@@ -6,8 +6,8 @@ use Rattle.fix_messages.proofs.pairing_draft.take_report.Goals as goal
 
 pub returns-in-Some : goal.returns-in-Some
 returns-in-Some g c =
-    ok-map c.take_pair.result _ _ (λ found takes all at known.
-    known-second g.K.Collector.has_taken c.args.firsts.now c.take.new.self c.args.finding found c.args.trades.now c.take_pair.new.trades c.in-Some.first c.args.report.now.report all
+    ok-map c.take_pair.result _ _ (λ _ takes all at known.
+    known-second g.K.Collector.has_taken c.args.firsts.now c.take.new.self c.args.finding.now c.take_pair.new.finding c.args.trades.now c.take_pair.new.trades c.in-Some.first c.args.report.now.report all
     (sym (known.waits c.args.report.now.report.trade) ∙ sym c.take.ensures.first ∙ c.in-Some.is) known c.take.ensures.others
-    (subst (λ (p : PlacedReport). TakesPair g.K.Collector.has_taken c.args.finding c.in-Some.first p c.args.trades.now c.take_pair.new.trades found) (ap (λ (k : ℕ). record { place = k; report = c.args.report.now.report }) at) takes))
+    (subst (λ (p : PlacedReport). TakesPair g.K.Collector.has_taken c.args.finding.now c.in-Some.first p c.args.trades.now c.take_pair.new.trades c.take_pair.new.finding) (ap (λ (k : ℕ). record { place = k; report = c.args.report.now.report }) at) takes))
     c.take_pair.ensures

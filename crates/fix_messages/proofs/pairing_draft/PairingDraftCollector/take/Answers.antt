@@ -7,5 +7,5 @@ take_report-requires g c = trades-place g.K.Collector.has_taken c.args.self.now 
 
 pub returns : goal.returns
 returns g c = λ reports is.
-    let next = takes-report g.K.Collector.has_taken c.args.self.now c.take_report.new.firsts c.take_report.new.trades c.in_ok-self.field-0 c.args.report _ refl c.in_ok-self.ensures reports is in
+    let next = takes-report g.K.Collector.has_taken c.args.self.now c.take_report.new.firsts c.take_report.new.trades c.take_report.new.finding c.args.report _ refl c.in_ok-take_report.ensures reports is in
     record { count = next.0; known = next.1 }
