@@ -2,14 +2,14 @@
 use Rattle.std.proofs.Common.{◌≡◌, ℕ, true, false, ◌+◌, ◌-◌, ◌*◌, ◌/◌, ◌%◌, ◌^◌, ◌<◌, ◌≤◌, inl, inr, Some, None, List, [], ◌∷◌, ◌++◌, length, take, drop, refl, ap, ◌∙◌, sym, arith, suc, zero}
 use Rattle.std.proofs.Math.Nat.{pow-suc, mul_assoc}
 use Rattle.std.proofs.Math.Seq.{take-append_seam, drop-append-add}
-use Rattle.std.proofs.lemmas.Bool.{cases_eq, cond-true, cond-false, cond_both, eqb-true, ne_eqb, lt-ltb, le-ltb, leb-true}
+use Rattle.std.proofs.lemmas.Bool.{cases_Bool, cases_eq, cond-true, cond-false, cond_both, eqb-true, ne_eqb, lt-ltb, le-ltb, leb-true}
 use Rattle.std.proofs.lemmas.List.{append-nil, length-append}
 use Rattle.std.specs.Char.{is_ascii_digit}
 use Rattle.std.specs.Cmp.{first_so, second_so}
 use Rattle.std.specs.Fmt.{decimal}
 use Rattle.std.specs.List.{list_all, position, position_or_len}
-use Rattle.std.specs.Prelude.{◌==◌, nat_lt, nat_le}
-use Rattle.audit_base.specs.Digits.{fixed_digits, fraction_digits, digits_form}
+use Rattle.std.specs.Prelude.{◌==◌, ◌&&◌, nat_lt, nat_le}
+use Rattle.audit_base.specs.Digits.{fixed_digits, fraction_digits, is_digits, digits_form}
 use Rattle.audit_base.specs.Numbers.{is_point, whole_price, price_with_fraction, price_around, price_form, is_quantity, in_quantity, quantity_around, quantity_form, after_point, price_text}
 use Rattle.audit_base.proofs.DigitLemmas.{digit_bounds}
 use Rattle.audit_base.proofs.WrittenDigits.{decimal_digits, decimal_form, length-fixed_digits, fixed_digits_form}
@@ -112,6 +112,19 @@ pub position_none : (text : List ℕ) → list_all is_ascii_digit text ≡ true 
 position_none text are =
     let past : nat_lt (position_or_len is_point text) (length text) ≡ false = le-ltb (position_or_len is_point text) (length text) (omega (arith, no_point text are)) in
     cond-false _ _ _ past
+
+-- what is read as a number is digits alone
+digits_are : (most : ℕ) (text : List ℕ) (value : ℕ) → digits_form most text ≡ Some value → list_all is_ascii_digit text ≡ true
+digits_are most text value is = elim (cases_Bool (is_digits 1 most text)) [
+  | inl are ↦ second_so (nat_le 1 (length text) && nat_le (length text) most) (list_all is_ascii_digit text) are
+  | inr other ↦
+      let none : digits_form most text ≡ None = cond-false _ _ _ other in absurd (cc (is, none))
+]
+
+-- digits alone are a quantity by their number
+pub whole_quantity : (text : List ℕ) (value : ℕ) → digits_form 13 text ≡ Some value → quantity_form text ≡ in_quantity (Some value)
+whole_quantity text value is =
+    ap (quantity_around text) (position_none text (digits_are 13 text value is)) ∙ ap in_quantity is
 
 -- where the point stands
 pub position_some : (text rest : List ℕ) → list_all is_ascii_digit text ≡ true → position is_point (text ++ 46 ∷ rest) ≡ Some (length text)

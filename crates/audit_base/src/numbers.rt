@@ -177,9 +177,8 @@ fn in_quantity(value: Option<u64>) -> Option<Quantity>
     Quantity::of(value?)
 }
 
-/// The quantity that the text writes: 1 to 13 digits, then optionally `.` and one or more zeros, with
-/// a whole part from 1 to 1,000,000,000,000. None exactly where it is not in this form.
-pub fn read_quantity(text: &[u8]) -> Option<Quantity>
+/// The quantity that a text writes, whether or not it has a point.
+fn read_around_point(text: &[u8]) -> Option<Quantity>
     ensures { result ≡ form.quantity_form text.now }
 {
     match point_in(text) {
@@ -191,6 +190,18 @@ pub fn read_quantity(text: &[u8]) -> Option<Quantity>
                 None
             }
         }
+    }
+}
+
+/// The quantity that the text writes: 1 to 13 digits, then optionally `.` and one or more zeros, with
+/// a whole part from 1 to 1,000,000,000,000. None exactly where it is not in this form.
+pub fn read_quantity(text: &[u8]) -> Option<Quantity>
+    ensures { result ≡ form.quantity_form text.now }
+{
+    // Most quantities have no point, so none is sought before the digits are read.
+    match read_digits(text, 13) {
+        Some(value) => Quantity::of(value),
+        None => read_around_point(text),
     }
 }
 
