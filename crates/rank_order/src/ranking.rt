@@ -2,6 +2,7 @@
 ghost use Rattle.std.specs.Prelude.{◌≡◌, ◌<◌, ◌^◌, ◌++◌, IfOk, OnOk, length, map};
 ghost use Rattle.audit_base.specs.Orders.{IsOrderList};
 ghost use Rattle.audit_base.specs.Priority.{IsRanked};
+ghost use Rattle.audit_base.specs.declared.terms.Side.TheVariants.{Buy, Sell};
 ghost use Rattle.rank_order.specs.Ranks.{AreRanks, rank_if, index_of};
 ghost use Rattle.rank_order.specs.Sides.{AreRanked};
 
@@ -54,8 +55,29 @@ pub fn ranked(alloc: Global, orders: &[Order], side: Side) -> Result<Vec<usize>,
     ensures { IfOk result (λ ranks. IsRanked orders.now side ranks.items) }
 {
     let mut ranks = ranks_of(alloc, orders, side)?;
-    ranks.sort()?;
+    ranks.sort_unstable();
     indices_of(alloc, &ranks)
+}
+
+/// The ranks of the orders that no record cancels, each side by rising index.
+#[derive(Drop)]
+struct BothRanks {
+    bids: Vec<Rank>,
+    asks: Vec<Rank>,
+}
+
+/// The ranks of both sides, in one pass over the orders.
+fn ranks_of_both(alloc: Global, orders: &[Order]) -> Result<BothRanks, NoMemory>
+    ensures bids { IfOk result (λ both. AreRanks orders.now Buy (length orders.now) both.bids.items) }
+    ensures asks { IfOk result (λ both. AreRanks orders.now Sell (length orders.now) both.asks.items) }
+{
+    let mut bids = Vec::with_capacity(alloc, orders.len())?;
+    let mut asks = Vec::with_capacity(alloc, orders.len())?;
+    for (i, order) in orders.iter().enumerate() {
+        add_rank(&mut bids, Side::Buy, i, order)?;
+        add_rank(&mut asks, Side::Sell, i, order)?;
+    }
+    Ok(BothRanks { bids, asks })
 }
 
 /// The orders that no record cancels, by their indices, each side from the best to the worst.
@@ -70,8 +92,11 @@ pub fn ranked_sides(alloc: Global, orders: &[Order]) -> Result<RankedSides, NoMe
     requires { IsOrderList orders.now }
     ensures { IfOk result (AreRanked orders.now) }
 {
+    let BothRanks { mut bids, mut asks } = ranks_of_both(alloc, orders)?;
+    bids.sort_unstable();
+    asks.sort_unstable();
     Ok(RankedSides {
-        bids: ranked(alloc, orders, Side::Buy)?,
-        asks: ranked(alloc, orders, Side::Sell)?,
+        bids: indices_of(alloc, &bids)?,
+        asks: indices_of(alloc, &asks)?,
     })
 }
