@@ -1,13 +1,14 @@
 -- Lines of printable bytes without quotes: no mark, no CR and no LF is in them, and they aren't broken.
-use Rattle.std.proofs.Common.{◌≡◌, ℕ, zero, suc, true, false, not, ◌-◌, ◌≤◌, ◌==◌, List, [], ◌∷◌, ◌++◌, length, take, drop, refl, ap, ◌∙◌, arith}
+use Rattle.std.proofs.Common.{◌≡◌, ℕ, zero, suc, Bool, true, false, not, ◌-◌, ◌≤◌, ◌==◌, List, [], ◌∷◌, ◌++◌, length, take, drop, refl, ap, ◌∙◌, arith}
 use Rattle.std.specs.Prelude.{count_by}
 use Rattle.std.specs.List.{list_all, list_any, starts_with, ends_with}
-use Rattle.std.proofs.lemmas.Bool.{and_parts, and_from, or_from, both_ways, not-true, leb-true, ne_eqb, false_from_ne_true}
+use Rattle.std.proofs.lemmas.Bool.{and_parts, and_from, or_from, or_parts, both_ways, not-true, leb-true, ne_eqb, false_from_ne_true}
 use Rattle.csv.specs.Reading.{is_bom, strip_bom}
 use Rattle.csv_logs.specs.Columns.{is_printable, is_quote, is_broken, is_unquoted_byte}
 use Rattle.csv_logs.specs.Lines.{Line, mark, mark_size, without_cr}
 use Rattle.csv_logs.specs.Steps.{line_at}
 use Rattle.csv_logs.specs.Feeds.{is_lf}
+use Rattle.csv_logs.specs.Readers.{is_plain_byte}
 use Rattle.csv_logs.proofs.FieldLemmas.{bytes-same}
 
 unquoted-printable : (line : List ℕ) → list_all is_unquoted_byte line ≡ true → list_all is_printable line ≡ true
@@ -93,3 +94,32 @@ printable-bom line tail printable = printable-bom_before line 10 tail printable 
 
 pub unquoted-bom : (line tail : List ℕ) → list_all is_unquoted_byte line ≡ true → strip_bom (line ++ 10 ∷ tail) ≡ line ++ 10 ∷ tail
 unquoted-bom line tail unquoted = printable-bom line tail (unquoted-printable line unquoted)
+
+-- Texts of such lines and LFs.
+
+pub plain-parts : (n : ℕ) (text : List ℕ) → list_all is_plain_byte (take n text) ≡ true → list_all is_plain_byte (drop n text) ≡ true → list_all is_plain_byte text ≡ true
+plain-parts zero text front rest = rest
+plain-parts (suc n) [] front rest = refl
+plain-parts (suc n) (byte ∷ text) front rest =
+    let p = and_parts (is_plain_byte byte) (list_all is_plain_byte (take n text)) front in
+    and_from (is_plain_byte byte) (list_all is_plain_byte text) p.0 (plain-parts n text p.1 rest)
+
+plain-unquoted : (byte : ℕ) → is_plain_byte byte ≡ true → is_lf byte ≡ false → is_unquoted_byte byte ≡ true
+plain-unquoted byte plain other = go (is_unquoted_byte byte) refl
+  where
+    go : (b : Bool) → is_unquoted_byte byte ≡ b → is_unquoted_byte byte ≡ true
+    go true on = on
+    go false off = absurd (both_ways (is_plain_byte byte) (or_from (is_unquoted_byte byte) (is_lf byte) off other) plain)
+
+-- a line of a plain text is unquoted, and what follows it is plain
+pub plain-line : (line later : List ℕ) → list_all is_plain_byte (line ++ 10 ∷ later) ≡ true → list_any is_lf line ≡ false
+    → (list_all is_unquoted_byte line ≡ true) × (list_all is_plain_byte later ≡ true)
+plain-line [] later plain none = (refl, plain)
+plain-line (byte ∷ line) later plain none =
+    let p = and_parts (is_plain_byte byte) (list_all is_plain_byte (line ++ 10 ∷ later)) plain in
+    let q = or_parts (is_lf byte) (list_any is_lf line) none in
+    let rest = plain-line line later p.1 q.1 in
+    (and_from (is_unquoted_byte byte) (list_all is_unquoted_byte line) (plain-unquoted byte p.0 q.0) rest.0, rest.1)
+
+pub unquoted-without_cr : (line : List ℕ) → list_all is_unquoted_byte line ≡ true → list_all is_unquoted_byte (without_cr line) ≡ true
+unquoted-without_cr line unquoted = rw (no-cr line unquoted) unquoted

@@ -1,6 +1,6 @@
 -- Lines that are read one after another by one reader of `csv`: what the private functions that share
 -- a reader say.
-use Rattle.std.specs.Prelude.{◌≡◌, ◌==◌, ◌&&◌, not, ℕ, Bool, true, false, Option, Some, List, [], ◌∷◌, ◌++◌, length}
+use Rattle.std.specs.Prelude.{◌≡◌, ◌==◌, ◌&&◌, ◌||◌, not, ℕ, Bool, true, false, Option, Some, List, [], ◌∷◌, ◌++◌, length}
 use Rattle.std.specs.List.{list_all}
 use Rattle.csv.specs.Machine.{Read, next_record, step}
 use Rattle.csv.specs.Reading.{default_config, has_failed, is_flexible, reader_config, reader_state, reader_trim, source_of, Ready}
@@ -20,6 +20,10 @@ Remaining R = R → Option (List ℕ)
 -- the first record of a text, for a reader in this state
 abbrev pub record_from : State → List ℕ → Option Read
 record_from state text = next_record default_config state [] [] text
+
+-- a byte of an unquoted line, or the LF that ends one
+abbrev pub is_plain_byte : ℕ → Bool
+is_plain_byte byte = is_unquoted_byte byte || byte == 10
 
 -- the state of `csv`'s machine behind these bytes of a line, none of which ends the line
 unfoldable pub state_behind : State → List ℕ → State

@@ -14,7 +14,9 @@ ghost use Rattle.log_source.specs.Sources.{longest_log};
 
 use crate::entries::{LogEntry, take_fields, take_text};
 use crate::fields::Fields;
-use crate::lines::{is_closed, is_unquoted, line_at, split_line, starts_closed, without_cr};
+use crate::lines::{
+    is_closed, is_plain, is_unquoted_unless_known, line_at, split_line, starts_closed, without_cr,
+};
 use audit_base::faults::{BadPlace, LogFault, NoMemory, Reason};
 use audit_base::records::{OrderRecord, TradeRecord};
 use csv::{Reader, ReaderBuilder};
@@ -179,12 +181,13 @@ impl<R: LogEntry, K: Collector<Entry = R>> CsvFeed<K> {
             .flexible(true)
             .from_reader(self.alloc, left);
         let mut fields = Fields::new(self.alloc);
+        let plain = is_plain(left);
         'lines: while self.bad.is_none() {
             let Some((line, later)) = split_line(left) else {
                 break;
             };
             let text = without_cr(line);
-            let unquoted = is_unquoted(text);
+            let unquoted = is_unquoted_unless_known(plain, text);
             if !unquoted && !is_closed(text) {
                 break;
             }

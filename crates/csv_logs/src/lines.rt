@@ -6,7 +6,7 @@ ghost use Rattle.csv_logs.specs.Columns.{is_broken, is_printable, is_quote, is_u
 ghost use Rattle.csv_logs.specs.Feeds.{is_lf};
 ghost use Rattle.csv_logs.specs.Steps.{line_at};
 ghost use Rattle.csv_logs.specs.Lines.{mark_size, without_cr};
-ghost use Rattle.csv_logs.specs.Readers.{is_closed, is_quoted, state_behind, state_of};
+ghost use Rattle.csv_logs.specs.Readers.{is_closed, is_plain_byte, is_quoted, state_behind, state_of};
 ghost use Rattle.csv.specs.Machine.{step};
 ghost use Rattle.csv.specs.declared.parser.State.TheVariants.{StartField};
 
@@ -116,6 +116,44 @@ pub(crate) fn is_unquoted(line: &[u8]) -> bool
         unquoted &= is_unquoted_byte(*byte);
     }
     unquoted
+}
+
+/// Whether a line is unquoted, given whether that is known already.
+pub(crate) fn is_unquoted_unless_known(known: bool, line: &[u8]) -> bool
+    requires { IsTrue known → IsTrue (list_all is_unquoted_byte line.now) }
+    ensures { result ≡ list_all is_unquoted_byte line.now }
+{
+    known || is_unquoted(line)
+}
+
+/// How many bytes of a text are tested before a test may end.
+const BLOCK: usize = 1024;
+
+/// Whether a text has bytes of unquoted lines and LF alone.
+fn are_plain(text: &[u8]) -> bool
+    ensures { result ≡ list_all is_plain_byte text.now }
+{
+    let mut plain = true;
+    for byte in text {
+        plain &= is_unquoted_byte(*byte) | (*byte == b'\n');
+    }
+    plain
+}
+
+/// Whether a text is known to have bytes of unquoted lines and LF alone. Few lines end at a multiple of
+/// what is tested at once, so many lines are tested together.
+pub(crate) fn is_plain(text: &[u8]) -> bool
+    ensures { IsTrue result → IsTrue (list_all is_plain_byte text.now) }
+{
+    let mut left = text;
+    'parts: while left.len() > BLOCK {
+        let (front, rest) = left.split_at(BLOCK);
+        if !are_plain(front) {
+            return false;
+        }
+        left = rest;
+    }
+    are_plain(left)
 }
 
 /// Where a reader stands within a line, as far as its quotes go.

@@ -1,10 +1,11 @@
-use Rattle.std.proofs.Common.{◌≡◌, [], ◌++◌, List, ℕ, not, ap, subst, sym, ◌∙◌, arith}
+use Rattle.std.proofs.Common.{◌≡◌, [], ◌++◌, List, ℕ, true, not, ap, subst, sym, ◌∙◌, arith}
 use Rattle.csv.specs.Reading.{builder_config, builder_is_flexible, builder_names_headers, builder_trim}
 use Rattle.std.specs.List.{list_all}
 use Rattle.csv_logs.specs.Columns.{is_unquoted_byte}
 use Rattle.csv_logs.specs.Lines.{without_cr}
-use Rattle.csv_logs.specs.Readers.{IsReading, is_closed}
+use Rattle.csv_logs.specs.Readers.{IsReading, is_closed, is_plain_byte}
 use Rattle.csv_logs.proofs.ClosedLemmas.{unquoted-closed}
+use Rattle.csv_logs.proofs.UnquotedLemmas.{plain-line, unquoted-without_cr}
 use Rattle.csv_logs.specs.Steps.{EndsLine, HasLine}
 use Rattle.csv_logs.proofs.ReaderLemmas.{new-reading}
 use Rattle.csv_logs.proofs.FeedLemmas.{goes-none, goes-room, goes-line}
@@ -23,13 +24,14 @@ lines-init g c = record {
       (made.flexible ∙ ap builder_is_flexible c.flexible.ensures)
       (made.has_headers ∙ ap builder_names_headers c.flexible.ensures ∙ ap builder_names_headers c.has_headers.ensures)
       made.headers made.fresh made.state made.source (c.starts_closed.ensures c.if-not-starts_closed.false);
+  plain = c.is_plain-plain.ensures;
 }
 
 pub read_line-requires-clause-closed : goal.read_line-requires-clause-closed
 read_line-requires-clause-closed g c = elim c.else-not-unquoted.branch [
   | else-not-unquoted-via-then-not-unquoted+else-not-is_closed w ↦ ap is_closed (sym c.without_cr-text.ensures) ∙ sym w.is_closed.ensures ∙ w.if-not-is_closed.false
   | else-not-unquoted-via-else-not-unquoted w ↦
-      unquoted-closed (without_cr c.in-Some.line.now) (ap (list_all is_unquoted_byte) (sym c.without_cr-text.ensures) ∙ sym c.is_unquoted-unquoted.ensures ∙ w.if-not-unquoted.false)
+      unquoted-closed (without_cr c.in-Some.line.now) (ap (list_all is_unquoted_byte) (sym c.without_cr-text.ensures) ∙ sym c.is_unquoted_unless_known-unquoted.ensures ∙ w.if-not-unquoted.false)
 ]
 
 pub read_line-requires-clause-room : goal.read_line-requires-clause-room
@@ -50,4 +52,10 @@ lines-preserved g c =
       nothing = nothing;
       started = omega (arith, c.lines.invariant.started, said.moved);
       reading = said.reading c.in-Some.later.now (subst (IsReading _ c.lines.reader) c.in-Some.ensures.0 c.lines.invariant.reading);
+      plain = λ on. (plain-line c.in-Some.line.now c.in-Some.later.now (subst (λ (text : List ℕ). list_all is_plain_byte text ≡ true) c.in-Some.ensures.0 (c.lines.invariant.plain on)) c.in-Some.ensures.1).1;
     }
+
+pub is_unquoted_unless_known-unquoted-requires : goal.is_unquoted_unless_known-unquoted-requires
+is_unquoted_unless_known-unquoted-requires g c = λ on.
+    let line = plain-line c.in-Some.line.now c.in-Some.later.now (subst (λ (text : List ℕ). list_all is_plain_byte text ≡ true) c.in-Some.ensures.0 (c.lines.invariant.plain on)) c.in-Some.ensures.1 in
+    ap (list_all is_unquoted_byte) c.without_cr-text.ensures ∙ unquoted-without_cr c.in-Some.line.now line.0

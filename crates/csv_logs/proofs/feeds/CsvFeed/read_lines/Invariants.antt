@@ -1,5 +1,6 @@
-use Rattle.std.proofs.Common.{◌≡◌, ◌<◌, [], Some, length}
-use Rattle.csv_logs.specs.Readers.{IsReading}
+use Rattle.std.proofs.Common.{◌≡◌, ◌<◌, [], Some, length, true}
+use Rattle.std.specs.List.{list_all}
+use Rattle.csv_logs.specs.Readers.{IsReading, is_plain_byte}
 use Rattle.csv_logs.specs.Feeds.{StandsFor}
 use Rattle.csv_logs.specs.Steps.{Goes}
 use Rattle.csv_logs.proofs.feeds.CsvFeed.read_lines.Given as goal
@@ -11,6 +12,7 @@ invariant-lines g l = record {
   nothing : l.self.rest.items ≡ [];
   started : 0 < l.self.offset;
   reading : IsReading (λ input. Some input.now) l.reader l.left;
+  plain : l.plain ≡ true → list_all is_plain_byte l.left ≡ true;
 }
 
 abbrev pub decreases-lines : goal.decreases-lines
