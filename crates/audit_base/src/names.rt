@@ -1,5 +1,5 @@
 //! Names of firms, orders, symbols and trades.
-ghost use Rattle.std.specs.Prelude.{◌≡◌, ◌-◌, ◌≤◌, ◌++◌, IsTrue, length, replicate};
+ghost use Rattle.std.specs.Prelude.{◌≡◌, ◌-◌, ◌≤◌, ◌++◌, IsTrue, drop, length, replicate};
 ghost use Rattle.std.specs.List.{list_all};
 ghost use Rattle.audit_base.specs.Names as form;
 
@@ -159,15 +159,21 @@ pub fn is_name(text: &[u8]) -> bool
     1 <= text.len() && text.len() <= 64 && all_name_bytes(text)
 }
 
+/// Writes a text over the first bytes of a block.
+fn put_first(block: &mut [u8], text: &[u8])
+    requires { length text.now ≤ length block.old }
+    ensures { block.new ≡ text.now ++ drop (length text.now) block.old }
+{
+    block[..text.len()].copy_from_slice(text);
+}
+
 /// The block of 64 bytes that begins with the text and goes on with zeros.
 fn block_of(text: &[u8]) -> [u8; 64]
     requires { length text.now ≤ 64 }
     ensures { result ≡ text.now ++ replicate (64 - length text.now) 0 }
 {
     let mut bytes = [0; 64];
-    for (i, byte) in text.iter().enumerate() {
-        bytes[i] = *byte;
-    }
+    put_first(&mut bytes, text);
     bytes
 }
 
