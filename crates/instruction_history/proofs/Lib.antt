@@ -10,6 +10,7 @@ pub mod PlaceLemmas
 pub mod PriceLemmas
 pub mod PushLemmas
 pub mod RecordLemmas
+pub mod ShortKeyLemmas
 pub mod SoFarLemmas
 pub mod StepLemmas
 pub mod WellFormedLemmas

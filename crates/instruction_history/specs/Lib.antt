@@ -7,3 +7,4 @@ pub mod MarketPrices
 pub mod Draft
 pub mod History
 pub mod Keys
+pub mod ShortKeys
