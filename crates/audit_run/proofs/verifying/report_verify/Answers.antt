@@ -7,7 +7,7 @@ use Rattle.audit_run.specs.LogVerdicts.{log_in, trade_log}
 use Rattle.audit_run.specs.Requests.{log_at}
 use Rattle.audit_run.specs.Steps.{reading}
 use Rattle.audit_run.proofs.BothLogsLemmas.{both_stop, both_text}
-use Rattle.audit_run.proofs.CertificateLemmas.{bad_trades, both_read, decides_certificate, within_certificate}
+use Rattle.audit_run.proofs.CertificateLemmas.{bad_trades, both_read, decides_certificate, later_certificate, within_certificate}
 use Rattle.audit_run.proofs.ReportLemmas.{verify-status}
 use Rattle.audit_run.proofs.verifying.report_verify.Goals as goal
 
@@ -35,6 +35,12 @@ pub returns-in-Err-clause-decides : goal.returns-in-Err-clause-decides
 returns-in-Err-clause-decides g c =
     both_stop (reading g.F.Shelf c.args.shelf.now c.read_both.new.shelf) c.in-Err.ensures.later (question rule.Uniform c.args.symbol.now false) c.args.orders.now c.args.trades.now
     (verify_of c.args.symbol.now c.args.orders.now c.args.trades.now c.args.certificate.now) (record { first = refl; second = λ bytes. refl }) c.in-Err.stop c.in-Err.ensures.decides
+
+pub returns-else-is_malformed-clause-later : goal.returns-else-is_malformed-clause-later
+returns-else-is_malformed-clause-later g c =
+    later_certificate (reading g.F.Shelf c.args.shelf.now c.read_both.new.shelf) (reading g.F.Shelf c.read_both.new.shelf c.report_certificate.new.shelf)
+    (record { tells = c.in-Ok.ensures.logs.tells; logs = c.in-Ok.ensures.logs.logs; slots = λ log. refl }) c.in-Ok.ensures.later c.report_certificate.ensures.only
+    c.args.symbol.now c.args.orders.now c.args.trades.now c.args.certificate.now
 
 pub returns-else-is_malformed-clause-within : goal.returns-else-is_malformed-clause-within
 returns-else-is_malformed-clause-within g c =
