@@ -10,6 +10,7 @@ use Rattle.std.proofs.lemmas.List.FromFn.{length-enumerate_from}
 use lib.Pointwise.{bytes_decides}
 use Rattle.audit_base.specs.declared.names.Key.{Key}
 use Rattle.audit_base.specs.declared.terms.Side.{Side}
+use Rattle.audit_base.specs.declared.terms.Life.TheVariants.{Rests}
 use Rattle.audit_base.specs.declared.records.OrderRecord.{OrderRecord}
 use Rattle.audit_base.specs.declared.records.OrderRecord.TheVariants.{New, Cancel, Replace}
 use Rattle.audit_base.specs.declared.orders.Order.{Order}
@@ -143,18 +144,22 @@ pub record IsOrderOf (h : List (ℕ × OrderRecord)) (k : ℕ) (e : ℕ × Order
   pub cancelled : o.cancelled ≡ cancelled_of h k
   pub side : side_of e.1 ≡ Some o.side
   pub target : (o.target ≡ None) ⊎ (o.target ≡ option_map (order_index h) (replaced_at h k))
+  pub resting : (t : ℕ) → o.target ≡ Some t → o.life ≡ Rests
 
 some-same : {A : Type 0} (x y : A) → Some x ≡ Some y → x ≡ y
 some-same x y e = cc
 
+no_target : (t : ℕ) → None ≡ Some t → ⊥
+no_target t e = cc
+
 order-fields : (h : List (ℕ × OrderRecord)) (k : ℕ) (e : ℕ × OrderRecord) (o : Order) → order_of_record h (k, e.0, e.1) ≡ Some o → IsOrderOf h k e o
 order-fields h k (place, New key time symbol side quantity price life) o e =
     let same = some-same _ _ e in
-    record { place = sym (ap (λ (x : Order). x.place) same); key = sym (ap (λ (x : Order). x.key) same); cancelled = sym (ap (λ (x : Order). x.cancelled) same); side = ap (λ (x : Order). Some x.side) same; target = inl (sym (ap (λ (x : Order). x.target) same)) }
+    record { place = sym (ap (λ (x : Order). x.place) same); key = sym (ap (λ (x : Order). x.key) same); cancelled = sym (ap (λ (x : Order). x.cancelled) same); side = ap (λ (x : Order). Some x.side) same; target = inl (sym (ap (λ (x : Order). x.target) same)); resting = λ t e. absurd (no_target t (ap (λ (x : Order). x.target) same ∙ e)) }
 order-fields h k (place, Cancel key time symbol target) o e = cc
 order-fields h k (place, Replace key time symbol target side quantity price) o e =
     let same = some-same _ _ e in
-    record { place = sym (ap (λ (x : Order). x.place) same); key = sym (ap (λ (x : Order). x.key) same); cancelled = sym (ap (λ (x : Order). x.cancelled) same); side = ap (λ (x : Order). Some x.side) same; target = inr (sym (ap (λ (x : Order). x.target) same)) }
+    record { place = sym (ap (λ (x : Order). x.place) same); key = sym (ap (λ (x : Order). x.key) same); cancelled = sym (ap (λ (x : Order). x.cancelled) same); side = ap (λ (x : Order). Some x.side) same; target = inr (sym (ap (λ (x : Order). x.target) same)); resting = λ t e. sym (ap (λ (x : Order). x.life) same) }
 
 map-some : (f : ℕ → ℕ) (o : Option ℕ) (t : ℕ) → option_map f o ≡ Some t → (j : ℕ) × (o ≡ Some j) × (f j ≡ t)
 map-some f None t e = cc
@@ -439,6 +444,7 @@ module _ (symbol : List ℕ) (entries : List OrderRecord) (formed : WellFormed s
         let g : IsOrderOf records found.0 (get_or records found.0 missing_entry) (order_at orders t) = subst (λ x. IsOrderOf records found.0 (get_or records found.0 missing_entry) (order_at orders x)) found.2 to.1 in
         let less = index-less found.0 k is.earlier (omega arith) is.ordered in
         (omega arith, fits-same (side_at orders i) (side_at orders t) (side_of (record_at records k)) (side_of (record_at records found.0)) f.side g.side is.sided);
+    resting = λ i t lt. (order-from i lt).fields.resting t;
   }
 
   -- no two of its orders have one key

@@ -66,13 +66,15 @@ quantity_at orders i = (order_at orders i).quantity
 abbrev pub limit_at : List Order → ℕ → ℕ
 limit_at orders i = (order_at orders i).limit
 
--- an order list: places rise strictly, there are fewer than 2^32 orders, and each target is a lower
--- index of the same side
+-- an order list: places rise strictly, there are fewer than 2^32 orders, each target is a lower index
+-- of the same side, and the life of an order with a target is always Rests
 pub record IsOrderList (orders : List Order) : Type 0 where
   pub rising : AllPairs (λ o p. o.place < p.place) orders
   pub few : length orders < 2 ^ 32
   pub targets : (i t : ℕ) → i < length orders → (order_at orders i).target ≡ Some t
       → (t < i) × (side_at orders t ≡ side_at orders i)
+  pub resting : (i t : ℕ) → i < length orders → (order_at orders i).target ≡ Some t
+      → (order_at orders i).life ≡ Rests
 
 -- an order of a side that no record cancels
 pub record Stands (orders : List Order) (side : Side) (i : ℕ) : Type 0 where

@@ -9,7 +9,6 @@ use Rattle.audit_base.specs.Histories.{order_list}
 use Rattle.audit_base.specs.Trades.{deals_of}
 use Rattle.audit_base.specs.Verdicts.{log_finding, paired_trades}
 use Rattle.matching_core.specs.declared.deals_draft.ResolvedTrades.{ResolvedTrades}
-use Rattle.session_audit.specs.PhaseOrders.{ReplacementsRest}
 use Rattle.audit_run.specs.declared.before_rule.BeforeRule.{BeforeRule}
 use Rattle.audit_run.specs.declared.before_rule.BeforeRule.TheVariants as upto
 use Rattle.audit_run.specs.declared.questions.Question.{Question}
@@ -50,11 +49,10 @@ found_or_sound resolved None = upto.Sound resolved
 found_or_sound resolved (Some finding) = upto.Found finding
 
 -- Sound trades are fewer than there are places, and at least as many as their deals, which are a deal list
--- with numbers in range; the replacements of the history rest.
+-- with numbers in range.
 pub record AreJudgeable (resolved : ResolvedTrades) : Type 0 where
   pub few : resolved.count < 2 ^ 32 - 1
   pub counted : length resolved.deals.items ≤ resolved.count
-  pub replacements : ReplacementsRest resolved.history
   pub deal_list : IsDealList resolved.history resolved.deals.items
   pub numbers : AreDeals resolved.deals.items
 

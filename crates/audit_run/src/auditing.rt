@@ -13,7 +13,6 @@ ghost use Rattle.audit_run.specs.Auditing.{Decides, DecidesTrades, IsAdmitted, S
 ghost use Rattle.audit_run.specs.Collecting.{TouchesOnly};
 ghost use Rattle.audit_run.specs.Steps.{reading, KeepsLogs, NeverFall};
 ghost use Rattle.audit_run.specs.UpToRule.{IsJudgeable};
-ghost use Rattle.session_audit.specs.PhaseOrders.{ReplacementsRest};
 
 use super::before_rule::BeforeRule;
 use super::collecting::{Collected, collect_orders, collect_trades};
@@ -29,7 +28,6 @@ use instruction_history::history_draft::{AuditedSymbol, HistoryDraft};
 use log_source::counter::Counter;
 use log_source::shelf::Shelf;
 use matching_core::deals_draft::{AuditedHistory, DealsDraft};
-use session_audit::laws::replacements_rest;
 use std::alloc::Global;
 use std::marker::Brand;
 
@@ -80,7 +78,6 @@ fn after_history<M: AuditedHistory, F: Shelf>(
 ) -> Result<BeforeRule, Stop>
     requires symbol { question.now.symbol ≡ M.symbol }
     requires orders { history ≡ M.orders }
-    requires replacements { ReplacementsRest history }
     ensures logs { KeepsLogs F.Shelf shelf.old shelf.new }
     ensures only { TouchesOnly (reading F.Shelf shelf.old shelf.new) Which.Trades }
     ensures decides { (entries : List OrderRecord) → IsAdmitted question.now entries history
@@ -118,13 +115,10 @@ fn after_orders<S: AuditedSymbol, F: Shelf>(
         → StaysWithinAt (reading F.Shelf shelf.old shelf.new) Which.Trades result }
 {
     match orders.end() {
-        Ok(history) => {
-            replacements_rest();
-            match call_finding(question.rule, history.orders()) {
-                Some(finding) => after_finding(alloc, shelf, question, trades, finding),
-                None => after_history::<Brand, F>(alloc, shelf, question, trades, history),
-            }
-        }
+        Ok(history) => match call_finding(question.rule, history.orders()) {
+            Some(finding) => after_finding(alloc, shelf, question, trades, finding),
+            None => after_history::<Brand, F>(alloc, shelf, question, trades, history),
+        },
         Err(finding) => after_finding(alloc, shelf, question, trades, finding),
     }
 }

@@ -2,7 +2,6 @@
 //! here, and goes its own way from here on.
 ghost use Rattle.std.specs.Prelude.{◌≡◌, ◌<◌, ◌≤◌, ◌-◌, ◌^◌, None, length};
 ghost use Rattle.audit_base.specs.Deals.{AreDeals, IsDealList};
-ghost use Rattle.session_audit.specs.PhaseOrders.{ReplacementsRest};
 ghost use Rattle.audit_run.specs.UpToRule.{found_or_sound, is_malformed, IsJudgeable};
 
 use audit_base::faults::BadPlace;
@@ -27,7 +26,6 @@ impl BeforeRule {
         requires few { resolved.count < 2 ^ 32 - 1 }
         requires counted { resolved.finding ≡ None
             → length resolved.deals.items ≤ resolved.count }
-        requires replacements { ReplacementsRest resolved.history }
         requires deal_list { resolved.finding ≡ None
             → IsDealList resolved.history resolved.deals.items }
         requires numbers { resolved.finding ≡ None → AreDeals resolved.deals.items }

@@ -17,7 +17,7 @@ use Rattle.audit_base.proofs.ContinuousLemmas.{chain-none}
 use Rattle.audit_base.proofs.LeastLemmas.{with-at, none-with, cases_Option}
 use Rattle.session_audit.specs.declared.phases.Phase.{Phase}
 use Rattle.session_audit.specs.Phases.{is_call, kind_at, first_place, last_place, lies_in}
-use Rattle.session_audit.specs.PhaseOrders.{chain_earlier, traded_earlier, rest_before, brought_into, ReplacementsRest}
+use Rattle.session_audit.specs.PhaseOrders.{chain_earlier, traded_earlier, rest_before, brought_into}
 use Rattle.session_audit.specs.Days.{is_own, is_instant, instant_finding}
 use Rattle.session_audit.specs.Instants.{in_call, is_instant_order, first_instant}
 use Rattle.session_audit.proofs.BroughtLemmas.{brought-none, if-own}
@@ -90,7 +90,7 @@ module _ (phases : List Phase) (orders : List Order) (list : IsOrderList orders)
         ∙ any-nothing (length phases) ∙ sym (ap (λ (b : Bool). b && in_call phases (place_at orders i)) f)
   ]
 
-module _ (phases : List Phase) (orders : List Order) (list : IsOrderList orders) (numbers : AreOrders orders) (resting : ReplacementsRest orders) (deals : List Deal) where
+module _ (phases : List Phase) (orders : List Order) (list : IsOrderList orders) (numbers : AreOrders orders) (deals : List Deal) where
   rests-true : (l : Life) → l ≡ Rests → is_rests l ≡ true
   rests-true l e = ap is_rests e
 
@@ -100,7 +100,7 @@ module _ (phases : List Phase) (orders : List Order) (list : IsOrderList orders)
     | inr f ↦
         let none : (order_at orders i).target ≡ None = elim (cases_Option (order_at orders i).target) [
           | inl e ↦ e
-          | inr some ↦ absurd (both_ways _ f (rests-true _ (resting i some.0 lt some.1)))
+          | inr some ↦ absurd (both_ways _ f (rests-true _ (list.resting i some.0 lt some.1)))
         ] in
         let is = numbers i missing_order lt in
         ap (λ (b : Bool). not (is_rests (order_at orders i).life) && b) (sym (any-own phases orders list deals i lt is.some none))

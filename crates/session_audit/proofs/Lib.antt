@@ -6,7 +6,6 @@ pub mod DayLemmas
 pub mod DealtLemmas
 pub mod EndedLemmas
 pub mod EnteringLemmas
-pub mod HistoryLemmas
 pub mod InstantLemmas
 pub mod JudgeLemmas
 pub mod LeavingLemmas

@@ -146,6 +146,7 @@ module _ (orders : List Order) (list : IsOrderList orders) (last : ℕ) where
           let is = list.targets i t (phase-inside i lt) p.2 in
           let less = is.0 in
           (less, phase-side t (omega arith) ∙ is.1 ∙ sym (phase-side i lt));
+      resting = λ i t lt e. phase-life i lt ∙ list.resting i t (phase-inside i lt) (phase-target i t lt e).2;
     }
 
     phase-cancelled : (i c : ℕ) → i < length phase → (order_at phase i).cancelled ≡ Some c → (((order_at orders i).cancelled ≡ Some c) × (c ≤ last)) ⊎ (c ≡ place_at orders i)

@@ -1,5 +1,5 @@
--- Finding 16 by what is known of an order by itself, where replacements rest: an order with another life has
--- no target, so it is an own order of its phase unless it is cancelled at its own place.
+-- Finding 16 by what is known of an order by itself: in an order list an order with another life than Rests
+-- has no target, so it is an own order of its phase unless it is cancelled at its own place.
 use Rattle.std.specs.Prelude.{ℕ, Bool, ◌&&◌, not, List, Option, None, option_map, length}
 use Rattle.audit_base.specs.declared.terms.Which.TheVariants as which
 use Rattle.audit_base.specs.declared.orders.Order.{Order}

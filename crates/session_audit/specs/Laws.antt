@@ -2,15 +2,14 @@
 use Rattle.std.specs.Prelude.{◌≡◌, ◌<◌, ℕ, suc, List, length, IsTrue}
 use Rattle.audit_base.specs.declared.orders.Order.{Order}
 use Rattle.audit_base.specs.declared.orders.Deal.{Deal}
-use Rattle.audit_base.specs.declared.records.OrderRecord.{OrderRecord}
 use Rattle.audit_base.specs.declared.terms.Side.TheVariants.{Buy, Sell}
 use Rattle.audit_base.specs.Orders.{side_at, limit_at, IsOrderList, AreOrders}
 use Rattle.audit_base.specs.Deals.{pair, AreDeals}
-use Rattle.audit_base.specs.Histories.{Regular, order_list}
+use Rattle.audit_base.specs.Histories.{Regular}
 use Rattle.session_audit.specs.declared.phases.Phase.{Phase}
 use Rattle.session_audit.specs.declared.phases.PhaseKind.TheVariants as kind
 use Rattle.session_audit.specs.Phases.{is_call, kind_at, phase_deals}
-use Rattle.session_audit.specs.PhaseOrders.{traded_in, rest_before, phase_orders, ReplacementsRest}
+use Rattle.session_audit.specs.PhaseOrders.{traded_in, rest_before, phase_orders}
 use Rattle.session_audit.specs.Days.{PhaseConforms, ConformsDay}
 
 -- 'day uniqueness': two lists of deals that conform trade the same with each order in each phase
@@ -49,8 +48,3 @@ CarriedOrdersDoNotMeet = (phases : List Phase) (orders : List Order) (deals : Li
     → 0 < rest_before phases orders deals (suc k) bid
     → 0 < rest_before phases orders deals (suc k) ask
     → limit_at orders bid < limit_at orders ask
-
--- the replacements of a history rest
-abbrev pub HistoryReplacementsRest : Type 0
-HistoryReplacementsRest = (symbol : List ℕ) (entries : List OrderRecord)
-    → ReplacementsRest (order_list symbol entries)

@@ -5,7 +5,6 @@
 -- the same words of a day.
 use Rattle.std.specs.Prelude.{◌≡◌, ◌<◌, ℕ, zero, suc, ◌-◌, Bool, true, ◌&&◌, nat_lt, nat_le, List, [], ◌∷◌, ◌++◌, Option, None, Some, length, sum_by, if◌then◌else◌}
 use Rattle.std.specs.List.{prefix_len}
-use Rattle.audit_base.specs.declared.terms.Life.TheVariants.{Rests}
 use Rattle.audit_base.specs.declared.orders.Order.{Order}
 use Rattle.audit_base.specs.declared.orders.Deal.{Deal}
 use Rattle.audit_base.specs.Sums.{sum_below}
@@ -126,8 +125,3 @@ brought_into phases orders deals k = brought orders (first_place phases k)
 abbrev pub phase_orders : List Phase → List Order → List Deal → ℕ → List Order
 phase_orders phases orders deals k =
     phase_list_after phases orders deals k (rest_before phases orders deals k)
-
--- the life of a replacement is always Rests
-abbrev pub ReplacementsRest : List Order → Type 0
-ReplacementsRest orders = (i t : ℕ) → i < length orders → (order_at orders i).target ≡ Some t
-    → (order_at orders i).life ≡ Rests

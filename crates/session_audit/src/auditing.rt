@@ -4,7 +4,6 @@ ghost use Rattle.audit_base.specs.Orders.{IsOrder, IsOrderList, AreOrders};
 ghost use Rattle.audit_base.specs.Deals.{IsDealList};
 ghost use Rattle.audit_base.specs.Histories.{Regular};
 ghost use Rattle.session_audit.specs.Phases.{ArePhases};
-ghost use Rattle.session_audit.specs.PhaseOrders.{ReplacementsRest};
 ghost use Rattle.session_audit.specs.Days.{instant_finding};
 ghost use Rattle.session_audit.specs.Audits.{IsAuditedDay};
 
@@ -79,7 +78,6 @@ pub fn audit_session(
 ) -> Result<Day, NoMemory>
     requires order_list { IsOrderList orders.now }
     requires regular { Regular orders.now }
-    requires replacements { ReplacementsRest orders.now }
     requires phases { ArePhases phases.now }
     requires deal_list { IsDealList orders.now deals.now }
     requires counted { length deals.now ≤ count }

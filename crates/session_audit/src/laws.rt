@@ -1,6 +1,6 @@
 //! What holds of every trading day. Nothing is computed here: a law is a function's contract, so that
 //! the check proves it.
-ghost use Rattle.session_audit.specs.Laws.{CarriedOrdersDoNotMeet, DayUniqueness, DayPairs, PhaseOrdersAreListed, PhaseOrdersAreRegular, HistoryReplacementsRest};
+ghost use Rattle.session_audit.specs.Laws.{CarriedOrdersDoNotMeet, DayUniqueness, DayPairs, PhaseOrdersAreListed, PhaseOrdersAreRegular};
 
 use call_laws::laws::short_orders_do_not_meet;
 use continuous_laws::laws::continuous_uniqueness;
@@ -30,8 +30,3 @@ pub fn carried_orders_do_not_meet()
 {
     short_orders_do_not_meet();
 }
-
-/// The life of each replacement of a history is Rests.
-pub fn replacements_rest()
-    ensures { HistoryReplacementsRest }
-{}

@@ -1,11 +1,9 @@
 //! Days over few orders. Most begin with a bid of 5 at 10 and an ask of 3 at 9 in a call, which leaves 2 of
 //! the bid.
-ghost use Rattle.session_audit.specs.PhaseOrders.{ReplacementsRest};
 ghost use Rattle.session_audit.specs.Phases.{ArePhases};
 
 use super::auditing::audit_session;
 use super::days::Day;
-use super::laws::replacements_rest;
 use super::phases::{Phase, PhaseKind};
 use super::texts::session_text;
 use audit_base::findings::{Finding, Property};
@@ -94,9 +92,7 @@ fn trade(rt: &impl Abort, bid: u8, ask: u8, quantity: u64, price: &[u8]) -> Trad
 
 /// The history of these records.
 fn history_of<R: AllocGlobal + Abort>(rt: &R, entries: &[OrderRecord]) -> History
-    ensures { ReplacementsRest result }
 {
-    replacements_rest();
     let symbol = name(rt, b"Z");
     assert!(rt; entries.len() < 10);
     let Ok(history) = History::build(rt.alloc(), entries, &symbol) else {

@@ -1,5 +1,4 @@
 use Rattle.std.proofs.Common.{sym, subst, ◌∙◌, List}
-use Rattle.session_audit.specs.PhaseOrders.{ReplacementsRest}
 use Rattle.audit_base.specs.declared.orders.Order.{Order}
 use Rattle.matching_core.specs.DealsDraft.{IsDealsDraft}
 use Rattle.audit_run.specs.Auditing.{IsAdmitted}
@@ -28,6 +27,3 @@ of-requires-clause-counted g c = λ none.
     let place = rw c.in-Ok-Trades.field-0-is at c.in-Ok-Trades.ensures.few in
     rw (c.end.ensures.deals place.entries place.has none, c.end.ensures.count place.entries place.has)
     (deals_counted g.M.AuditedHistory.orders g.M.AuditedHistory.symbol place.entries)
-
-pub of-requires-clause-replacements : goal.of-requires-clause-replacements
-of-requires-clause-replacements g c = subst ReplacementsRest (c.requires.orders ∙ sym c.end.ensures.history) c.requires.replacements

@@ -1,5 +1,4 @@
 use Rattle.std.proofs.Common.{ap, sym, subst, ◌∙◌}
-use Rattle.session_audit.specs.PhaseOrders.{ReplacementsRest}
 use Rattle.audit_base.specs.Verdicts.{call_finding}
 use Rattle.audit_run.proofs.AuditLemmas.{admitted, history_found, order_found}
 use Rattle.audit_run.proofs.auditing.after_orders.Goals as goal
@@ -24,8 +23,3 @@ pub returns-in-Err-clause-decides : goal.returns-in-Err-clause-decides
 returns-in-Err-clause-decides g c = λ entries has.
     c.after_finding-in-Err.ensures.decides entries
     (history_found c.args.question.now g.S.AuditedSymbol.symbol entries c.in-Err.finding c.requires.symbol (c.in-Err.ensures.found entries has))
-
-pub after_history-requires-clause-replacements : goal.after_history-requires-clause-replacements
-after_history-requires-clause-replacements g c =
-    let place = c.requires.place in
-    subst ReplacementsRest (sym (c.in-Ok.ensures.orders place.entries place.has)) (c.replacements_rest.ensures g.S.AuditedSymbol.symbol place.entries)
