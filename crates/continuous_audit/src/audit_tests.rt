@@ -69,7 +69,7 @@ fn order(
     id: &str,
     side: Side,
     number: u64,
-    limit: Price,
+    limit: u64,
     life: Life,
 ) -> OrderRecord {
     OrderRecord::New {
@@ -78,41 +78,26 @@ fn order(
         symbol: name(rt, "Z"),
         side,
         quantity: quantity(rt, number),
-        price: limit,
+        price: price(rt, limit),
         life,
     }
+}
+
+/// A market order, whose limit is the market price of its side.
+fn market_order(rt: &impl Abort, id: &str, side: Side, number: u64) -> OrderRecord {
+    let limit = market_price(side).units();
+    order(rt, id, side, number, limit, Life::Market)
 }
 
 fn record(rt: &impl Abort, line: Line<'_>) -> OrderRecord {
     let (time, symbol) = (Stamp { second: 5, nano: 0 }, name(rt, "Z"));
     match line {
-        Bid(id, n, limit) => order(rt, id, Side::Buy, n, price(rt, limit), Life::Rests),
-        Ask(id, n, limit) => order(rt, id, Side::Sell, n, price(rt, limit), Life::Rests),
-        ImmediateBid(id, n, limit) => order(
-            rt,
-            id,
-            Side::Buy,
-            n,
-            price(rt, limit),
-            Life::Immediate,
-        ),
-        ImmediateAsk(id, n, limit) => order(
-            rt,
-            id,
-            Side::Sell,
-            n,
-            price(rt, limit),
-            Life::Immediate,
-        ),
-        MarketBid(id, n) => order(rt, id, Side::Buy, n, market_price(Side::Buy), Life::Market),
-        MarketAsk(id, n) => order(
-            rt,
-            id,
-            Side::Sell,
-            n,
-            market_price(Side::Sell),
-            Life::Market,
-        ),
+        Bid(id, n, limit) => order(rt, id, Side::Buy, n, limit, Life::Rests),
+        Ask(id, n, limit) => order(rt, id, Side::Sell, n, limit, Life::Rests),
+        ImmediateBid(id, n, limit) => order(rt, id, Side::Buy, n, limit, Life::Immediate),
+        ImmediateAsk(id, n, limit) => order(rt, id, Side::Sell, n, limit, Life::Immediate),
+        MarketBid(id, n) => market_order(rt, id, Side::Buy, n),
+        MarketAsk(id, n) => market_order(rt, id, Side::Sell, n),
         Cancel(id, target) => OrderRecord::Cancel {
             key: key(rt, id),
             time,
@@ -221,361 +206,363 @@ type Row = (
     Answer,
 );
 
+/// The rows of continuous trading.
+const ROWS: [Row; 41] = [
+    ("no orders", &[], &[], Volume(0)),
+    (
+        "cancelled resting sell",
+        &[
+            Ask("s1", 5, 10),
+            Bid("b1", 3, 10),
+            Cancel("x1", "s1"),
+            Bid("b2", 2, 10),
+        ],
+        &[Trade("b1", "s1", 3, 10), Trade("b2", "s1", 2, 10)],
+        Found(Property::Inactive, 2, Some((1, 5)), None),
+    ),
+    (
+        "cancelled resting sell, without the second trade",
+        &[
+            Ask("s1", 5, 10),
+            Bid("b1", 3, 10),
+            Cancel("x1", "s1"),
+            Bid("b2", 2, 10),
+        ],
+        &[Trade("b1", "s1", 3, 10)],
+        Volume(3),
+    ),
+    (
+        "crossed book",
+        &[
+            Ask("s1", 5, 12),
+            Bid("b1", 5, 9),
+            Ask("s2", 5, 11),
+            Bid("b2", 5, 11),
+        ],
+        &[],
+        Found(Property::Spread, 4, Some((4, 0)), Some((3, 0))),
+    ),
+    (
+        "crossed then cancelled",
+        &[
+            Ask("s1", 5, 12),
+            Bid("b1", 5, 9),
+            Ask("s2", 5, 11),
+            Bid("b2", 5, 11),
+            Cancel("x1", "s2"),
+            Cancel("x2", "b2"),
+        ],
+        &[],
+        Found(Property::Spread, 4, Some((4, 0)), Some((3, 0))),
+    ),
+    (
+        "seller skipped",
+        &[Ask("s1", 5, 10), Ask("s2", 5, 11), Bid("b1", 5, 11)],
+        &[Trade("b1", "s2", 5, 11)],
+        Found(Property::SellPriority, 1, Some((1, 0)), Some((2, 5))),
+    ),
+    (
+        "buyer skipped",
+        &[Bid("b1", 5, 10), Bid("b2", 5, 11), Ask("s1", 5, 9)],
+        &[Trade("b1", "s1", 5, 10)],
+        Found(Property::BuyPriority, 1, Some((2, 0)), Some((1, 5))),
+    ),
+    (
+        "the newer of two asks of one limit first",
+        &[Ask("s1", 5, 10), Ask("s2", 5, 10), Bid("b1", 5, 10)],
+        &[Trade("b1", "s2", 5, 10)],
+        Found(Property::SellPriority, 1, Some((1, 0)), Some((2, 5))),
+    ),
+    (
+        "price outside a limit",
+        &[Ask("s1", 5, 10), Bid("b1", 5, 9)],
+        &[Trade("b1", "s1", 5, 9)],
+        Found(Property::Limit, 1, Some((2, 5)), Some((1, 5))),
+    ),
+    (
+        "replaced and filled",
+        &[
+            Ask("s1", 10, 10),
+            Bid("b1", 4, 10),
+            Replace("r1", "s1", 10, 11),
+            Bid("b2", 9, 11),
+        ],
+        &[Trade("b1", "s1", 4, 10), Trade("b2", "r1", 6, 11)],
+        Volume(10),
+    ),
+    (
+        "replacement overfilled",
+        &[
+            Ask("s1", 10, 10),
+            Bid("b1", 4, 10),
+            Replace("r1", "s1", 10, 11),
+            Bid("b2", 9, 11),
+        ],
+        &[Trade("b1", "s1", 4, 10), Trade("b2", "r1", 7, 11)],
+        Found(Property::SellQuantity, 2, Some((3, 11)), None),
+    ),
+    (
+        "market order partly filled",
+        &[Ask("s1", 5, 10), MarketBid("m1", 8), Bid("b2", 1, 9)],
+        &[Trade("m1", "s1", 5, 10)],
+        Volume(5),
+    ),
+    (
+        "market order unfilled",
+        &[Ask("s1", 5, 10), MarketBid("m1", 8), Bid("b2", 1, 9)],
+        &[],
+        Found(Property::Spread, 2, Some((2, 0)), Some((1, 0))),
+    ),
+    (
+        "immediate order lapses",
+        &[ImmediateBid("i1", 5, 10), Ask("s1", 5, 9)],
+        &[],
+        Volume(0),
+    ),
+    (
+        "immediate order trades late",
+        &[ImmediateBid("i1", 5, 10), Ask("s1", 5, 9)],
+        &[Trade("i1", "s1", 5, 9)],
+        Found(Property::Inactive, 1, Some((1, 5)), None),
+    ),
+    (
+        "a chain of three replacements",
+        &CHAIN,
+        &[
+            Trade("b1", "s1", 2, 10),
+            Trade("b2", "r1", 3, 11),
+            Trade("b3", "r2", 1, 12),
+            Trade("b4", "r3", 4, 10),
+        ],
+        Volume(10),
+    ),
+    (
+        "a chain of three replacements, the last overfilled",
+        &CHAIN,
+        &[
+            Trade("b1", "s1", 2, 10),
+            Trade("b2", "r1", 3, 11),
+            Trade("b3", "r2", 1, 12),
+            Trade("b4", "r3", 5, 10),
+        ],
+        Found(Property::SellQuantity, 4, Some((7, 11)), None),
+    ),
+    (
+        "a chain of three replacements, the last not filled",
+        &CHAIN,
+        &[
+            Trade("b1", "s1", 2, 10),
+            Trade("b2", "r1", 3, 11),
+            Trade("b3", "r2", 1, 12),
+            Trade("b4", "r3", 3, 10),
+        ],
+        Found(Property::Spread, 8, Some((8, 3)), Some((7, 9))),
+    ),
+    (
+        "a replacement keeps no rank",
+        &[
+            Ask("s1", 5, 10),
+            Ask("s2", 5, 10),
+            Replace("r1", "s1", 5, 10),
+            Bid("b1", 5, 10),
+        ],
+        &[Trade("b1", "s2", 5, 10)],
+        Volume(5),
+    ),
+    (
+        "a replacement in its target's rank",
+        &[
+            Ask("s1", 5, 10),
+            Ask("s2", 5, 10),
+            Replace("r1", "s1", 5, 10),
+            Bid("b1", 5, 10),
+        ],
+        &[Trade("b1", "r1", 5, 10)],
+        Found(Property::SellPriority, 1, Some((2, 0)), Some((3, 5))),
+    ),
+    (
+        "a replacement of an immediate order",
+        &[
+            ImmediateAsk("i1", 5, 10),
+            Replace("r1", "i1", 5, 10),
+            Bid("b1", 5, 10),
+        ],
+        &[],
+        Volume(0),
+    ),
+    (
+        "a replacement of an immediate order trades",
+        &[
+            ImmediateAsk("i1", 5, 10),
+            Replace("r1", "i1", 5, 10),
+            Bid("b1", 5, 10),
+        ],
+        &[Trade("b1", "r1", 5, 10)],
+        Found(Property::Inactive, 1, Some((2, 5)), None),
+    ),
+    (
+        "a replacement of a filled order",
+        &[
+            Ask("s1", 5, 10),
+            Bid("b1", 5, 10),
+            Replace("r1", "s1", 8, 10),
+            Bid("b2", 3, 10),
+        ],
+        &[Trade("b1", "s1", 5, 10)],
+        Volume(5),
+    ),
+    (
+        "a replacement of a filled order trades",
+        &[
+            Ask("s1", 5, 10),
+            Bid("b1", 5, 10),
+            Replace("r1", "s1", 8, 10),
+            Bid("b2", 3, 10),
+        ],
+        &[Trade("b1", "s1", 5, 10), Trade("b2", "r1", 3, 10)],
+        Found(Property::Inactive, 2, Some((3, 8)), None),
+    ),
+    (
+        "a replacement of a cancelled order trades",
+        &[
+            Ask("s1", 5, 10),
+            Cancel("x1", "s1"),
+            Replace("r1", "s1", 5, 10),
+            Bid("b1", 5, 10),
+        ],
+        &[Trade("b1", "r1", 5, 10)],
+        Found(Property::Inactive, 1, Some((3, 5)), None),
+    ),
+    (
+        "a replacement below what has traded",
+        &[
+            Ask("s1", 10, 10),
+            Bid("b1", 6, 10),
+            Replace("r1", "s1", 4, 10),
+            Bid("b2", 1, 10),
+        ],
+        &[Trade("b1", "s1", 6, 10)],
+        Volume(6),
+    ),
+    (
+        "a replacement below what has traded trades",
+        &[
+            Ask("s1", 10, 10),
+            Bid("b1", 6, 10),
+            Replace("r1", "s1", 4, 10),
+            Bid("b2", 1, 10),
+        ],
+        &[Trade("b1", "s1", 6, 10), Trade("b2", "r1", 1, 10)],
+        Found(Property::Inactive, 2, Some((3, 7)), None),
+    ),
+    (
+        "a trade on an order that never entered",
+        &[
+            Bid("b1", 5, 10),
+            Ask("s1", 5, 11),
+            Cancel("x1", "s1"),
+            Replace("r1", "s1", 5, 10),
+        ],
+        &[Trade("b1", "r1", 5, 10)],
+        Found(Property::Inactive, 1, Some((4, 5)), None),
+    ),
+    (
+        "a trade on an order that its record has replaced",
+        &[
+            Ask("s1", 5, 10),
+            Replace("r1", "s1", 5, 10),
+            Bid("b1", 5, 10),
+        ],
+        &[Trade("b1", "s1", 5, 10)],
+        Found(Property::Inactive, 1, Some((1, 5)), None),
+    ),
+    (
+        "an order filled by an earlier deal of the same cause",
+        &[Ask("s1", 5, 10), Bid("b1", 10, 10)],
+        &[Trade("b1", "s1", 5, 10), Trade("b1", "s1", 1, 10)],
+        Found(Property::SellQuantity, 2, Some((1, 6)), None),
+    ),
+    (
+        "several deals of a pair in one cause",
+        &[Ask("s1", 5, 10), Bid("b1", 5, 10)],
+        &[Trade("b1", "s1", 2, 10), Trade("b1", "s1", 3, 10)],
+        Volume(5),
+    ),
+    (
+        "deals of causes out of their order in the log",
+        &[Ask("s1", 5, 10), Bid("b1", 2, 10), Bid("b2", 3, 10)],
+        &[Trade("b2", "s1", 3, 10), Trade("b1", "s1", 2, 10)],
+        Volume(5),
+    ),
+    (
+        "the finding of the lesser cause",
+        &[Ask("s1", 5, 10), Bid("b1", 2, 10), Bid("b2", 3, 10)],
+        &[Trade("b2", "s1", 4, 10), Trade("b1", "s1", 3, 10)],
+        Found(Property::BuyQuantity, 2, Some((2, 3)), None),
+    ),
+    (
+        "the traded number counts no later cause",
+        &[Ask("s1", 5, 10), Bid("b1", 5, 9), Bid("b2", 5, 10)],
+        &[Trade("b2", "s1", 3, 10), Trade("b1", "s1", 2, 9)],
+        Found(Property::Limit, 2, Some((2, 2)), Some((1, 2))),
+    ),
+    (
+        "a cancel before the trade is logged",
+        &[Ask("s1", 5, 10), Bid("b1", 5, 10), Cancel("x1", "s1")],
+        &[Trade("b1", "s1", 5, 10)],
+        Volume(5),
+    ),
+    (
+        "a cancel of an order that is filled",
+        &[
+            Ask("s1", 5, 10),
+            Bid("b1", 6, 10),
+            Cancel("x1", "s1"),
+            Ask("s2", 1, 10),
+        ],
+        &[Trade("b1", "s1", 5, 10), Trade("b1", "s2", 1, 10)],
+        Volume(6),
+    ),
+    (
+        "a market order against a market order",
+        &[MarketAsk("m1", 5), MarketBid("m2", 5)],
+        &[],
+        Volume(0),
+    ),
+    (
+        "a market order trades with a market order",
+        &[MarketAsk("m1", 5), MarketBid("m2", 5)],
+        &[Trade("m2", "m1", 5, 10)],
+        Found(Property::Inactive, 1, Some((1, 5)), None),
+    ),
+    (
+        "an order behind an equal limit",
+        &[Ask("s1", 2, 10), Ask("s2", 3, 10), Bid("b1", 5, 10)],
+        &[Trade("b1", "s1", 2, 10)],
+        Found(Property::Spread, 3, Some((3, 2)), Some((2, 0))),
+    ),
+    (
+        "priority before spread",
+        &[Ask("s1", 5, 10), Ask("s2", 5, 11), Bid("b1", 5, 11)],
+        &[Trade("b1", "s2", 2, 11)],
+        Found(Property::SellPriority, 1, Some((1, 0)), Some((2, 2))),
+    ),
+    (
+        "two books that do not meet",
+        &[
+            Ask("s1", 5, 12),
+            Bid("b1", 5, 9),
+            Ask("s2", 5, 11),
+            Bid("b2", 5, 10),
+        ],
+        &[],
+        Volume(0),
+    ),
+];
+
 #[test]
 fn rows_of_continuous_trading(rt: HostRuntime) {
-    let rows: [Row; 41] = [
-        ("no orders", &[], &[], Volume(0)),
-        (
-            "cancelled resting sell",
-            &[
-                Ask("s1", 5, 10),
-                Bid("b1", 3, 10),
-                Cancel("x1", "s1"),
-                Bid("b2", 2, 10),
-            ],
-            &[Trade("b1", "s1", 3, 10), Trade("b2", "s1", 2, 10)],
-            Found(Property::Inactive, 2, Some((1, 5)), None),
-        ),
-        (
-            "cancelled resting sell, without the second trade",
-            &[
-                Ask("s1", 5, 10),
-                Bid("b1", 3, 10),
-                Cancel("x1", "s1"),
-                Bid("b2", 2, 10),
-            ],
-            &[Trade("b1", "s1", 3, 10)],
-            Volume(3),
-        ),
-        (
-            "crossed book",
-            &[
-                Ask("s1", 5, 12),
-                Bid("b1", 5, 9),
-                Ask("s2", 5, 11),
-                Bid("b2", 5, 11),
-            ],
-            &[],
-            Found(Property::Spread, 4, Some((4, 0)), Some((3, 0))),
-        ),
-        (
-            "crossed then cancelled",
-            &[
-                Ask("s1", 5, 12),
-                Bid("b1", 5, 9),
-                Ask("s2", 5, 11),
-                Bid("b2", 5, 11),
-                Cancel("x1", "s2"),
-                Cancel("x2", "b2"),
-            ],
-            &[],
-            Found(Property::Spread, 4, Some((4, 0)), Some((3, 0))),
-        ),
-        (
-            "seller skipped",
-            &[Ask("s1", 5, 10), Ask("s2", 5, 11), Bid("b1", 5, 11)],
-            &[Trade("b1", "s2", 5, 11)],
-            Found(Property::SellPriority, 1, Some((1, 0)), Some((2, 5))),
-        ),
-        (
-            "buyer skipped",
-            &[Bid("b1", 5, 10), Bid("b2", 5, 11), Ask("s1", 5, 9)],
-            &[Trade("b1", "s1", 5, 10)],
-            Found(Property::BuyPriority, 1, Some((2, 0)), Some((1, 5))),
-        ),
-        (
-            "the newer of two asks of one limit first",
-            &[Ask("s1", 5, 10), Ask("s2", 5, 10), Bid("b1", 5, 10)],
-            &[Trade("b1", "s2", 5, 10)],
-            Found(Property::SellPriority, 1, Some((1, 0)), Some((2, 5))),
-        ),
-        (
-            "price outside a limit",
-            &[Ask("s1", 5, 10), Bid("b1", 5, 9)],
-            &[Trade("b1", "s1", 5, 9)],
-            Found(Property::Limit, 1, Some((2, 5)), Some((1, 5))),
-        ),
-        (
-            "replaced and filled",
-            &[
-                Ask("s1", 10, 10),
-                Bid("b1", 4, 10),
-                Replace("r1", "s1", 10, 11),
-                Bid("b2", 9, 11),
-            ],
-            &[Trade("b1", "s1", 4, 10), Trade("b2", "r1", 6, 11)],
-            Volume(10),
-        ),
-        (
-            "replacement overfilled",
-            &[
-                Ask("s1", 10, 10),
-                Bid("b1", 4, 10),
-                Replace("r1", "s1", 10, 11),
-                Bid("b2", 9, 11),
-            ],
-            &[Trade("b1", "s1", 4, 10), Trade("b2", "r1", 7, 11)],
-            Found(Property::SellQuantity, 2, Some((3, 11)), None),
-        ),
-        (
-            "market order partly filled",
-            &[Ask("s1", 5, 10), MarketBid("m1", 8), Bid("b2", 1, 9)],
-            &[Trade("m1", "s1", 5, 10)],
-            Volume(5),
-        ),
-        (
-            "market order unfilled",
-            &[Ask("s1", 5, 10), MarketBid("m1", 8), Bid("b2", 1, 9)],
-            &[],
-            Found(Property::Spread, 2, Some((2, 0)), Some((1, 0))),
-        ),
-        (
-            "immediate order lapses",
-            &[ImmediateBid("i1", 5, 10), Ask("s1", 5, 9)],
-            &[],
-            Volume(0),
-        ),
-        (
-            "immediate order trades late",
-            &[ImmediateBid("i1", 5, 10), Ask("s1", 5, 9)],
-            &[Trade("i1", "s1", 5, 9)],
-            Found(Property::Inactive, 1, Some((1, 5)), None),
-        ),
-        (
-            "a chain of three replacements",
-            &CHAIN,
-            &[
-                Trade("b1", "s1", 2, 10),
-                Trade("b2", "r1", 3, 11),
-                Trade("b3", "r2", 1, 12),
-                Trade("b4", "r3", 4, 10),
-            ],
-            Volume(10),
-        ),
-        (
-            "a chain of three replacements, the last overfilled",
-            &CHAIN,
-            &[
-                Trade("b1", "s1", 2, 10),
-                Trade("b2", "r1", 3, 11),
-                Trade("b3", "r2", 1, 12),
-                Trade("b4", "r3", 5, 10),
-            ],
-            Found(Property::SellQuantity, 4, Some((7, 11)), None),
-        ),
-        (
-            "a chain of three replacements, the last not filled",
-            &CHAIN,
-            &[
-                Trade("b1", "s1", 2, 10),
-                Trade("b2", "r1", 3, 11),
-                Trade("b3", "r2", 1, 12),
-                Trade("b4", "r3", 3, 10),
-            ],
-            Found(Property::Spread, 8, Some((8, 3)), Some((7, 9))),
-        ),
-        (
-            "a replacement keeps no rank",
-            &[
-                Ask("s1", 5, 10),
-                Ask("s2", 5, 10),
-                Replace("r1", "s1", 5, 10),
-                Bid("b1", 5, 10),
-            ],
-            &[Trade("b1", "s2", 5, 10)],
-            Volume(5),
-        ),
-        (
-            "a replacement in its target's rank",
-            &[
-                Ask("s1", 5, 10),
-                Ask("s2", 5, 10),
-                Replace("r1", "s1", 5, 10),
-                Bid("b1", 5, 10),
-            ],
-            &[Trade("b1", "r1", 5, 10)],
-            Found(Property::SellPriority, 1, Some((2, 0)), Some((3, 5))),
-        ),
-        (
-            "a replacement of an immediate order",
-            &[
-                ImmediateAsk("i1", 5, 10),
-                Replace("r1", "i1", 5, 10),
-                Bid("b1", 5, 10),
-            ],
-            &[],
-            Volume(0),
-        ),
-        (
-            "a replacement of an immediate order trades",
-            &[
-                ImmediateAsk("i1", 5, 10),
-                Replace("r1", "i1", 5, 10),
-                Bid("b1", 5, 10),
-            ],
-            &[Trade("b1", "r1", 5, 10)],
-            Found(Property::Inactive, 1, Some((2, 5)), None),
-        ),
-        (
-            "a replacement of a filled order",
-            &[
-                Ask("s1", 5, 10),
-                Bid("b1", 5, 10),
-                Replace("r1", "s1", 8, 10),
-                Bid("b2", 3, 10),
-            ],
-            &[Trade("b1", "s1", 5, 10)],
-            Volume(5),
-        ),
-        (
-            "a replacement of a filled order trades",
-            &[
-                Ask("s1", 5, 10),
-                Bid("b1", 5, 10),
-                Replace("r1", "s1", 8, 10),
-                Bid("b2", 3, 10),
-            ],
-            &[Trade("b1", "s1", 5, 10), Trade("b2", "r1", 3, 10)],
-            Found(Property::Inactive, 2, Some((3, 8)), None),
-        ),
-        (
-            "a replacement of a cancelled order trades",
-            &[
-                Ask("s1", 5, 10),
-                Cancel("x1", "s1"),
-                Replace("r1", "s1", 5, 10),
-                Bid("b1", 5, 10),
-            ],
-            &[Trade("b1", "r1", 5, 10)],
-            Found(Property::Inactive, 1, Some((3, 5)), None),
-        ),
-        (
-            "a replacement below what has traded",
-            &[
-                Ask("s1", 10, 10),
-                Bid("b1", 6, 10),
-                Replace("r1", "s1", 4, 10),
-                Bid("b2", 1, 10),
-            ],
-            &[Trade("b1", "s1", 6, 10)],
-            Volume(6),
-        ),
-        (
-            "a replacement below what has traded trades",
-            &[
-                Ask("s1", 10, 10),
-                Bid("b1", 6, 10),
-                Replace("r1", "s1", 4, 10),
-                Bid("b2", 1, 10),
-            ],
-            &[Trade("b1", "s1", 6, 10), Trade("b2", "r1", 1, 10)],
-            Found(Property::Inactive, 2, Some((3, 7)), None),
-        ),
-        (
-            "a trade on an order that never entered",
-            &[
-                Bid("b1", 5, 10),
-                Ask("s1", 5, 11),
-                Cancel("x1", "s1"),
-                Replace("r1", "s1", 5, 10),
-            ],
-            &[Trade("b1", "r1", 5, 10)],
-            Found(Property::Inactive, 1, Some((4, 5)), None),
-        ),
-        (
-            "a trade on an order that its record has replaced",
-            &[
-                Ask("s1", 5, 10),
-                Replace("r1", "s1", 5, 10),
-                Bid("b1", 5, 10),
-            ],
-            &[Trade("b1", "s1", 5, 10)],
-            Found(Property::Inactive, 1, Some((1, 5)), None),
-        ),
-        (
-            "an order filled by an earlier deal of the same cause",
-            &[Ask("s1", 5, 10), Bid("b1", 10, 10)],
-            &[Trade("b1", "s1", 5, 10), Trade("b1", "s1", 1, 10)],
-            Found(Property::SellQuantity, 2, Some((1, 6)), None),
-        ),
-        (
-            "several deals of a pair in one cause",
-            &[Ask("s1", 5, 10), Bid("b1", 5, 10)],
-            &[Trade("b1", "s1", 2, 10), Trade("b1", "s1", 3, 10)],
-            Volume(5),
-        ),
-        (
-            "deals of causes out of their order in the log",
-            &[Ask("s1", 5, 10), Bid("b1", 2, 10), Bid("b2", 3, 10)],
-            &[Trade("b2", "s1", 3, 10), Trade("b1", "s1", 2, 10)],
-            Volume(5),
-        ),
-        (
-            "the finding of the lesser cause",
-            &[Ask("s1", 5, 10), Bid("b1", 2, 10), Bid("b2", 3, 10)],
-            &[Trade("b2", "s1", 4, 10), Trade("b1", "s1", 3, 10)],
-            Found(Property::BuyQuantity, 2, Some((2, 3)), None),
-        ),
-        (
-            "the traded number counts no later cause",
-            &[Ask("s1", 5, 10), Bid("b1", 5, 9), Bid("b2", 5, 10)],
-            &[Trade("b2", "s1", 3, 10), Trade("b1", "s1", 2, 9)],
-            Found(Property::Limit, 2, Some((2, 2)), Some((1, 2))),
-        ),
-        (
-            "a cancel before the trade is logged",
-            &[Ask("s1", 5, 10), Bid("b1", 5, 10), Cancel("x1", "s1")],
-            &[Trade("b1", "s1", 5, 10)],
-            Volume(5),
-        ),
-        (
-            "a cancel of an order that is filled",
-            &[
-                Ask("s1", 5, 10),
-                Bid("b1", 6, 10),
-                Cancel("x1", "s1"),
-                Ask("s2", 1, 10),
-            ],
-            &[Trade("b1", "s1", 5, 10), Trade("b1", "s2", 1, 10)],
-            Volume(6),
-        ),
-        (
-            "a market order against a market order",
-            &[MarketAsk("m1", 5), MarketBid("m2", 5)],
-            &[],
-            Volume(0),
-        ),
-        (
-            "a market order trades with a market order",
-            &[MarketAsk("m1", 5), MarketBid("m2", 5)],
-            &[Trade("m2", "m1", 5, 10)],
-            Found(Property::Inactive, 1, Some((1, 5)), None),
-        ),
-        (
-            "an order behind an equal limit",
-            &[Ask("s1", 2, 10), Ask("s2", 3, 10), Bid("b1", 5, 10)],
-            &[Trade("b1", "s1", 2, 10)],
-            Found(Property::Spread, 3, Some((3, 2)), Some((2, 0))),
-        ),
-        (
-            "priority before spread",
-            &[Ask("s1", 5, 10), Ask("s2", 5, 11), Bid("b1", 5, 11)],
-            &[Trade("b1", "s2", 2, 11)],
-            Found(Property::SellPriority, 1, Some((1, 0)), Some((2, 2))),
-        ),
-        (
-            "two books that do not meet",
-            &[
-                Ask("s1", 5, 12),
-                Bid("b1", 5, 9),
-                Ask("s2", 5, 11),
-                Bid("b2", 5, 10),
-            ],
-            &[],
-            Volume(0),
-        ),
-    ];
-    for (name, lines, trades, answer) in rows {
+    for (name, lines, trades, answer) in ROWS {
         let outcome = answer_to(&rt, lines, trades);
         assert_eq!(rt; in_short(&outcome), answer, "{name}");
     }

@@ -135,59 +135,61 @@ fn bad_of(rt: &impl Abort, alloc: Global, log: &[u8]) -> Option<BadPlace> {
     bad
 }
 
+/// Order logs, and where each is bad, if it is.
+const BAD_LOGS: [(&[u8], Option<BadPlace>); 15] = [
+    // Row `empty-order-file`.
+    (b"", place(1, 0, Reason::Header)),
+    // Row `quantity-too-great`.
+    (
+        b"kind,firm,id,time,symbol,side,quantity,price,target\nN,A,b1,20240102-09:00:00,Z,B,1000000000001,10,\n",
+        place(1, 52, Reason::Column(7)),
+    ),
+    (b"\n\r\n", place(1, 3, Reason::Header)),
+    (b"\xEF\xBB\xBF", place(1, 3, Reason::Header)),
+    (b"\xEF\xBB", place(1, 0, Reason::Header)),
+    (b"\xEF\xBB\xBFkind\n", place(1, 3, Reason::Header)),
+    (
+        b"\nkind,firm,id,time,symbol,side,quantity,price\n",
+        place(1, 1, Reason::Header),
+    ),
+    (
+        b"kind,firm,id,time,symbol,side,quantity,price,target,\n",
+        place(1, 0, Reason::Header),
+    ),
+    (
+        b"kind,firm,id,time,symbol,side,quantity,target,price\n",
+        place(1, 0, Reason::Header),
+    ),
+    (
+        b"kind,firm,id,time,symbol,side,quantity,price,target \n",
+        place(1, 0, Reason::Header),
+    ),
+    (
+        b" \nkind,firm,id,time,symbol,side,quantity,price,target\n",
+        place(1, 0, Reason::Header),
+    ),
+    (
+        b"\"kind\",firm,id,time,symbol,side,quantity,price,\"target\"\n",
+        None,
+    ),
+    (
+        b"\r\nkind,firm,id,time,symbol,side,quantity,price,target",
+        None,
+    ),
+    (
+        b"kind,firm,id,time,symbol,side,quantity,price,target\r\nN,A,b1,20240102-09:00:00,Y,B,1,1,\r\n\r\nX,A,x1,20240102-09:00:00,Z,,,,\r\n",
+        place(2, 90, Reason::Column(9)),
+    ),
+    // A line of eight fields behind one of nine, which one reader of `csv` reads both.
+    (
+        b"kind,firm,id,time,symbol,side,quantity,price,target\nN,A,b1,20240102-09:00:00,Z,B,1,1,\nN,A,b2,20240102-09:00:00,Z,B,1,1\n",
+        place(2, 86, Reason::Columns),
+    ),
+];
+
 #[test]
 fn bad_logs_are_refused_at_their_place(rt: HostRuntime) {
-    let cases: [(&[u8], Option<BadPlace>); 15] = [
-        // Row `empty-order-file`.
-        (b"", place(1, 0, Reason::Header)),
-        // Row `quantity-too-great`.
-        (
-            b"kind,firm,id,time,symbol,side,quantity,price,target\nN,A,b1,20240102-09:00:00,Z,B,1000000000001,10,\n",
-            place(1, 52, Reason::Column(7)),
-        ),
-        (b"\n\r\n", place(1, 3, Reason::Header)),
-        (b"\xEF\xBB\xBF", place(1, 3, Reason::Header)),
-        (b"\xEF\xBB", place(1, 0, Reason::Header)),
-        (b"\xEF\xBB\xBFkind\n", place(1, 3, Reason::Header)),
-        (
-            b"\nkind,firm,id,time,symbol,side,quantity,price\n",
-            place(1, 1, Reason::Header),
-        ),
-        (
-            b"kind,firm,id,time,symbol,side,quantity,price,target,\n",
-            place(1, 0, Reason::Header),
-        ),
-        (
-            b"kind,firm,id,time,symbol,side,quantity,target,price\n",
-            place(1, 0, Reason::Header),
-        ),
-        (
-            b"kind,firm,id,time,symbol,side,quantity,price,target \n",
-            place(1, 0, Reason::Header),
-        ),
-        (
-            b" \nkind,firm,id,time,symbol,side,quantity,price,target\n",
-            place(1, 0, Reason::Header),
-        ),
-        (
-            b"\"kind\",firm,id,time,symbol,side,quantity,price,\"target\"\n",
-            None,
-        ),
-        (
-            b"\r\nkind,firm,id,time,symbol,side,quantity,price,target",
-            None,
-        ),
-        (
-            b"kind,firm,id,time,symbol,side,quantity,price,target\r\nN,A,b1,20240102-09:00:00,Y,B,1,1,\r\n\r\nX,A,x1,20240102-09:00:00,Z,,,,\r\n",
-            place(2, 90, Reason::Column(9)),
-        ),
-        // A line of eight fields behind one of nine, which one reader of `csv` reads both.
-        (
-            b"kind,firm,id,time,symbol,side,quantity,price,target\nN,A,b1,20240102-09:00:00,Z,B,1,1,\nN,A,b2,20240102-09:00:00,Z,B,1,1\n",
-            place(2, 86, Reason::Columns),
-        ),
-    ];
-    for (log, want) in cases {
+    for (log, want) in BAD_LOGS {
         assert_eq!(rt; bad_of(&rt, rt.alloc(), log), want);
     }
 }
@@ -200,170 +202,172 @@ fn reason_of(rt: &impl Abort, alloc: Global, line: &[u8]) -> Option<Reason> {
     bad_of(rt, alloc, &log).map(|bad| bad.reason)
 }
 
+/// Lines of an order log after its header, and what each fails, if it does.
+const LINES: [(&[u8], Option<Reason>); 51] = [
+    (b"N,A,b1,20240102-09:00:00,Z,B,100,10,\n", None),
+    (b"N,A,b1,20240102-09:00:00,Z,B,100,10,", None),
+    (b"N,A,b1,20240102-09:00:00,Z,B,100,10,\r", None),
+    (b"\n\n\r\nN,A,b1,20240102-09:00:00,Z,B,100,10,\r\n\n", None),
+    (b"N,\"A\",b1,\"20240102-09:00:00\",Z,B,100,10,\"\"\n", None),
+    (
+        b"N,\"A,C\",b1,20240102-09:00:00,Z,B,100,10,\n",
+        Some(Reason::Column(2)),
+    ),
+    (
+        b"N,\"A\"\"C\",b1,20240102-09:00:00,Z,B,100,10,\n",
+        Some(Reason::Column(2)),
+    ),
+    (
+        b"N,A\"C\",b1,20240102-09:00:00,Z,B,100,10,\n",
+        Some(Reason::Column(2)),
+    ),
+    (
+        b"N,A\",b1,20240102-09:00:00,Z,B,100,10,\"\n",
+        Some(Reason::Column(2)),
+    ),
+    (
+        b"N,\"A,b1,20240102-09:00:00,Z,B,100,10,\n",
+        Some(Reason::Break),
+    ),
+    (
+        b"N,\"A\nC\",b1,20240102-09:00:00,Z,B,100,10,\n",
+        Some(Reason::Break),
+    ),
+    (
+        b"N,A,b1,20240102-09:00:00,Z,B,100\t,10,\n",
+        Some(Reason::Break),
+    ),
+    (
+        b"N,A\x7F,b1,20240102-09:00:00,Z,B,100,10,\n",
+        Some(Reason::Break),
+    ),
+    (
+        b"N,\x80,b1,20240102-09:00:00,Z,B,100,10,\n",
+        Some(Reason::Break),
+    ),
+    (
+        b"N,A,b1,20240102-09:00:00,Z,B,100,10,\r\r\n",
+        Some(Reason::Break),
+    ),
+    (
+        b"N,A,b1,20240102-09:00:00,Z,B,100,10\r,\n",
+        Some(Reason::Break),
+    ),
+    (b"\r\r\n", Some(Reason::Break)),
+    (
+        b"\xEF\xBB\xBFN,A,b1,20240102-09:00:00,Z,B,100,10,\n",
+        Some(Reason::Break),
+    ),
+    (
+        b"N,A,b1,20240102-09:00:00,Z,B,100,10\n",
+        Some(Reason::Columns),
+    ),
+    (
+        b"N,A,b1,20240102-09:00:00,Z,B,100,10,,\n",
+        Some(Reason::Columns),
+    ),
+    (b" \n", Some(Reason::Columns)),
+    (b"\"\"\n", Some(Reason::Columns)),
+    (
+        b"n,A,b1,20240102-09:00:00,Z,B,100,10,\n",
+        Some(Reason::Column(1)),
+    ),
+    (b",,,,,,,,\n", Some(Reason::Column(1))),
+    (
+        b"NN,A,b1,20240102-09:00:00,Z,B,100,10,\n",
+        Some(Reason::Column(1)),
+    ),
+    (
+        b"N,,b1,20240102-09:00:00,Z,B,100,10,\n",
+        Some(Reason::Column(2)),
+    ),
+    (
+        b"N,A,,20240102-09:00:00,Z,B,100,10,\n",
+        Some(Reason::Column(3)),
+    ),
+    (
+        b"N,A,b1,20241302-09:00:00,Z,B,100,10,\n",
+        Some(Reason::Column(4)),
+    ),
+    (
+        b"N,A,b1,20240102-09:00:00,,B,100,10,\n",
+        Some(Reason::Column(5)),
+    ),
+    (
+        b"N,A,b1,20240102-09:00:00,Z,b,100,10,\n",
+        Some(Reason::Column(6)),
+    ),
+    (
+        b"N,A,b1,20240102-09:00:00,Z,B,0,10,\n",
+        Some(Reason::Column(7)),
+    ),
+    (
+        b"N,A,b1,20240102-09:00:00,Z,B,100,-1,\n",
+        Some(Reason::Column(8)),
+    ),
+    (
+        b"N,A,b1,20240102-09:00:00,Z,B,100,10,b0\n",
+        Some(Reason::Column(9)),
+    ),
+    (b"N,A,b1,20240102-09:00:00,Z,B,1000000000000,10,\n", None),
+    (
+        b"N,A,b1,20240102-09:00:00,Z,B,100.5,10,\n",
+        Some(Reason::Column(7)),
+    ),
+    (
+        b"N,A,b1,20240102-09:00:00,Z,B,1,9999999999.99999999,\n",
+        None,
+    ),
+    (
+        b"N,A,b1,20240102-09:00:00,Z,B,1,10000000000,\n",
+        Some(Reason::Column(8)),
+    ),
+    (b"I,A,b1,20240102-09:00:00,Z,S,100,10,\n", None),
+    (
+        b"I,A,b1,20240102-09:00:00,Z,S,100,,\n",
+        Some(Reason::Column(8)),
+    ),
+    (b"M,A,b1,20240102-09:00:00,Z,S,100,,\n", None),
+    (
+        b"M,A,b1,20240102-09:00:00,Z,S,100,10,\n",
+        Some(Reason::Column(8)),
+    ),
+    (
+        b"M,A,b1,20240102-09:00:00,Z,S,100,,b0\n",
+        Some(Reason::Column(9)),
+    ),
+    (b"X,A,x1,20240102-09:00:00,Z,,,,b1\n", None),
+    (
+        b"X,A,x1,20240102-09:00:00,Z,B,,,b1\n",
+        Some(Reason::Column(6)),
+    ),
+    (
+        b"X,A,x1,20240102-09:00:00,Z,,100,,b1\n",
+        Some(Reason::Column(7)),
+    ),
+    (
+        b"X,A,x1,20240102-09:00:00,Z,,,10,b1\n",
+        Some(Reason::Column(8)),
+    ),
+    (b"X,A,x1,20240102-09:00:00,Z,,,,\n", Some(Reason::Column(9))),
+    (b"R,A,r1,20240102-09:00:00,Z,B,100,10,b1\n", None),
+    (
+        b"R,A,r1,20240102-09:00:00,Z,B,100,,b1\n",
+        Some(Reason::Column(8)),
+    ),
+    (
+        b"R,A,r1,20240102-09:00:00,Z,B,100,10,\n",
+        Some(Reason::Column(9)),
+    ),
+    (
+        b"R,A,r1,20240102-09:00:00,Z,B,,10,b1\n",
+        Some(Reason::Column(7)),
+    ),
+];
+
 #[test]
 fn each_test_of_a_line_is_made_in_its_order(rt: HostRuntime) {
-    let cases: [(&[u8], Option<Reason>); 51] = [
-        (b"N,A,b1,20240102-09:00:00,Z,B,100,10,\n", None),
-        (b"N,A,b1,20240102-09:00:00,Z,B,100,10,", None),
-        (b"N,A,b1,20240102-09:00:00,Z,B,100,10,\r", None),
-        (b"\n\n\r\nN,A,b1,20240102-09:00:00,Z,B,100,10,\r\n\n", None),
-        (b"N,\"A\",b1,\"20240102-09:00:00\",Z,B,100,10,\"\"\n", None),
-        (
-            b"N,\"A,C\",b1,20240102-09:00:00,Z,B,100,10,\n",
-            Some(Reason::Column(2)),
-        ),
-        (
-            b"N,\"A\"\"C\",b1,20240102-09:00:00,Z,B,100,10,\n",
-            Some(Reason::Column(2)),
-        ),
-        (
-            b"N,A\"C\",b1,20240102-09:00:00,Z,B,100,10,\n",
-            Some(Reason::Column(2)),
-        ),
-        (
-            b"N,A\",b1,20240102-09:00:00,Z,B,100,10,\"\n",
-            Some(Reason::Column(2)),
-        ),
-        (
-            b"N,\"A,b1,20240102-09:00:00,Z,B,100,10,\n",
-            Some(Reason::Break),
-        ),
-        (
-            b"N,\"A\nC\",b1,20240102-09:00:00,Z,B,100,10,\n",
-            Some(Reason::Break),
-        ),
-        (
-            b"N,A,b1,20240102-09:00:00,Z,B,100\t,10,\n",
-            Some(Reason::Break),
-        ),
-        (
-            b"N,A\x7F,b1,20240102-09:00:00,Z,B,100,10,\n",
-            Some(Reason::Break),
-        ),
-        (
-            b"N,\x80,b1,20240102-09:00:00,Z,B,100,10,\n",
-            Some(Reason::Break),
-        ),
-        (
-            b"N,A,b1,20240102-09:00:00,Z,B,100,10,\r\r\n",
-            Some(Reason::Break),
-        ),
-        (
-            b"N,A,b1,20240102-09:00:00,Z,B,100,10\r,\n",
-            Some(Reason::Break),
-        ),
-        (b"\r\r\n", Some(Reason::Break)),
-        (
-            b"\xEF\xBB\xBFN,A,b1,20240102-09:00:00,Z,B,100,10,\n",
-            Some(Reason::Break),
-        ),
-        (
-            b"N,A,b1,20240102-09:00:00,Z,B,100,10\n",
-            Some(Reason::Columns),
-        ),
-        (
-            b"N,A,b1,20240102-09:00:00,Z,B,100,10,,\n",
-            Some(Reason::Columns),
-        ),
-        (b" \n", Some(Reason::Columns)),
-        (b"\"\"\n", Some(Reason::Columns)),
-        (
-            b"n,A,b1,20240102-09:00:00,Z,B,100,10,\n",
-            Some(Reason::Column(1)),
-        ),
-        (b",,,,,,,,\n", Some(Reason::Column(1))),
-        (
-            b"NN,A,b1,20240102-09:00:00,Z,B,100,10,\n",
-            Some(Reason::Column(1)),
-        ),
-        (
-            b"N,,b1,20240102-09:00:00,Z,B,100,10,\n",
-            Some(Reason::Column(2)),
-        ),
-        (
-            b"N,A,,20240102-09:00:00,Z,B,100,10,\n",
-            Some(Reason::Column(3)),
-        ),
-        (
-            b"N,A,b1,20241302-09:00:00,Z,B,100,10,\n",
-            Some(Reason::Column(4)),
-        ),
-        (
-            b"N,A,b1,20240102-09:00:00,,B,100,10,\n",
-            Some(Reason::Column(5)),
-        ),
-        (
-            b"N,A,b1,20240102-09:00:00,Z,b,100,10,\n",
-            Some(Reason::Column(6)),
-        ),
-        (
-            b"N,A,b1,20240102-09:00:00,Z,B,0,10,\n",
-            Some(Reason::Column(7)),
-        ),
-        (
-            b"N,A,b1,20240102-09:00:00,Z,B,100,-1,\n",
-            Some(Reason::Column(8)),
-        ),
-        (
-            b"N,A,b1,20240102-09:00:00,Z,B,100,10,b0\n",
-            Some(Reason::Column(9)),
-        ),
-        (b"N,A,b1,20240102-09:00:00,Z,B,1000000000000,10,\n", None),
-        (
-            b"N,A,b1,20240102-09:00:00,Z,B,100.5,10,\n",
-            Some(Reason::Column(7)),
-        ),
-        (
-            b"N,A,b1,20240102-09:00:00,Z,B,1,9999999999.99999999,\n",
-            None,
-        ),
-        (
-            b"N,A,b1,20240102-09:00:00,Z,B,1,10000000000,\n",
-            Some(Reason::Column(8)),
-        ),
-        (b"I,A,b1,20240102-09:00:00,Z,S,100,10,\n", None),
-        (
-            b"I,A,b1,20240102-09:00:00,Z,S,100,,\n",
-            Some(Reason::Column(8)),
-        ),
-        (b"M,A,b1,20240102-09:00:00,Z,S,100,,\n", None),
-        (
-            b"M,A,b1,20240102-09:00:00,Z,S,100,10,\n",
-            Some(Reason::Column(8)),
-        ),
-        (
-            b"M,A,b1,20240102-09:00:00,Z,S,100,,b0\n",
-            Some(Reason::Column(9)),
-        ),
-        (b"X,A,x1,20240102-09:00:00,Z,,,,b1\n", None),
-        (
-            b"X,A,x1,20240102-09:00:00,Z,B,,,b1\n",
-            Some(Reason::Column(6)),
-        ),
-        (
-            b"X,A,x1,20240102-09:00:00,Z,,100,,b1\n",
-            Some(Reason::Column(7)),
-        ),
-        (
-            b"X,A,x1,20240102-09:00:00,Z,,,10,b1\n",
-            Some(Reason::Column(8)),
-        ),
-        (b"X,A,x1,20240102-09:00:00,Z,,,,\n", Some(Reason::Column(9))),
-        (b"R,A,r1,20240102-09:00:00,Z,B,100,10,b1\n", None),
-        (
-            b"R,A,r1,20240102-09:00:00,Z,B,100,,b1\n",
-            Some(Reason::Column(8)),
-        ),
-        (
-            b"R,A,r1,20240102-09:00:00,Z,B,100,10,\n",
-            Some(Reason::Column(9)),
-        ),
-        (
-            b"R,A,r1,20240102-09:00:00,Z,B,,10,b1\n",
-            Some(Reason::Column(7)),
-        ),
-    ];
-    for (line, want) in cases {
+    for (line, want) in LINES {
         assert_eq!(rt; reason_of(&rt, rt.alloc(), line), want, "{:?}", line);
     }
 }
