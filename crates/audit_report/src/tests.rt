@@ -192,23 +192,24 @@ fn assert_rejected<R: AllocGlobal + Abort>(rt: &R, finding: Finding, text: &str)
     assert_eq!(rt; status_of(&verdict), Status::Rejected);
 }
 
+/// A finding of the trade log that shows its record 1.
+fn found_beside_the_first(property: Property, place: u32) -> Finding {
+    Finding {
+        first: Some(Shown::Place {
+            log: Which::Trades,
+            place: 1,
+        }),
+        ..found(property, Which::Trades, place)
+    }
+}
+
 #[test]
 fn rejected_beside_an_earlier_record(rt: HostRuntime) {
-    let seen = Some(Shown::Place {
-        log: Which::Trades,
-        place: 1,
-    });
     let alone = found(Property::Unpaired, Which::Trades, 1);
     assert_rejected(&rt, alone, "rejected,unpaired,trades,1\n");
-    let unequal = Finding {
-        first: seen,
-        ..found(Property::Unpaired, Which::Trades, 2)
-    };
+    let unequal = found_beside_the_first(Property::Unpaired, 2);
     assert_rejected(&rt, unequal, "rejected,unpaired,trades,2\nsee,trades,1\n");
-    let again = Finding {
-        first: seen,
-        ..found(Property::DuplicateTrade, Which::Trades, 2)
-    };
+    let again = found_beside_the_first(Property::DuplicateTrade, 2);
     assert_rejected(
         &rt,
         again,
