@@ -27,3 +27,10 @@ returns-else-not-meets c deals at =
     (c.shown_of-own_traded.ensures ∙ (λ i. at.traded_is.is c.args.order c.requires.order i + at.before_is.is c.args.order (omega arith) i))
     (c.shown_of-best_traded.ensures ∙ (λ i. at.traded_is.is c.in-Some.best.index inside i + at.before_is.is c.in-Some.best.index (omega arith) i)) in
     ap Some c.meeting_finding.ensures ∙ sym found
+
+pub offset_bounds-orders-best : goal.offset_bounds-orders-best
+offset_bounds-orders-best c =
+    let early : c.in-Some.best.index < c.args.order = first-earlier c.args.order c.args.books.now c.requires.bids c.requires.asks c.other.result c.in-Some.best (sym c.best_of.ensures ∙ c.in-Some.is) in
+    let o = c.requires.order in
+    let few = c.requires.list.few in
+    omega arith
