@@ -15,8 +15,10 @@ pub mod PairDealLemmas
 pub mod PlacedLemmas
 pub mod PriorityLemmas
 pub mod RankLemmas
+pub mod SortedPairLemmas
 pub mod StampLemmas
 pub mod SumLemmas
+pub mod TotalsLemmas
 pub mod TradeLemmas
 pub mod UnquotedLemmas
 pub mod VerdictLemmas

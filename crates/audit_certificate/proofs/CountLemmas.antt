@@ -1,115 +1,29 @@
 -- What is counted of the first deals, and one deal further.
-use Rattle.std.proofs.Common.{◌≡◌, ◌≢◌, ◌∙◌, inl, inr, sym, ap, subst, refl, ℕ, false, ◌+◌, ◌*◌, ◌^◌, ◌<◌, ◌≤◌, List, length, take, get_or, arith, All}
+use Rattle.std.proofs.Common.{◌≡◌, ◌∙◌, inl, inr, sym, ap, subst, ℕ, ◌+◌, ◌*◌, ◌^◌, ◌<◌, ◌≤◌, List, length, take, get_or, arith, All}
 use Rattle.std.specs.Prelude.{slice_set, replicate}
-use Rattle.std.proofs.lemmas.List.{length-set, get_or-set_same, get_or-set_other, get_or-replicate, length-replicate, take_all}
-use Rattle.std.proofs.lemmas.List.Sums.{sum_by_more}
-use Rattle.std.proofs.lemmas.Bool.{cases_eq, or_from, ne_eqb}
+use Rattle.std.proofs.lemmas.List.{length-set, get_or-set_other, take_all}
+use Rattle.std.proofs.lemmas.Bool.{cases_eq}
 use Rattle.audit_base.specs.declared.orders.Order.{Order}
 use Rattle.audit_base.specs.declared.orders.Deal.{Deal}
-use Rattle.audit_base.specs.Orders.{side_at}
-use Rattle.audit_base.specs.Deals.{names, traded, volume, deal_at, missing_deal, NamesOrders, IsDeal}
-use Rattle.audit_base.proofs.OffenceLemmas.{traded_more, part-away, get_or-default}
-use Rattle.audit_base.proofs.DealLemmas.{part-bid, part-ask}
-use Rattle.audit_base.proofs.OrderLemmas.{not_both_sides}
+use Rattle.audit_base.specs.Deals.{traded, volume, deal_at, missing_deal, NamesOrders, IsDeal}
+use Rattle.audit_base.proofs.OffenceLemmas.{get_or-default}
+use Rattle.audit_base.proofs.TotalsLemmas.{AreTotalsSoFar, apart, totals-none, totals-more}
 use Rattle.short_order.specs.Totals.{AreTotals}
 
 -- what the first k deals come to, and that their numbers are in range
 pub record AreCountsSoFar (orders : List Order) (deals : List Deal) (k : ℕ) (so_far : List ℕ) (total : ℕ) : Type 0 where
-  pub count : length so_far ≡ length orders
-  pub sums : (i : ℕ) → i < length orders → get_or so_far i 0 ≡ traded (take k deals) i
-  pub whole : total ≡ volume (take k deals)
-  pub bounded : (i : ℕ) → i < length orders → get_or so_far i 0 ≤ k * 10 ^ 12
-  pub total_bounded : total ≤ k * 10 ^ 12
+  pub totals : AreTotalsSoFar orders deals k so_far total
   pub ranges : (i : ℕ) → i < k → IsDeal (deal_at deals i)
 
--- a bid is no ask
-pub apart : (orders : List Order) (d : Deal) → NamesOrders orders d → d.bid ≢ d.ask
-apart orders d n same = not_both_sides (sym n.buys ∙ ap (side_at orders) same ∙ n.sells)
-
 pub counts-none : (orders : List Order) (deals : List Deal) → AreCountsSoFar orders deals 0 (replicate (length orders) 0) 0
-counts-none orders deals = record {
-  count = length-replicate (length orders) 0;
-  sums = λ i lt. get_or-replicate {A = ℕ} (length orders) i 0 0 lt;
-  whole = refl;
-  bounded = λ i lt. omega (arith, get_or-replicate {A = ℕ} (length orders) i 0 0 lt);
-  total_bounded = omega arith;
-  ranges = λ i lt. absurd (omega arith);
-}
+counts-none orders deals = record { totals = totals-none orders deals; ranges = λ i lt. absurd (omega arith) }
 
--- what the two orders of a deal trade is its quantity more, and others trade what they did
-module _ (orders : List Order) (deals : List Deal) (k : ℕ) (lt : k < length deals) (named : NamesOrders orders (deal_at deals k)) where
-  pub bid-more : traded (take (k + 1) deals) (deal_at deals k).bid ≡ traded (take k deals) (deal_at deals k).bid + (deal_at deals k).quantity
-  bid-more =
-      traded_more deals k (deal_at deals k).bid lt ∙ ap (λ (n : ℕ). traded (take k deals) (deal_at deals k).bid + n) (part-bid (deal_at deals k))
-
-  pub ask-more : traded (take (k + 1) deals) (deal_at deals k).ask ≡ traded (take k deals) (deal_at deals k).ask + (deal_at deals k).quantity
-  ask-more =
-      traded_more deals k (deal_at deals k).ask lt ∙ ap (λ (n : ℕ). traded (take k deals) (deal_at deals k).ask + n) (part-ask (deal_at deals k))
-
-  -- what another order trades stays
-  other-same : (i : ℕ) → i ≢ (deal_at deals k).bid → i ≢ (deal_at deals k).ask → traded (take (k + 1) deals) i ≡ traded (take k deals) i
-  other-same i not_bid not_ask =
-      let d = deal_at deals k in
-      let away : names i d ≡ false = or_from _ _ (ne_eqb d.bid i (λ e. not_bid (sym e))) (ne_eqb d.ask i (λ e. not_ask (sym e))) in
-      omega (arith, traded_more deals k i lt, part-away i d away)
-
-  volume-more : volume (take (k + 1) deals) ≡ volume (take k deals) + (deal_at deals k).quantity
-  volume-more = sum_by_more (λ (d : Deal). d.quantity) deals k missing_deal lt
-
-  module _ (so_far : List ℕ) (total quantity : ℕ) (is : AreCountsSoFar orders deals k so_far total) (same : quantity ≡ (deal_at deals k).quantity) (range : IsDeal (deal_at deals k)) where
-    most : quantity ≤ 10 ^ 12
-    most = omega (arith, same, range.most)
-
-    abbrev pub after : List ℕ
-    after = slice_set (slice_set so_far (deal_at deals k).bid (get_or so_far (deal_at deals k).bid 0 + quantity)) (deal_at deals k).ask (get_or so_far (deal_at deals k).ask 0 + quantity)
-
-    within_bid : (deal_at deals k).bid < length so_far
-    within_bid = omega (arith, is.count, named.bid_inside)
-
-    within_ask : (deal_at deals k).ask < length so_far
-    within_ask = omega (arith, is.count, named.ask_inside)
-
-    at_ask : get_or after (deal_at deals k).ask 0 ≡ get_or so_far (deal_at deals k).ask 0 + quantity
-    at_ask =
-        get_or-set_same {A = ℕ} (slice_set so_far (deal_at deals k).bid (get_or so_far (deal_at deals k).bid 0 + quantity)) (deal_at deals k).ask (get_or so_far (deal_at deals k).ask 0 + quantity) 0 (omega (arith, length-set {A = ℕ} so_far (deal_at deals k).bid (get_or so_far (deal_at deals k).bid 0 + quantity), within_ask))
-
-    at_bid : get_or after (deal_at deals k).bid 0 ≡ get_or so_far (deal_at deals k).bid 0 + quantity
-    at_bid =
-        get_or-set_other {A = ℕ} (slice_set so_far (deal_at deals k).bid (get_or so_far (deal_at deals k).bid 0 + quantity)) (deal_at deals k).ask (deal_at deals k).bid (get_or so_far (deal_at deals k).ask 0 + quantity) 0 (apart orders (deal_at deals k) named)
-        ∙ get_or-set_same {A = ℕ} so_far (deal_at deals k).bid (get_or so_far (deal_at deals k).bid 0 + quantity) 0 within_bid
-
-    at_other : (i : ℕ) → i ≢ (deal_at deals k).bid → i ≢ (deal_at deals k).ask → get_or after i 0 ≡ get_or so_far i 0
-    at_other i not_bid not_ask =
-        get_or-set_other {A = ℕ} (slice_set so_far (deal_at deals k).bid (get_or so_far (deal_at deals k).bid 0 + quantity)) (deal_at deals k).ask i (get_or so_far (deal_at deals k).ask 0 + quantity) 0 not_ask
-        ∙ get_or-set_other {A = ℕ} so_far (deal_at deals k).bid i (get_or so_far (deal_at deals k).bid 0 + quantity) 0 not_bid
-
-    -- what is kept of an order after the deal, and that it is bounded
-    sums-after : (i : ℕ) → i < length orders → (get_or after i 0 ≡ traded (take (k + 1) deals) i) × (get_or after i 0 ≤ (k + 1) * 10 ^ 12)
-    sums-after i lt_i = elim (cases_eq i (deal_at deals k).bid) [
-      | inl e ↦ let p : (λ (x : ℕ). (get_or after x 0 ≡ traded (take (k + 1) deals) x) × (get_or after x 0 ≤ (k + 1) * 10 ^ 12)) (deal_at deals k).bid = (omega (arith, at_bid, bid-more, is.sums (deal_at deals k).bid named.bid_inside, same), omega (arith, at_bid, is.bounded (deal_at deals k).bid named.bid_inside, most)) in
-          subst (λ (x : ℕ). (get_or after x 0 ≡ traded (take (k + 1) deals) x) × (get_or after x 0 ≤ (k + 1) * 10 ^ 12)) (sym e) p
-      | inr not_bid ↦ elim (cases_eq i (deal_at deals k).ask) [
-        | inl e ↦ let p : (λ (x : ℕ). (get_or after x 0 ≡ traded (take (k + 1) deals) x) × (get_or after x 0 ≤ (k + 1) * 10 ^ 12)) (deal_at deals k).ask = (omega (arith, at_ask, ask-more, is.sums (deal_at deals k).ask named.ask_inside, same), omega (arith, at_ask, is.bounded (deal_at deals k).ask named.ask_inside, most)) in
-            subst (λ (x : ℕ). (get_or after x 0 ≡ traded (take (k + 1) deals) x) × (get_or after x 0 ≤ (k + 1) * 10 ^ 12)) (sym e) p
-        | inr not_ask ↦ (omega (arith, at_other i not_bid not_ask, other-same i not_bid not_ask, is.sums i lt_i), omega (arith, at_other i not_bid not_ask, is.bounded i lt_i))
-      ]
-    ]
-
-    ranges-more : (i : ℕ) → i < k + 1 → IsDeal (deal_at deals i)
-    ranges-more i below = elim (cases_eq i k) [
-      | inl e ↦ subst (λ (j : ℕ). IsDeal (deal_at deals j)) (sym e) range
-      | inr ne ↦ is.ranges i (omega (arith, ne))
-    ]
-
-    pub counts-more : AreCountsSoFar orders deals (k + 1) after (total + quantity)
-    counts-more = record {
-      count = length-set {A = ℕ} (slice_set so_far (deal_at deals k).bid (get_or so_far (deal_at deals k).bid 0 + quantity)) (deal_at deals k).ask (get_or so_far (deal_at deals k).ask 0 + quantity) ∙ length-set {A = ℕ} so_far (deal_at deals k).bid (get_or so_far (deal_at deals k).bid 0 + quantity) ∙ is.count;
-      sums = λ i lt_i. (sums-after i lt_i).0;
-      whole = omega (arith, volume-more, is.whole, same);
-      bounded = λ i lt_i. (sums-after i lt_i).1;
-      total_bounded = omega (arith, is.total_bounded, most);
-      ranges = ranges-more;
-    }
+-- the numbers of one deal more are in range
+ranges-more : (deals : List Deal) (k : ℕ) → ((i : ℕ) → i < k → IsDeal (deal_at deals i)) → IsDeal (deal_at deals k) → (i : ℕ) → i < k + 1 → IsDeal (deal_at deals i)
+ranges-more deals k ranges range i below = elim (cases_eq i k) [
+  | inl e ↦ subst (λ (j : ℕ). IsDeal (deal_at deals j)) (sym e) range
+  | inr ne ↦ ranges i (omega (arith, ne))
+]
 
 -- the same in the words of the code: the deal that it reads, and the numbers after each of the two additions
 module _ (orders : List Order) (deals : List Deal) (k : ℕ) (lt : k < length deals) (named : All (NamesOrders orders) deals) (d : Deal) (d_is : d ≡ deal_at deals k) (so_far : List ℕ) (total quantity : ℕ) (is : AreCountsSoFar orders deals k so_far total) (same : quantity ≡ d.quantity) (range : IsDeal d) where
@@ -117,13 +31,13 @@ module _ (orders : List Order) (deals : List Deal) (k : ℕ) (lt : k < length de
   named_here = subst (NamesOrders orders) (sym d_is) (named k missing_deal lt)
 
   pub bid-inside : d.bid < length so_far
-  bid-inside = omega (arith, is.count, named_here.bid_inside)
+  bid-inside = omega (arith, is.totals.count, named_here.bid_inside)
 
   pub ask-inside : d.ask < length so_far
-  ask-inside = omega (arith, is.count, named_here.ask_inside)
+  ask-inside = omega (arith, is.totals.count, named_here.ask_inside)
 
   pub bid-fits : get_or so_far d.bid 0 + quantity ≤ (k + 1) * 10 ^ 12
-  bid-fits = omega (arith, is.bounded d.bid named_here.bid_inside, same, range.most)
+  bid-fits = omega (arith, is.totals.bounded d.bid named_here.bid_inside, same, range.most)
 
   abbrev pub with_bid : List ℕ
   with_bid = slice_set so_far d.bid (get_or so_far d.bid 0 + quantity)
@@ -131,11 +45,14 @@ module _ (orders : List Order) (deals : List Deal) (k : ℕ) (lt : k < length de
   ask-stays : get_or with_bid d.ask 0 ≡ get_or so_far d.ask 0
   ask-stays = get_or-set_other {A = ℕ} so_far d.bid d.ask (get_or so_far d.bid 0 + quantity) 0 (λ e. apart orders d named_here (sym e))
 
+  most : quantity ≤ 10 ^ 12
+  most = omega (arith, same, range.most)
+
   pub ask-inside_after : d.ask < length with_bid
   ask-inside_after = omega (arith, length-set {A = ℕ} so_far d.bid (get_or so_far d.bid 0 + quantity), ask-inside)
 
   pub ask-fits : get_or with_bid d.ask 0 + quantity ≤ (k + 1) * 10 ^ 12
-  ask-fits = omega (arith, ask-stays, is.bounded d.ask named_here.ask_inside, same, range.most)
+  ask-fits = omega (arith, ask-stays, is.totals.bounded d.ask named_here.ask_inside, same, range.most)
 
   pub counted : (half whole : List ℕ) → half ≡ with_bid → whole ≡ slice_set half d.ask (get_or half d.ask 0 + quantity)
       → AreCountsSoFar orders deals (k + 1) whole (total + quantity)
@@ -144,14 +61,17 @@ module _ (orders : List Order) (deals : List Deal) (k : ℕ) (lt : k < length de
       whole_is ∙ ap (λ (xs : List ℕ). slice_set xs d.ask (get_or xs d.ask 0 + quantity)) half_is ∙ ap (λ (n : ℕ). slice_set with_bid d.ask (n + quantity)) ask-stays in
       let P : Deal → Type 0 = λ e. AreCountsSoFar orders deals (k + 1) (slice_set (slice_set so_far e.bid (get_or so_far e.bid 0 + quantity)) e.ask (get_or so_far e.ask 0 + quantity)) (total + quantity) in
       subst (λ (xs : List ℕ). AreCountsSoFar orders deals (k + 1) xs (total + quantity)) (sym is_after)
-      (subst P (sym d_is) (counts-more orders deals k lt (named k missing_deal lt) so_far total quantity is (same ∙ ap (λ (e : Deal). e.quantity) d_is) (subst IsDeal d_is range)))
+      (subst P (sym d_is) (record {
+        totals = totals-more orders deals k lt (named k missing_deal lt) so_far total quantity is.totals (same ∙ ap (λ (e : Deal). e.quantity) d_is) most;
+        ranges = ranges-more deals k is.ranges (subst IsDeal d_is range);
+      }))
 
 -- after the last deal
 pub counts-all : (orders : List Order) (deals : List Deal) (k : ℕ) (so_far : List ℕ) (total : ℕ) → k ≡ length deals → AreCountsSoFar orders deals k so_far total
     → AreTotals orders deals so_far × (total ≡ volume deals) × All IsDeal deals
 counts-all orders deals k so_far total all is =
     let whole : take k deals ≡ deals = take_all k deals (omega arith) in (
-      record { count = is.count; each = λ i lt. is.sums i lt ∙ ap (λ (ds : List Deal). traded ds i) whole },
-      is.whole ∙ ap volume whole,
+      record { count = is.totals.count; each = λ i lt. is.totals.sums i lt ∙ ap (λ (ds : List Deal). traded ds i) whole },
+      is.totals.whole ∙ ap volume whole,
       λ i d lt. subst IsDeal (sym (get_or-default deals i d missing_deal lt)) (is.ranges i (omega arith)),
     )

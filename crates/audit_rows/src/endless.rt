@@ -1,6 +1,6 @@
 //! Sources without end, of line ends, of `8` and of 0x00.
+use crate::checks::answers::{RowFault, answer_of};
 use log_source::endless_shelf::EndlessShelf;
-use row_checks::answers::{RowFault, answer_of};
 use std::alloc::Global;
 use std::test::Fail;
 

@@ -1,11 +1,12 @@
 //! Logs as long as a log may be, and a byte longer.
-use row_checks::answers::{RowFault, answer_of};
-use row_checks::repeating_shelf::RepeatingShelf;
+use crate::checks::answers::{RowFault, answer_of};
+use audit_base::faults::NoMemory;
+use log_source::quiet_shelf::QuietShelf;
 use std::alloc::Global;
 use std::test::Fail;
 
 /// The bytes of the longest log.
-const LONGEST: u64 = 67_108_864;
+const LONGEST: usize = 67_108_864;
 
 /// The words of a command, the byte that its logs are made of, the status and the text over logs of the
 /// longest size, and the text over logs of a byte more.
@@ -76,11 +77,18 @@ const MALFORMED_LOGS: [LongRow; 3] = [
     ),
 ];
 
+/// A shelf both of whose logs are this byte so many times.
+fn long_shelf(alloc: Global, byte: u8, size: usize) -> Result<QuietShelf, NoMemory> {
+    let orders = vec![in alloc; byte; size]?;
+    let trades = vec![in alloc; byte; size]?;
+    Ok(QuietShelf::new(orders, trades, 65_536))
+}
+
 fn check_long(alloc: Global, row: &LongRow) -> Result<(), RowFault> {
     let (words, byte, status, report, too_long) = *row;
-    let answered = answer_of(alloc, words, &mut RepeatingShelf::new(byte, LONGEST))?;
+    let answered = answer_of(alloc, words, &mut long_shelf(alloc, byte, LONGEST)?)?;
     answered.check(alloc, words, 0, status, report.as_bytes())?;
-    let answered = answer_of(alloc, words, &mut RepeatingShelf::new(byte, LONGEST + 1))?;
+    let answered = answer_of(alloc, words, &mut long_shelf(alloc, byte, LONGEST + 1)?)?;
     answered.check(alloc, words, 1, 6, too_long.as_bytes())
 }
 

@@ -1,6 +1,6 @@
 //! Rows of audits of the rule `matching`.
-use row_checks::inputs::{ORDERS, TRADES};
-use row_checks::rows::{Row, check_rows, check_rows_in_pieces};
+use crate::checks::inputs::{ORDERS, TRADES};
+use crate::checks::rows::{Row, check_rows, check_rows_in_pieces};
 use std::test::Fail;
 
 /// Trades, and histories that have a finding.

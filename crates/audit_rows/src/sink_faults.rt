@@ -1,8 +1,10 @@
 //! Runs whose sink fails: at each of its writes of 10 bytes, or for want of room after each byte.
-use crate::day_logs::{CALL_FIRST, CALL_TRADES, DAY_ACCEPTED, DAY_ORDERS, DAY_SPREAD, DAY_TRADES};
-use row_checks::inputs::{ORDERS, TRADES};
-use row_checks::rows::Row;
-use row_checks::sink_faults::check_sink_faults;
+use crate::checks::inputs::{ORDERS, TRADES};
+use crate::checks::rows::Row;
+use crate::checks::sink_faults::check_sink_faults;
+use crate::days::logs::{
+    CALL_FIRST, CALL_TRADES, DAY_ACCEPTED, DAY_ORDERS, DAY_SPREAD, DAY_TRADES,
+};
 use std::test::Fail;
 
 const BUYER: &str = "N,A,b1,20240102-09:00:00,Z,B,100,10,\n";

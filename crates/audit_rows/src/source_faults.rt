@@ -1,8 +1,10 @@
 //! Runs over CSV logs whose source fails, in pieces of 30 bytes.
-use crate::day_logs::{CALL_FIRST, CALL_TRADES, DAY_ACCEPTED, DAY_ORDERS, DAY_SPREAD, DAY_TRADES};
-use row_checks::inputs::{ORDERS, TRADES};
-use row_checks::rows::Row;
-use row_checks::source_faults::{SourceRow, check_source_faults};
+use crate::checks::inputs::{ORDERS, TRADES};
+use crate::checks::rows::Row;
+use crate::checks::source_faults::{SourceRow, check_source_faults};
+use crate::days::logs::{
+    CALL_FIRST, CALL_TRADES, DAY_ACCEPTED, DAY_ORDERS, DAY_SPREAD, DAY_TRADES,
+};
 use std::test::Fail;
 
 /// The orders of one trade, in 125 bytes, and the trade, in 108.

@@ -31,8 +31,8 @@ abbrev pub first_named : List ℕ → Option ℕ
 first_named word = if slice_index word 0 == 48 then None else number_upto 4294967295 word
 
 -- the phase of a KIND and a FIRST, where both are there
-abbrev pub kind_at : Option PhaseKind → Option ℕ → Option Phase
-kind_at the_kind the_first =
+abbrev pub phase_with : Option PhaseKind → Option ℕ → Option Phase
+phase_with the_kind the_first =
     option_and_then (λ k. option_map (λ f. record { kind = k; first = f }) the_first) the_kind
 
 -- a text cut at its first such byte, into what stands before it and what behind it; nothing where there is no such byte
@@ -45,7 +45,7 @@ cut_at is_mark text =
 -- a part KIND@FIRST
 abbrev pub phase_named : List ℕ → Option Phase
 phase_named part =
-    option_and_then (λ cut. kind_at (kind_named cut.0) (first_named cut.1)) (cut_at is_at part)
+    option_and_then (λ cut. phase_with (kind_named cut.0) (first_named cut.1)) (cut_at is_at part)
 
 -- the first FIRST is 1, and each other is above the one before it; 0 stands before the first
 abbrev pub follows : ℕ → ℕ → Bool

@@ -37,10 +37,8 @@ fn generated_history(alloc: Global, start: u32, count: u32) -> Result<History, N
     let entries = make_orders(alloc, start, count)?;
     match History::build(alloc, &entries, &generated_symbol()) {
         Ok(history) => Ok(history),
-        Err(fault) => match fault {
-            HistoryFault::Found(_) => unreachable!(),
-            HistoryFault::Memory => Err(NoMemory),
-        },
+        Err(HistoryFault::Found(_)) => unreachable!(),
+        Err(HistoryFault::Memory) => Err(NoMemory),
     }
 }
 

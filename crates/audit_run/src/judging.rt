@@ -73,10 +73,8 @@ fn judge_trades(
             &deals,
             trades.len() as u32,
         ),
-        Err(fault) => match fault {
-            CheckFault::Found(finding) => Ok(Verdict::Rejected(finding)),
-            CheckFault::Memory => Err(NoMemory),
-        },
+        Err(CheckFault::Found(finding)) => Ok(Verdict::Rejected(finding)),
+        Err(CheckFault::Memory) => Err(NoMemory),
     }
 }
 
@@ -114,10 +112,8 @@ fn judge_records(
 {
     match History::build(alloc, entries, &question.symbol) {
         Ok(history) => judge_history(alloc, question, &history, trades),
-        Err(fault) => match fault {
-            HistoryFault::Found(finding) => Ok(Verdict::Rejected(finding)),
-            HistoryFault::Memory => Err(NoMemory),
-        },
+        Err(HistoryFault::Found(finding)) => Ok(Verdict::Rejected(finding)),
+        Err(HistoryFault::Memory) => Err(NoMemory),
     }
 }
 

@@ -12,8 +12,6 @@
 
 mod auditing;
 mod before_rule;
-#[cfg(test)]
-mod certificate_row_tests;
 pub mod choices;
 pub mod collecting;
 mod commands;
@@ -34,17 +32,11 @@ mod ranges;
 pub mod reading;
 pub mod reports;
 pub mod requests;
-#[cfg(test)]
-mod row_tests;
 mod rules;
 pub mod running;
-#[cfg(test)]
-mod session_row_tests;
 mod sessions;
 pub mod stops;
 mod tables;
-#[cfg(test)]
-mod tests;
 mod verifying;
 pub mod word_forms;
 mod writing;

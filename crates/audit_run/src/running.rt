@@ -71,9 +71,7 @@ pub fn run_seeded<F: Shelf, K: Sink>(
 {
     match read_words(alloc, words) {
         Ok(request) => answer(alloc, seed, shelf, out, &request),
-        Err(fault) => match fault {
-            WordsFault::Usage => write_text(out, usage_text(), Status::Usage),
-            WordsFault::Memory => Status::Memory,
-        },
+        Err(WordsFault::Usage) => write_text(out, usage_text(), Status::Usage),
+        Err(WordsFault::Memory) => Status::Memory,
     }
 }

@@ -73,10 +73,8 @@ fn report_sound(
     let orders = resolved.history.orders();
     match verify(alloc, symbol, orders, &resolved.deals, certificate) {
         Ok(rule) => verified_report(alloc, rule, symbol, volume_of(&resolved.deals)),
-        Err(fault) => match fault {
-            VerifyFault::No(line) => refused_report(alloc, line),
-            VerifyFault::Memory => Err(NoMemory),
-        },
+        Err(VerifyFault::No(line)) => refused_report(alloc, line),
+        Err(VerifyFault::Memory) => Err(NoMemory),
     }
 }
 

@@ -90,9 +90,7 @@ pub fn run_case<F: Shelf, K: Sink, B: Keeper>(
     one_play();
     match read_commands(alloc, words) {
         Ok(commands) => run_commands(alloc, &commands, shelf, out, book),
-        Err(fault) => match fault {
-            WordsFault::Usage => write_text(out, usage_text(), CaseStatus::Usage),
-            WordsFault::Memory => CaseStatus::Memory,
-        },
+        Err(WordsFault::Usage) => write_text(out, usage_text(), CaseStatus::Usage),
+        Err(WordsFault::Memory) => CaseStatus::Memory,
     }
 }

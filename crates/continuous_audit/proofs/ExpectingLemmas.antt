@@ -13,6 +13,7 @@ use Rattle.audit_base.specs.Continuous.{traded_before}
 use Rattle.audit_base.specs.ContinuousRules.{ConformsContinuous}
 use Rattle.audit_base.specs.Expected.{IsExpectedContinuous, pair_share, resting_limit}
 use Rattle.audit_base.proofs.PairDealLemmas as listed
+use Rattle.audit_base.proofs.SortedPairLemmas.{sorted-in_order}
 use Rattle.continuous_audit.specs.declared.pairs.Pair.{Pair}
 use Rattle.continuous_audit.specs.declared.matching.TradesSoFar.{TradesSoFar}
 use Rattle.continuous_audit.specs.Holding.{resting_left}
@@ -22,7 +23,6 @@ use Rattle.continuous_audit.specs.Scans.{number_in}
 use Rattle.continuous_audit.proofs.AuditLemmas.{first-place, nothing-held, zero-in}
 use Rattle.continuous_audit.proofs.MatchLemmas.{some-expected}
 use Rattle.continuous_laws.proofs.PlaceLemmas.{traded-none}
-use Rattle.continuous_audit.proofs.SortLemmas.{sorted-in_order}
 
 pub matched-first : (orders : List Order) → IsOrderList orders → (t : TradesSoFar) → AreAtFirst (length orders) t → (deals : List Deal)
     → IsMatched orders deals 0 (place_at orders 0) (resting_left orders (traded_before orders deals) (place_at orders 0)) t
@@ -73,7 +73,7 @@ module _ (orders : List Order) (list : IsOrderList orders) (regular : Regular or
     made-are =
         let count : length made ≡ length sorted = numbers.count in
         let each : All (IsSharedPair orders deals (length orders)) sorted = All-permutation (IsSharedPair orders deals (length orders)) pairs sorted moved shared.each in
-        let rising : AllPairs PairBefore sorted = sorted-in_order pairs sorted moved shared.apart in_order in
+        let rising : AllPairs PairBefore sorted = sorted-in_order (λ (p : Pair). p.bid) (λ (p : Pair). p.ask) (λ (p : Pair). p.quantity) pairs sorted moved shared.apart in_order in
         record {
           each = λ k d lt.
               let s = each k missing_pair (omega arith) in

@@ -19,7 +19,6 @@ pub mod RestLemmas
 pub mod ScanLemmas
 pub mod ExpectingLemmas
 pub mod FillLemmas
-pub mod SortLemmas
 pub mod SpreadLemmas
 pub mod StandLemmas
 pub mod RecordLemmas

@@ -181,10 +181,8 @@ pub(crate) fn take_body<R: FixEntry, K: Collector<Entry = R>>(
 {
     match read_fields(body, fields) {
         Ok(()) => R::take_fields(entries, body, fields),
-        Err(fault) => match fault {
-            FieldFault::Field(at) => Ok(Err(Reason::Field(at))),
-            FieldFault::MsgType => Ok(Err(Reason::MsgType)),
-            FieldFault::Memory => Err(NoMemory),
-        },
+        Err(FieldFault::Field(at)) => Ok(Err(Reason::Field(at))),
+        Err(FieldFault::MsgType) => Ok(Err(Reason::MsgType)),
+        Err(FieldFault::Memory) => Err(NoMemory),
     }
 }

@@ -21,7 +21,8 @@ use Rattle.instruction_history.proofs.MadeLemmas.{order_in, numbered, any_number
 use Rattle.instruction_history.proofs.PlaceLemmas.{filter_map-same, filter_map-set, enumerate_from-push}
 use Rattle.instruction_history.proofs.PushLemmas.{length-push, pushed-same, pushed-at, order_index-push, cancelled-push, target_index-push}
 use Rattle.instruction_history.proofs.StepLemmas.{target-nameless}
-use Rattle.instruction_history.proofs.RecordLemmas.{Records, key_at-same, record_at-same, target-before, replaced-before, is_placed-same, is_placed-new, is_placed-replacement, ended_before-same}
+use Rattle.audit_base.proofs.PlacedLemmas.{replaced-before, is_placed-new, is_placed-replacement}
+use Rattle.instruction_history.proofs.RecordLemmas.{Records, key_at-same, record_at-same, target-before, is_placed-same, ended_before-same}
 
 -- the orders of the earlier records, and that of the record
 parted : (h : Records) (e : ℕ × OrderRecord) → orders_in (h ++ e ∷ []) ≡ filter_map (order_in (h ++ e ∷ [])) (numbered h) ++ cons_option (order_of_record (h ++ e ∷ []) (length h, e.0, e.1)) []

@@ -12,7 +12,8 @@ use Rattle.audit_base.specs.Histories.{key_of, is_order, ends, missing_entry, re
 use Rattle.instruction_history.specs.Draft.{finding_in, seen_at, named_in}
 use Rattle.instruction_history.specs.declared.keys.Seen.{Seen}
 use Rattle.instruction_history.proofs.FirstLemmas.{least_answer-same, least_with-same, least_with-some, option_or-parts}
-use Rattle.instruction_history.proofs.RecordLemmas.{Records, SameBelow, key_at-same, record_at-same, record_place-same, record_finding-same, is_placed-same, replaced-same, replaced-before, option_map-same}
+use Rattle.audit_base.proofs.PlacedLemmas.{replaced-before}
+use Rattle.instruction_history.proofs.RecordLemmas.{Records, SameBelow, key_at-same, record_at-same, record_place-same, record_finding-same, is_placed-same, replaced-same, option_map-same}
 
 pub length-push : {A : Type 0} (xs : List A) (x : A) → length (xs ++ x ∷ []) ≡ suc (length xs)
 length-push [] x = refl

@@ -1,6 +1,6 @@
 -- What the definitions say of a record of a history depends on the records up to it alone.
-use Rattle.std.proofs.Common.{◌≡◌, ◌<◌, ◌≤◌, ℕ, zero, suc, Bool, true, false, Option, None, Some, List, get_or, refl, ap, ◌∙◌, arith}
-use Rattle.std.specs.Prelude.{is_some, is_none, option_map, ◌&&◌, not, if◌then◌else◌}
+use Rattle.std.proofs.Common.{◌≡◌, ◌<◌, ◌≤◌, ℕ, zero, suc, Bool, Option, None, Some, List, get_or, refl, ap, ◌∙◌, arith}
+use Rattle.std.specs.Prelude.{is_some, is_none, option_map, ◌&&◌, if◌then◌else◌}
 use Rattle.audit_base.specs.declared.names.Key.{Key}
 use Rattle.audit_base.specs.declared.findings.Finding.{Finding}
 use Rattle.audit_base.specs.declared.records.OrderRecord.{OrderRecord}
@@ -10,6 +10,7 @@ use Rattle.audit_base.specs.Histories.{key_of, time_of, target_key, is_order, en
 use Rattle.audit_base.specs.declared.findings.Property.TheVariants as property
 use Rattle.audit_base.specs.declared.terms.Which.TheVariants as which
 use Rattle.audit_base.specs.Shows.{found, show_place}
+use Rattle.audit_base.proofs.PlacedLemmas.{replaced-before}
 use Rattle.instruction_history.proofs.FirstLemmas.{least_with-same, least_with-some, any_below-same}
 
 abbrev pub Records : Type 0
@@ -88,14 +89,6 @@ record_finding-same n h g same k lt =
     let three = unknown-same n h g same k lt in
     rw (one, two, three) refl
 
--- what a replacement replaces is an earlier record
-pub replaced-before : (h : Records) (k t : ℕ) → replaced_at h k ≡ Some t → t < k
-replaced-before h k t e = target-before h k t (chosen (is_order (record_at h k)) (target_of h k) t e)
-  where
-    chosen : (b : Bool) (o : Option ℕ) (t : ℕ) → (if b then o else None) ≡ Some t → o ≡ Some t
-    chosen true o t e = e
-    chosen false o t e = cc
-
 pub replaced-same : (n : ℕ) (h g : Records) → SameBelow h g n → (k : ℕ) → k < n → replaced_at h k ≡ replaced_at g k
 replaced-same n h g same k lt =
     ap (λ (e : ℕ × OrderRecord). if is_order e.1 then target_of h k else None) (same.at k lt) ∙ ap (λ (o : Option ℕ). if is_order (record_at g k) then o else None) (target-same n h g same k lt)
@@ -117,25 +110,6 @@ placed-same n h g same (suc m) k (Some t) lt back =
     let next = replaced-same n h g same t in_t in
     rw (ended, target, next) refl
 
--- more steps than lead back change nothing
-pub placed-steps : (h : Records) (m n k : ℕ) (o : Option ℕ) → k < m → k < n → ((t : ℕ) → o ≡ Some t → t < k) → placed_within m h k o ≡ placed_within n h k o
-placed-steps h zero n k o in_m in_n back = absurd (omega arith)
-placed-steps h (suc m) zero k o in_m in_n back = absurd (omega arith)
-placed-steps h (suc m) (suc n) k None in_m in_n back = refl
-placed-steps h (suc m) (suc n) k (Some t) in_m in_n back =
-    let less : t < k = back t refl in
-    ap (λ (b : Bool). not (ended_before h k t) && b) (placed-steps h m n t (replaced_at h t) (omega arith) (omega arith) (λ u e. replaced-before h t u e))
-
 pub is_placed-same : (n : ℕ) (h g : Records) → SameBelow h g n → (k : ℕ) → k < n → is_placed h k ≡ is_placed g k
 is_placed-same n h g same k lt =
     placed-same n h g same (suc k) k (replaced_at h k) lt (λ t e. replaced-before h k t e) ∙ ap (placed_within (suc k) g k) (replaced-same n h g same k lt)
-
--- a record that replaces nothing is placed
-pub is_placed-new : (h : Records) (k : ℕ) → replaced_at h k ≡ None → is_placed h k ≡ true
-is_placed-new h k e = rw e refl
-
--- a replacement is placed where its target is placed and no record before it ends the target
-pub is_placed-replacement : (h : Records) (k t : ℕ) → replaced_at h k ≡ Some t → is_placed h k ≡ (not (ended_before h k t) && is_placed h t)
-is_placed-replacement h k t e =
-    let less = replaced-before h k t e in
-    rw e (ap (λ (b : Bool). not (ended_before h k t) && b) (placed-steps h k (suc t) t (replaced_at h t) less (omega arith) (λ u s. replaced-before h t u s)))

@@ -1,34 +1,21 @@
 -- What is known when the first deals have been gone over, and one deal further.
-use Rattle.std.proofs.Common.{◌≡◌, ◌≢◌, ◌∙◌, inl, inr, sym, ap, subst, refl, ℕ, Bool, true, false, ◌+◌, ◌*◌, ◌^◌, ◌<◌, ◌≤◌, List, length, take, get_or, None, add-one, arith}
+use Rattle.std.proofs.Common.{◌≡◌, ◌∙◌, ap, refl, ℕ, Bool, true, false, ◌+◌, ◌^◌, ◌<◌, ◌≤◌, List, length, take, get_or, None, add-one, arith}
 use Rattle.std.specs.Prelude.{slice_set, replicate, All}
-use Rattle.std.proofs.lemmas.List.{length-set, get_or-set_same, get_or-set_other, get_or-replicate, length-replicate}
-use Rattle.std.proofs.lemmas.List.Sums.{sum_by_more}
-use Rattle.std.proofs.lemmas.Bool.{cases_eq, or_from, ne_eqb}
 use Rattle.audit_base.specs.declared.orders.Order.{Order}
 use Rattle.audit_base.specs.declared.orders.Deal.{Deal}
 use Rattle.audit_base.specs.Least.{least_answer}
-use Rattle.audit_base.specs.Orders.{order_at, side_at}
-use Rattle.audit_base.specs.Deals.{names, traded, volume, deal_at, missing_deal, NamesOrders}
+use Rattle.audit_base.specs.Orders.{order_at}
+use Rattle.audit_base.specs.Deals.{traded, deal_at, missing_deal, NamesOrders}
 use Rattle.audit_base.specs.CallOffences.{call_inactive, call_off_limit, other_price, bid_overfilled, ask_overfilled, matching_finding}
-use Rattle.audit_base.proofs.OffenceLemmas.{traded_more, part-away}
-use Rattle.audit_base.proofs.DealLemmas.{part-bid, part-ask}
-use Rattle.audit_base.proofs.OrderLemmas.{not_both_sides}
 use Rattle.audit_base.proofs.LeastLemmas.{least-none_more}
+use Rattle.audit_base.proofs.TotalsLemmas.{AreTotalsSoFar, totals-none, bid-more, ask-more, after, totals-more}
 use Rattle.std.specs.Bool.{OnTrue}
 use Rattle.matching_core.specs.DealFindings.{finding_at_deal}
 
 -- the first k deals have been gone over, with no finding at any
 pub record IsGoneOver (uniform : Bool) (orders : List Order) (deals : List Deal) (k : ℕ) (so_far : List ℕ) (total : ℕ) : Type 0 where
-  pub count : length so_far ≡ length orders
-  pub sums : (i : ℕ) → i < length orders → get_or so_far i 0 ≡ traded (take k deals) i
-  pub whole : total ≡ volume (take k deals)
-  pub bounded : (i : ℕ) → i < length orders → get_or so_far i 0 ≤ k * 10 ^ 12
-  pub total_bounded : total ≤ k * 10 ^ 12
+  pub totals : AreTotalsSoFar orders deals k so_far total
   pub clean : least_answer (matching_finding uniform orders deals) k ≡ None
-
--- a bid is no ask
-pub apart : (orders : List Order) (d : Deal) → NamesOrders orders d → d.bid ≢ d.ask
-apart orders d n same = not_both_sides (sym n.buys ∙ ap (side_at orders) same ∙ n.sells)
 
 -- the finding at the deal at k is that of its orders and of what they trade up to it
 pub finding-is : (uniform : Bool) (orders : List Order) (deals : List Deal) (k : ℕ) → finding_at_deal uniform (deal_at deals k) (deal_at deals 0) (order_at orders (deal_at deals k).bid) (order_at orders (deal_at deals k).ask) (traded (take (k + 1) deals) (deal_at deals k).bid) (traded (take (k + 1) deals) (deal_at deals k).ask) ≡ matching_finding uniform orders deals k
@@ -37,87 +24,22 @@ finding-is uniform orders deals k = refl
 
 -- nothing is traded before the first deal
 pub gone_none : (uniform : Bool) (orders : List Order) (deals : List Deal) → IsGoneOver uniform orders deals 0 (replicate (length orders) 0) 0
-gone_none uniform orders deals = record {
-  count = length-replicate (length orders) 0;
-  sums = λ i lt. get_or-replicate {A = ℕ} (length orders) i 0 0 lt;
-  whole = refl;
-  bounded = λ i lt. omega (arith, get_or-replicate {A = ℕ} (length orders) i 0 0 lt);
-  total_bounded = omega arith;
-  clean = refl;
-}
+gone_none uniform orders deals = record { totals = totals-none orders deals; clean = refl }
 
--- what the two orders of a deal trade is its quantity more, and others trade what they did
-module _ (orders : List Order) (deals : List Deal) (k : ℕ) (lt : k < length deals) (named : NamesOrders orders (deal_at deals k)) where
-  pub bid-more : traded (take (k + 1) deals) (deal_at deals k).bid ≡ traded (take k deals) (deal_at deals k).bid + (deal_at deals k).quantity
-  bid-more =
-      traded_more deals k (deal_at deals k).bid lt ∙ ap (λ (n : ℕ). traded (take k deals) (deal_at deals k).bid + n) (part-bid (deal_at deals k))
+-- one deal further, which names orders
+module _ (orders : List Order) (deals : List Deal) (k : ℕ) (lt : k < length deals) (named : NamesOrders orders (deal_at deals k)) (uniform : Bool) (so_far : List ℕ) (total quantity : ℕ) (is : IsGoneOver uniform orders deals k so_far total) (same : quantity ≡ (deal_at deals k).quantity) (most : quantity ≤ 10 ^ 12) where
+  pub gone_more : matching_finding uniform orders deals k ≡ None → IsGoneOver uniform orders deals (k + 1) (after orders deals k lt named so_far total quantity is.totals same most) (total + quantity)
+  gone_more none = record {
+    totals = totals-more orders deals k lt named so_far total quantity is.totals same most;
+    clean = rw add-one (least-none_more (matching_finding uniform orders deals) k is.clean none);
+  }
 
-  pub ask-more : traded (take (k + 1) deals) (deal_at deals k).ask ≡ traded (take k deals) (deal_at deals k).ask + (deal_at deals k).quantity
-  ask-more =
-      traded_more deals k (deal_at deals k).ask lt ∙ ap (λ (n : ℕ). traded (take k deals) (deal_at deals k).ask + n) (part-ask (deal_at deals k))
-
-  -- what another order trades stays
-  other-same : (i : ℕ) → i ≢ (deal_at deals k).bid → i ≢ (deal_at deals k).ask → traded (take (k + 1) deals) i ≡ traded (take k deals) i
-  other-same i not_bid not_ask =
-      let d = deal_at deals k in
-      let away : names i d ≡ false = or_from _ _ (ne_eqb d.bid i (λ e. not_bid (sym e))) (ne_eqb d.ask i (λ e. not_ask (sym e))) in
-      omega (arith, traded_more deals k i lt, part-away i d away)
-
-  volume-more : volume (take (k + 1) deals) ≡ volume (take k deals) + (deal_at deals k).quantity
-  volume-more = sum_by_more (λ (d : Deal). d.quantity) deals k missing_deal lt
-
-  module _ (uniform : Bool) (so_far : List ℕ) (total quantity : ℕ) (is : IsGoneOver uniform orders deals k so_far total) (same : quantity ≡ (deal_at deals k).quantity) (most : quantity ≤ 10 ^ 12) where
-    abbrev pub after : List ℕ
-    after = slice_set (slice_set so_far (deal_at deals k).bid (get_or so_far (deal_at deals k).bid 0 + quantity)) (deal_at deals k).ask (get_or so_far (deal_at deals k).ask 0 + quantity)
-
-    within_bid : (deal_at deals k).bid < length so_far
-    within_bid = omega (arith, is.count, named.bid_inside)
-
-    within_ask : (deal_at deals k).ask < length so_far
-    within_ask = omega (arith, is.count, named.ask_inside)
-
-    at_ask : get_or after (deal_at deals k).ask 0 ≡ get_or so_far (deal_at deals k).ask 0 + quantity
-    at_ask =
-        get_or-set_same {A = ℕ} (slice_set so_far (deal_at deals k).bid (get_or so_far (deal_at deals k).bid 0 + quantity)) (deal_at deals k).ask (get_or so_far (deal_at deals k).ask 0 + quantity) 0 (omega (arith, length-set {A = ℕ} so_far (deal_at deals k).bid (get_or so_far (deal_at deals k).bid 0 + quantity), within_ask))
-
-    at_bid : get_or after (deal_at deals k).bid 0 ≡ get_or so_far (deal_at deals k).bid 0 + quantity
-    at_bid =
-        get_or-set_other {A = ℕ} (slice_set so_far (deal_at deals k).bid (get_or so_far (deal_at deals k).bid 0 + quantity)) (deal_at deals k).ask (deal_at deals k).bid (get_or so_far (deal_at deals k).ask 0 + quantity) 0 (apart orders (deal_at deals k) named)
-        ∙ get_or-set_same {A = ℕ} so_far (deal_at deals k).bid (get_or so_far (deal_at deals k).bid 0 + quantity) 0 within_bid
-
-    at_other : (i : ℕ) → i ≢ (deal_at deals k).bid → i ≢ (deal_at deals k).ask → get_or after i 0 ≡ get_or so_far i 0
-    at_other i not_bid not_ask =
-        get_or-set_other {A = ℕ} (slice_set so_far (deal_at deals k).bid (get_or so_far (deal_at deals k).bid 0 + quantity)) (deal_at deals k).ask i (get_or so_far (deal_at deals k).ask 0 + quantity) 0 not_ask
-        ∙ get_or-set_other {A = ℕ} so_far (deal_at deals k).bid i (get_or so_far (deal_at deals k).bid 0 + quantity) 0 not_bid
-
-    -- what is kept of an order after the deal, and that it is bounded
-    sums-after : (i : ℕ) → i < length orders → (get_or after i 0 ≡ traded (take (k + 1) deals) i) × (get_or after i 0 ≤ (k + 1) * 10 ^ 12)
-    sums-after i lt_i = elim (cases_eq i (deal_at deals k).bid) [
-      | inl e ↦ let p : (λ (x : ℕ). (get_or after x 0 ≡ traded (take (k + 1) deals) x) × (get_or after x 0 ≤ (k + 1) * 10 ^ 12)) (deal_at deals k).bid = (omega (arith, at_bid, bid-more, is.sums (deal_at deals k).bid named.bid_inside, same), omega (arith, at_bid, is.bounded (deal_at deals k).bid named.bid_inside, most)) in
-          subst (λ (x : ℕ). (get_or after x 0 ≡ traded (take (k + 1) deals) x) × (get_or after x 0 ≤ (k + 1) * 10 ^ 12)) (sym e) p
-      | inr not_bid ↦ elim (cases_eq i (deal_at deals k).ask) [
-        | inl e ↦ let p : (λ (x : ℕ). (get_or after x 0 ≡ traded (take (k + 1) deals) x) × (get_or after x 0 ≤ (k + 1) * 10 ^ 12)) (deal_at deals k).ask = (omega (arith, at_ask, ask-more, is.sums (deal_at deals k).ask named.ask_inside, same), omega (arith, at_ask, is.bounded (deal_at deals k).ask named.ask_inside, most)) in
-            subst (λ (x : ℕ). (get_or after x 0 ≡ traded (take (k + 1) deals) x) × (get_or after x 0 ≤ (k + 1) * 10 ^ 12)) (sym e) p
-        | inr not_ask ↦ (omega (arith, at_other i not_bid not_ask, other-same i not_bid not_ask, is.sums i lt_i), omega (arith, at_other i not_bid not_ask, is.bounded i lt_i))
-      ]
-    ]
-
-    pub gone_more : matching_finding uniform orders deals k ≡ None → IsGoneOver uniform orders deals (k + 1) after (total + quantity)
-    gone_more none = record {
-      count = length-set {A = ℕ} (slice_set so_far (deal_at deals k).bid (get_or so_far (deal_at deals k).bid 0 + quantity)) (deal_at deals k).ask (get_or so_far (deal_at deals k).ask 0 + quantity) ∙ length-set {A = ℕ} so_far (deal_at deals k).bid (get_or so_far (deal_at deals k).bid 0 + quantity) ∙ is.count;
-      sums = λ i lt_i. (sums-after i lt_i).0;
-      whole = omega (arith, volume-more, is.whole, same);
-      bounded = λ i lt_i. (sums-after i lt_i).1;
-      total_bounded = omega (arith, is.total_bounded, most);
-      clean = rw add-one (least-none_more (matching_finding uniform orders deals) k is.clean none);
-    }
-
-    -- the finding that is looked for at the deal
-    pub finding_here : finding_at_deal uniform (deal_at deals k) (deal_at deals 0) (order_at orders (deal_at deals k).bid) (order_at orders (deal_at deals k).ask) (get_or so_far (deal_at deals k).bid 0 + quantity) (get_or so_far (deal_at deals k).ask 0 + quantity) ≡ matching_finding uniform orders deals k
-    finding_here =
-        let b : get_or so_far (deal_at deals k).bid 0 + quantity ≡ traded (take (k + 1) deals) (deal_at deals k).bid = omega (arith, bid-more, is.sums (deal_at deals k).bid named.bid_inside, same) in
-        let a : get_or so_far (deal_at deals k).ask 0 + quantity ≡ traded (take (k + 1) deals) (deal_at deals k).ask = omega (arith, ask-more, is.sums (deal_at deals k).ask named.ask_inside, same) in
-        (λ i. finding_at_deal uniform (deal_at deals k) (deal_at deals 0) (order_at orders (deal_at deals k).bid) (order_at orders (deal_at deals k).ask) (b i) (a i)) ∙ finding-is uniform orders deals k
+  -- the finding that is looked for at the deal
+  pub finding_here : finding_at_deal uniform (deal_at deals k) (deal_at deals 0) (order_at orders (deal_at deals k).bid) (order_at orders (deal_at deals k).ask) (get_or so_far (deal_at deals k).bid 0 + quantity) (get_or so_far (deal_at deals k).ask 0 + quantity) ≡ matching_finding uniform orders deals k
+  finding_here =
+      let b : get_or so_far (deal_at deals k).bid 0 + quantity ≡ traded (take (k + 1) deals) (deal_at deals k).bid = omega (arith, bid-more orders deals k lt named, is.totals.sums (deal_at deals k).bid named.bid_inside, same) in
+      let a : get_or so_far (deal_at deals k).ask 0 + quantity ≡ traded (take (k + 1) deals) (deal_at deals k).ask = omega (arith, ask-more orders deals k lt named, is.totals.sums (deal_at deals k).ask named.ask_inside, same) in
+      (λ i. finding_at_deal uniform (deal_at deals k) (deal_at deals 0) (order_at orders (deal_at deals k).bid) (order_at orders (deal_at deals k).ask) (b i) (a i)) ∙ finding-is uniform orders deals k
 
 -- the same, in the words of the code: the deal, the first deal and the two orders that it reads
 module _ (uniform : Bool) (orders : List Order) (deals : List Deal) (k : ℕ) (lt : k < length deals) (all_named : All (NamesOrders orders) deals) (d : Deal) (d_is : d ≡ deal_at deals k) (so_far : List ℕ) (total quantity : ℕ) (is : IsGoneOver uniform orders deals k so_far total) (same : quantity ≡ d.quantity) (most : quantity ≤ 10 ^ 12) where
@@ -138,7 +60,7 @@ module _ (uniform : Bool) (orders : List Order) (deals : List Deal) (k : ℕ) (l
 
   pub gone_further : (later : List ℕ) → later ≡ slice_set (slice_set so_far d.bid (get_or so_far d.bid 0 + quantity)) d.ask (get_or so_far d.ask 0 + quantity) → matching_finding uniform orders deals k ≡ None → IsGoneOver uniform orders deals (k + 1) later (total + quantity)
   gone_further later later_is none =
-      let l : later ≡ after orders deals k lt named_here uniform so_far total quantity is same_here most = later_is ∙ ap (λ (x : Deal). slice_set (slice_set so_far x.bid (get_or so_far x.bid 0 + quantity)) x.ask (get_or so_far x.ask 0 + quantity)) d_is in
+      let l : later ≡ after orders deals k lt named_here so_far total quantity is.totals same_here most = later_is ∙ ap (λ (x : Deal). slice_set (slice_set so_far x.bid (get_or so_far x.bid 0 + quantity)) x.ask (get_or so_far x.ask 0 + quantity)) d_is in
       rw l (gone_more orders deals k lt named_here uniform so_far total quantity is same_here most none)
 
 pub on_true : {P : Type 0} (b : Bool) → (b ≡ true → P) → OnTrue b P

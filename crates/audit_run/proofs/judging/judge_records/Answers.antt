@@ -1,13 +1,14 @@
-use Rattle.std.proofs.Common.{ap, Err}
+use Rattle.std.proofs.Common.{◌∙◌, ap, Err}
 use Rattle.fix_messages.specs.Pairings.{pairing_of}
 use Rattle.audit_report.specs.Texts.{IsVerdictInRange}
 use Rattle.audit_run.specs.Phases.{IsJudgedRecords, IsJudgedHistory}
 use Rattle.audit_run.proofs.JudgeLemmas.{judged_found, judged_of, judged-in_range, ok-then}
 use Rattle.audit_run.proofs.judging.judge_records.Goals as goal
 
-pub returns-in-Found-clause-judged : goal.returns-in-Found-clause-judged
-returns-in-Found-clause-judged c =
-    judged_found c.args.question.now c.args.entries.now _ c.in-Found.finding (c.in-Err.ensures.found c.in-Found.finding (ap Err c.in-Found.is))
+pub returns-in-Err-Found-clause-judged : goal.returns-in-Err-Found-clause-judged
+returns-in-Err-Found-clause-judged c =
+    let found = c.build.ensures.found c.in-Err-Found.finding (c.in-Err-Found.is ∙ ap Err c.in-Err-Found.field-0-is) in
+    rw c.in-Err-Found.field-0-is (judged_found c.args.question.now c.args.entries.now _ c.in-Err-Found.finding found)
 
 pub returns-in-Ok-clause-judged : goal.returns-in-Ok-clause-judged
 returns-in-Ok-clause-judged c =

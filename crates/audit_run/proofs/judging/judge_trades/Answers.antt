@@ -1,4 +1,4 @@
-use Rattle.std.proofs.Common.{ap, Err}
+use Rattle.std.proofs.Common.{◌∙◌, ap, Err}
 use Rattle.audit_run.proofs.JudgeLemmas.{ok-then, trades_unsound, trades_sound}
 use Rattle.audit_run.proofs.judging.judge_trades.Goals as goal
 
@@ -8,6 +8,7 @@ returns-in-Ok c =
     (λ verdict is. trades_sound c.args.question.now c.args.history.now c.args.trades.now _ verdict c.in-Ok.ensures.sound c.in-Ok.ensures.deals is)
     (rw (c.orders.ensures.same, c.deref.ensures.value) at c.judge_deals.ensures)
 
-pub returns-in-Found : goal.returns-in-Found
-returns-in-Found c =
-    trades_unsound c.args.question.now c.args.history.now c.args.trades.now c.in-Found.finding (c.in-Err.ensures.found c.in-Found.finding (ap Err c.in-Found.is))
+pub returns-in-Err-Found : goal.returns-in-Err-Found
+returns-in-Err-Found c =
+    let found = c.resolve.ensures.found c.in-Err-Found.finding (c.in-Err-Found.is ∙ ap Err c.in-Err-Found.field-0-is) in
+    rw c.in-Err-Found.field-0-is (trades_unsound c.args.question.now c.args.history.now c.args.trades.now c.in-Err-Found.finding found)

@@ -1,4 +1,4 @@
-use Rattle.std.proofs.Common.{Err, rules}
+use Rattle.std.proofs.Common.{◌∙◌, ap, Err, rules}
 use Rattle.std.specs.Prelude.{map, IsErrOf}
 use Rattle.std.specs.String.{string_bytes}
 use Rattle.audit_run.specs.declared.requests.WordsFault.TheVariants.{Usage, Memory}
@@ -20,8 +20,8 @@ returns-in-Ok g c =
       sink = c.answer.ensures.stays;
     }
 
-pub returns-in-Usage : goal.returns-in-Usage
-returns-in-Usage g c =
+pub returns-in-Err-Usage : goal.returns-in-Err-Usage
+returns-in-Err-Usage g c =
     record {
       headline = search rules;
       runs = search rules;
@@ -31,12 +31,12 @@ returns-in-Usage g c =
       sink = search rules;
     }
 
-pub returns-in-Memory : goal.returns-in-Memory
-returns-in-Memory g c =
+pub returns-in-Err-Memory : goal.returns-in-Err-Memory
+returns-in-Err-Memory g c =
     record {
       headline = memory_reports (request_of (map string_bytes c.args.words.now)) (reading g.F.Shelf c.args.shelf.now c.args.shelf.now) (g.K.Sink.state c.args.out.now);
       runs = memory_runs (request_of (map string_bytes c.args.words.now)) (reading g.F.Shelf c.args.shelf.now c.args.shelf.now) (g.K.Sink.state c.args.out.now)
-          (λ none. not_usage (rw c.in-Memory.is at (c.in-Err.ensures.decided none)));
+          (λ none. not_usage (rw (c.in-Err-Memory.is ∙ ap Err c.in-Err-Memory.field-0-is) at (c.read_words.ensures.decided none)));
       length = search rules;
       logs = search rules;
       later = search rules;

@@ -1,4 +1,4 @@
-use Rattle.std.proofs.Common.{◌∙◌, ap, inl, inr}
+use Rattle.std.proofs.Common.{◌∙◌, ap, inl, inr, Err}
 use Rattle.audit_report.specs.Certificates.{verified_line}
 use Rattle.audit_run.proofs.JudgeLemmas.{ok-then}
 use Rattle.audit_run.proofs.verifying.report_sound.Goals as goal
@@ -11,10 +11,11 @@ returns-in-Ok c =
     (λ report made. inl (record { the_rule = c.in-Ok.rule; agrees = agrees; conforms = conforms; status_is = made.status_is; text_is = made.text_is ∙ ap (verified_line c.in-Ok.rule c.args.symbol.now) (rw c.deref-in-Ok.ensures.value at c.volume_of.ensures) }))
     c.verified_report.ensures
 
-pub returns-in-No : goal.returns-in-No
-returns-in-No c =
-    let first = rw (c.in-No.is, c.orders-orders.ensures.same, c.deref.ensures.value) at c.in-Err.ensures.refused in
-    let none = rw (c.in-No.is, c.orders-orders.ensures.same, c.deref.ensures.value) at c.in-Err.ensures.only in
+pub returns-in-Err-No : goal.returns-in-Err-No
+returns-in-Err-No c =
+    let refused = c.in-Err-No.is ∙ ap Err c.in-Err-No.field-0-is in
+    let first = rw (refused, c.orders-orders.ensures.same, c.deref.ensures.value) at c.verify.ensures.refused in
+    let none = rw (refused, c.orders-orders.ensures.same, c.deref.ensures.value) at c.verify.ensures.only in
     ok-then c.refused_report.result _ _
-    (λ report made. inr (record { line = c.in-No.line; first = first; none = none; status_is = made.status_is; text_is = made.text_is }))
+    (λ report made. inr (record { line = c.in-Err-No.line; first = first; none = none; status_is = made.status_is; text_is = made.text_is }))
     c.refused_report.ensures

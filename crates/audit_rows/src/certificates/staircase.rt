@@ -1,0 +1,22 @@
+//! The logs of one small market.
+use crate::checks::inputs::{ORDERS, TRADES};
+
+/// Bids at 1, 2 and 3, then asks at 1, 2 and 3, each of 1.
+pub(crate) const STAIRCASE: [&str; 2] = [
+    ORDERS,
+    "N,A,b1,20240102-09:00:00,Z,B,1,1,
+N,A,b2,20240102-09:00:00,Z,B,1,2,
+N,A,b3,20240102-09:00:00,Z,B,1,3,
+N,B,s1,20240102-09:00:00,Z,S,1,1,
+N,B,s2,20240102-09:00:00,Z,S,1,2,
+N,B,s3,20240102-09:00:00,Z,S,1,3,
+",
+];
+
+/// The bids at 2 and 3 with the asks at 1 and 2, at 2.
+pub(crate) const TWO_TRADES: [&str; 2] = [
+    TRADES,
+    "T1,20240102-09:00:01,Z,A,b2,B,s1,1,2
+T2,20240102-09:00:01,Z,A,b3,B,s2,1,2
+",
+];

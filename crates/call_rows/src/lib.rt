@@ -1,5 +1,0 @@
-//! Rows of calls over order lists: the Expected trades of `uniform` and `maximum`, which their audits accept.
-#![tactic(auto)]
-
-#[cfg(test)]
-mod expected_trades;
