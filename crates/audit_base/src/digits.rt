@@ -6,11 +6,16 @@ ghost use Rattle.std.specs.Char.{is_ascii_digit};
 ghost use Rattle.std.specs.Str.Parse.{digits_value};
 ghost use Rattle.audit_base.specs.Digits as form;
 
-/// Whether each byte is a decimal digit.
+/// Whether each byte is a decimal digit. All are looked at, so that a known number of bytes are tested at
+/// once.
 pub fn are_digits(text: &[u8]) -> bool
     ensures { result ≡ list_all is_ascii_digit text.now }
 {
-    text.iter().all(|byte| byte.is_ascii_digit())
+    let mut all = true;
+    for byte in text {
+        all &= byte.is_ascii_digit();
+    }
+    all
 }
 
 /// The number that at most 19 decimal digits write; 0 where there are none. It is below 10^n, where
@@ -66,10 +71,10 @@ pub fn read_digits_between(text: &[u8], width: usize, low: u64, high: u64) -> Op
     ensures value { result ≡ form.digits_between width low high text.now }
     ensures in_range { IfSome result (λ v. (low ≤ v) × (v ≤ high)) }
 {
-    if text.len() != width {
+    if text.len() != width || !are_digits(text) {
         return None;
     }
-    let value = number_of(text)?;
+    let value = value_of(text);
     if low <= value && value <= high {
         Some(value)
     } else {

@@ -1,9 +1,10 @@
 //! Points in time, as logs write them.
 ghost use Rattle.std.specs.Prelude.{◌≡◌, ◌<◌, ◌≤◌, ◌^◌, IfSome, length};
 ghost use Rattle.audit_base.specs.Histories.{is_before};
+ghost use Rattle.audit_base.specs.Digits.{digits_form};
 ghost use Rattle.audit_base.specs.Stamps as form;
 
-use super::digits::{read_digits, read_digits_between, scaled};
+use super::digits::{are_digits, read_digits, read_digits_between, scaled, value_of};
 use std::marker::Model;
 
 /// A point in time. `second` orders stamps and is no count of seconds: it is
@@ -103,12 +104,27 @@ fn filled_to_nine(places: usize, fraction: Option<u64>) -> Option<u64>
     Some(scaled(fraction?, places, 9))
 }
 
-/// Three, six or nine digits.
+/// The number that nine digits write.
+fn read_nine(digits: &[u8]) -> Option<u64>
+    requires { length digits.now ≡ 9 }
+    ensures value { result ≡ digits_form 9 digits.now }
+    ensures in_range { IfSome result (λ n. n < 10 ^ 9) }
+{
+    if are_digits(digits) {
+        Some(value_of(digits))
+    } else {
+        None
+    }
+}
+
+/// Three, six or nine digits. Nine, which most logs have, are read without a loop.
 fn fraction_of(digits: &[u8]) -> Option<u64>
     ensures value { result ≡ form.fraction_of digits.now }
     ensures in_range { IfSome result (λ n. n < 10 ^ 9) }
 {
-    if digits.len() == 3 || digits.len() == 6 || digits.len() == 9 {
+    if digits.len() == 9 {
+        filled_to_nine(9, read_nine(digits))
+    } else if digits.len() == 3 || digits.len() == 6 {
         filled_to_nine(digits.len(), read_digits(digits, 9))
     } else {
         None
