@@ -82,6 +82,37 @@ pub fn read_digits_between(text: &[u8], width: usize, low: u64, high: u64) -> Op
     }
 }
 
+/// Ten to the power of each place.
+static POWERS_OF_TEN: [u64; 19] = [
+    1,
+    10,
+    100,
+    1_000,
+    10_000,
+    100_000,
+    1_000_000,
+    10_000_000,
+    100_000_000,
+    1_000_000_000,
+    10_000_000_000,
+    100_000_000_000,
+    1_000_000_000_000,
+    10_000_000_000_000,
+    100_000_000_000_000,
+    1_000_000_000_000_000,
+    10_000_000_000_000_000,
+    100_000_000_000_000_000,
+    1_000_000_000_000_000_000,
+];
+
+/// Ten to this power. A look into the table costs less than a loop of products.
+fn power_of_ten(exponent: usize) -> u64
+    requires { exponent ≤ 18 }
+    ensures { result ≡ 10 ^ exponent }
+{
+    POWERS_OF_TEN[exponent]
+}
+
 /// A fraction of this many places as one of `most` places.
 pub fn scaled(fraction: u64, places: usize, most: usize) -> u64
     requires places { (places ≤ most) × (most ≤ 18) }
@@ -89,7 +120,7 @@ pub fn scaled(fraction: u64, places: usize, most: usize) -> u64
     ensures value { result ≡ fraction * 10 ^ (most - places) }
     ensures in_range { result < 10 ^ most }
 {
-    fraction * 10u64.pow((most - places) as u32)
+    fraction * power_of_ten(most - places)
 }
 
 /// Appends the last `width` digits of the number, zeros in front where it is shorter. Asks for no
