@@ -26,9 +26,9 @@ pub fn value_of(text: &[u8]) -> u64
     ensures value { result ≡ digits_value 10 text.now }
     ensures in_range { result < 10 ^ length text.now }
 {
-    let mut value: u64 = 0;
+    let mut value = 0;
     for byte in text {
-        value = value * 10 + (*byte - b'0') as u64;
+        value = value * 10 + (*byte as u64 - b'0' as u64);
     }
     value
 }

@@ -198,8 +198,8 @@ fn block_of(text: &[u8]) -> [u8; 64]
     bytes
 }
 
-/// The name of this text.
-fn name_of(text: &[u8]) -> Name
+/// The name of a text that is known to be one.
+pub fn name_of(text: &[u8]) -> Name
     requires { IsTrue (form.is_name text.now) }
     ensures { result ≡ text.now }
 {
