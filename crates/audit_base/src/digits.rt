@@ -64,6 +64,22 @@ pub fn read_digits(text: &[u8], most: usize) -> Option<u64>
     number_of(text)
 }
 
+/// The number from `low` to `high` that these digits write, `width` of them. None exactly where it is
+/// another.
+pub fn value_between(digits: &[u8], width: usize, low: u64, high: u64) -> Option<u64>
+    requires digits { IsTrue (list_all is_ascii_digit digits.now) }
+    requires width { (length digits.now ≡ width) × (width ≤ 19) }
+    ensures value { result ≡ form.digits_between width low high digits.now }
+    ensures in_range { IfSome result (λ v. (low ≤ v) × (v ≤ high)) }
+{
+    let value = value_of(digits);
+    if low <= value && value <= high {
+        Some(value)
+    } else {
+        None
+    }
+}
+
 /// The number from `low` to `high` that exactly `width` digits write. None exactly where the text is
 /// anything else.
 pub fn read_digits_between(text: &[u8], width: usize, low: u64, high: u64) -> Option<u64>
@@ -74,12 +90,7 @@ pub fn read_digits_between(text: &[u8], width: usize, low: u64, high: u64) -> Op
     if text.len() != width || !are_digits(text) {
         return None;
     }
-    let value = value_of(text);
-    if low <= value && value <= high {
-        Some(value)
-    } else {
-        None
-    }
+    value_between(text, width, low, high)
 }
 
 /// Ten to the power of each place.

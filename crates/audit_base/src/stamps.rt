@@ -4,7 +4,9 @@ ghost use Rattle.audit_base.specs.Histories.{is_before};
 ghost use Rattle.audit_base.specs.Digits.{digits_form};
 ghost use Rattle.audit_base.specs.Stamps as form;
 
-use super::digits::{are_digits, read_digits, read_digits_between, scaled, value_of};
+use super::digits::{
+    are_digits, read_digits, read_digits_between, scaled, value_between, value_of,
+};
 use std::marker::Model;
 
 /// A point in time. `second` orders stamps and is no count of seconds: it is
@@ -45,10 +47,13 @@ fn read_date(text: &[u8]) -> Option<u64>
     ensures value { result ≡ form.date_form text.now }
     ensures in_range { IfSome result (λ n. n < 3720000) }
 {
+    if !are_digits(text) {
+        return None;
+    }
     // Days are counted as if each month had 31.
-    let year = read_digits_between(&text[..4], 4, 0, 9999)?;
-    let month = read_digits_between(&text[4..6], 2, 1, 12)?;
-    let day = read_digits_between(&text[6..], 2, 1, 31)?;
+    let year = value_between(&text[..4], 4, 0, 9999)?;
+    let month = value_between(&text[4..6], 2, 1, 12)?;
+    let day = value_between(&text[6..], 2, 1, 31)?;
     Some((year * 12 + (month - 1)) * 31 + (day - 1))
 }
 
