@@ -49,6 +49,7 @@ fn read_kind(text: &[u8]) -> Option<Kind>
 }
 
 /// The time in the columns that every order line has, whose names are tested.
+#[inline(always)]
 fn head_time(fields: &Fields) -> Result<Stamp, Reason>
     ensures named { OnOk result (HasHeadNames fields.now) }
     ensures read { IfOk result (λ time. head_at fields.now ≡ Ok (written_head time fields.now)) }

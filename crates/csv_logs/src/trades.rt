@@ -8,6 +8,7 @@ use crate::fields::Fields;
 use audit_base::faults::Reason;
 use audit_base::records::TradeRecord;
 
+#[inline(always)]
 fn test_parties(fields: &Fields) -> Result<(), Reason>
     ensures tests { result ≡ tested (parties_at fields.now) }
     ensures named { OnOk result (HasPartyNames fields.now) }

@@ -1,4 +1,4 @@
-use Rattle.std.proofs.Common.{◌≡◌, ℕ, ◌-◌, ◌≤◌, true, nat_le, nat_eq, List, Option, Some, None, length, take, drop, slice_index, ◌∙◌, ap, sym, eq-eqb, refl, arith}
+use Rattle.std.proofs.Common.{◌≡◌, ℕ, ◌-◌, ◌≤◌, true, nat_le, nat_eq, List, Option, Some, None, length, take, drop, slice_index, ◌∙◌, ap, sym, eq-eqb, refl}
 use Rattle.std.proofs.lemmas.Bool.{le-leb}
 use Rattle.std.proofs.lemmas.List.{take_rest}
 use Rattle.audit_base.specs.Stamps.{date_form, clock_form, fraction_form, moment_of, stamp_form}
