@@ -134,19 +134,6 @@ fn replacement(time: Stamp, fields: &Fields) -> Result<OrderRecord, Reason>
     })
 }
 
-fn order_of_kind(kind: Kind, time: Stamp, fields: &Fields) -> Result<OrderRecord, Reason>
-    requires { HasHeadNames fields.now }
-    ensures { result ≡ order_of_kind kind (written_head time fields.now) fields.now }
-{
-    match kind {
-        Kind::New => limit_order(time, Life::Rests, fields),
-        Kind::Immediate => limit_order(time, Life::Immediate, fields),
-        Kind::Market => market_order(time, fields),
-        Kind::Cancel => cancel(time, fields),
-        Kind::Replace => replacement(time, fields),
-    }
-}
-
 /// What nine fields mean in an order log: a record, or the first column that is not in its form.
 #[tactic(auto, unfolding(crate::specs::OrderLines::order_entry))]
 pub(crate) fn order_entry(fields: &Fields) -> Result<OrderRecord, Reason>
@@ -154,7 +141,13 @@ pub(crate) fn order_entry(fields: &Fields) -> Result<OrderRecord, Reason>
 {
     let kind = in_column(1, read_kind(column_text(fields, 1)))?;
     let time = head_time(fields)?;
-    order_of_kind(kind, time, fields)
+    match kind {
+        Kind::New => limit_order(time, Life::Rests, fields),
+        Kind::Immediate => limit_order(time, Life::Immediate, fields),
+        Kind::Market => market_order(time, fields),
+        Kind::Cancel => cancel(time, fields),
+        Kind::Replace => replacement(time, fields),
+    }
 }
 
 fn test_head(fields: &Fields) -> Result<(), Reason>
