@@ -3,7 +3,7 @@
 //! their forms, so that each is written once, where it stays.
 ghost use Rattle.std.specs.Prelude.{◌≡◌, ◌+◌, ◌<◌, ◌↔◌, Err, IfErr, IsTrue, Ok, OnOk, Some, map};
 ghost use Rattle.csv.specs.Records.{field_at};
-ghost use Rattle.audit_base.specs.Names.{is_name, name_form};
+ghost use Rattle.audit_base.specs.Names.{is_name};
 ghost use Rattle.csv_logs.specs.Columns.{column_text, in_column, empty_form, side_form, name_at, stamp_at, side_at, quantity_at, price_at, empty_at, key_at, tested, HasKey, HasName, written_key};
 ghost use Rattle.csv_logs.specs.Logs.{same_fields};
 
