@@ -6,11 +6,16 @@ ghost use Rattle.std.specs.Char.{is_ascii_digit};
 ghost use Rattle.std.specs.Str.Parse.{digits_value};
 ghost use Rattle.audit_base.specs.Digits as form;
 
-/// Whether each byte is a decimal digit.
+/// Whether each byte is a decimal digit. All are looked at, so that a known number of bytes are tested at
+/// once.
 pub fn are_digits(text: &[u8]) -> bool
     ensures { result ≡ list_all is_ascii_digit text.now }
 {
-    text.iter().all(|byte| byte.is_ascii_digit())
+    let mut all = true;
+    for byte in text {
+        all &= byte.is_ascii_digit();
+    }
+    all
 }
 
 /// The number that at most 19 decimal digits write; 0 where there are none. It is below 10^n, where
@@ -21,9 +26,9 @@ pub fn value_of(text: &[u8]) -> u64
     ensures value { result ≡ digits_value 10 text.now }
     ensures in_range { result < 10 ^ length text.now }
 {
-    let mut value: u64 = 0;
+    let mut value = 0;
     for byte in text {
-        value = value * 10 + (*byte - b'0') as u64;
+        value = value * 10 + (*byte as u64 - b'0' as u64);
     }
     value
 }
@@ -59,6 +64,22 @@ pub fn read_digits(text: &[u8], most: usize) -> Option<u64>
     number_of(text)
 }
 
+/// The number from `low` to `high` that these digits write, `width` of them. None exactly where it is
+/// another.
+pub fn value_between(digits: &[u8], width: usize, low: u64, high: u64) -> Option<u64>
+    requires digits { IsTrue (list_all is_ascii_digit digits.now) }
+    requires width { (length digits.now ≡ width) × (width ≤ 19) }
+    ensures value { result ≡ form.digits_between width low high digits.now }
+    ensures in_range { IfSome result (λ v. (low ≤ v) × (v ≤ high)) }
+{
+    let value = value_of(digits);
+    if low <= value && value <= high {
+        Some(value)
+    } else {
+        None
+    }
+}
+
 /// The number from `low` to `high` that exactly `width` digits write. None exactly where the text is
 /// anything else.
 pub fn read_digits_between(text: &[u8], width: usize, low: u64, high: u64) -> Option<u64>
@@ -66,15 +87,41 @@ pub fn read_digits_between(text: &[u8], width: usize, low: u64, high: u64) -> Op
     ensures value { result ≡ form.digits_between width low high text.now }
     ensures in_range { IfSome result (λ v. (low ≤ v) × (v ≤ high)) }
 {
-    if text.len() != width {
+    if text.len() != width || !are_digits(text) {
         return None;
     }
-    let value = number_of(text)?;
-    if low <= value && value <= high {
-        Some(value)
-    } else {
-        None
-    }
+    value_between(text, width, low, high)
+}
+
+/// Ten to the power of each place.
+static POWERS_OF_TEN: [u64; 19] = [
+    1,
+    10,
+    100,
+    1_000,
+    10_000,
+    100_000,
+    1_000_000,
+    10_000_000,
+    100_000_000,
+    1_000_000_000,
+    10_000_000_000,
+    100_000_000_000,
+    1_000_000_000_000,
+    10_000_000_000_000,
+    100_000_000_000_000,
+    1_000_000_000_000_000,
+    10_000_000_000_000_000,
+    100_000_000_000_000_000,
+    1_000_000_000_000_000_000,
+];
+
+/// Ten to this power. A look into the table costs less than a loop of products.
+fn power_of_ten(exponent: usize) -> u64
+    requires { exponent ≤ 18 }
+    ensures { result ≡ 10 ^ exponent }
+{
+    POWERS_OF_TEN[exponent]
 }
 
 /// A fraction of this many places as one of `most` places.
@@ -84,7 +131,7 @@ pub fn scaled(fraction: u64, places: usize, most: usize) -> u64
     ensures value { result ≡ fraction * 10 ^ (most - places) }
     ensures in_range { result < 10 ^ most }
 {
-    fraction * 10u64.pow((most - places) as u32)
+    fraction * power_of_ten(most - places)
 }
 
 /// Appends the last `width` digits of the number, zeros in front where it is shorter. Asks for no

@@ -1,5 +1,5 @@
 //! Names of firms, orders, symbols and trades.
-ghost use Rattle.std.specs.Prelude.{◌≡◌, ◌-◌, ◌≤◌, ◌++◌, IsTrue, drop, length, replicate};
+ghost use Rattle.std.specs.Prelude.{◌≡◌, ◌+◌, ◌-◌, ◌≤◌, ◌++◌, IsTrue, drop, length, replicate};
 ghost use Rattle.std.specs.List.{list_all};
 ghost use Rattle.audit_base.specs.Names as form;
 
@@ -159,12 +159,33 @@ pub fn is_name(text: &[u8]) -> bool
     1 <= text.len() && text.len() <= 64 && all_name_bytes(text)
 }
 
-/// Writes a text over the first bytes of a block.
+/// Writes a text over the first bytes of a block, in two parts of this width that may overlap.
+#[inline(always)]
+fn put_ends(block: &mut [u8], text: &[u8], width: usize)
+    requires room { length text.now ≤ length block.old }
+    requires width { width ≤ length text.now }
+    requires whole { length text.now ≤ width + width }
+    ensures { block.new ≡ text.now ++ drop (length text.now) block.old }
+{
+    let start = text.len() - width;
+    block[..width].copy_from_slice(&text[..width]);
+    block[start..text.len()].copy_from_slice(&text[start..]);
+}
+
+/// Writes a text over the first bytes of a block. Most names have 4 to 16 bytes, and two copies of a
+/// known width cost less than one of any.
+#[inline(always)]
 fn put_first(block: &mut [u8], text: &[u8])
     requires { length text.now ≤ length block.old }
     ensures { block.new ≡ text.now ++ drop (length text.now) block.old }
 {
-    block[..text.len()].copy_from_slice(text);
+    if 8 <= text.len() && text.len() <= 16 {
+        put_ends(block, text, 8);
+    } else if 4 <= text.len() && text.len() < 8 {
+        put_ends(block, text, 4);
+    } else {
+        block[..text.len()].copy_from_slice(text);
+    }
 }
 
 /// The block of 64 bytes that begins with the text and goes on with zeros.
@@ -177,8 +198,8 @@ fn block_of(text: &[u8]) -> [u8; 64]
     bytes
 }
 
-/// The name of this text.
-fn name_of(text: &[u8]) -> Name
+/// The name of a text that is known to be one.
+pub fn name_of(text: &[u8]) -> Name
     requires { IsTrue (form.is_name text.now) }
     ensures { result ≡ text.now }
 {

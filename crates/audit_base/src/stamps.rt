@@ -1,9 +1,12 @@
 //! Points in time, as logs write them.
 ghost use Rattle.std.specs.Prelude.{◌≡◌, ◌<◌, ◌≤◌, ◌^◌, IfSome, length};
 ghost use Rattle.audit_base.specs.Histories.{is_before};
+ghost use Rattle.audit_base.specs.Digits.{digits_form};
 ghost use Rattle.audit_base.specs.Stamps as form;
 
-use super::digits::{read_digits, read_digits_between, scaled};
+use super::digits::{
+    are_digits, read_digits, read_digits_between, scaled, value_between, value_of,
+};
 use std::marker::Model;
 
 /// A point in time. `second` orders stamps and is no count of seconds: it is
@@ -38,44 +41,20 @@ impl Stamp {
     }
 }
 
-/// Days, counted as if each month had 31.
-fn day_of(year: Option<u64>, month: Option<u64>, day: Option<u64>) -> Option<u64>
-    requires year { IfSome year (λ y. y ≤ 9999) }
-    requires month { IfSome month (λ m. (1 ≤ m) × (m ≤ 12)) }
-    requires day { IfSome day (λ d. (1 ≤ d) × (d ≤ 31)) }
-    ensures value { result ≡ form.day_of year month day }
-    ensures in_range { IfSome result (λ n. n < 3720000) }
-{
-    let year = year?;
-    let month = month?;
-    let day = day?;
-    Some((year * 12 + (month - 1)) * 31 + (day - 1))
-}
-
 /// `YYYYMMDD`.
 fn read_date(text: &[u8]) -> Option<u64>
     requires { length text.now ≡ 8 }
     ensures value { result ≡ form.date_form text.now }
     ensures in_range { IfSome result (λ n. n < 3720000) }
 {
-    let year = read_digits_between(&text[..4], 4, 0, 9999);
-    let month = read_digits_between(&text[4..6], 2, 1, 12);
-    let day = read_digits_between(&text[6..], 2, 1, 31);
-    day_of(year, month, day)
-}
-
-/// Seconds of a day, with 61 in each minute.
-fn second_of(hour: Option<u64>, minute: Option<u64>, second: Option<u64>) -> Option<u64>
-    requires hour { IfSome hour (λ h. h ≤ 23) }
-    requires minute { IfSome minute (λ m. m ≤ 59) }
-    requires second { IfSome second (λ s. s ≤ 60) }
-    ensures value { result ≡ form.second_of hour minute second }
-    ensures in_range { IfSome result (λ n. n < 87840) }
-{
-    let hour = hour?;
-    let minute = minute?;
-    let second = second?;
-    Some((hour * 60 + minute) * 61 + second)
+    if !are_digits(text) {
+        return None;
+    }
+    // Days are counted as if each month had 31.
+    let year = value_between(&text[..4], 4, 0, 9999)?;
+    let month = value_between(&text[4..6], 2, 1, 12)?;
+    let day = value_between(&text[6..], 2, 1, 31)?;
+    Some((year * 12 + (month - 1)) * 31 + (day - 1))
 }
 
 /// `HH:MM:SS`.
@@ -84,14 +63,14 @@ fn read_clock(text: &[u8]) -> Option<u64>
     ensures value { result ≡ form.clock_form text.now }
     ensures in_range { IfSome result (λ n. n < 87840) }
 {
-    if text[2] == b':' && text[5] == b':' {
-        let hour = read_digits_between(&text[..2], 2, 0, 23);
-        let minute = read_digits_between(&text[3..5], 2, 0, 59);
-        let second = read_digits_between(&text[6..], 2, 0, 60);
-        second_of(hour, minute, second)
-    } else {
-        None
+    if text[2] != b':' || text[5] != b':' {
+        return None;
     }
+    // Each minute is counted with 61 seconds.
+    let hour = read_digits_between(&text[..2], 2, 0, 23)?;
+    let minute = read_digits_between(&text[3..5], 2, 0, 59)?;
+    let second = read_digits_between(&text[6..], 2, 0, 60)?;
+    Some((hour * 60 + minute) * 61 + second)
 }
 
 /// A fraction of this many digits in nanoseconds.
@@ -103,12 +82,27 @@ fn filled_to_nine(places: usize, fraction: Option<u64>) -> Option<u64>
     Some(scaled(fraction?, places, 9))
 }
 
-/// Three, six or nine digits.
+/// The number that nine digits write.
+fn read_nine(digits: &[u8]) -> Option<u64>
+    requires { length digits.now ≡ 9 }
+    ensures value { result ≡ digits_form 9 digits.now }
+    ensures in_range { IfSome result (λ n. n < 10 ^ 9) }
+{
+    if are_digits(digits) {
+        Some(value_of(digits))
+    } else {
+        None
+    }
+}
+
+/// Three, six or nine digits. Nine, which most logs have, are read without a loop.
 fn fraction_of(digits: &[u8]) -> Option<u64>
     ensures value { result ≡ form.fraction_of digits.now }
     ensures in_range { IfSome result (λ n. n < 10 ^ 9) }
 {
-    if digits.len() == 3 || digits.len() == 6 || digits.len() == 9 {
+    if digits.len() == 9 {
+        filled_to_nine(9, read_nine(digits))
+    } else if digits.len() == 3 || digits.len() == 6 {
         filled_to_nine(digits.len(), read_digits(digits, 9))
     } else {
         None
@@ -132,22 +126,6 @@ fn read_fraction(text: &[u8]) -> Option<u64>
     }
 }
 
-/// A day, a second of it and a fraction as one point in time.
-fn moment_of(day: Option<u64>, clock: Option<u64>, nano: Option<u64>) -> Option<Stamp>
-    requires day { IfSome day (λ n. n < 3720000) }
-    requires clock { IfSome clock (λ n. n < 87840) }
-    requires nano { IfSome nano (λ n. n < 10 ^ 9) }
-    ensures { result ≡ form.moment_of day clock nano }
-{
-    let day = day?;
-    let clock = clock?;
-    let nano = nano?;
-    Some(Stamp {
-        second: day * (24 * 60 * 61) + clock,
-        nano: nano as u32,
-    })
-}
-
 /// The point in time that the text writes: `YYYYMMDD-HH:MM:SS`, then optionally `.` and 3, 6 or 9
 /// digits (FIX 4.4, UTCTimestamp). The month is from 01 to 12, the day from 01 to 31, the hour from 00
 /// to 23, the minute from 00 to 59 and the second from 00 to 60; no further calendar rule is tested.
@@ -155,14 +133,16 @@ fn moment_of(day: Option<u64>, clock: Option<u64>, nano: Option<u64>) -> Option<
 pub fn read_stamp(text: &[u8]) -> Option<Stamp>
     ensures { result ≡ form.stamp_form text.now }
 {
-    if text.len() >= 17 && text[8] == b'-' {
-        let day = read_date(&text[..8]);
-        let clock = read_clock(&text[9..17]);
-        let nano = read_fraction(&text[17..]);
-        moment_of(day, clock, nano)
-    } else {
-        None
+    if text.len() < 17 || text[8] != b'-' {
+        return None;
     }
+    let day = read_date(&text[..8])?;
+    let clock = read_clock(&text[9..17])?;
+    let nano = read_fraction(&text[17..])?;
+    Some(Stamp {
+        second: day * (24 * 60 * 61) + clock,
+        nano: nano as u32,
+    })
 }
 
 #[cfg(test)]

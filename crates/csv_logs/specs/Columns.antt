@@ -1,5 +1,5 @@
 -- The fields of a line of CSV, and how a column is read. The code of `"` is 34.
-use Rattle.std.specs.Prelude.{ℕ, Bool, not, ◌+◌, ◌-◌, ◌%◌, ◌==◌, ◌||◌, ◌&&◌, nat_le, Option, Some, None, option_map, unwrap_or, Result, Ok, Err, List, [], ◌∷◌, ◌++◌, count_by, if◌then◌else◌}
+use Rattle.std.specs.Prelude.{ℕ, Bool, IsTrue, not, ◌+◌, ◌-◌, ◌%◌, ◌==◌, ◌||◌, ◌&&◌, nat_le, Option, Some, None, option_map, unwrap_or, Result, Ok, Err, List, [], ◌∷◌, ◌++◌, count_by, if◌then◌else◌}
 use Rattle.std.specs.List.{list_all}
 use Rattle.csv.specs.Machine.{Read, next_record}
 use Rattle.csv.specs.Reading.{default_config, strip_bom}
@@ -11,7 +11,7 @@ use Rattle.audit_base.specs.declared.terms.Side.{Side}
 use Rattle.audit_base.specs.declared.terms.Side.TheVariants as side
 use Rattle.audit_base.specs.declared.names.Key.{Key}
 use Rattle.audit_base.specs.Moments.{Moment}
-use Rattle.audit_base.specs.Names.{name_form}
+use Rattle.audit_base.specs.Names.{is_name, name_form}
 use Rattle.audit_base.specs.Numbers.{price_form, quantity_form}
 use Rattle.audit_base.specs.Stamps.{stamp_form}
 
@@ -101,3 +101,16 @@ key_at number fields = do
   firm ← name_at number fields
   id ← name_at (number + 1) fields
   Ok (record { firm = firm; id = id })
+
+-- a column holds a name
+abbrev pub HasName : ℕ → Row → Type 0
+HasName number fields = IsTrue (is_name (column_text number fields))
+
+-- a column holds a firm, and the next one an id
+abbrev pub HasKey : ℕ → Row → Type 0
+HasKey number fields = HasName number fields × HasName (number + 1) fields
+
+-- the key that two columns write, where they hold names
+abbrev pub written_key : ℕ → Row → Key
+written_key number fields =
+    record { firm = column_text number fields; id = column_text (number + 1) fields }

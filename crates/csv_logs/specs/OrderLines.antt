@@ -5,11 +5,12 @@ use Rattle.audit_base.specs.declared.records.OrderRecord.{OrderRecord}
 use Rattle.audit_base.specs.declared.records.OrderRecord.TheVariants as record_of
 use Rattle.audit_base.specs.declared.terms.Life.{Life}
 use Rattle.audit_base.specs.declared.terms.Life.TheVariants as life
+use Rattle.audit_base.specs.Moments.{Moment}
 use Rattle.audit_base.specs.Numbers.{market_price}
 use Rattle.csv_logs.specs.declared.orders.Kind.{Kind}
 use Rattle.csv_logs.specs.declared.orders.Kind.TheVariants as kind
 use Rattle.csv_logs.specs.declared.orders.Head.{Head}
-use Rattle.csv_logs.specs.Columns.{Row, column_text, in_column, ◌>>=◌, name_at, stamp_at, side_at, quantity_at, price_at, empty_at, key_at}
+use Rattle.csv_logs.specs.Columns.{Row, column_text, in_column, ◌>>=◌, name_at, stamp_at, side_at, quantity_at, price_at, empty_at, key_at, HasKey, HasName, written_key}
 
 abbrev pub kind_of : ℕ → Option Kind
 kind_of letter =
@@ -30,6 +31,15 @@ head_at fields = do
   time ← stamp_at 4 fields
   symbol ← name_at 5 fields
   Ok (record { key = key; time = time; symbol = symbol })
+
+-- columns 2, 3 and 5 hold names
+abbrev pub HasHeadNames : Row → Type 0
+HasHeadNames fields = HasKey 2 fields × HasName 5 fields
+
+-- what columns 2 to 5 write, where they hold names and this time
+abbrev pub written_head : Moment → Row → Head
+written_head time fields =
+    record { key = written_key 2 fields; time = time; symbol = column_text 5 fields }
 
 -- a new order with a limit has a side, a quantity and a price, and no target
 abbrev pub limit_order : Head → Life → Row → Result OrderRecord Reason

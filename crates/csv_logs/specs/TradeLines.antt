@@ -3,7 +3,7 @@ use Rattle.std.specs.Prelude.{Result, Ok}
 use Rattle.audit_base.specs.declared.faults.Reason.{Reason}
 use Rattle.audit_base.specs.declared.names.Key.{Key}
 use Rattle.audit_base.specs.declared.records.TradeRecord.{TradeRecord}
-use Rattle.csv_logs.specs.Columns.{Row, ◌>>=◌, name_at, stamp_at, quantity_at, price_at, key_at}
+use Rattle.csv_logs.specs.Columns.{Row, ◌>>=◌, name_at, stamp_at, quantity_at, price_at, key_at, HasKey, written_key}
 
 -- columns 4 to 7: the bid's key and the ask's
 abbrev pub parties_at : Row → Result (Key × Key) Reason
@@ -11,6 +11,14 @@ parties_at fields = do
   buy ← key_at 4 fields
   sell ← key_at 6 fields
   Ok (buy, sell)
+
+-- columns 4 to 7 hold names
+abbrev pub HasPartyNames : Row → Type 0
+HasPartyNames fields = HasKey 4 fields × HasKey 6 fields
+
+-- what columns 4 to 7 write, where they hold names
+abbrev pub written_parties : Row → Key × Key
+written_parties fields = (written_key 4 fields, written_key 6 fields)
 
 -- what nine fields mean in a trade log: a record, or the first column that is not in its form
 unfoldable pub trade_entry : Row → Result TradeRecord Reason

@@ -1,14 +1,15 @@
 //! The columns of a line, each read in its form. A column that is not in its form is named by its
-//! number, from 1 on.
-ghost use Rattle.std.specs.Prelude.{◌≡◌, ◌<◌, ◌↔◌, IsTrue, Some, map};
+//! number, from 1 on. Names are tested first, and copied when all columns of the line are known to be in
+//! their forms, so that each is written once, where it stays.
+ghost use Rattle.std.specs.Prelude.{◌≡◌, ◌+◌, ◌<◌, ◌↔◌, Err, IfErr, IsTrue, Ok, OnOk, Some, map};
 ghost use Rattle.csv.specs.Records.{field_at};
-ghost use Rattle.audit_base.specs.Names.{is_name, name_form};
-ghost use Rattle.csv_logs.specs.Columns.{column_text, in_column, empty_form, side_form, name_at, stamp_at, side_at, quantity_at, price_at, empty_at, key_at, tested};
+ghost use Rattle.audit_base.specs.Names.{is_name};
+ghost use Rattle.csv_logs.specs.Columns.{column_text, in_column, empty_form, side_form, name_at, stamp_at, side_at, quantity_at, price_at, empty_at, key_at, tested, HasKey, HasName, written_key};
 ghost use Rattle.csv_logs.specs.Logs.{same_fields};
 
 use crate::fields::Fields;
 use audit_base::faults::Reason;
-use audit_base::names::{Key, Name, is_name, is_name_by_size, read_name, read_name_by_size};
+use audit_base::names::{Key, Name, is_name, is_name_by_size, name_of};
 use audit_base::numbers::{Price, Quantity, read_price, read_quantity};
 use audit_base::stamps::{Stamp, read_stamp};
 use audit_base::terms::Side;
@@ -47,19 +48,6 @@ fn read_empty(text: &[u8]) -> Option<()>
     if text.is_empty() { Some(()) } else { None }
 }
 
-/// The name that a column writes.
-fn read_name_in(number: u8, fields: &Fields) -> Option<Name>
-    requires { 0 < number }
-    ensures { result ≡ name_form (column_text number fields.now) }
-{
-    let text = column_text(fields, number);
-    if fields.have_name_bytes() {
-        read_name_by_size(text)
-    } else {
-        read_name(text)
-    }
-}
-
 /// Whether a column's text is a name.
 fn is_name_in(number: u8, fields: &Fields) -> bool
     requires { 0 < number }
@@ -73,18 +61,13 @@ fn is_name_in(number: u8, fields: &Fields) -> bool
     }
 }
 
-/// The name in a column.
-pub(crate) fn name_at(number: u8, fields: &Fields) -> Result<Name, Reason>
-    requires { 0 < number }
-    ensures { result ≡ name_at number fields.now }
-{
-    in_column(number, read_name_in(number, fields))
-}
-
 /// Whether a column holds a name.
 pub(crate) fn test_name(number: u8, fields: &Fields) -> Result<(), Reason>
     requires { 0 < number }
-    ensures { result ≡ tested (name_at number fields.now) }
+    ensures tests { result ≡ tested (name_at number fields.now) }
+    ensures named { OnOk result (HasName number fields.now) }
+    ensures read { OnOk result (name_at number fields.now ≡ Ok (column_text number fields.now)) }
+    ensures why { IfErr result (λ why. name_at number fields.now ≡ Err why) }
 {
     if is_name_in(number, fields) {
         Ok(())
@@ -97,10 +80,35 @@ pub(crate) fn test_name(number: u8, fields: &Fields) -> Result<(), Reason>
 pub(crate) fn test_key(number: u8, fields: &Fields) -> Result<(), Reason>
     requires first { 0 < number }
     requires next { number < 9 }
-    ensures { result ≡ tested (key_at number fields.now) }
+    ensures tests { result ≡ tested (key_at number fields.now) }
+    ensures named { OnOk result (HasKey number fields.now) }
+    ensures read { OnOk result (key_at number fields.now ≡ Ok (written_key number fields.now)) }
+    ensures why { IfErr result (λ why. key_at number fields.now ≡ Err why) }
 {
     test_name(number, fields)?;
     test_name(number + 1, fields)
+}
+
+/// The name in a column that holds one.
+pub(crate) fn known_name(number: u8, fields: &Fields) -> Name
+    requires first { 0 < number }
+    requires named { HasName number fields.now }
+    ensures { result ≡ column_text number fields.now }
+{
+    name_of(column_text(fields, number))
+}
+
+/// The firm in a column and its id in the next one, where both hold names.
+pub(crate) fn known_key(number: u8, fields: &Fields) -> Key
+    requires first { 0 < number }
+    requires next { number < 9 }
+    requires named { HasKey number fields.now }
+    ensures { result ≡ written_key number fields.now }
+{
+    Key {
+        firm: known_name(number, fields),
+        id: known_name(number + 1, fields),
+    }
 }
 
 /// The point in time in a column.
@@ -141,17 +149,6 @@ pub(crate) fn empty_at(number: u8, fields: &Fields) -> Result<(), Reason>
     ensures { result ≡ empty_at number fields.now }
 {
     in_column(number, read_empty(column_text(fields, number)))
-}
-
-/// The firm in a column, and its id in the next one.
-pub(crate) fn key_at(number: u8, fields: &Fields) -> Result<Key, Reason>
-    requires first { 0 < number }
-    requires next { number < 9 }
-    ensures { result ≡ key_at number fields.now }
-{
-    let firm = name_at(number, fields)?;
-    let id = name_at(number + 1, fields)?;
-    Ok(Key { firm, id })
 }
 
 fn has_name(fields: &Fields, at: usize, name: &[u8]) -> bool

@@ -1,13 +1,13 @@
 //! The lines of an order log.
-ghost use Rattle.std.specs.Prelude.{◌≡◌};
+ghost use Rattle.std.specs.Prelude.{◌≡◌, Err, IfErr, IfOk, Ok, OnOk};
 ghost use Rattle.audit_base.specs.declared.terms.Life.{Life};
 ghost use Rattle.csv_logs.specs.Columns.{tested};
 ghost use Rattle.csv_logs.specs.declared.orders.Head.{Head};
-ghost use Rattle.csv_logs.specs.OrderLines.{kind_form, head_at, limit_order, market_order, cancel, replacement, order_of_kind, order_entry};
+ghost use Rattle.csv_logs.specs.OrderLines.{kind_form, head_at, limit_order, market_order, cancel, replacement, order_of_kind, order_entry, HasHeadNames, written_head};
 
 use crate::columns::{
-    column_text, empty_at, in_column, key_at, name_at, price_at, quantity_at, side_at, stamp_at,
-    test_key, test_name,
+    column_text, empty_at, in_column, known_key, known_name, price_at, quantity_at, side_at,
+    stamp_at, test_key, test_name,
 };
 use crate::fields::Fields;
 use audit_base::faults::Reason;
@@ -48,27 +48,31 @@ fn read_kind(text: &[u8]) -> Option<Kind>
     }
 }
 
-fn head_at(fields: &Fields) -> Result<Head, Reason>
-    ensures { result ≡ head_at fields.now }
+/// The time in the columns that every order line has, whose names are tested.
+#[inline(always)]
+fn head_time(fields: &Fields) -> Result<Stamp, Reason>
+    ensures named { OnOk result (HasHeadNames fields.now) }
+    ensures read { IfOk result (λ time. head_at fields.now ≡ Ok (written_head time fields.now)) }
+    ensures why { IfErr result (λ why. head_at fields.now ≡ Err why) }
 {
-    let key = key_at(2, fields)?;
+    test_key(2, fields)?;
     let time = stamp_at(4, fields)?;
-    let symbol = name_at(5, fields)?;
-    Ok(Head { key, time, symbol })
+    test_name(5, fields)?;
+    Ok(time)
 }
 
-fn limit_order(head: Head, life: Life, fields: &Fields) -> Result<OrderRecord, Reason>
-    ensures { result ≡ limit_order head life fields.now }
+fn limit_order(time: Stamp, life: Life, fields: &Fields) -> Result<OrderRecord, Reason>
+    requires { HasHeadNames fields.now }
+    ensures { result ≡ limit_order (written_head time fields.now) life fields.now }
 {
     let side = side_at(6, fields)?;
     let quantity = quantity_at(7, fields)?;
     let price = price_at(8, fields)?;
     empty_at(9, fields)?;
-    let Head { key, time, symbol } = head;
     Ok(OrderRecord::New {
-        key,
+        key: known_key(2, fields),
         time,
-        symbol,
+        symbol: known_name(5, fields),
         side,
         quantity,
         price,
@@ -76,18 +80,18 @@ fn limit_order(head: Head, life: Life, fields: &Fields) -> Result<OrderRecord, R
     })
 }
 
-fn market_order(head: Head, fields: &Fields) -> Result<OrderRecord, Reason>
-    ensures { result ≡ market_order head fields.now }
+fn market_order(time: Stamp, fields: &Fields) -> Result<OrderRecord, Reason>
+    requires { HasHeadNames fields.now }
+    ensures { result ≡ market_order (written_head time fields.now) fields.now }
 {
     let side = side_at(6, fields)?;
     let quantity = quantity_at(7, fields)?;
     empty_at(8, fields)?;
     empty_at(9, fields)?;
-    let Head { key, time, symbol } = head;
     Ok(OrderRecord::New {
-        key,
+        key: known_key(2, fields),
         time,
-        symbol,
+        symbol: known_name(5, fields),
         side,
         quantity,
         price: market_price(side),
@@ -95,51 +99,39 @@ fn market_order(head: Head, fields: &Fields) -> Result<OrderRecord, Reason>
     })
 }
 
-fn cancel(head: Head, fields: &Fields) -> Result<OrderRecord, Reason>
-    ensures { result ≡ cancel head fields.now }
+fn cancel(time: Stamp, fields: &Fields) -> Result<OrderRecord, Reason>
+    requires { HasHeadNames fields.now }
+    ensures { result ≡ cancel (written_head time fields.now) fields.now }
 {
     empty_at(6, fields)?; // no side
     empty_at(7, fields)?;
     empty_at(8, fields)?;
-    let target = name_at(9, fields)?;
-    let Head { key, time, symbol } = head;
+    test_name(9, fields)?;
     Ok(OrderRecord::Cancel {
-        key,
+        key: known_key(2, fields),
         time,
-        symbol,
-        target,
+        symbol: known_name(5, fields),
+        target: known_name(9, fields),
     })
 }
 
-fn replacement(head: Head, fields: &Fields) -> Result<OrderRecord, Reason>
-    ensures { result ≡ replacement head fields.now }
+fn replacement(time: Stamp, fields: &Fields) -> Result<OrderRecord, Reason>
+    requires { HasHeadNames fields.now }
+    ensures { result ≡ replacement (written_head time fields.now) fields.now }
 {
     let side = side_at(6, fields)?;
     let quantity = quantity_at(7, fields)?;
     let price = price_at(8, fields)?;
-    let target = name_at(9, fields)?;
-    let Head { key, time, symbol } = head;
+    test_name(9, fields)?;
     Ok(OrderRecord::Replace {
-        key,
+        key: known_key(2, fields),
         time,
-        symbol,
-        target,
+        symbol: known_name(5, fields),
+        target: known_name(9, fields),
         side,
         quantity,
         price,
     })
-}
-
-fn order_of_kind(kind: Kind, head: Head, fields: &Fields) -> Result<OrderRecord, Reason>
-    ensures { result ≡ order_of_kind kind head fields.now }
-{
-    match kind {
-        Kind::New => limit_order(head, Life::Rests, fields),
-        Kind::Immediate => limit_order(head, Life::Immediate, fields),
-        Kind::Market => market_order(head, fields),
-        Kind::Cancel => cancel(head, fields),
-        Kind::Replace => replacement(head, fields),
-    }
 }
 
 /// What nine fields mean in an order log: a record, or the first column that is not in its form.
@@ -148,16 +140,21 @@ pub(crate) fn order_entry(fields: &Fields) -> Result<OrderRecord, Reason>
     ensures { result ≡ order_entry fields.now }
 {
     let kind = in_column(1, read_kind(column_text(fields, 1)))?;
-    let head = head_at(fields)?;
-    order_of_kind(kind, head, fields)
+    let time = head_time(fields)?;
+    match kind {
+        Kind::New => limit_order(time, Life::Rests, fields),
+        Kind::Immediate => limit_order(time, Life::Immediate, fields),
+        Kind::Market => market_order(time, fields),
+        Kind::Cancel => cancel(time, fields),
+        Kind::Replace => replacement(time, fields),
+    }
 }
 
 fn test_head(fields: &Fields) -> Result<(), Reason>
     ensures { result ≡ tested (head_at fields.now) }
 {
-    test_key(2, fields)?;
-    stamp_at(4, fields)?;
-    test_name(5, fields)
+    head_time(fields)?;
+    Ok(())
 }
 
 fn test_limit(fields: &Fields) -> Result<(), Reason>

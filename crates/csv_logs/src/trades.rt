@@ -1,20 +1,22 @@
 //! The lines of a trade log.
-ghost use Rattle.std.specs.Prelude.{◌≡◌};
+ghost use Rattle.std.specs.Prelude.{◌≡◌, Err, IfErr, Ok, OnOk};
 ghost use Rattle.csv_logs.specs.Columns.{tested};
-ghost use Rattle.csv_logs.specs.TradeLines.{parties_at, trade_entry};
+ghost use Rattle.csv_logs.specs.TradeLines.{HasPartyNames, parties_at, trade_entry, written_parties};
 
-use crate::columns::{key_at, name_at, price_at, quantity_at, stamp_at, test_key, test_name};
+use crate::columns::{known_key, known_name, price_at, quantity_at, stamp_at, test_key, test_name};
 use crate::fields::Fields;
 use audit_base::faults::Reason;
-use audit_base::names::Key;
 use audit_base::records::TradeRecord;
 
-fn parties_at(fields: &Fields) -> Result<(Key, Key), Reason>
-    ensures { result ≡ parties_at fields.now }
+#[inline(always)]
+fn test_parties(fields: &Fields) -> Result<(), Reason>
+    ensures tests { result ≡ tested (parties_at fields.now) }
+    ensures named { OnOk result (HasPartyNames fields.now) }
+    ensures read { OnOk result (parties_at fields.now ≡ Ok (written_parties fields.now)) }
+    ensures why { IfErr result (λ why. parties_at fields.now ≡ Err why) }
 {
-    let buy = key_at(4, fields)?;
-    let sell = key_at(6, fields)?;
-    Ok((buy, sell))
+    test_key(4, fields)?;
+    test_key(6, fields)
 }
 
 /// What nine fields mean in a trade log: a record, or the first column that is not in its form.
@@ -22,28 +24,21 @@ fn parties_at(fields: &Fields) -> Result<(Key, Key), Reason>
 pub(crate) fn trade_entry(fields: &Fields) -> Result<TradeRecord, Reason>
     ensures { result ≡ trade_entry fields.now }
 {
-    let trade = name_at(1, fields)?;
+    test_name(1, fields)?;
     let time = stamp_at(2, fields)?;
-    let symbol = name_at(3, fields)?;
-    let (buy, sell) = parties_at(fields)?;
+    test_name(3, fields)?;
+    test_parties(fields)?;
     let quantity = quantity_at(8, fields)?;
     let price = price_at(9, fields)?;
     Ok(TradeRecord {
-        trade,
+        trade: known_name(1, fields),
         time,
-        symbol,
-        buy,
-        sell,
+        symbol: known_name(3, fields),
+        buy: known_key(4, fields),
+        sell: known_key(6, fields),
         quantity,
         price,
     })
-}
-
-fn test_parties(fields: &Fields) -> Result<(), Reason>
-    ensures { result ≡ tested (parties_at fields.now) }
-{
-    test_key(4, fields)?;
-    test_key(6, fields)
 }
 
 /// Whether nine fields mean a record in a trade log, or else the first column that is not in its form.

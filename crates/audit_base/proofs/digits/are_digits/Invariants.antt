@@ -1,0 +1,8 @@
+use Rattle.std.proofs.Common.{◌≡◌, take}
+use Rattle.std.specs.List.{list_all}
+use Rattle.std.specs.Char.{is_ascii_digit}
+use Rattle.audit_base.proofs.digits.are_digits.Given as goal
+
+-- whether the bytes so far are digits
+abbrev pub invariant-loop-byte : goal.invariant-loop-byte
+invariant-loop-byte l = l.all ≡ list_all is_ascii_digit (take l.byte-index l.text)
