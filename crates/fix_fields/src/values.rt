@@ -36,8 +36,12 @@ pub fn value_size(
         (NoValue (HasForm (option_map (shown body.now) before) tag) (drop from body.now)) }
     ensures ends { IfSome result (λ n. HoldsEnds body.now (from + n + 1) ends.new) }
 {
+    // Most tags are no data tags, whatever stands before them.
+    let Some(wanted) = length_tag(tag) else {
+        return delimited_size(body, from, ends);
+    };
     match before {
-        Some(length) if length_tag(tag) == Some(length.tag) => {
+        Some(length) if length.tag == wanted => {
             data_size(&body[length.from..length.to], &body[from..])
         }
         _ => delimited_size(body, from, ends),

@@ -98,6 +98,19 @@ fn reason_of(fault: MessageFault) -> Reason
     }
 }
 
+/// Makes the record of an order and hands it on. Room for a record is made ready where this is called,
+/// so it stands apart from the test whether the collector looks at the order.
+fn keep_order<K: Collector<Entry = OrderRecord>>(
+    entries: &mut K,
+    order: &OrderText<'_>,
+) -> Result<(), NoMemory>
+    requires { HasPlace K.has_taken entries.old }
+    ensures { OnOk result
+        (Adds (K.has_taken entries.old) (K.has_taken entries.new) (order.now ∷ [])) }
+{
+    entries.take(order.record())
+}
+
 /// Hands on an order that stands in a message. Its record is made only where the collector looks at it.
 fn hand_on_order<K: Collector<Entry = OrderRecord>>(
     entries: &mut K,
@@ -108,7 +121,7 @@ fn hand_on_order<K: Collector<Entry = OrderRecord>>(
         (Adds (K.has_taken entries.old) (K.has_taken entries.new) (order.now ∷ [])) }
 {
     if entries.wants(order.symbol()) {
-        entries.take(order.record())
+        keep_order(entries, order)
     } else {
         entries.pass_over();
         Ok(())
