@@ -75,6 +75,7 @@ fn first_soh(body: &[u8], from: usize, ends: &mut Memchr<'_>) -> Option<usize>
 }
 
 /// The same of any other field.
+#[inline(always)]
 fn delimited_size(body: &[u8], from: usize, ends: &mut Memchr<'_>) -> Option<usize>
     requires from { from ≤ length body.now }
     requires ends { HoldsEnds body.now from ends.old }
