@@ -36,12 +36,8 @@ pub fn value_size(
         (NoValue (HasForm (option_map (shown body.now) before) tag) (drop from body.now)) }
     ensures ends { IfSome result (λ n. HoldsEnds body.now (from + n + 1) ends.new) }
 {
-    // Most tags are no data tags, whatever stands before them.
-    let Some(wanted) = length_tag(tag) else {
-        return delimited_size(body, from, ends);
-    };
     match before {
-        Some(length) if length.tag == wanted => {
+        Some(length) if length_tag(tag) == Some(length.tag) => {
             data_size(&body[length.from..length.to], &body[from..])
         }
         _ => delimited_size(body, from, ends),
@@ -75,7 +71,6 @@ fn first_soh(body: &[u8], from: usize, ends: &mut Memchr<'_>) -> Option<usize>
 }
 
 /// The same of any other field.
-#[inline(always)]
 fn delimited_size(body: &[u8], from: usize, ends: &mut Memchr<'_>) -> Option<usize>
     requires from { from ≤ length body.now }
     requires ends { HoldsEnds body.now from ends.old }
