@@ -122,22 +122,34 @@ pub struct Key {
     pub id: Name,
 }
 
-/// Each byte that a name may hold stands at its own place, and a comma at every other place.
-static NAME_BYTES: [u8; 256] = *b"\
-    ,,,,,,,,,,,,,,,,,,,,,,,,,,,,,,,,\
-    \x20!,#$%&'()*+,-./0123456789:;<=>?\
-    @ABCDEFGHIJKLMNOPQRSTUVWXYZ[\\]^_\
-    `abcdefghijklmnopqrstuvwxyz{|}~,\
-    ,,,,,,,,,,,,,,,,,,,,,,,,,,,,,,,,\
-    ,,,,,,,,,,,,,,,,,,,,,,,,,,,,,,,,\
-    ,,,,,,,,,,,,,,,,,,,,,,,,,,,,,,,,\
-    ,,,,,,,,,,,,,,,,,,,,,,,,,,,,,,,,";
+/// Whether a name may hold each byte, from 0 to 255: those from 0x20 to 0x7E but for `"` and `,`.
+static NAME_BYTES: [bool; 256] = [
+    false, false, false, false, false, false, false, false, false, false, false, false, false,
+    false, false, false, false, false, false, false, false, false, false, false, false, false,
+    false, false, false, false, false, false, true, true, false, true, true, true, true, true,
+    true, true, true, true, false, true, true, true, true, true, true, true, true, true, true,
+    true, true, true, true, true, true, true, true, true, true, true, true, true, true, true, true,
+    true, true, true, true, true, true, true, true, true, true, true, true, true, true, true, true,
+    true, true, true, true, true, true, true, true, true, true, true, true, true, true, true, true,
+    true, true, true, true, true, true, true, true, true, true, true, true, true, true, true, true,
+    true, true, true, true, true, true, true, true, false, false, false, false, false, false,
+    false, false, false, false, false, false, false, false, false, false, false, false, false,
+    false, false, false, false, false, false, false, false, false, false, false, false, false,
+    false, false, false, false, false, false, false, false, false, false, false, false, false,
+    false, false, false, false, false, false, false, false, false, false, false, false, false,
+    false, false, false, false, false, false, false, false, false, false, false, false, false,
+    false, false, false, false, false, false, false, false, false, false, false, false, false,
+    false, false, false, false, false, false, false, false, false, false, false, false, false,
+    false, false, false, false, false, false, false, false, false, false, false, false, false,
+    false, false, false, false, false, false, false, false, false, false, false, false, false,
+    false, false, false, false, false, false,
+];
 
 /// Whether a name may hold the byte. One look into the table costs less than four comparisons.
 fn is_name_byte(byte: u8) -> bool
     ensures { result ≡ form.is_name_byte byte }
 {
-    NAME_BYTES[byte as usize] != b','
+    NAME_BYTES[byte as usize]
 }
 
 /// Whether a name may hold each of the bytes. All are looked at, since a way out of the loop would cost

@@ -1,5 +1,6 @@
 //! The tag of a field: 1 to 9 digits without a leading zero, and `=`.
-ghost use Rattle.std.specs.Prelude.{◌≡◌, ◌≢◌, ◌≤◌, ◌+◌, ◌∷◌, ◌++◌, ℕ, List, length, take, drop, position, slice_index, IfSome, IfNone};
+ghost use Rattle.std.specs.Prelude.{◌≡◌, ◌≢◌, ◌≤◌, ◌+◌, ◌∷◌, ◌++◌, ℕ, List, length, take, drop, position, slice_index, IfSome, IfNone, IsTrue, true, false, nat_eq};
+ghost use Rattle.std.specs.Char.{is_ascii_digit};
 ghost use Rattle.std.specs.Fmt.{decimal};
 ghost use Rattle.fix_fields.specs.Forms.{tag_form};
 ghost use Rattle.fix_fields.specs.Grammar.{IsTag};
@@ -42,13 +43,21 @@ fn short_tag_at(bytes: &[u8]) -> Option<(u32, usize)>
     }
 }
 
+/// Whether a tag may begin with the byte: a digit, and not 0.
+fn begins_tag(byte: u8) -> bool
+    ensures digit { IsTrue result → is_ascii_digit byte ≡ true }
+    ensures other { IsTrue result → nat_eq byte 48 ≡ false }
+{
+    b'1' <= byte && byte <= b'9'
+}
+
 /// The same of a tag of two digits.
 fn two_digits(bytes: &[u8]) -> Option<(u32, usize)>
     requires long { 4 ≤ length bytes.now }
     requires here { slice_index bytes.now 2 ≡ 61 }
     ensures { IfSome result (λ t. IsTagAt bytes.now t.0 t.1) }
 {
-    if bytes[0] == b'0' || !bytes[0].is_ascii_digit() || !bytes[1].is_ascii_digit() {
+    if !begins_tag(bytes[0]) || !bytes[1].is_ascii_digit() {
         return None;
     }
     let (tens, ones) = ((bytes[0] - b'0') as u32, (bytes[1] - b'0') as u32);
@@ -61,11 +70,7 @@ fn three_digits(bytes: &[u8]) -> Option<(u32, usize)>
     requires here { slice_index bytes.now 3 ≡ 61 }
     ensures { IfSome result (λ t. IsTagAt bytes.now t.0 t.1) }
 {
-    if bytes[0] == b'0'
-        || !bytes[0].is_ascii_digit()
-        || !bytes[1].is_ascii_digit()
-        || !bytes[2].is_ascii_digit()
-    {
+    if !begins_tag(bytes[0]) || !bytes[1].is_ascii_digit() || !bytes[2].is_ascii_digit() {
         return None;
     }
     let (hundreds, tens) = ((bytes[0] - b'0') as u32, (bytes[1] - b'0') as u32);

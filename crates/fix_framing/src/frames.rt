@@ -118,6 +118,50 @@ fn length_field(text: &[u8]) -> Result<usize, FrameFault>
     }
 }
 
+/// Whether exactly this many digits follow the header, and SOH.
+fn is_length_of(text: &[u8], digits: usize) -> bool
+    requires header { 12 ≤ length text.now }
+    requires some { 0 < digits }
+    requires few { digits ≤ 9 }
+    ensures { IsTrue result → IsLengthField (drop 12 text.now) digits }
+{
+    let rest = &text[12..];
+    digits < rest.len() && rest[digits] == SOH && are_digits(&rest[..digits])
+}
+
+/// The number that these digits behind the header write.
+fn size_of(text: &[u8], digits: usize) -> usize
+    requires { IsLengthField (drop 12 text.now) digits }
+    ensures { result ≡ digits_value 10 (take digits (drop 12 text.now)) }
+{
+    let rest = &text[12..];
+    value_of(&rest[..digits]) as usize
+}
+
+/// The body's length as it is written: how many digits it has, and their value.
+#[derive(Clone, Copy)]
+struct BodyLength {
+    digits: usize,
+    size: usize,
+}
+
+/// Tests 3 to 5 but for the greatest value. Most lengths have three digits, so this number of them is
+/// tried before SOH is sought.
+fn body_length(text: &[u8]) -> Result<BodyLength, FrameFault>
+    requires { 12 ≤ length text.now }
+    ensures ok { IfOk result (λ l. IsLengthField (drop 12 text.now) l.digits
+        × (l.size ≡ digits_value 10 (take l.digits (drop 12 text.now)))) }
+    ensures err { IfErr result (λ fault. first_failing (length_tests text.now) ≡ Some fault) }
+{
+    if is_length_of(text, 3) {
+        let size = size_of(text, 3);
+        return Ok(BodyLength { digits: 3, size });
+    }
+    let digits = length_field(text)?;
+    let size = size_of(text, digits);
+    Ok(BodyLength { digits, size })
+}
+
 /// The places of the body and of the checksum field in a message that passes tests 1 to 5.
 #[derive(Clone, Copy)]
 struct Places {
@@ -133,15 +177,14 @@ fn find_places(text: &[u8]) -> Result<Places, FrameFault>
     ensures most { IfOk result (λ p. p.trailer ≤ 1048598) }
     ensures err { IfErr result (λ fault. first_failing (length_tests text.now) ≡ Some fault) }
 {
-    let digits = length_field(text)?;
-    let size = value_of(&text[12..12 + digits]) as usize;
-    if size > LONGEST_BODY {
+    let length = body_length(text)?;
+    if length.size > LONGEST_BODY {
         return Err(FrameFault::Length);
     }
-    let body = 12 + digits + 1;
+    let body = 12 + length.digits + 1;
     Ok(Places {
         body,
-        trailer: body + size,
+        trailer: body + length.size,
     })
 }
 

@@ -3,16 +3,16 @@ ghost use Rattle.std.specs.Prelude.{◌≡◌, ◌≤◌, ◌∷◌, [], IfOk, I
 ghost use Rattle.fix_fields.specs.Grammar.{TagValue};
 ghost use Rattle.fix_fields.specs.Ranges.{AreFieldsOf, all_shown};
 ghost use Rattle.fix_messages.specs.declared.meanings.MessageFault.{MessageFault};
-ghost use Rattle.fix_messages.specs.Bodies.{body_says, fault_reason, reasoned, report_said};
+ghost use Rattle.fix_messages.specs.Bodies.{body_says, fault_reason, reasoned};
 ghost use Rattle.fix_messages.specs.Steps.{TakesSaid};
 ghost use Rattle.log_source.specs.Collectors.{HasPlace};
 ghost use Rattle.log_source.specs.Handing.{Adds};
 
-use crate::meanings::{MessageFault, Report, ReportMeaning};
+use crate::meanings::{MessageFault, Report};
 use crate::message::Message;
 use crate::order_texts::OrderText;
 use crate::orders::order_text;
-use crate::reports::report_of;
+use crate::reports::{ReportText, report_text};
 use audit_base::faults::{NoMemory, Reason};
 use audit_base::records::{OrderRecord, Traded};
 use fix_fields::field::{Field, FieldFault};
@@ -79,7 +79,9 @@ impl FixEntry for Report {
         body: &[u8],
         fields: &[Field],
     ) -> Result<Result<(), Reason>, NoMemory> {
-        take_report(entries, report_of(body, fields))
+        let mut notes = TagNotes::new();
+        let message = Message::of(body, fields, &mut notes);
+        take_report(entries, report_text(&message))
     }
 
     fn means_sound_records() {}
@@ -96,20 +98,17 @@ fn reason_of(fault: MessageFault) -> Reason
     }
 }
 
-/// Hands on a record. Where the collector does not look at records of its symbol, it is passed over.
-pub(crate) fn hand_on<R: Traded, K: Collector<Entry = R>>(
+/// Makes the record of an order and hands it on. Room for a record is made ready where this is called,
+/// so it stands apart from the test whether the collector looks at the order.
+fn keep_order<K: Collector<Entry = OrderRecord>>(
     entries: &mut K,
-    entry: R,
+    order: &OrderText<'_>,
 ) -> Result<(), NoMemory>
     requires { HasPlace K.has_taken entries.old }
-    ensures { OnOk result (Adds (K.has_taken entries.old) (K.has_taken entries.new) (entry ∷ [])) }
+    ensures { OnOk result
+        (Adds (K.has_taken entries.old) (K.has_taken entries.new) (order.now ∷ [])) }
 {
-    if entries.wants(entry.symbol().bytes()) {
-        entries.take(entry)
-    } else {
-        entries.pass_over();
-        Ok(())
-    }
+    entries.take(order.record())
 }
 
 /// Hands on an order that stands in a message. Its record is made only where the collector looks at it.
@@ -122,7 +121,24 @@ fn hand_on_order<K: Collector<Entry = OrderRecord>>(
         (Adds (K.has_taken entries.old) (K.has_taken entries.new) (order.now ∷ [])) }
 {
     if entries.wants(order.symbol()) {
-        entries.take(order.record())
+        keep_order(entries, order)
+    } else {
+        entries.pass_over();
+        Ok(())
+    }
+}
+
+/// The same of a report.
+fn hand_on_report<K: Collector<Entry = Report>>(
+    entries: &mut K,
+    report: &ReportText<'_>,
+) -> Result<(), NoMemory>
+    requires { HasPlace K.has_taken entries.old }
+    ensures { OnOk result
+        (Adds (K.has_taken entries.old) (K.has_taken entries.new) (report.now ∷ [])) }
+{
+    if entries.wants(report.symbol()) {
+        entries.take(report.record())
     } else {
         entries.pass_over();
         Ok(())
@@ -151,18 +167,19 @@ fn take_order<K: Collector<Entry = OrderRecord>>(
 /// The same of a report.
 fn take_report<K: Collector<Entry = Report>>(
     entries: &mut K,
-    meaning: Result<ReportMeaning, MessageFault>,
+    meaning: Result<Option<ReportText<'_>>, MessageFault>,
 ) -> Result<Result<(), Reason>, NoMemory>
     requires { HasPlace K.has_taken entries.old }
-    ensures { IfOk result (TakesSaid (reasoned (report_said meaning)) (K.has_taken entries.old)
+    ensures { IfOk result (TakesSaid (reasoned meaning.entry) (K.has_taken entries.old)
         (K.has_taken entries.new)) }
 {
     match meaning {
-        Ok(ReportMeaning::Entry(report)) => {
-            hand_on(entries, report)?;
+        Ok(report) => {
+            if let Some(report) = report {
+                hand_on_report(entries, &report)?;
+            }
             Ok(Ok(()))
         }
-        Ok(ReportMeaning::Skip) => Ok(Ok(())),
         Err(fault) => Ok(Err(reason_of(fault))),
     }
 }

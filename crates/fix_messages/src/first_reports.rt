@@ -22,7 +22,7 @@ pub(crate) struct FirstReports {
 }
 
 impl FirstReports {
-    ghost use Rattle.std.specs.Prelude.{◌≤◌, ℕ, List, Some, IfNone, IfSome, OnOk, if◌then◌else◌};
+    ghost use Rattle.std.specs.Prelude.{◌≤◌, ℕ, List, Some, IfNone, IfSome, OnOk, if◌then◌else◌, true, false};
     ghost use Rattle.fix_messages.specs.Drafts.{first_in, is_latest};
     ghost use Rattle.fix_messages.specs.declared.pairs.PlacedReport.{PlacedReport};
 
@@ -36,29 +36,34 @@ impl FirstReports {
         }
     }
 
-    // Whether the report that came last waits, and has the id.
-    fn has_latest(&self, id: &Name) -> bool
-        ensures { result ≡ is_latest self.now.latest id.now }
+    /// The report that came last, if it waits and has the id.
+    pub fn latest_with(&self, id: &Name) -> Option<&PlacedReport>
+        ensures first { IfSome result (λ first. first_in self.now id.now ≡ Some first.now) }
+        ensures none { IfNone result (is_latest self.now.latest id.now ≡ false) }
+        ensures some { IfSome result (λ _. is_latest self.now.latest id.now ≡ true) }
     {
         match &self.latest {
-            None => false,
-            Some(latest) => latest.report.trade == *id,
+            Some(latest) if latest.report.trade == *id => Some(latest),
+            _ => None,
         }
     }
 
-    /// Takes out the report with the id, if one waits.
-    pub fn take(&mut self, id: &Name) -> Option<PlacedReport>
+    /// The report that came last waits no longer.
+    pub fn forget_latest(&mut self)
+        ensures { (id q : List ℕ) → is_latest self.old.latest id ≡ true
+            → first_in self.new q ≡ (if same_name id q then None else first_in self.old q) }
+    {
+        self.latest = None;
+    }
+
+    /// Takes out the report with the id, if one waits, where the report that came last has another id.
+    pub fn take_earlier(&mut self, id: &Name) -> Option<PlacedReport>
+        requires { is_latest self.old.latest id.now ≡ false }
         ensures first { result ≡ first_in self.old id.now }
         ensures others { (q : List ℕ) → first_in self.new q ≡ (if same_name id.now q then None
             else first_in self.old q) }
     {
-        if self.has_latest(id) {
-            let latest = self.latest;
-            self.latest = None;
-            latest
-        } else {
-            self.earlier.take(id)
-        }
+        self.earlier.take(id)
     }
 
     // Moves the report that came last to the earlier ones.
@@ -66,11 +71,12 @@ impl FirstReports {
         ensures nothing { OnOk result (self.new.latest ≡ None) }
         ensures same { OnOk result ((q : List ℕ) → first_in self.new q ≡ first_in self.old q) }
     {
-        let Some(latest) = self.latest else {
-            return Ok(());
+        let added = match &self.latest {
+            Some(latest) => self.earlier.add(latest),
+            None => return Ok(()),
         };
         self.latest = None;
-        self.earlier.add(&latest)
+        added
     }
 
     /// One more report that waits, where none waits with its id.

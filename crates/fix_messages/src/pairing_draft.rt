@@ -1,8 +1,8 @@
 //! Pairing the trade reports of a log as they come.
-ghost use Rattle.std.specs.Prelude.{◌≡◌, ◌∷◌, ◌+◌, [], List, IfOk, OnOk, None, length};
+ghost use Rattle.std.specs.Prelude.{◌≡◌, ◌∷◌, ◌+◌, [], List, IfOk, OnOk, None, false, length};
 ghost use Rattle.log_source.specs.Collectors.{HasPlace};
 ghost use Rattle.log_source.specs.Handing.{Adds};
-ghost use Rattle.fix_messages.specs.Drafts.{IsKnown, IsPairingDraft, TakesPair};
+ghost use Rattle.fix_messages.specs.Drafts.{IsKnown, IsPairingDraft, TakesPair, is_latest};
 ghost use Rattle.fix_messages.specs.Pairings.{IsPairedAs, pairing, trade_of};
 ghost use Rattle.fix_messages.specs.declared.meanings.Report.{Report};
 
@@ -71,7 +71,27 @@ fn take_pair<K: Collector<Entry = TradeRecord>>(
     hand_on_pair(trades, first, second)
 }
 
-// Takes one more report.
+// Takes a report whose id is not that of the report that came last.
+fn take_other<K: Collector<Entry = TradeRecord>>(
+    firsts: &mut FirstReports,
+    trades: &mut K,
+    finding: &mut Option<Finding>,
+    report: &PlacedReport,
+) -> Result<(), NoMemory>
+    requires other { is_latest firsts.old.latest report.now.report.trade ≡ false }
+    requires place { finding.old ≡ None → HasPlace K.has_taken trades.old }
+    ensures { OnOk result ((all : List Report) → report.now.place ≡ length all + 1
+        → IsKnown K.has_taken firsts.old finding.old trades.old all
+        → IsKnown K.has_taken firsts.new finding.new trades.new (report.now.report ∷ all)) }
+{
+    match firsts.take_earlier(&report.report.trade) {
+        None => firsts.add(report),
+        Some(first) => take_pair(trades, finding, &first, report),
+    }
+}
+
+// Takes one more report. Mostly the report that came last is the first one of its trade, and is looked at
+// where it stands.
 fn take_report<K: Collector<Entry = TradeRecord>>(
     firsts: &mut FirstReports,
     trades: &mut K,
@@ -83,10 +103,12 @@ fn take_report<K: Collector<Entry = TradeRecord>>(
         → IsKnown K.has_taken firsts.old finding.old trades.old all
         → IsKnown K.has_taken firsts.new finding.new trades.new (report.now.report ∷ all)) }
 {
-    match firsts.take(&report.report.trade) {
-        None => firsts.add(report),
-        Some(first) => take_pair(trades, finding, &first, report),
-    }
+    let Some(first) = firsts.latest_with(&report.report.trade) else {
+        return take_other(firsts, trades, finding, report);
+    };
+    take_pair(trades, finding, first, report)?;
+    firsts.forget_latest();
+    Ok(())
 }
 
 impl<K: Collector<Entry = TradeRecord>> PairingDraft<K> {

@@ -1,20 +1,83 @@
 //! The messages of a trade log: execution reports of a trade.
 ghost use Rattle.std.specs.Prelude.{◌≡◌};
 ghost use Rattle.fix_fields.specs.Ranges.{AreFieldsOf, all_shown};
+ghost use Rattle.fix_messages.specs.Bodies.{report_entry};
 ghost use Rattle.fix_messages.specs.ReportTable.{trade_report, is_other, is_passed_over, report_meaning};
 
 use crate::meanings::{MessageFault, Report, ReportMeaning};
 use crate::message::Message;
+use crate::name_text::NameText;
 use crate::rows::{
     flag_at, is_copy, is_word, name_at, price_at, quantity_at, side_at, stamp_at, word_at,
 };
 use audit_base::names::Key;
+use audit_base::numbers::{Price, Quantity};
+use audit_base::stamps::Stamp;
+use audit_base::terms::Side;
 use fix_fields::field::Field;
 use fix_fields::notes::TagNotes;
+use std::marker::Model;
+
+/// A report of a trade whose names stand in a message: its record is made only where it is looked at.
+/// Contracts see the record.
+#[derive(Drop)]
+pub(crate) struct ReportText<'m> {
+    trade: NameText<'m>,
+    firm: NameText<'m>,
+    id: NameText<'m>,
+    time: Stamp,
+    symbol: NameText<'m>,
+    side: Side,
+    quantity: Quantity,
+    price: Price,
+}
+
+impl<'m> Model for ReportText<'m> {
+    ghost use Rattle.fix_messages.specs.declared.meanings.Report.{Report};
+
+    ghost Value = { Report };
+
+    ghost view = { λ text. record {
+      trade = text.trade;
+      key = record { firm = text.firm; id = text.id };
+      time = text.time;
+      symbol = text.symbol;
+      side = text.side;
+      quantity = text.quantity;
+      price = text.price;
+    } };
+}
+
+impl<'m> ReportText<'m> {
+    /// The symbol that was traded.
+    pub(crate) fn symbol(&self) -> &[u8]
+        ensures { result.now ≡ self.now.symbol }
+    {
+        self.symbol.bytes()
+    }
+
+    /// The record.
+    pub(crate) fn record(&self) -> Report
+        ensures { result ≡ self.now }
+    {
+        Report {
+            trade: self.trade.name(),
+            key: Key {
+                firm: self.firm.name(),
+                id: self.id.name(),
+            },
+            time: self.time,
+            symbol: self.symbol.name(),
+            side: self.side,
+            quantity: self.quantity,
+            price: self.price,
+        }
+    }
+}
 
 /// Type 8 with execution type F, a report of a trade.
 #[tactic(auto, unfolding(crate::specs::ReportTable::trade_report))]
-fn trade_report(message: &Message<'_>) -> Result<Report, MessageFault>
+fn trade_report<'m>(message: &'m Message<'_>) -> Result<ReportText<'m>, MessageFault>
     ensures { result ≡ trade_report message.now }
 {
     word_at(b"8", 35, message)?;
@@ -28,15 +91,12 @@ fn trade_report(message: &Message<'_>) -> Result<Report, MessageFault>
     let side = side_at(54, message)?;
     let quantity = quantity_at(32, message)?;
     let price = price_at(31, message)?;
-    let key = Key {
-        firm: firm.name(),
-        id: id.name(),
-    };
-    Ok(Report {
-        trade: trade.name(),
-        key,
+    Ok(ReportText {
+        trade,
+        firm,
+        id,
         time,
-        symbol: symbol.name(),
+        symbol,
         side,
         quantity,
         price,
@@ -56,6 +116,21 @@ fn is_passed_over(message: &Message<'_>) -> bool
     !is_word(b"8", message.kind()) || is_copy(message) || is_other(message)
 }
 
+/// The report that a message means, where it stands in the message, or nothing, or the first test that
+/// fails.
+#[tactic(auto, unfolding(crate::specs::ReportTable::report_meaning))]
+pub(crate) fn report_text<'m>(
+    message: &'m Message<'_>,
+) -> Result<Option<ReportText<'m>>, MessageFault>
+    ensures { result ≡ report_entry message.now }
+{
+    if is_passed_over(message) {
+        Ok(None)
+    } else {
+        Ok(Some(trade_report(message)?))
+    }
+}
+
 /// What a message of a trade log means, by its body and the fields that the body has: nothing, a
 /// report of a trade, or the first test that fails of the table of a report. It takes no memory.
 #[tactic(auto, unfolding(crate::specs::ReportTable::report_meaning))]
@@ -68,6 +143,6 @@ pub fn report_of(body: &[u8], fields: &[Field]) -> Result<ReportMeaning, Message
     if is_passed_over(&message) {
         Ok(ReportMeaning::Skip)
     } else {
-        Ok(ReportMeaning::Entry(trade_report(&message)?))
+        Ok(ReportMeaning::Entry(trade_report(&message)?.record()))
     }
 }

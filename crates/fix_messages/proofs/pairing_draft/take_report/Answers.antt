@@ -1,13 +1,14 @@
 use Rattle.std.proofs.Common.{ℕ, ap, sym, subst, ◌∙◌}
 use Rattle.fix_messages.specs.declared.pairs.PlacedReport.{PlacedReport}
 use Rattle.fix_messages.specs.Drafts.{TakesPair}
-use Rattle.fix_messages.proofs.PairLemmas.{known-second, ok-map}
+use Rattle.fix_messages.proofs.PairLemmas.{known-second}
 use Rattle.fix_messages.proofs.pairing_draft.take_report.Goals as goal
 
-pub returns-in-Some : goal.returns-in-Some
-returns-in-Some g c =
-    ok-map c.take_pair.result _ _ (λ _ takes all at known.
-    known-second g.K.Collector.has_taken c.args.firsts.now c.take.new.self c.args.finding.now c.take_pair.new.finding c.args.trades.now c.take_pair.new.trades c.in-Some.first c.args.report.now.report all
-    (sym (known.waits c.args.report.now.report.trade) ∙ sym c.take.ensures.first ∙ c.in-Some.is) known c.take.ensures.others
-    (subst (λ (p : PlacedReport). TakesPair g.K.Collector.has_taken c.args.finding.now c.in-Some.first p c.args.trades.now c.take_pair.new.trades c.take_pair.new.finding) (ap (λ (k : ℕ). record { place = k; report = c.args.report.now.report }) at) takes))
-    c.take_pair.ensures
+pub returns : goal.returns
+returns g c = λ all at known.
+    let first = c.in-Some.first.now in
+    let report = c.args.report.now.report in
+    known-second g.K.Collector.has_taken c.args.firsts.now c.forget_latest.new.self c.args.finding.now c.take_pair.new.finding c.args.trades.now c.take_pair.new.trades first report all
+    (sym (known.waits report.trade) ∙ c.in-Some.ensures.first) known
+    (λ q. c.forget_latest.ensures report.trade q c.in-Some.ensures.some)
+    (subst (λ (p : PlacedReport). TakesPair g.K.Collector.has_taken c.args.finding.now first p c.args.trades.now c.take_pair.new.trades c.take_pair.new.finding) (ap (λ (k : ℕ). record { place = k; report = report }) at) c.in_ok-take_pair.ensures)
