@@ -74,11 +74,13 @@ abbrev pub fitting : List Order → OrderRecord → ℕ → Option ℕ
 fitting orders entry index =
     option_and_then (λ o. only_if (fits_side (side_of entry) (Some o.side)) index) (slice_get orders index)
 
+-- the index of what a key names, if it may be the target of the record
+abbrev pub seen_target : List Order → OrderRecord → Option Seen → Option ℕ
+seen_target orders entry seen = option_and_then (λ s. option_and_then (fitting orders entry) s.index) seen
+
 -- the index of the target of the record, by what its target's key names
 abbrev pub target_among : List Order → (Key → Option Seen) → OrderRecord → Option ℕ
-target_among orders seen entry =
-    option_and_then (λ key. option_and_then (λ s. option_and_then (fitting orders entry) s.index) (seen key))
-    (target_key entry)
+target_among orders seen entry = option_and_then (λ key. seen_target orders entry (seen key)) (target_key entry)
 
 -- 1, 2 and 3 of a record at a place
 abbrev pub duplicate_of : Option Seen → ℕ → Option Finding

@@ -100,7 +100,7 @@ impl History {
         ensures index { result ≡ with_key self.now key.now }
         ensures keys { HaveOwnKeys self.now }
     {
-        let index = self.keys.find(key)?.index?;
+        let index = self.keys.find(&key.firm, &key.id)?.index?;
         Some(index as usize)
     }
 }
