@@ -29,10 +29,11 @@ finding_in h = least_answer (record_finding h) (length h)
 abbrev pub orders_in : List (ℕ × OrderRecord) → List Order
 orders_in h = filter_map (λ e. order_of_record h (e.0, e.1.0, e.1.1)) (enumerate_from 0 h)
 
--- what a record is seen as: its place, and where it is an order its index in the order list
+-- what a record is seen as: its place, its side, and where it is an order its index in the order list
 abbrev pub seen_at : List (ℕ × OrderRecord) → ℕ → Seen
 seen_at h k = record {
   place = record_place h k;
+  side = side_of (record_at h k);
   index = if is_order (record_at h k) then Some (order_index h k) else None;
 }
 
@@ -156,7 +157,11 @@ orders_after orders entry target place =
 
 -- what a record is remembered as, where this many orders came before it
 abbrev pub seen_as : OrderRecord → ℕ → ℕ → Seen
-seen_as entry place orders = record { place = place; index = if is_order entry then Some orders else None }
+seen_as entry place orders = record {
+  place = place;
+  side = side_of entry;
+  index = if is_order entry then Some orders else None;
+}
 
 -- what is kept after a record that has no finding, where its key was added before
 pub record AddsRecord (old new : HistorySoFar) (place : ℕ) (entry : OrderRecord) (target : Option ℕ) : Type 0 where

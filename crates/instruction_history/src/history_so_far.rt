@@ -189,14 +189,13 @@ fn key_of(entry: &OrderRecord) -> &Key
 fn seen_as(entry: &OrderRecord, place: u32, orders: u32) -> Seen
     ensures { result ≡ draft.seen_as entry.now place orders }
 {
-    if entry.is_order() {
-        Seen {
-            place,
-            index: Some(orders),
-        }
+    let side = entry.side();
+    let index = if entry.is_order() {
+        Some(orders)
     } else {
-        Seen { place, index: None }
-    }
+        None
+    };
+    Seen { place, side, index }
 }
 
 /// What is known after some records of a history that have no finding: the order list as they make it,

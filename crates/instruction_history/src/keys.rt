@@ -5,11 +5,12 @@
 //! longer key is kept as it is. The blocks of many keys fit near the processor, where their keys do not.
 ghost use Rattle.std.specs.Prelude.{◌≡◌, ◌+◌, ◌≤◌, None, Some, IfOk, OnOk, if◌then◌else◌, length};
 ghost use Rattle.audit_base.specs.declared.names.Key.{Key};
-ghost use Rattle.instruction_history.specs.Keys.{seen_in, AddsKey};
+ghost use Rattle.instruction_history.specs.Keys.{index_on, seen_in, AddsKey};
 ghost use Rattle.instruction_history.specs.ShortKeys.{is_short, put_at, short_block, short_of};
 
 use audit_base::faults::NoMemory;
 use audit_base::names::{Key, Name};
+use audit_base::terms::Side;
 use indexmap::IndexMap;
 use seeded_hash::seed::HashSeed;
 use std::alloc::Global;
@@ -20,8 +21,20 @@ use std::hash::{Hash, Hasher};
 pub(crate) struct Seen {
     /// The number of its record in the log.
     pub place: u32,
+    /// The side of a new order or a replacement. It stands here so that a trade's order, which lies far
+    /// away, is not looked at for its side.
+    pub side: Option<Side>,
     /// Its index in the order list, where it is a new order or a replacement.
     pub index: Option<u32>,
+}
+
+impl Seen {
+    /// The index in the order list, if it is an order of the side.
+    pub fn index_on(self, side: Side) -> Option<u32>
+        ensures { result ≡ index_on side self }
+    {
+        if self.side? == side { self.index } else { None }
+    }
 }
 
 /// A key whose names have at most 30 bytes together: the sizes of both, their bytes, and zeros.
