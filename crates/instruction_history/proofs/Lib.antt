@@ -11,6 +11,7 @@ pub mod PriceLemmas
 pub mod PushLemmas
 pub mod RecordLemmas
 pub mod ShortKeyLemmas
+pub mod SideLemmas
 pub mod SoFarLemmas
 pub mod StepLemmas
 pub mod WellFormedLemmas

@@ -8,7 +8,7 @@ use Rattle.audit_base.specs.declared.findings.Finding.{Finding}
 use Rattle.audit_base.specs.declared.records.OrderRecord.{OrderRecord}
 use Rattle.audit_base.specs.Least.{least_answer, least_with, only_if}
 use Rattle.audit_base.specs.Orders.{same_key}
-use Rattle.audit_base.specs.Histories.{key_of, is_order, ends, missing_entry, record_at, record_place, key_at, record_finding, is_placed, cancelled_of, order_index, replaced_at}
+use Rattle.audit_base.specs.Histories.{key_of, is_order, side_of, ends, missing_entry, record_at, record_place, key_at, record_finding, is_placed, cancelled_of, order_index, replaced_at}
 use Rattle.instruction_history.specs.Draft.{finding_in, seen_at, named_in}
 use Rattle.instruction_history.specs.declared.keys.Seen.{Seen}
 use Rattle.instruction_history.proofs.FirstLemmas.{least_answer-same, least_with-same, least_with-some, option_or-parts}
@@ -43,7 +43,7 @@ pub seen_at-push : (h : Records) (e : ℕ × OrderRecord) (k : ℕ) → k < leng
 seen_at-push h e k lt =
     let entry : get_or (h ++ e ∷ []) k missing_entry ≡ get_or h k missing_entry = get_or_append_left h (e ∷ []) missing_entry k lt in
     let index : order_index (h ++ e ∷ []) k ≡ order_index h k = order_index-push h e k (omega arith) in
-    let shown : (ℕ × OrderRecord) → ℕ → Seen = λ x i. record { place = x.0; index = if is_order x.1 then Some i else None } in
+    let shown : (ℕ × OrderRecord) → ℕ → Seen = λ x i. record { place = x.0; side = side_of x.1; index = if is_order x.1 then Some i else None } in
     ap (λ (x : ℕ × OrderRecord). shown x (order_index (h ++ e ∷ []) k)) entry ∙ ap (shown (get_or h k missing_entry)) index
 
 -- a first number below n, or else n

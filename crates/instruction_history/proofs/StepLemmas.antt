@@ -147,10 +147,10 @@ finding-step h e =
     ∙ ap (λ (o : Option Finding). first_of (duplicate_of (named_in h (key_of e.1)) e.0 ∷ back_of (last_from h (length h)) (time_of e.1) e.0 ∷ o ∷ [])) (unknown-step h e)
 
 -- what the record is seen as
-pub seen-step : (h : Records) (e : ℕ × OrderRecord) → seen_at (h ++ e ∷ []) (length h) ≡ record { place = e.0; index = if is_order e.1 then Some (length (orders_in h)) else None }
+pub seen-step : (h : Records) (e : ℕ × OrderRecord) → seen_at (h ++ e ∷ []) (length h) ≡ record { place = e.0; side = side_of e.1; index = if is_order e.1 then Some (length (orders_in h)) else None }
 seen-step h e =
     let index : order_index (h ++ e ∷ []) (length h) ≡ length (orders_in h) = order_index-push h e (length h) (omega arith) ∙ sym (length-orders_in h) in
-    let shown : (ℕ × OrderRecord) → ℕ → Seen = λ x i. record { place = x.0; index = if is_order x.1 then Some i else None } in
+    let shown : (ℕ × OrderRecord) → ℕ → Seen = λ x i. record { place = x.0; side = side_of x.1; index = if is_order x.1 then Some i else None } in
     ap (λ (x : ℕ × OrderRecord). shown x (order_index (h ++ e ∷ []) (length h))) (pushed-at h e) ∙ ap (shown e) index
 
 -- the record is the last one

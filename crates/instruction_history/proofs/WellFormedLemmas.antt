@@ -4,12 +4,14 @@ use Rattle.std.specs.Prelude.{if◌then◌else◌, option_and_then}
 use Rattle.std.proofs.lemmas.List.{take_all}
 use Rattle.audit_base.specs.declared.orders.Order.{Order}
 use Rattle.audit_base.specs.declared.records.OrderRecord.{OrderRecord}
-use Rattle.audit_base.specs.Orders.{same_name, with_key, IsOrderList, HaveOwnKeys}
+use Rattle.audit_base.specs.Orders.{same_name, with_key, on_side_with_key, IsOrderList, HaveOwnKeys}
 use Rattle.audit_base.specs.Histories.{symbol_of, history, order_list, missing_entry, WellFormed, Regular}
 use Rattle.audit_base.proofs.HistoryLemmas.{order_list-regular, order_list-is, order_list-keys}
 use Rattle.instruction_history.specs.declared.history_so_far.HistorySoFar.{HistorySoFar}
 use Rattle.instruction_history.specs.Draft.{IsHistorySoFar, finding_in, entry_of}
 use Rattle.instruction_history.specs.History.{IsHistory}
+use Rattle.instruction_history.specs.Keys.{index_on}
+use Rattle.instruction_history.proofs.SideLemmas.{sided}
 use Rattle.instruction_history.proofs.NameLemmas.{IsNamed, named-none, named-push}
 use Rattle.instruction_history.proofs.HistoryLemmas.{history-more}
 use Rattle.instruction_history.proofs.PushLemmas.{clean-before}
@@ -51,5 +53,9 @@ history-is symbol entries d few is =
       regular = subst (λ (orders : List Order). Regular orders) (sym same) (order_list-regular symbol entries is.clean);
       numbers = is.numbers;
       own_keys = subst (λ (orders : List Order). HaveOwnKeys orders) (sym same) (order_list-keys symbol entries is.clean);
+      sided = λ side key.
+          ap (option_and_then (index_on side)) (is.keys key)
+          ∙ sided (history symbol entries) side key (order_list-keys symbol entries is.clean) ((named-all symbol entries is.clean).named key)
+          ∙ ap (λ (orders : List Order). on_side_with_key orders side key) (sym same);
       named = λ key. ap (option_and_then (λ s. s.index)) (is.keys key) ∙ (named-all symbol entries is.clean).named key ∙ ap (λ (orders : List Order). with_key orders key) (sym same);
     }

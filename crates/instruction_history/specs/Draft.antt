@@ -29,10 +29,11 @@ finding_in h = least_answer (record_finding h) (length h)
 abbrev pub orders_in : List (ℕ × OrderRecord) → List Order
 orders_in h = filter_map (λ e. order_of_record h (e.0, e.1.0, e.1.1)) (enumerate_from 0 h)
 
--- what a record is seen as: its place, and where it is an order its index in the order list
+-- what a record is seen as: its place, its side, and where it is an order its index in the order list
 abbrev pub seen_at : List (ℕ × OrderRecord) → ℕ → Seen
 seen_at h k = record {
   place = record_place h k;
+  side = side_of (record_at h k);
   index = if is_order (record_at h k) then Some (order_index h k) else None;
 }
 
@@ -74,11 +75,13 @@ abbrev pub fitting : List Order → OrderRecord → ℕ → Option ℕ
 fitting orders entry index =
     option_and_then (λ o. only_if (fits_side (side_of entry) (Some o.side)) index) (slice_get orders index)
 
+-- the index of what a key names, if it may be the target of the record
+abbrev pub seen_target : List Order → OrderRecord → Option Seen → Option ℕ
+seen_target orders entry seen = option_and_then (λ s. option_and_then (fitting orders entry) s.index) seen
+
 -- the index of the target of the record, by what its target's key names
 abbrev pub target_among : List Order → (Key → Option Seen) → OrderRecord → Option ℕ
-target_among orders seen entry =
-    option_and_then (λ key. option_and_then (λ s. option_and_then (fitting orders entry) s.index) (seen key))
-    (target_key entry)
+target_among orders seen entry = option_and_then (λ key. seen_target orders entry (seen key)) (target_key entry)
 
 -- 1, 2 and 3 of a record at a place
 abbrev pub duplicate_of : Option Seen → ℕ → Option Finding
@@ -154,7 +157,11 @@ orders_after orders entry target place =
 
 -- what a record is remembered as, where this many orders came before it
 abbrev pub seen_as : OrderRecord → ℕ → ℕ → Seen
-seen_as entry place orders = record { place = place; index = if is_order entry then Some orders else None }
+seen_as entry place orders = record {
+  place = place;
+  side = side_of entry;
+  index = if is_order entry then Some orders else None;
+}
 
 -- what is kept after a record that has no finding, where its key was added before
 pub record AddsRecord (old new : HistorySoFar) (place : ℕ) (entry : OrderRecord) (target : Option ℕ) : Type 0 where

@@ -1,8 +1,9 @@
 -- What the keys of a history name, as two maps hold it.
-use Rattle.std.specs.Prelude.{◌≡◌, Option, Some, None, if◌then◌else◌}
+use Rattle.std.specs.Prelude.{◌≡◌, ℕ, Option, Some, None, option_and_then, if◌then◌else◌}
 use Rattle.indexmap.specs.IndexMap.{get}
 use Rattle.audit_base.specs.declared.names.Key.{Key}
-use Rattle.audit_base.specs.Orders.{same_key}
+use Rattle.audit_base.specs.declared.terms.Side.{Side}
+use Rattle.audit_base.specs.Orders.{same_key, same_side}
 use Rattle.instruction_history.specs.ShortKeys.{same_block, short_of}
 use Rattle.instruction_history.specs.declared.keys.Keys.{Keys}
 use Rattle.instruction_history.specs.declared.keys.Seen.{Seen}
@@ -21,3 +22,7 @@ seen_in keys key = seen_by keys key (short_of key)
 abbrev pub AddsKey : Keys → Keys → Key → Seen → Type 0
 AddsKey old new key seen =
     (other : Key) → seen_in new other ≡ (if same_key key other then Some seen else seen_in old other)
+
+-- the index of what is seen, if it is an order of the side
+abbrev pub index_on : Side → Seen → Option ℕ
+index_on side seen = option_and_then (λ own. if same_side own side then seen.index else None) seen.side

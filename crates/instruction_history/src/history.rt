@@ -1,7 +1,7 @@
 //! The history of a symbol, and its order list.
 ghost use Rattle.std.specs.Prelude.{◌≡◌, ◌<◌, ◌^◌, Some, IfOk, OnOk, length};
 ghost use Rattle.audit_base.specs.Histories.{history_finding, order_list, WellFormed, Regular};
-ghost use Rattle.audit_base.specs.Orders.{with_key, IsOrderList, AreOrders, HaveOwnKeys};
+ghost use Rattle.audit_base.specs.Orders.{with_key, on_side_with_key, IsOrderList, AreOrders, HaveOwnKeys};
 ghost use Rattle.instruction_history.specs.Answers.{IfFound, IsAnswer, IsExact};
 ghost use Rattle.instruction_history.specs.MarketPrices.{AreRecordsMarketPriced, AreMarketPriced};
 
@@ -12,6 +12,7 @@ use super::keys::Keys;
 use audit_base::names::{Key, Name};
 use audit_base::orders::Order;
 use audit_base::records::OrderRecord;
+use audit_base::terms::Side;
 use std::alloc::Global;
 use std::marker::{Brand, Model};
 
@@ -100,7 +101,16 @@ impl History {
         ensures index { result ≡ with_key self.now key.now }
         ensures keys { HaveOwnKeys self.now }
     {
-        let index = self.keys.find(key)?.index?;
+        let index = self.keys.find(&key.firm, &key.id)?.index?;
+        Some(index as usize)
+    }
+
+    /// The index in the order list of the order of the side with the key; None exactly where none of that
+    /// side has it. Takes no memory.
+    pub fn find_on_side(&self, side: Side, key: &Key) -> Option<usize>
+        ensures { result ≡ on_side_with_key self.now side key.now }
+    {
+        let index = self.keys.find(&key.firm, &key.id)?.index_on(side)?;
         Some(index as usize)
     }
 }

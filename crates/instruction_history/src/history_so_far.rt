@@ -1,7 +1,9 @@
 //! What is known of a history after some of its records, record by record.
-ghost use Rattle.std.specs.Prelude.{◌≡◌, ◌<◌, ◌^◌, [], List, vec_len, length, IfSome, IfOk, OnOk, Some};
+ghost use Rattle.std.specs.Prelude.{◌≡◌, ◌<◌, ◌^◌, [], ◌∷◌, ◌++◌, List, vec_len, length, IfSome, IfOk, OnOk, Some};
 ghost use Rattle.std.specs.Option.{ForSome};
+ghost use Rattle.audit_base.specs.Histories.{key_of};
 ghost use Rattle.audit_base.specs.Orders.{AreOrders};
+ghost use Rattle.audit_base.specs.declared.orders.Order.{Order};
 ghost use Rattle.instruction_history.specs.Draft as draft;
 ghost use Rattle.instruction_history.specs.Keys.{seen_in};
 
@@ -9,6 +11,7 @@ use super::findings::{Last, finding_of};
 use super::keys::{Keys, Seen};
 use audit_base::faults::NoMemory;
 use audit_base::findings::Finding;
+use audit_base::names::{Key, Name};
 use audit_base::orders::Order;
 use audit_base::records::OrderRecord;
 use audit_base::terms::Life;
@@ -28,15 +31,37 @@ fn fitting(orders: &[Order], entry: &OrderRecord, index: usize) -> Option<usize>
     }
 }
 
+/// The index of the order that has the key of these names, if it may be the target of the record.
+fn named_target(
+    orders: &[Order],
+    keys: &Keys,
+    entry: &OrderRecord,
+    firm: &Name,
+    id: &Name,
+) -> Option<usize>
+    ensures value { let seen = seen_in keys.now (record { firm = firm.now; id = id.now }) in
+        result ≡ draft.seen_target orders.now entry.now seen }
+    ensures in_range { IfSome result (λ i. i < length orders.now) }
+{
+    let seen = keys.find(firm, id)?;
+    let index = seen.index?;
+    fitting(orders, entry, index as usize)
+}
+
 /// The index of the target of the record.
 fn target_of(orders: &[Order], keys: &Keys, entry: &OrderRecord) -> Option<usize>
     ensures value { result ≡ draft.target_among orders.now (seen_in keys.now) entry.now }
     ensures in_range { IfSome result (λ i. i < length orders.now) }
 {
-    let key = entry.target_key()?;
-    let seen = keys.find(&key)?;
-    let index = seen.index?;
-    fitting(orders, entry, index as usize)
+    match entry {
+        OrderRecord::New { .. } => None,
+        OrderRecord::Cancel { key, target, .. } => {
+            named_target(orders, keys, entry, &key.firm, target)
+        }
+        OrderRecord::Replace { key, target, .. } => {
+            named_target(orders, keys, entry, &key.firm, target)
+        }
+    }
 }
 
 /// Ends the order at an index, unless an earlier record did.
@@ -74,16 +99,33 @@ fn own_end(orders: &[Order], target: Option<usize>, place: u32) -> Option<u32>
     }
 }
 
-/// The order of a new order or a replacement.
-fn order_of(
-    orders: &[Order],
+/// One more order.
+fn push(orders: &mut Vec<Order>, order: Order) -> Result<(), NoMemory>
+    ensures items { OnOk result (orders.new.items ≡ orders.old.items ++ order ∷ []) }
+    ensures numbers { AreOrders orders.old.items → AreOrders orders.new.items }
+{
+    // These calls tell the proof the ranges that each price and quantity keeps.
+    let _ = order.quantity.value();
+    let _ = order.limit.units();
+    orders.push(order)?;
+    Ok(())
+}
+
+/// Adds the order of a new order or a replacement. `own_end` is where a replacement ends whose target was
+/// gone before. Each order is written where it stays, since a copy of its key costs as much as a search.
+fn push_order(
+    orders: &mut Vec<Order>,
     entry: &OrderRecord,
     target: Option<usize>,
+    own_end: Option<u32>,
     place: u32,
-) -> Option<Order>
-    ensures { result ≡ draft.order_made orders.now entry.now target place }
+) -> Result<(), NoMemory>
+    ensures items { (before : List Order) → own_end ≡ draft.own_end before target place →
+        let order = draft.order_made before entry.now target place in
+        OnOk result (orders.new.items ≡ draft.pushed orders.old.items order) }
+    ensures numbers { AreOrders orders.old.items → AreOrders orders.new.items }
 {
-    match *entry {
+    match entry {
         OrderRecord::New {
             key,
             time,
@@ -92,18 +134,21 @@ fn order_of(
             quantity,
             price,
             life,
-        } => Some(Order {
-            place,
-            key,
-            time,
-            side,
-            quantity,
-            limit: price,
-            cancelled: None,
-            target: None,
-            life,
-        }),
-        OrderRecord::Cancel { .. } => None,
+        } => push(
+            orders,
+            Order {
+                place,
+                key: *key,
+                time: *time,
+                side: *side,
+                quantity: *quantity,
+                limit: *price,
+                cancelled: None,
+                target: None,
+                life: *life,
+            },
+        ),
+        OrderRecord::Cancel { .. } => Ok(()),
         OrderRecord::Replace {
             key,
             time,
@@ -112,47 +157,45 @@ fn order_of(
             side,
             quantity,
             price,
-        } => Some(Order {
-            place,
-            key,
-            time,
-            side,
-            quantity,
-            limit: price,
-            cancelled: own_end(orders, target, place),
-            target,
-            life: Life::Rests,
-        }),
+        } => push(
+            orders,
+            Order {
+                place,
+                key: *key,
+                time: *time,
+                side: *side,
+                quantity: *quantity,
+                limit: *price,
+                cancelled: own_end,
+                target,
+                life: Life::Rests,
+            },
+        ),
     }
 }
 
-/// One more order.
-fn push(orders: &mut Vec<Order>, order: Option<Order>) -> Result<(), NoMemory>
-    ensures items { OnOk result (orders.new.items ≡ draft.pushed orders.old.items order) }
-    ensures numbers { AreOrders orders.old.items → AreOrders orders.new.items }
+/// The key of a record.
+fn key_of(entry: &OrderRecord) -> &Key
+    ensures { result.now ≡ key_of entry.now }
 {
-    let Some(order) = order else {
-        return Ok(());
-    };
-    // These calls tell the proof the ranges that each price and quantity keeps.
-    let _ = order.quantity.value();
-    let _ = order.limit.units();
-    orders.push(order)?;
-    Ok(())
+    match entry {
+        OrderRecord::New { key, .. } => key,
+        OrderRecord::Cancel { key, .. } => key,
+        OrderRecord::Replace { key, .. } => key,
+    }
 }
 
 /// What a record is remembered as, where `orders` orders came before it.
 fn seen_as(entry: &OrderRecord, place: u32, orders: u32) -> Seen
     ensures { result ≡ draft.seen_as entry.now place orders }
 {
-    if entry.is_order() {
-        Seen {
-            place,
-            index: Some(orders),
-        }
+    let side = entry.side();
+    let index = if entry.is_order() {
+        Some(orders)
     } else {
-        Seen { place, index: None }
-    }
+        None
+    };
+    Seen { place, side, index }
 }
 
 /// What is known after some records of a history that have no finding: the order list as they make it,
@@ -187,7 +230,7 @@ impl HistorySoFar {
         let target = target_of(&self.orders, &self.keys, entry);
         let seen = seen_as(entry, place, self.orders.len() as u32);
         // One look-up tells what the key named and adds it.
-        let earlier = self.keys.add(entry.key(), seen)?;
+        let earlier = self.keys.add(key_of(entry), seen)?;
         if let Some(finding) = finding_of(earlier, self.last, entry, target, place) {
             return Ok(Some(finding));
         }
@@ -205,9 +248,9 @@ impl HistorySoFar {
         requires { ForSome target (λ t. t < vec_len self.old.orders) }
         ensures { OnOk result (AddsRecord self.old self.new place entry.now target) }
     {
-        let order = order_of(&self.orders, entry, target, place);
+        let own_end = own_end(&self.orders, target, place);
         end_target(&mut self.orders, target, place);
-        push(&mut self.orders, order)?;
+        push_order(&mut self.orders, entry, target, own_end, place)?;
         self.last = Some(Last {
             place,
             time: entry.time(),

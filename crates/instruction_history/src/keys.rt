@@ -5,11 +5,12 @@
 //! longer key is kept as it is. The blocks of many keys fit near the processor, where their keys do not.
 ghost use Rattle.std.specs.Prelude.{◌≡◌, ◌+◌, ◌≤◌, None, Some, IfOk, OnOk, if◌then◌else◌, length};
 ghost use Rattle.audit_base.specs.declared.names.Key.{Key};
-ghost use Rattle.instruction_history.specs.Keys.{seen_in, AddsKey};
+ghost use Rattle.instruction_history.specs.Keys.{index_on, seen_in, AddsKey};
 ghost use Rattle.instruction_history.specs.ShortKeys.{is_short, put_at, short_block, short_of};
 
 use audit_base::faults::NoMemory;
-use audit_base::names::Key;
+use audit_base::names::{Key, Name};
+use audit_base::terms::Side;
 use indexmap::IndexMap;
 use seeded_hash::seed::HashSeed;
 use std::alloc::Global;
@@ -20,8 +21,20 @@ use std::hash::{Hash, Hasher};
 pub(crate) struct Seen {
     /// The number of its record in the log.
     pub place: u32,
+    /// The side of a new order or a replacement. It stands here so that a trade's order, which lies far
+    /// away, is not looked at for its side.
+    pub side: Option<Side>,
     /// Its index in the order list, where it is a new order or a replacement.
     pub index: Option<u32>,
+}
+
+impl Seen {
+    /// The index in the order list, if it is an order of the side.
+    pub fn index_on(self, side: Side) -> Option<u32>
+        ensures { result ≡ index_on side self }
+    {
+        if self.side? == side { self.index } else { None }
+    }
 }
 
 /// A key whose names have at most 30 bytes together: the sizes of both, their bytes, and zeros.
@@ -65,12 +78,12 @@ fn block_of(firm: &[u8], id: &[u8]) -> [u8; 32]
     block
 }
 
-/// The key as a short one, where it is short.
-fn short_of(key: &Key) -> Option<ShortKey>
-    ensures { result ≡ short_of key.now }
+/// The key of these names as a short one, where it is short.
+fn short_of(firm: &Name, id: &Name) -> Option<ShortKey>
+    ensures { result ≡ short_of (record { firm = firm.now; id = id.now }) }
 {
-    let firm = key.firm.bytes();
-    let id = key.id.bytes();
+    let firm = firm.bytes();
+    let id = id.bytes();
     if firm.len() + id.len() <= 30 {
         Some(ShortKey {
             block: block_of(firm, id),
@@ -99,24 +112,31 @@ impl Keys {
         }
     }
 
-    /// What the key names, if a record has it.
-    pub fn find(&self, key: &Key) -> Option<Seen>
-        ensures { result ≡ seen_in self.now key.now }
+    /// What the key of these names names, if a record has it. A key is a copy of both names, which only a
+    /// long one needs.
+    pub fn find(&self, firm: &Name, id: &Name) -> Option<Seen>
+        ensures { result ≡ seen_in self.now (record { firm = firm.now; id = id.now }) }
     {
-        match short_of(key) {
+        match short_of(firm, id) {
             Some(short) => self.short.get(&short).copied(),
-            None => self.long.get(key).copied(),
+            None => {
+                let key = Key {
+                    firm: *firm,
+                    id: *id,
+                };
+                self.long.get(&key).copied()
+            }
         }
     }
 
     /// One more key, and what it named before. Where it named something, it names the new record now.
-    pub fn add(&mut self, key: Key, seen: Seen) -> Result<Option<Seen>, NoMemory>
-        ensures earlier { IfOk result (λ earlier. earlier ≡ seen_in self.old key) }
-        ensures adds { OnOk result (AddsKey self.old self.new key seen) }
+    pub fn add(&mut self, key: &Key, seen: Seen) -> Result<Option<Seen>, NoMemory>
+        ensures earlier { IfOk result (λ earlier. earlier ≡ seen_in self.old key.now) }
+        ensures adds { OnOk result (AddsKey self.old self.new key.now seen) }
     {
-        match short_of(&key) {
+        match short_of(&key.firm, &key.id) {
             Some(short) => Ok(self.short.insert(short, seen)?),
-            None => Ok(self.long.insert(key, seen)?),
+            None => Ok(self.long.insert(*key, seen)?),
         }
     }
 }

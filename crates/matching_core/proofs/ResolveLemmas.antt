@@ -1,25 +1,22 @@
 -- Trades of a symbol, with one more at their end: their findings, their ids and their deals.
-use Rattle.std.proofs.Common.{◌≡◌, ◌<◌, ◌+◌, ℕ, zero, suc, Bool, true, false, Option, None, Some, List, [], ◌∷◌, ◌++◌, length, get_or, map, refl, sym, ap, ◌∙◌, arith, length-append}
-use Rattle.std.specs.Prelude.{◌&&◌, filter, option_map, option_and_then, slice_get, if◌then◌else◌}
+use Rattle.std.proofs.Common.{◌≡◌, ◌<◌, ◌+◌, ℕ, suc, Bool, true, false, Option, None, Some, List, [], ◌∷◌, ◌++◌, length, get_or, map, refl, sym, ap, ◌∙◌, arith, length-append}
+use Rattle.std.specs.Prelude.{filter, option_map, if◌then◌else◌}
 use Rattle.std.specs.List.{enumerate_from}
 use Rattle.std.specs.Option.{option_or}
 use Rattle.std.proofs.lemmas.List.{get_or_append_left, get_or_at}
 use Rattle.std.proofs.lemmas.List.Elements.{filter-append}
-use Rattle.std.proofs.lemmas.Map.Entries.{option_filter}
-use Rattle.audit_base.specs.declared.names.Key.{Key}
-use Rattle.audit_base.specs.declared.terms.Side.{Side}
 use Rattle.audit_base.specs.declared.records.TradeRecord.{TradeRecord}
 use Rattle.audit_base.specs.declared.orders.Order.{Order}
 use Rattle.audit_base.specs.declared.orders.Deal.{Deal}
 use Rattle.audit_base.specs.declared.findings.Finding.{Finding}
 use Rattle.audit_base.specs.Least.{least_answer, least_with, only_if}
-use Rattle.audit_base.specs.Orders.{same_name, same_key, same_side, order_at, side_at, missing_order, with_key, on_side_with_key, HaveOwnKeys}
+use Rattle.audit_base.specs.Orders.{same_name}
 use Rattle.audit_base.specs.Trades.{trades_of, missing_trade, trade_at, trade_place, duplicate_trade, unknown_order, unsound_trade, deal_of}
-use Rattle.instruction_history.proofs.FirstLemmas.{least_answer-same, least_with-same, least_answer-stays, least_with-some, least_with-both, option_or-none, option_or-nothing}
+use Rattle.instruction_history.proofs.FirstLemmas.{least_answer-same, least_with-same, least_answer-stays, least_with-some, option_or-none, option_or-nothing}
 use Rattle.instruction_history.proofs.HistoryLemmas.{enumerate_from-append}
-use Rattle.instruction_history.proofs.KeyLemmas.{same_name-is, same_key-is}
+use Rattle.instruction_history.proofs.KeyLemmas.{same_name-is}
 use Rattle.matching_core.specs.declared.sound_deals.SoundDeals.{SoundDeals}
-use Rattle.matching_core.specs.DealsSoFar.{first_in, of_side, duplicate_of, unknown_in, finding_in, first_with, IsResolved, AddsDeal, AddsId, entry_of}
+use Rattle.matching_core.specs.DealsSoFar.{first_in, duplicate_of, unknown_in, finding_in, first_with, IsResolved, AddsDeal, AddsId, entry_of}
 use Rattle.matching_core.specs.declared.trade_ids.TradeIds.{TradeIds}
 
 abbrev pub Listed : Type 0
@@ -166,37 +163,6 @@ trade-taken orders h r new ids place t deal is unseen known made adds takes = re
         let none : first_with h id ≡ None = sym (is.ids id) ∙ ap (first_in r.ids) (sym own) ∙ unseen in
         sym (option_or-none (first_with h id) (Some place) none)
     go id false e = is.ids id ∙ sym (option_or-nothing (first_with h id))
-
--- the key's order of a side, where no two orders have one key
-
-side-filter : (orders : List Order) (side : Side) (o : Option ℕ) → ((i : ℕ) → o ≡ Some i → i < length orders) → option_and_then (of_side orders side) o ≡ option_filter (λ i. same_side side (side_at orders i)) o
-side-filter orders side None inside = refl
-side-filter orders side (Some i) inside = at orders i (inside i refl)
-  where
-    at : (orders : List Order) (i : ℕ) → i < length orders → of_side orders side i ≡ option_filter (λ i. same_side side (side_at orders i)) (Some i)
-    at orders i lt = ap (option_and_then (λ (o : Order). only_if (same_side side o.side) i)) (got orders i lt)
-      where
-        got : (orders : List Order) (i : ℕ) → i < length orders → slice_get orders i ≡ Some (order_at orders i)
-        got [] i lt = absurd (omega arith)
-        got (o ∷ orders) zero lt = refl
-        got (o ∷ orders) (suc i) lt = got orders i (omega arith)
-
-and-swap : (a b : Bool) → (a && b) ≡ (b && a)
-and-swap true true = refl
-and-swap true false = refl
-and-swap false true = refl
-and-swap false false = refl
-
-pub side-of_key : (orders : List Order) (side : Side) (key : Key) → HaveOwnKeys orders → option_and_then (of_side orders side) (with_key orders key) ≡ on_side_with_key orders side key
-side-of_key orders side key distinct =
-    let first = least_with (λ i. same_key (order_at orders i).key key) (length orders) in
-    side-filter orders side first (λ i e. (least_with-some _ (length orders) i e).within)
-    ∙ sym (least_with-both (λ i. same_key (order_at orders i).key key) (λ i. same_side side (side_at orders i)) (length orders) apart)
-    ∙ least_with-same _ _ (length orders) (λ i lt. and-swap (same_key (order_at orders i).key key) (same_side side (side_at orders i)))
-  where
-    apart : (i j : ℕ) → i < j → j < length orders → same_key (order_at orders i).key key ≡ true → same_key (order_at orders j).key key ≡ true → ⊥
-    apart i j less lt one two =
-        distinct i j missing_order less lt (same_key-is _ _ one ∙ sym (same_key-is _ _ two))
 
 -- the trades of the first records, and one record more
 

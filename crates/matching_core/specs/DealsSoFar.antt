@@ -1,5 +1,5 @@
 -- The trades of a symbol one by one: what is known after some of them.
-use Rattle.std.specs.Prelude.{◌≡◌, ℕ, List, [], ◌∷◌, ◌++◌, Option, None, Some, is_none, map, option_map, option_and_then, length, slice_get, if◌then◌else◌}
+use Rattle.std.specs.Prelude.{◌≡◌, ℕ, List, [], ◌∷◌, ◌++◌, Option, None, Some, is_none, map, option_map, length, if◌then◌else◌}
 use Rattle.std.specs.Option.{option_or}
 use Rattle.indexmap.specs.IndexMap.{get}
 use Rattle.audit_base.specs.declared.names.Key.{Key}
@@ -14,12 +14,14 @@ use Rattle.audit_base.specs.declared.findings.Finding.{Finding}
 use Rattle.audit_base.specs.declared.findings.Shown.TheVariants as shown
 use Rattle.audit_base.specs.Deals.{AreDeals}
 use Rattle.audit_base.specs.Least.{least_answer, least_with, only_if}
-use Rattle.audit_base.specs.Orders.{same_name, same_side, on_side_with_key}
+use Rattle.audit_base.specs.Orders.{same_name, on_side_with_key}
 use Rattle.audit_base.specs.Shows.{found, show_place}
 use Rattle.audit_base.specs.Trades.{trades_of, trade_at, trade_place, duplicate_trade, unknown_order, deal_of}
 use Rattle.matching_core.specs.declared.deals_so_far.DealsSoFar.{DealsSoFar}
 use Rattle.matching_core.specs.declared.sound_deals.SoundDeals.{SoundDeals}
 use Rattle.matching_core.specs.declared.trade_ids.TradeIds.{TradeIds}
+use Rattle.matching_core.specs.declared.unsound.Unsound.{Unsound}
+use Rattle.matching_core.specs.declared.unsound.Unsound.TheVariants.{Repeated, Unknown}
 
 -- Ids and keys.
 
@@ -32,10 +34,6 @@ abbrev pub AddsId : TradeIds → TradeIds → List ℕ → ℕ → Type 0
 AddsId old new id place =
     (other : List ℕ) → first_in new other ≡ (if same_name id other then Some place else first_in old other)
 
--- an index, if the order there is of the side
-abbrev pub of_side : List Order → Side → ℕ → Option ℕ
-of_side orders side index = option_and_then (λ o. only_if (same_side side o.side) index) (slice_get orders index)
-
 -- Findings 5 and 6 of a trade, by what is known of those before it.
 
 -- 5, by the place of the earlier trade
@@ -45,6 +43,20 @@ duplicate_of place first = found property.DuplicateTrade which.Trades place (sho
 -- 6, by the key that no order of the side has
 abbrev pub unknown_of : Side → Key → ℕ → Finding
 unknown_of side key place = found property.UnknownOrder which.Trades place (Some (shown.Unknown side key)) None
+
+-- the key that a trade names on a side
+abbrev pub key_on : Side → TradeRecord → Key
+key_on Buy trade = trade.buy
+key_on Sell trade = trade.sell
+
+-- 6 of a trade at a place, by the side of which no order has the key that it names
+abbrev pub unknown_on : Side → ℕ → TradeRecord → Finding
+unknown_on side place trade = unknown_of side (key_on side trade) place
+
+-- the finding of a trade at a place, by why it is not sound
+abbrev pub finding_of : ℕ → TradeRecord → Unsound → Finding
+finding_of place trade (Repeated first) = duplicate_of place first
+finding_of place trade (Unknown side) = unknown_on side place trade
 
 -- 6 of a trade with its place
 abbrev pub unknown_in : List Order → ℕ × TradeRecord → Option Finding

@@ -76,8 +76,8 @@ impl<M: AuditedHistory> DealsSoFar<M> {
         if !is_of(trade, symbol) {
             return Ok(());
         }
-        if let Some(finding) = self.sound.take(history, trade, self.count)? {
-            self.finding = Some(finding);
+        if let Some(unsound) = self.sound.take(history, trade, self.count)? {
+            self.finding = Some(unsound.finding(trade, self.count));
         }
         Ok(())
     }

@@ -15,3 +15,4 @@ pub mod resolving;
 mod sound_deals;
 pub mod totals;
 mod trade_ids;
+mod unsound;

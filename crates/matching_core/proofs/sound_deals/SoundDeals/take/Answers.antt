@@ -1,15 +1,15 @@
-use Rattle.std.proofs.Common.{Some, ap, sym, ◌∙◌}
-use Rattle.audit_base.specs.declared.findings.Finding.{Finding}
+use Rattle.std.proofs.Common.{sym, ◌∙◌}
+use Rattle.matching_core.specs.DealsSoFar.{unknown_on}
 use Rattle.matching_core.proofs.ResolveLemmas.{duplicate-found, unknown-found, trade-taken}
 use Rattle.matching_core.proofs.sound_deals.SoundDeals.take.Goals as goal
 
 pub returns-in-Some : goal.returns-in-Some
 returns-in-Some c = λ h is.
-    duplicate-found c.args.history.now h c.args.self.now c.args.place c.in-Some.first c.args.trade.now is (sym c.in_ok-first.ensures.earlier ∙ c.in-Some.is) ∙ ap (λ (x : Finding). Some x) (sym c.duplicate_trade.ensures)
+    duplicate-found c.args.history.now h c.args.self.now c.args.place c.in-Some.first c.args.trade.now is (sym c.in_ok-first.ensures.earlier ∙ c.in-Some.is)
 
 pub returns-in-Err : goal.returns-in-Err
 returns-in-Err c = λ h is.
-    unknown-found c.args.history.now h c.args.self.now c.args.place c.args.trade.now c.in-Err.finding is (sym c.in_ok-first.ensures.earlier ∙ c.in_default.is) c.in-Err.ensures.unknown
+    unknown-found c.args.history.now h c.args.self.now c.args.place c.args.trade.now (unknown_on c.in-Err.side c.args.place c.args.trade.now) is (sym c.in_ok-first.ensures.earlier ∙ c.in_default.is) c.in-Err.ensures.unknown
 
 pub returns-in_ok-add-in-Ok : goal.returns-in_ok-add-in-Ok
 returns-in_ok-add-in-Ok c = λ h is.
