@@ -148,6 +148,4 @@ impl<S: Alter> Keeper for SqlKeeper<S> {
 }
 
 #[cfg(test)]
-mod stopped_tests;
-#[cfg(test)]
 mod tests;

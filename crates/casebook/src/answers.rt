@@ -1,4 +1,4 @@
-//! The answer to a command: its status and its text, made whole before any of it is written.
+//! One command: its answer, the status and the text, is made whole, and then written.
 ghost use Rattle.std.specs.Prelude.{◌≡◌, ◌≤◌, ◌++◌, IfOk};
 ghost use Rattle.std.specs.List.{flat_map};
 ghost use Rattle.audit_report.specs.Lines.{malformed_line};
@@ -6,13 +6,15 @@ ghost use Rattle.audit_report.specs.Texts.{IsVerdictInRange};
 ghost use Rattle.audit_run.specs.Steps.{reading, KeepsLogs, NeverFall};
 ghost use Rattle.casebook.specs.Lines.{case_line, known_line};
 ghost use Rattle.casebook.specs.Play as spec;
-ghost use Rattle.casebook.specs.Turns.{AnswersBook, AnswersCommand, FilesVerdict, StaysWithin};
+ghost use Rattle.casebook.specs.Runs.{call_of, AnswersLength};
+ghost use Rattle.casebook.specs.Turns.{AnswersBook, AnswersCommand, FilesVerdict, KeepsAll, StaysWithin, TakesTurn};
 
 use super::commands::{Command, Filing};
 use super::halts::Halt;
 use super::lines::{append_case_line, append_known_line, append_no_case_line};
 use super::statuses::CaseStatus;
 use super::verdicts::verdict_on;
+use super::writing::{write_halt, write_text};
 use audit_base::faults::{BadPlace, NoMemory};
 use audit_base::findings::Finding;
 use audit_base::names::Name;
@@ -23,6 +25,7 @@ use case_keeper::case::{Case, Filter, Offence};
 use case_keeper::casebook::{Casebook, Filed};
 use case_keeper::keeper::Keeper;
 use log_source::shelf::Shelf;
+use log_source::sink::Sink;
 use std::alloc::Global;
 
 /// What a command answers and writes.
@@ -205,7 +208,7 @@ fn show<B: Keeper>(alloc: Global, label: &Name, book: &mut Casebook<B>) -> Resul
 }
 
 /// The answer to a command, or why there is none.
-pub(crate) fn answer_to<F: Shelf, B: Keeper>(
+fn answer_to<F: Shelf, B: Keeper>(
     alloc: Global,
     command: &Command,
     shelf: &mut F,
@@ -222,5 +225,25 @@ pub(crate) fn answer_to<F: Shelf, B: Keeper>(
         Command::File(filing) => file(alloc, filing, shelf, book),
         Command::List(filter) => list(alloc, filter, book),
         Command::Show(label) => show(alloc, label, book),
+    }
+}
+
+/// Does one command: its whole text is made, and then written.
+pub(crate) fn take_turn<F: Shelf, K: Sink, B: Keeper>(
+    alloc: Global,
+    command: &Command,
+    shelf: &mut F,
+    out: &mut K,
+    book: &mut Casebook<B>,
+) -> CaseStatus
+    ensures keeps { KeepsAll F.Shelf shelf.old shelf.new (K.state out.old) (K.state out.new)
+        (B.state book.old) (B.state book.new) }
+    ensures turn { TakesTurn (call_of (reading F.Shelf shelf.old shelf.new) (K.state out.old)
+        (K.state out.new) (B.state book.old) (B.state book.new)) command.now result }
+    ensures length { AnswersLength (reading F.Shelf shelf.old shelf.new) result }
+{
+    match answer_to(alloc, command, shelf, book) {
+        Ok(answer) => write_text(out, &answer.text, answer.status),
+        Err(halt) => write_halt(out, halt),
     }
 }

@@ -23,6 +23,8 @@ mod map_opener;
 mod opener;
 mod running;
 mod statuses;
+#[cfg(test)]
+mod stopped_tests;
 mod verdicts;
 mod words;
 mod writing;

@@ -5,41 +5,21 @@ ghost use Rattle.audit_run.specs.Steps.{reading};
 ghost use Rattle.casebook.specs.Commands.{commands_of};
 ghost use Rattle.casebook.specs.Laws.{OnePlay};
 ghost use Rattle.casebook.specs.Runs.{call_of, AnswersLength, IsCaseRun, RunsCommands};
-ghost use Rattle.casebook.specs.Turns.{KeepsAll, TakesTurn};
+ghost use Rattle.casebook.specs.Turns.{KeepsAll};
 
-use super::answers::answer_to;
+use super::answers::take_turn;
 use super::commands::Command;
 use super::laws::one_play;
 use super::lines::usage_text;
 use super::statuses::CaseStatus;
 use super::words::read_commands;
-use super::writing::{write_halt, write_text};
+use super::writing::write_text;
 use audit_run::requests::WordsFault;
 use case_keeper::casebook::Casebook;
 use case_keeper::keeper::Keeper;
 use log_source::shelf::Shelf;
 use log_source::sink::Sink;
 use std::alloc::Global;
-
-/// Does one command: its whole text is made, and then written.
-fn take_turn<F: Shelf, K: Sink, B: Keeper>(
-    alloc: Global,
-    command: &Command,
-    shelf: &mut F,
-    out: &mut K,
-    book: &mut Casebook<B>,
-) -> CaseStatus
-    ensures keeps { KeepsAll F.Shelf shelf.old shelf.new (K.state out.old) (K.state out.new)
-        (B.state book.old) (B.state book.new) }
-    ensures turn { TakesTurn (call_of (reading F.Shelf shelf.old shelf.new) (K.state out.old)
-        (K.state out.new) (B.state book.old) (B.state book.new)) command.now result }
-    ensures length { AnswersLength (reading F.Shelf shelf.old shelf.new) result }
-{
-    match answer_to(alloc, command, shelf, book) {
-        Ok(answer) => write_text(out, &answer.text, answer.status),
-        Err(halt) => write_halt(out, halt),
-    }
-}
 
 /// Does the commands in order. The first that has a status above 1 is the last.
 fn run_commands<F: Shelf, K: Sink, B: Keeper>(

@@ -11,16 +11,16 @@ use std::alloc::Global;
 use std::process::Abort;
 use std::test::Fail;
 
-pub(super) const ALL: Filter = Filter {
+const ALL: Filter = Filter {
     symbol: None,
     mark: None,
 };
 
-pub(super) fn name(rt: &impl Abort, text: &str) -> Name {
+fn name(rt: &impl Abort, text: &str) -> Name {
     read_name(text.as_bytes()).expect(rt, "a name")
 }
 
-pub(super) fn accepted(rt: &impl Abort, label: &str, symbol: &str) -> Case {
+fn accepted(rt: &impl Abort, label: &str, symbol: &str) -> Case {
     Case {
         label: name(rt, label),
         rule: Rule::Maximum,

@@ -1,5 +1,5 @@
 use Rattle.casebook.proofs.TurnLemmas.{turn_of_answer, turn_of_halt}
-use Rattle.casebook.proofs.running.take_turn.Goals as goal
+use Rattle.casebook.proofs.answers.take_turn.Goals as goal
 
 pub returns-in-Ok-clause-turn : goal.returns-in-Ok-clause-turn
 returns-in-Ok-clause-turn g c =
