@@ -21,6 +21,8 @@ mod laws;
 mod lines;
 mod map_opener;
 mod opener;
+#[cfg(test)]
+mod opener_tests;
 mod running;
 mod statuses;
 #[cfg(test)]

@@ -190,11 +190,7 @@ fn seen_as(entry: &OrderRecord, place: u32, orders: u32) -> Seen
     ensures { result ≡ draft.seen_as entry.now place orders }
 {
     let side = entry.side();
-    let index = if entry.is_order() {
-        Some(orders)
-    } else {
-        None
-    };
+    let index = if entry.is_order() { Some(orders) } else { None };
     Seen { place, side, index }
 }
 

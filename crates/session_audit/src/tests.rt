@@ -91,8 +91,7 @@ fn trade(rt: &impl Abort, bid: u8, ask: u8, quantity: u64, price: &[u8]) -> Trad
 }
 
 /// The history of these records.
-fn history_of<R: AllocGlobal + Abort>(rt: &R, entries: &[OrderRecord]) -> History
-{
+fn history_of<R: AllocGlobal + Abort>(rt: &R, entries: &[OrderRecord]) -> History {
     let symbol = name(rt, b"Z");
     assert!(rt; entries.len() < 10);
     let Ok(history) = History::build(rt.alloc(), entries, &symbol) else {
