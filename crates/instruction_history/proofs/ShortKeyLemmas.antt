@@ -10,7 +10,7 @@ use Rattle.audit_base.specs.Orders.{same_key}
 use Rattle.instruction_history.specs.declared.keys.Keys.{Keys}
 use Rattle.instruction_history.specs.declared.keys.Seen.{Seen}
 use Rattle.instruction_history.specs.declared.keys.ShortKey.{ShortKey}
-use Rattle.instruction_history.specs.Keys.{seen_by, seen_in, AddsKey}
+use Rattle.instruction_history.specs.Keys.{seen_by, AddsKey}
 use Rattle.instruction_history.specs.ShortKeys.{is_short, put_at, sizes_block, short_block, short_of, same_block}
 use Rattle.instruction_history.proofs.KeyLemmas.{same_name-is, same_name-itself, same_key-is, same_key-itself}
 

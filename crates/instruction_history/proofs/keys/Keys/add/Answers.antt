@@ -1,5 +1,5 @@
 use Rattle.std.proofs.Common.{refl, sym, ◌∙◌}
-use Rattle.instruction_history.proofs.ShortKeyLemmas.{adds_short, adds_long}
+use Rattle.instruction_history.proofs.ShortKeyLemmas.{adds_short}
 use Rattle.instruction_history.proofs.keys.Keys.add.Goals as goal
 
 pub returns-in_ok-insert-in-Some-clause-adds : goal.returns-in_ok-insert-in-Some-clause-adds
