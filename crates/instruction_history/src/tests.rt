@@ -113,203 +113,208 @@ fn has_finding<R: AllocGlobal + Abort>(rt: &R, label: &str, lines: &[&str], want
     assert_eq!(rt; finding.first, first, "{label}: shown");
 }
 
+/// Histories by name, and the finding of each.
+const FINDINGS: [(&str, &[&str], Broken); 14] = [
+    (
+        "duplicate-id",
+        &["N A b1 - 5 Z B", "N A b1 - 5 Z B"],
+        (Property::DuplicateId, 2, Some(1)),
+    ),
+    (
+        "time-back",
+        &["N A b1 - 1 Z B", "N A b2 - 0 Z B"],
+        (Property::TimeBack, 2, Some(1)),
+    ),
+    (
+        "unknown-target",
+        &["X A x1 b9 5 Z B"],
+        (Property::UnknownTarget, 1, None),
+    ),
+    (
+        "the key of a cancel is taken",
+        &["N A b1 - 5 Z B", "X A x1 b1 5 Z B", "N A x1 - 5 Z B"],
+        (Property::DuplicateId, 3, Some(2)),
+    ),
+    (
+        "a cancel is no target",
+        &["N A b1 - 5 Z B", "X A x1 b1 5 Z B", "X A x2 x1 5 Z B"],
+        (Property::UnknownTarget, 3, None),
+    ),
+    (
+        "the time before is that of the symbol's record before",
+        &["N A b1 - 3 Z B", "N A y1 - 9 Y B", "N A b2 - 2 Z B"],
+        (Property::TimeBack, 3, Some(1)),
+    ),
+    (
+        "a later order is no target",
+        &["X A x1 b1 5 Z B", "N A b1 - 5 Z B"],
+        (Property::UnknownTarget, 1, None),
+    ),
+    (
+        "a replacement of another firm's order",
+        &["N B s1 - 5 Z B", "R A r1 s1 5 Z B"],
+        (Property::UnknownTarget, 2, None),
+    ),
+    (
+        "a replacement of an order of the other side",
+        &["N A b1 - 5 Z B", "R A r1 b1 5 Z S"],
+        (Property::UnknownTarget, 2, None),
+    ),
+    (
+        "an order of another symbol is no target",
+        &["N A b1 - 5 Y B", "X A x1 b1 5 Z B"],
+        (Property::UnknownTarget, 2, None),
+    ),
+    (
+        "a record is not its own target",
+        &["R A r1 r1 5 Z B"],
+        (Property::UnknownTarget, 1, None),
+    ),
+    (
+        "the key comes before the time",
+        &["N A b1 - 1 Z B", "N A b1 - 0 Z B"],
+        (Property::DuplicateId, 2, Some(1)),
+    ),
+    (
+        "the time comes before the target",
+        &["N A b1 - 1 Z B", "X A x1 b9 0 Z B"],
+        (Property::TimeBack, 2, Some(1)),
+    ),
+    (
+        "the least place comes first",
+        &["N A b1 - 1 Z B", "X A x1 b9 1 Z B", "N A b1 - 0 Z B"],
+        (Property::UnknownTarget, 2, None),
+    ),
+];
+
 #[test]
 fn each_finding_stands_at_the_first_record_that_fails(rt: HostRuntime) {
-    let duplicate = Property::DuplicateId;
-    let back = Property::TimeBack;
-    let unknown = Property::UnknownTarget;
-    let rows: [(&str, &[&str], Broken); 14] = [
-        (
-            "duplicate-id",
-            &["N A b1 - 5 Z B", "N A b1 - 5 Z B"],
-            (duplicate, 2, Some(1)),
-        ),
-        (
-            "time-back",
-            &["N A b1 - 1 Z B", "N A b2 - 0 Z B"],
-            (back, 2, Some(1)),
-        ),
-        ("unknown-target", &["X A x1 b9 5 Z B"], (unknown, 1, None)),
-        (
-            "the key of a cancel is taken",
-            &["N A b1 - 5 Z B", "X A x1 b1 5 Z B", "N A x1 - 5 Z B"],
-            (duplicate, 3, Some(2)),
-        ),
-        (
-            "a cancel is no target",
-            &["N A b1 - 5 Z B", "X A x1 b1 5 Z B", "X A x2 x1 5 Z B"],
-            (unknown, 3, None),
-        ),
-        (
-            "the time before is that of the symbol's record before",
-            &["N A b1 - 3 Z B", "N A y1 - 9 Y B", "N A b2 - 2 Z B"],
-            (back, 3, Some(1)),
-        ),
-        (
-            "a later order is no target",
-            &["X A x1 b1 5 Z B", "N A b1 - 5 Z B"],
-            (unknown, 1, None),
-        ),
-        (
-            "a replacement of another firm's order",
-            &["N B s1 - 5 Z B", "R A r1 s1 5 Z B"],
-            (unknown, 2, None),
-        ),
-        (
-            "a replacement of an order of the other side",
-            &["N A b1 - 5 Z B", "R A r1 b1 5 Z S"],
-            (unknown, 2, None),
-        ),
-        (
-            "an order of another symbol is no target",
-            &["N A b1 - 5 Y B", "X A x1 b1 5 Z B"],
-            (unknown, 2, None),
-        ),
-        (
-            "a record is not its own target",
-            &["R A r1 r1 5 Z B"],
-            (unknown, 1, None),
-        ),
-        (
-            "the key comes before the time",
-            &["N A b1 - 1 Z B", "N A b1 - 0 Z B"],
-            (duplicate, 2, Some(1)),
-        ),
-        (
-            "the time comes before the target",
-            &["N A b1 - 1 Z B", "X A x1 b9 0 Z B"],
-            (back, 2, Some(1)),
-        ),
-        (
-            "the least place comes first",
-            &["N A b1 - 1 Z B", "X A x1 b9 1 Z B", "N A b1 - 0 Z B"],
-            (unknown, 2, None),
-        ),
-    ];
-    for (label, lines, wanted) in rows {
+    for (label, lines, wanted) in FINDINGS {
         has_finding(&rt, label, lines, wanted);
     }
 }
 
+/// Histories by name, and the orders of each.
+const ORDERS: [(&str, &[&str], &[Shape]); 17] = [
+    ("no records", &[], &[]),
+    (
+        "one id of two firms",
+        &["N A b1 - 5 Z B", "N B b1 - 5 Z B"],
+        &[(1, None, None), (2, None, None)],
+    ),
+    (
+        "equal times",
+        &["N A b1 - 7 Z B", "N A b2 - 7 Z B"],
+        &[(1, None, None), (2, None, None)],
+    ),
+    (
+        "another symbol's key, time and place between",
+        &["N A b1 - 5 Z B", "N A b1 - 1 Y B", "N A b2 - 5 Z B"],
+        &[(1, None, None), (3, None, None)],
+    ),
+    (
+        "cancels of both sides",
+        &[
+            "N A b1 - 5 Z B",
+            "N A s1 - 5 Z S",
+            "X A x1 s1 5 Z B",
+            "X A x2 b1 5 Z B",
+        ],
+        &[(1, Some(4), None), (2, Some(3), None)],
+    ),
+    (
+        "a second cancel",
+        &["N A b1 - 5 Z B", "X A x1 b1 5 Z B", "X A x2 b1 5 Z B"],
+        &[(1, Some(2), None)],
+    ),
+    (
+        "a replacement of a new order",
+        &["N A b1 - 5 Z B", "R A r1 b1 5 Z B"],
+        &[(1, Some(2), None), (2, None, Some(0))],
+    ),
+    (
+        "a replacement of a replacement",
+        &["N A b1 - 5 Z B", "R A r1 b1 5 Z B", "R A r2 r1 5 Z B"],
+        &[
+            (1, Some(2), None),
+            (2, Some(3), Some(0)),
+            (3, None, Some(1)),
+        ],
+    ),
+    (
+        "a replacement of a replaced order: two of one target",
+        &["N A b1 - 5 Z B", "R A r1 b1 5 Z B", "R A r2 b1 5 Z B"],
+        &[
+            (1, Some(2), None),
+            (2, None, Some(0)),
+            (3, Some(3), Some(0)),
+        ],
+    ),
+    (
+        "a replacement of a cancelled order",
+        &["N A b1 - 5 Z B", "X A x1 b1 5 Z B", "R A r1 b1 5 Z B"],
+        &[(1, Some(2), None), (3, Some(3), Some(0))],
+    ),
+    (
+        "a replacement of one that was never placed",
+        &[
+            "N A b1 - 5 Z B",
+            "X A x1 b1 5 Z B",
+            "R A r1 b1 5 Z B",
+            "R A r2 r1 5 Z B",
+        ],
+        &[
+            (1, Some(2), None),
+            (3, Some(3), Some(0)),
+            (4, Some(4), Some(1)),
+        ],
+    ),
+    (
+        "a cancel of a replacement",
+        &["N A b1 - 5 Z B", "R A r1 b1 5 Z B", "X A x1 r1 5 Z B"],
+        &[(1, Some(2), None), (2, Some(3), Some(0))],
+    ),
+    (
+        "a cancel of a replacement that was never placed",
+        &[
+            "N A b1 - 5 Z B",
+            "X A x1 b1 5 Z B",
+            "R A r1 b1 5 Z B",
+            "X A x2 r1 5 Z B",
+        ],
+        &[(1, Some(2), None), (3, Some(3), Some(0))],
+    ),
+    (
+        "a cancel of a replaced order",
+        &["N A b1 - 5 Z B", "R A r1 b1 5 Z B", "X A x1 b1 5 Z B"],
+        &[(1, Some(2), None), (2, None, Some(0))],
+    ),
+    (
+        "a replacement on the sell side",
+        &["N A b1 - 5 Z B", "N B s1 - 5 Z S", "R B r1 s1 5 Z S"],
+        &[(1, None, None), (2, Some(3), None), (3, None, Some(1))],
+    ),
+    (
+        "a target behind a cancel and another symbol",
+        &[
+            "N A b1 - 5 Z B",
+            "X A x1 b1 5 Z B",
+            "N A y1 - 5 Y B",
+            "N A b2 - 5 Z B",
+            "R A r1 b2 5 Z B",
+        ],
+        &[(1, Some(2), None), (4, Some(5), None), (5, None, Some(1))],
+    ),
+    (
+        "the chosen symbol alone",
+        &["N A b1 - 5 Y B", "R A r1 b1 5 Y B"],
+        &[],
+    ),
+];
+
 #[test]
 fn each_order_has_its_target_and_its_end(rt: HostRuntime) {
-    let rows: [(&str, &[&str], &[Shape]); 17] = [
-        ("no records", &[], &[]),
-        (
-            "one id of two firms",
-            &["N A b1 - 5 Z B", "N B b1 - 5 Z B"],
-            &[(1, None, None), (2, None, None)],
-        ),
-        (
-            "equal times",
-            &["N A b1 - 7 Z B", "N A b2 - 7 Z B"],
-            &[(1, None, None), (2, None, None)],
-        ),
-        (
-            "another symbol's key, time and place between",
-            &["N A b1 - 5 Z B", "N A b1 - 1 Y B", "N A b2 - 5 Z B"],
-            &[(1, None, None), (3, None, None)],
-        ),
-        (
-            "cancels of both sides",
-            &[
-                "N A b1 - 5 Z B",
-                "N A s1 - 5 Z S",
-                "X A x1 s1 5 Z B",
-                "X A x2 b1 5 Z B",
-            ],
-            &[(1, Some(4), None), (2, Some(3), None)],
-        ),
-        (
-            "a second cancel",
-            &["N A b1 - 5 Z B", "X A x1 b1 5 Z B", "X A x2 b1 5 Z B"],
-            &[(1, Some(2), None)],
-        ),
-        (
-            "a replacement of a new order",
-            &["N A b1 - 5 Z B", "R A r1 b1 5 Z B"],
-            &[(1, Some(2), None), (2, None, Some(0))],
-        ),
-        (
-            "a replacement of a replacement",
-            &["N A b1 - 5 Z B", "R A r1 b1 5 Z B", "R A r2 r1 5 Z B"],
-            &[
-                (1, Some(2), None),
-                (2, Some(3), Some(0)),
-                (3, None, Some(1)),
-            ],
-        ),
-        (
-            "a replacement of a replaced order: two of one target",
-            &["N A b1 - 5 Z B", "R A r1 b1 5 Z B", "R A r2 b1 5 Z B"],
-            &[
-                (1, Some(2), None),
-                (2, None, Some(0)),
-                (3, Some(3), Some(0)),
-            ],
-        ),
-        (
-            "a replacement of a cancelled order",
-            &["N A b1 - 5 Z B", "X A x1 b1 5 Z B", "R A r1 b1 5 Z B"],
-            &[(1, Some(2), None), (3, Some(3), Some(0))],
-        ),
-        (
-            "a replacement of one that was never placed",
-            &[
-                "N A b1 - 5 Z B",
-                "X A x1 b1 5 Z B",
-                "R A r1 b1 5 Z B",
-                "R A r2 r1 5 Z B",
-            ],
-            &[
-                (1, Some(2), None),
-                (3, Some(3), Some(0)),
-                (4, Some(4), Some(1)),
-            ],
-        ),
-        (
-            "a cancel of a replacement",
-            &["N A b1 - 5 Z B", "R A r1 b1 5 Z B", "X A x1 r1 5 Z B"],
-            &[(1, Some(2), None), (2, Some(3), Some(0))],
-        ),
-        (
-            "a cancel of a replacement that was never placed",
-            &[
-                "N A b1 - 5 Z B",
-                "X A x1 b1 5 Z B",
-                "R A r1 b1 5 Z B",
-                "X A x2 r1 5 Z B",
-            ],
-            &[(1, Some(2), None), (3, Some(3), Some(0))],
-        ),
-        (
-            "a cancel of a replaced order",
-            &["N A b1 - 5 Z B", "R A r1 b1 5 Z B", "X A x1 b1 5 Z B"],
-            &[(1, Some(2), None), (2, None, Some(0))],
-        ),
-        (
-            "a replacement on the sell side",
-            &["N A b1 - 5 Z B", "N B s1 - 5 Z S", "R B r1 s1 5 Z S"],
-            &[(1, None, None), (2, Some(3), None), (3, None, Some(1))],
-        ),
-        (
-            "a target behind a cancel and another symbol",
-            &[
-                "N A b1 - 5 Z B",
-                "X A x1 b1 5 Z B",
-                "N A y1 - 5 Y B",
-                "N A b2 - 5 Z B",
-                "R A r1 b2 5 Z B",
-            ],
-            &[(1, Some(2), None), (4, Some(5), None), (5, None, Some(1))],
-        ),
-        (
-            "the chosen symbol alone",
-            &["N A b1 - 5 Y B", "R A r1 b1 5 Y B"],
-            &[],
-        ),
-    ];
-    for (label, lines, wanted) in rows {
+    for (label, lines, wanted) in ORDERS {
         has_orders(&rt, label, lines, wanted);
     }
 }

@@ -54,46 +54,49 @@ fn drafted<M: AuditedHistory, R: AllocGlobal + Abort>(
     (draft.count(), draft.end())
 }
 
+/// A row: the trades, the places of the deals, and the finding.
+type Row = (
+    &'static [&'static str],
+    &'static [u32],
+    Option<(Property, u32)>,
+);
+
+const ROWS: [Row; 5] = [
+    (&[], &[], None),
+    // Places are counted over all symbols.
+    (
+        &[
+            "T1 A b1 B s1 Y",
+            "T1 A b1 B s1 Z",
+            "T2 A b2 B s1 Y",
+            "T3 A b2 B s1 Z",
+        ],
+        &[2, 4],
+        None,
+    ),
+    // Of another symbol nothing is asked.
+    (&["T1 A b9 B s1 Y", "T1 A b9 B s1 Y"], &[], None),
+    // The first finding stays, whatever comes behind it.
+    (
+        &["T1 A b1 B s1 Z", "T1 A b1 B s1 Z", "T2 A b9 B s1 Z"],
+        &[],
+        Some((Property::DuplicateTrade, 2)),
+    ),
+    (
+        &["T1 A b9 B s1 Z", "T2 A b1 B s1 Y", "T1 A b1 B s1 Z"],
+        &[],
+        Some((Property::UnknownOrder, 1)),
+    ),
+];
+
 #[test]
 fn a_draft_keeps_the_deals_of_its_symbol(rt: HostRuntime) {
-    let duplicate = Property::DuplicateTrade;
-    let unknown = Property::UnknownOrder;
-    // The trades, the places of the deals, and the finding.
-    let rows: [(&[&str], &[u32], Option<(Property, u32)>); 5] = [
-        (&[], &[], None),
-        // Places are counted over all symbols.
-        (
-            &[
-                "T1 A b1 B s1 Y",
-                "T1 A b1 B s1 Z",
-                "T2 A b2 B s1 Y",
-                "T3 A b2 B s1 Z",
-            ],
-            &[2, 4],
-            None,
-        ),
-        // Of another symbol nothing is asked.
-        (&["T1 A b9 B s1 Y", "T1 A b9 B s1 Y"], &[], None),
-        // The first finding stays, whatever comes behind it.
-        (
-            &["T1 A b1 B s1 Z", "T1 A b1 B s1 Z", "T2 A b9 B s1 Z"],
-            &[],
-            Some((duplicate, 2)),
-        ),
-        (
-            &["T1 A b9 B s1 Z", "T2 A b1 B s1 Y", "T1 A b1 B s1 Z"],
-            &[],
-            Some((unknown, 1)),
-        ),
-    ];
-    for (lines, places, finding) in rows {
+    for (lines, places, finding) in ROWS {
         for passes in [false, true] {
+            let symbol = name(&rt, "Z");
+            let orders = history(&rt);
             let (count, resolved) = drafted::<Brand, HostRuntime>(
-                &rt,
-                name(&rt, "Z"),
-                history(&rt),
-                lines,
-                passes,
+                &rt, symbol, orders, lines, passes,
             );
             assert_eq!(rt; count as usize, lines.len());
             assert_eq!(rt; resolved.count, count);
