@@ -10,24 +10,26 @@ use super::terms::{Life, Side};
 
 /// An order of a history: a new order or a replacement. A list of these is an order list where their
 /// places rise strictly, there are fewer than 2^32, and each target is a lower index of the same side.
+// The fields stand by their sizes behind the key, so that none of an order's bytes is a gap, and what the
+// audits read of an order, which is all but its key, lies together.
 #[derive(Clone, Copy, Debug, PartialEq, Eq)]
 pub struct Order {
+    pub key: Key,
+    pub side: Side,
+    /// Of a replacement always `Rests`.
+    pub life: Life,
     /// The number of its record in the log, from 1.
     pub place: u32,
-    pub key: Key,
+    /// Of a replacement that is not placed its own place, of every other order the least place of a
+    /// record that ends it, or nothing.
+    pub cancelled: Option<u32>,
     pub time: Stamp,
-    pub side: Side,
     /// What it asks for; of a replacement, the total that its chain may trade.
     pub quantity: Quantity,
     /// The worst price that it takes.
     pub limit: Price,
-    /// Of a replacement that is not placed its own place, of every other order the least place of a
-    /// record that ends it, or nothing.
-    pub cancelled: Option<u32>,
     /// The index in the order list of the order that a replacement replaces.
     pub target: Option<usize>,
-    /// Of a replacement always `Rests`.
-    pub life: Life,
 }
 
 impl Order {

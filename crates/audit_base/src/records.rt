@@ -1,7 +1,6 @@
 //! What one record of a log says.
 ghost use Rattle.std.specs.Prelude.{◌≡◌, ℕ, List, Some};
 ghost use Rattle.audit_base.specs.Histories as history;
-ghost use Rattle.audit_base.specs.Orders.{same_name};
 
 use super::names::{Key, Name};
 use super::numbers::{Price, Quantity};
@@ -157,11 +156,4 @@ impl Traded for TradeRecord {
     fn symbol(&self) -> Name {
         self.symbol
     }
-}
-
-/// Whether the record is one of this symbol.
-pub fn is_of<R: Traded>(entry: &R, symbol: &Name) -> bool
-    ensures { result ≡ same_name (R.symbol_of entry.now) symbol.now }
-{
-    entry.symbol() == *symbol
 }
