@@ -187,7 +187,8 @@ new-order : (h : Records) (e : ℕ × OrderRecord) → finding_in (h ++ e ∷ []
 new-order h (place, New key time symbol side quantity price life) clean =
     let none = target-nameless h (place, New key time symbol side quantity price life) refl in
     let live = new-cancelled h (place, New key time symbol side quantity price life) clean refl none in
-    rw live refl
+    let targetless : target_index h (place, New key time symbol side quantity price life) ≡ None = ap (option_map (order_index h)) none in
+    rw (live, targetless) refl
 new-order h (place, Cancel key time symbol target) clean = refl
 new-order h (place, Replace key time symbol target side quantity price) clean =
     let e : ℕ × OrderRecord = (place, Replace key time symbol target side quantity price) in

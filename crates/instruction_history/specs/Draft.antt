@@ -5,6 +5,7 @@ use Rattle.std.specs.List.{enumerate_from}
 use Rattle.audit_base.specs.Moments.{Moment}
 use Rattle.audit_base.specs.declared.names.Key.{Key}
 use Rattle.audit_base.specs.declared.terms.Which.TheVariants as which
+use Rattle.audit_base.specs.declared.terms.Life.{Life}
 use Rattle.audit_base.specs.declared.terms.Life.TheVariants.{Rests}
 use Rattle.audit_base.specs.declared.records.OrderRecord.{OrderRecord}
 use Rattle.audit_base.specs.declared.records.OrderRecord.TheVariants.{New, Cancel, Replace}
@@ -17,6 +18,8 @@ use Rattle.audit_base.specs.Orders.{same_name, same_key, order_at, AreOrders}
 use Rattle.audit_base.specs.Shows.{found, show_place}
 use Rattle.instruction_history.specs.declared.history_so_far.HistorySoFar.{HistorySoFar}
 use Rattle.instruction_history.specs.declared.findings.Last.{Last}
+use Rattle.instruction_history.specs.declared.findings.Flaw.{Flaw}
+use Rattle.instruction_history.specs.declared.findings.Flaw.TheVariants.{DuplicateId, TimeBack, UnknownTarget}
 use Rattle.instruction_history.specs.declared.keys.Seen.{Seen}
 use Rattle.instruction_history.specs.Keys.{seen_in}
 
@@ -83,25 +86,29 @@ seen_target orders entry seen = option_and_then (λ s. option_and_then (fitting 
 abbrev pub target_among : List Order → (Key → Option Seen) → OrderRecord → Option ℕ
 target_among orders seen entry = option_and_then (λ key. seen_target orders entry (seen key)) (target_key entry)
 
--- 1, 2 and 3 of a record at a place
-abbrev pub duplicate_of : Option Seen → ℕ → Option Finding
-duplicate_of earlier place =
-    option_map (λ s. found property.DuplicateId which.Orders place (show_place which.Orders s.place) None) earlier
+-- 1, 2 and 3 of a record, as what is wrong with it
+abbrev pub duplicate_of : Option Seen → Option Flaw
+duplicate_of earlier = option_map (λ s. DuplicateId s.place) earlier
 
-abbrev pub back_of : Option Last → Moment → ℕ → Option Finding
-back_of last time place =
-    option_and_then (λ l. only_if (is_before time l.time)
-    (found property.TimeBack which.Orders place (show_place which.Orders l.place) None)) last
+abbrev pub back_of : Option Last → Moment → Option Flaw
+back_of last time = option_and_then (λ l. only_if (is_before time l.time) (TimeBack l.place)) last
 
-abbrev pub unknown_of : Option Key → Option ℕ → ℕ → Option Finding
-unknown_of named target place =
-    only_if (is_some named && is_none target) (found property.UnknownTarget which.Orders place None None)
+abbrev pub unknown_of : Option Key → Option ℕ → Option Flaw
+unknown_of named target = only_if (is_some named && is_none target) UnknownTarget
 
 -- the first of these, by what the record's key named, the record before and the record's target
-abbrev pub finding_by : Option Seen → Option Last → OrderRecord → Option ℕ → ℕ → Option Finding
-finding_by earlier last entry target place =
-    first_of (duplicate_of earlier place ∷ back_of last (time_of entry) place
-    ∷ unknown_of (target_key entry) target place ∷ [])
+abbrev pub flaw_of : Option Seen → Option Last → OrderRecord → Option ℕ → Option Flaw
+flaw_of earlier last entry target =
+    first_of (duplicate_of earlier ∷ back_of last (time_of entry)
+    ∷ unknown_of (target_key entry) target ∷ [])
+
+-- the finding about a record at a place, by what is wrong with it
+abbrev pub finding_of : ℕ → Flaw → Finding
+finding_of place (DuplicateId earlier) =
+    found property.DuplicateId which.Orders place (show_place which.Orders earlier) None
+finding_of place (TimeBack last) =
+    found property.TimeBack which.Orders place (show_place which.Orders last) None
+finding_of place UnknownTarget = found property.UnknownTarget which.Orders place None None
 
 -- an order that a record at a place ends, unless an earlier one did
 abbrev pub ended : ℕ → Order → Order
@@ -117,7 +124,13 @@ abbrev pub own_end : List Order → Option ℕ → ℕ → Option ℕ
 own_end orders None place = None
 own_end orders (Some t) place = if is_none (order_at orders t).cancelled then None else Some place
 
--- the order of a record
+-- the life of the order of a record: a replacement rests
+abbrev pub life_of : OrderRecord → Life
+life_of (New key time symbol side quantity price life) = life
+life_of (Cancel key time symbol named) = Rests
+life_of (Replace key time symbol named side quantity price) = Rests
+
+-- the order of a record, by its target, of which a new order has none
 abbrev pub order_made : List Order → OrderRecord → Option ℕ → ℕ → Option Order
 order_made orders (New key time symbol side quantity price life) target place =
     Some (record {
@@ -127,8 +140,8 @@ order_made orders (New key time symbol side quantity price life) target place =
       side = side;
       quantity = quantity;
       limit = price;
-      cancelled = None;
-      target = None;
+      cancelled = own_end orders target place;
+      target = target;
       life = life;
     })
 order_made orders (Cancel key time symbol named) target place = None

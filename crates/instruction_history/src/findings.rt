@@ -19,6 +19,18 @@ pub(crate) struct Last {
     pub time: Stamp,
 }
 
+/// What is wrong with a record. A finding has hundreds of bytes, and most records have none, so this is
+/// handed on in its place.
+#[derive(Clone, Copy)]
+pub(crate) enum Flaw {
+    /// The record at this place has its key.
+    DuplicateId(u32),
+    /// The record before it, at this place, has a greater time.
+    TimeBack(u32),
+    /// It names a target, and there is none.
+    UnknownTarget,
+}
+
 /// Another record of the order log.
 fn show_place(place: u32) -> Option<Shown>
     ensures { result ≡ shows.show_place which.Orders place }
@@ -43,53 +55,65 @@ fn found(property: Property, place: u32, shown: Option<Shown>) -> Finding
     }
 }
 
+impl Flaw {
+    /// The finding about the record at a place.
+    pub fn finding(self, place: u32) -> Finding
+        ensures { result ≡ draft.finding_of place self }
+    {
+        match self {
+            Flaw::DuplicateId(earlier) => found(Property::DuplicateId, place, show_place(earlier)),
+            Flaw::TimeBack(last) => found(Property::TimeBack, place, show_place(last)),
+            Flaw::UnknownTarget => found(Property::UnknownTarget, place, None),
+        }
+    }
+}
+
 /// Finding 1: the key is that of an earlier record.
-fn duplicate_id(earlier: Option<Seen>, place: u32) -> Option<Finding>
-    ensures { result ≡ draft.duplicate_of earlier place }
+fn duplicate_id(earlier: Option<Seen>) -> Option<Flaw>
+    ensures { result ≡ draft.duplicate_of earlier }
 {
     let seen = earlier?;
-    Some(found(Property::DuplicateId, place, show_place(seen.place)))
+    Some(Flaw::DuplicateId(seen.place))
 }
 
 /// Finding 2: the time is lesser than that of the record before it.
-fn time_back(last: Option<Last>, time: Stamp, place: u32) -> Option<Finding>
-    ensures { result ≡ draft.back_of last time place }
+fn time_back(last: Option<Last>, time: Stamp) -> Option<Flaw>
+    ensures { result ≡ draft.back_of last time }
 {
     let last = last?;
     if time.is_before(last.time) {
-        Some(found(Property::TimeBack, place, show_place(last.place)))
+        Some(Flaw::TimeBack(last.place))
     } else {
         None
     }
 }
 
 /// Finding 3: the record names a target, and there is none.
-fn unknown_target(entry: &OrderRecord, target: Option<usize>, place: u32) -> Option<Finding>
-    ensures { result ≡ draft.unknown_of (target_key entry.now) target place }
+fn unknown_target(entry: &OrderRecord, target: Option<usize>) -> Option<Flaw>
+    ensures { result ≡ draft.unknown_of (target_key entry.now) target }
 {
     if entry.target_key().is_some() && target.is_none() {
-        Some(found(Property::UnknownTarget, place, None))
+        Some(Flaw::UnknownTarget)
     } else {
         None
     }
 }
 
-/// The finding at the record, if there is one: the first of the three. `earlier` is what its key named
+/// What is wrong with the record, if anything is: the first of the three. `earlier` is what its key named
 /// before it.
-pub(crate) fn finding_of(
+pub(crate) fn flaw_of(
     earlier: Option<Seen>,
     last: Option<Last>,
     entry: &OrderRecord,
     target: Option<usize>,
-    place: u32,
-) -> Option<Finding>
-    ensures { result ≡ draft.finding_by earlier last entry.now target place }
+) -> Option<Flaw>
+    ensures { result ≡ draft.flaw_of earlier last entry.now target }
 {
-    if let Some(finding) = duplicate_id(earlier, place) {
-        return Some(finding);
+    if let Some(flaw) = duplicate_id(earlier) {
+        return Some(flaw);
     }
-    if let Some(finding) = time_back(last, entry.time(), place) {
-        return Some(finding);
+    if let Some(flaw) = time_back(last, entry.time()) {
+        return Some(flaw);
     }
-    unknown_target(entry, target, place)
+    unknown_target(entry, target)
 }

@@ -5,18 +5,21 @@
 //! is only counted, and after the first finding so is every record. No room is reserved, since only
 //! the end of the log tells how many orders there are: the order list and the keys grow with them, by
 //! doubling.
-ghost use Rattle.std.specs.Prelude.{◌≡◌, ◌+◌, ◌<◌, ◌^◌, ◌∷◌, [], ◌++◌, ℕ, List, None, IfOk, IfErr, OnOk, Some, length, vec_len};
-ghost use Rattle.audit_base.specs.Histories.{WellFormed};
+ghost use Rattle.std.specs.Prelude.{◌≡◌, ◌+◌, ◌<◌, ◌^◌, [], ℕ, List, None, IfOk, IfErr, OnOk, Some, length};
+ghost use Rattle.audit_base.specs.Histories.{symbol_of, WellFormed};
+ghost use Rattle.audit_base.specs.Orders.{same_name};
 ghost use Rattle.audit_base.specs.declared.records.OrderRecord.{OrderRecord};
+ghost use Rattle.instruction_history.specs.Draft.{finding_of};
 ghost use Rattle.instruction_history.specs.HistoryDraft.{IsHistoryDraft, ForHanded, AreOrdersOf, KeepsMarketPrices, IsFindingOf, TakesRecord};
 ghost use Rattle.log_source.specs.Collectors.{HasPlace};
 
+use super::findings::Flaw;
 use super::history::History;
 use super::history_so_far::HistorySoFar;
 use audit_base::faults::NoMemory;
 use audit_base::findings::Finding;
 use audit_base::names::Name;
-use audit_base::records::{OrderRecord, is_of};
+use audit_base::records::OrderRecord;
 use log_source::collector::Collector;
 use seeded_hash::seed::HashSeed;
 use std::alloc::Global;
@@ -32,6 +35,25 @@ pub trait AuditedSymbol {
 
 impl AuditedSymbol for Brand {
     ghost symbol = { [] };
+}
+
+/// The symbol of a record.
+fn symbol_of(entry: &OrderRecord) -> &Name
+    ensures { result.now ≡ symbol_of entry.now }
+{
+    match entry {
+        OrderRecord::New { symbol, .. } => symbol,
+        OrderRecord::Cancel { symbol, .. } => symbol,
+        OrderRecord::Replace { symbol, .. } => symbol,
+    }
+}
+
+/// Whether the record is one of this symbol. The name is compared where it stands, since a copy of it has
+/// 65 bytes.
+fn has_symbol(entry: &OrderRecord, symbol: &Name) -> bool
+    ensures { result ≡ same_name (symbol_of entry.now) symbol.now }
+{
+    *symbol_of(entry) == *symbol
 }
 
 /// What is known of the history of a symbol after some records of an order log: its orders so far, or its
@@ -71,13 +93,23 @@ impl<S: AuditedSymbol> HistoryDraft<S> {
         if let Some(_) = self.finding {
             return Ok(());
         }
-        if !is_of(entry, &self.symbol) {
+        if !has_symbol(entry, &self.symbol) {
             return Ok(());
         }
-        if let Some(finding) = self.so_far.take(entry, self.count)? {
-            self.finding = Some(finding);
+        if let Some(flaw) = self.so_far.take(entry, self.count)? {
+            self.keep_finding(flaw);
         }
         Ok(())
+    }
+
+    /// Keeps the finding about the last record. It stands apart, since a function that makes a finding
+    /// begins by writing zeros over the room for it, also where it makes none.
+    #[cold]
+    #[inline(never)]
+    fn keep_finding(&mut self, flaw: Flaw)
+        ensures { self.new ≡ record self.old { finding = Some (finding_of self.old.count flaw) } }
+    {
+        self.finding = Some(flaw.finding(self.count));
     }
 
     /// The history, where it is well-formed, or else its first finding. Takes no memory.

@@ -1,5 +1,5 @@
 //! What is known of a history after some of its records, record by record.
-ghost use Rattle.std.specs.Prelude.{◌≡◌, ◌<◌, ◌^◌, [], ◌∷◌, ◌++◌, List, vec_len, length, IfSome, IfOk, OnOk, Some};
+ghost use Rattle.std.specs.Prelude.{◌≡◌, ◌<◌, ◌^◌, [], ◌∷◌, ◌++◌, List, vec_len, length, IfSome, IfOk, OnOk, Some, option_map};
 ghost use Rattle.std.specs.Option.{ForSome};
 ghost use Rattle.audit_base.specs.Histories.{key_of};
 ghost use Rattle.audit_base.specs.Orders.{AreOrders};
@@ -7,10 +7,9 @@ ghost use Rattle.audit_base.specs.declared.orders.Order.{Order};
 ghost use Rattle.instruction_history.specs.Draft as draft;
 ghost use Rattle.instruction_history.specs.Keys.{seen_in};
 
-use super::findings::{Last, finding_of};
+use super::findings::{Flaw, Last, flaw_of};
 use super::keys::{Keys, Seen};
 use audit_base::faults::NoMemory;
-use audit_base::findings::Finding;
 use audit_base::names::{Key, Name};
 use audit_base::orders::Order;
 use audit_base::records::OrderRecord;
@@ -111,8 +110,20 @@ fn push(orders: &mut Vec<Order>, order: Order) -> Result<(), NoMemory>
     Ok(())
 }
 
-/// Adds the order of a new order or a replacement. `own_end` is where a replacement ends whose target was
-/// gone before. Each order is written where it stays, since a copy of its key costs as much as a search.
+/// The life of the order of a record. A replacement rests.
+fn life_of(entry: &OrderRecord) -> Life
+    ensures { result ≡ draft.life_of entry.now }
+{
+    match entry {
+        OrderRecord::New { life, .. } => *life,
+        OrderRecord::Cancel { .. } => Life::Rests,
+        OrderRecord::Replace { .. } => Life::Rests,
+    }
+}
+
+/// Adds the order of a new order, which has no target, or of a replacement. `own_end` is where a
+/// replacement ends whose target was gone before. The order is made in the call that adds it, since one
+/// more copy of its key costs as much as a search.
 fn push_order(
     orders: &mut Vec<Order>,
     entry: &OrderRecord,
@@ -126,37 +137,22 @@ fn push_order(
     ensures numbers { AreOrders orders.old.items → AreOrders orders.new.items }
 {
     match entry {
+        OrderRecord::Cancel { .. } => Ok(()),
         OrderRecord::New {
             key,
             time,
-            symbol: _,
             side,
             quantity,
             price,
-            life,
-        } => push(
-            orders,
-            Order {
-                place,
-                key: *key,
-                time: *time,
-                side: *side,
-                quantity: *quantity,
-                limit: *price,
-                cancelled: None,
-                target: None,
-                life: *life,
-            },
-        ),
-        OrderRecord::Cancel { .. } => Ok(()),
-        OrderRecord::Replace {
+            ..
+        }
+        | OrderRecord::Replace {
             key,
             time,
-            symbol: _,
-            target: _,
             side,
             quantity,
             price,
+            ..
         } => push(
             orders,
             Order {
@@ -168,7 +164,7 @@ fn push_order(
                 limit: *price,
                 cancelled: own_end,
                 target,
-                life: Life::Rests,
+                life: life_of(entry),
             },
         ),
     }
@@ -217,18 +213,20 @@ impl HistorySoFar {
         }
     }
 
-    /// Takes the next record of the history, at its place in the log, or gives the finding that it has.
-    /// After a finding nothing is known of what is kept.
-    pub fn take(&mut self, entry: &OrderRecord, place: u32) -> Result<Option<Finding>, NoMemory>
+    /// Takes the next record of the history, at its place in the log, or tells what is wrong with it. Then
+    /// nothing is known of what is kept.
+    pub fn take(&mut self, entry: &OrderRecord, place: u32) -> Result<Option<Flaw>, NoMemory>
         requires { vec_len self.old.orders < 2 ^ 32 }
-        ensures { IfOk result (KnowsOneMore self.old self.new place entry.now) }
+        ensures { let finding = option_map (draft.finding_of place) in
+            let knows = KnowsOneMore self.old self.new place entry.now in
+            IfOk result (λ flaw. knows (finding flaw)) }
     {
         let target = target_of(&self.orders, &self.keys, entry);
         let seen = seen_as(entry, place, self.orders.len() as u32);
         // One look-up tells what the key named and adds it.
         let earlier = self.keys.add(key_of(entry), seen)?;
-        if let Some(finding) = finding_of(earlier, self.last, entry, target, place) {
-            return Ok(Some(finding));
+        if let Some(flaw) = flaw_of(earlier, self.last, entry, target) {
+            return Ok(Some(flaw));
         }
         self.add(entry, target, place)?;
         Ok(None)

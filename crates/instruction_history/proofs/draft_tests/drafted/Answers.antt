@@ -1,4 +1,4 @@
-use Rattle.std.proofs.Common.{◌∷◌, [], ◌++◌, arith, length, length-append}
+use Rattle.std.proofs.Common.{◌∷◌, [], ◌++◌, arith, length-append}
 use Rattle.instruction_history.proofs.draft_tests.drafted.Goals as goal
 
 pub hand-requires : goal.hand-requires
