@@ -1,6 +1,6 @@
 -- A short order passes over another exactly where the best short order of the side does.
 use Rattle.std.proofs.Common.{◌≡◌, ◌<◌, ◌≤◌, ℕ, List, length, Bool, true, false, Option, None, Some, refl, sym, ap, ◌∙◌, arith, inl, inr, subst, get_or}
-use Rattle.std.specs.Prelude.{◌&&◌, nat_lt, IfSome, slice_index}
+use Rattle.std.specs.Prelude.{◌&&◌, nat_lt, IfSome, option_map, slice_index}
 use Rattle.std.specs.Option.{option_or}
 use Rattle.std.proofs.lemmas.Bool.{cases_Bool, cases_eq, and_parts, and_from, ltb-true, both_ways, false_from_ne_true}
 use Rattle.std.proofs.lemmas.List.Sums.{sum_by_more_le}
@@ -23,7 +23,8 @@ use Rattle.audit_base.proofs.OffenceLemmas.{get_or-default}
 use Rattle.audit_base.proofs.DealLemmas.{part-bid, part-ask}
 use Rattle.audit_base.proofs.PriorityLemmas.{IsBest, best-is, best-exists, Better-total, Better-onward}
 use Rattle.short_order.specs.Totals.{AreTotals}
-use Rattle.fairness.specs.Passing.{order_of_deal, outranked_at, unfair_at}
+use Rattle.fairness.specs.declared.passing.Outranked.{Outranked}
+use Rattle.fairness.specs.Passing.{order_of_deal, outranked_at, unfair_at, finding_of}
 
 some-none : {X : Type 0} (o : Option X) (x : X) → o ≡ None → o ≡ Some x → ⊥
 some-none None x e f = cc
@@ -32,6 +33,14 @@ some-none (Some y) x e f = cc
 only-true : {X : Type 0} (b : Bool) (x y : X) → only_if b x ≡ Some y → b ≡ true
 only-true true x y e = refl
 only-true false x y e = cc
+
+map-only : {A B : Type 0} (f : A → B) (b : Bool) (x : A) → option_map f (only_if b x) ≡ only_if b (f x)
+map-only f true x = refl
+map-only f false x = refl
+
+map-or : {A B : Type 0} (f : A → B) (a b : Option A) → option_map f (option_or a b) ≡ option_or (option_map f a) (option_map f b)
+map-or f None b = refl
+map-or f (Some x) b = refl
 
 -- the findings 12 and 13 at the deal at k
 abbrev pub unfair : List Order → List Deal → ℕ → Option Finding
@@ -95,15 +104,16 @@ module _ (orders : List Order) (deals : List Deal) (numbers : List ℕ) (list : 
   shown-same i lt = ap (λ (n : ℕ). show_order orders (λ k. n) i) (totals.each i lt)
 
   passed-defined : (side : Side) (short : Option ℕ) → short ≡ best_short orders deals side → (d : Deal) → Stands orders side (order_of_deal side d)
-      → outranked_at orders numbers side short d ≡ defined side d
+      → option_map (finding_of orders numbers d) (outranked_at orders side short d) ≡ defined side d
   passed-defined side None e d s = rw (none-passed orders deals side (sym e) (order_of_deal side d)) refl
   passed-defined side (Some b) e d s =
-      rw (best-passes orders deals side list b (sym e) (order_of_deal side d), ← e, shown-same b (short-best orders deals side b (sym e)).inside, shown-same (order_of_deal side d) s.inside) refl
+      map-only (finding_of orders numbers d) (better (order_at orders b) (order_at orders (order_of_deal side d))) (record { side = side; short = b; own = order_of_deal side d })
+      ∙ rw (best-passes orders deals side list b (sym e) (order_of_deal side d), ← e, shown-same b (short-best orders deals side b (sym e)).inside, shown-same (order_of_deal side d) s.inside) refl
 
   not-fair : (side : Side) (short : Option ℕ) → short ≡ best_short orders deals side → (k : ℕ) → k < length deals → 0 < (deal_at deals k).quantity → Stands orders side (order_of_deal side (deal_at deals k))
-      → (finding : Finding) → outranked_at orders numbers side short (deal_at deals k) ≡ Some finding → Fair orders deals → ⊥
-  not-fair side None e k lt some s finding found fair = cc
-  not-fair side (Some b) e k lt some s finding found fair =
+      → (o : Outranked) → outranked_at orders side short (deal_at deals k) ≡ Some o → Fair orders deals → ⊥
+  not-fair side None e k lt some s o found fair = cc
+  not-fair side (Some b) e k lt some s o found fair =
       let best = short-best orders deals side b (sym e) in
       let below = ltb-true _ _ ((and_parts (stands_on side (order_at orders b)) (nat_lt (traded deals b) (quantity_at orders b)) best.passes).1) in
       let least = traded-least deals side k lt in
@@ -116,21 +126,24 @@ module _ (orders : List Order) (deals : List Deal) (numbers : List ℕ) (list : 
     d_is : d ≡ deal_at deals k
     d_is = is ∙ get_or-default deals k d missing_deal lt
 
-    pub unfair-is : unfair_at orders numbers bid ask d ≡ unfair orders deals k
+    pub unfair-is : option_map (finding_of orders numbers d) (unfair_at orders bid ask d) ≡ unfair orders deals k
     unfolding bid_passed_over ask_passed_over
     unfair-is =
         let kept = matching.kept k missing_deal lt in
-        let bids : outranked_at orders numbers Buy bid (deal_at deals k) ≡ bid_passed_over orders deals k = passed-defined Buy bid bid_is (deal_at deals k) kept.bid_stands in
-        let asks : outranked_at orders numbers Sell ask (deal_at deals k) ≡ ask_passed_over orders deals k = passed-defined Sell ask ask_is (deal_at deals k) kept.ask_stands in
-        ap (unfair_at orders numbers bid ask) d_is ∙ (λ i. option_or (bids i) (asks i))
+        let here : Deal = deal_at deals k in
+        let made = finding_of orders numbers here in
+        let bids : option_map made (outranked_at orders Buy bid here) ≡ bid_passed_over orders deals k = passed-defined Buy bid bid_is here kept.bid_stands in
+        let asks : option_map made (outranked_at orders Sell ask here) ≡ ask_passed_over orders deals k = passed-defined Sell ask ask_is here kept.ask_stands in
+        ap (λ (x : Deal). option_map (finding_of orders numbers x) (unfair_at orders bid ask x)) d_is
+        ∙ map-or made (outranked_at orders Buy bid here) (outranked_at orders Sell ask here) ∙ (λ i. option_or (bids i) (asks i))
 
     -- where it finds something, the deals aren't fair
-    pub unfair-breaks : (finding : Finding) → unfair_at orders numbers bid ask d ≡ Some finding → 0 < d.quantity → Fair orders deals → ⊥
-    unfair-breaks finding found some fair =
+    pub unfair-breaks : (o : Outranked) → unfair_at orders bid ask d ≡ Some o → 0 < d.quantity → Fair orders deals → ⊥
+    unfair-breaks o found some fair =
         let kept = matching.kept k missing_deal lt in
-        let here : unfair_at orders numbers bid ask (deal_at deals k) ≡ Some finding = ap (unfair_at orders numbers bid ask) (sym d_is) ∙ found in
+        let here : unfair_at orders bid ask (deal_at deals k) ≡ Some o = ap (unfair_at orders bid ask) (sym d_is) ∙ found in
         let positive : 0 < (deal_at deals k).quantity = subst (λ (e : Deal). 0 < e.quantity) d_is some in
-        elim (option_or-cases _ _ finding here) [
-          | inl bids ↦ not-fair Buy bid bid_is k lt positive kept.bid_stands finding bids fair
-          | inr asks ↦ not-fair Sell ask ask_is k lt positive kept.ask_stands finding asks.1 fair
+        elim (option_or-cases _ _ o here) [
+          | inl bids ↦ not-fair Buy bid bid_is k lt positive kept.bid_stands o bids fair
+          | inr asks ↦ not-fair Sell ask ask_is k lt positive kept.ask_stands o asks.1 fair
         ]

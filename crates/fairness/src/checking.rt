@@ -40,8 +40,8 @@ pub fn check_fair(
     let short_bid = best_short(orders, bids, traded);
     let short_ask = best_short(orders, asks, traded);
     for deal in deals {
-        if let Some(finding) = unfair_at(orders, traded, short_bid, short_ask, deal) {
-            return Err(finding);
+        if let Some(outranked) = unfair_at(orders, short_bid, short_ask, deal) {
+            return Err(outranked.finding(orders, traded, deal));
         }
     }
     Ok(())

@@ -1,26 +1,48 @@
 -- What is known when the first deals have been gone over, and one deal further.
-use Rattle.std.proofs.Common.{◌≡◌, ◌∙◌, ap, refl, ℕ, Bool, true, false, ◌+◌, ◌^◌, ◌<◌, ◌≤◌, List, length, take, get_or, None, add-one, arith}
-use Rattle.std.specs.Prelude.{slice_set, replicate, All}
+use Rattle.std.proofs.Common.{◌≡◌, ◌∙◌, ap, refl, ℕ, Bool, true, false, ◌+◌, ◌^◌, ◌<◌, ◌≤◌, List, [], ◌∷◌, length, take, get_or, None, is_some, add-one, arith}
+use Rattle.std.specs.Prelude.{slice_set, replicate, All, ◌==◌, ◌&&◌, not, option_map}
 use Rattle.audit_base.specs.declared.orders.Order.{Order}
 use Rattle.audit_base.specs.declared.orders.Deal.{Deal}
-use Rattle.audit_base.specs.Least.{least_answer}
+use Rattle.audit_base.specs.declared.findings.Finding.{Finding}
+use Rattle.audit_base.specs.Least.{least_answer, first_of, only_if}
 use Rattle.audit_base.specs.Orders.{order_at}
 use Rattle.audit_base.specs.Deals.{traded, deal_at, missing_deal, NamesOrders}
-use Rattle.audit_base.specs.CallOffences.{call_inactive, call_off_limit, other_price, bid_overfilled, ask_overfilled, matching_finding}
+use Rattle.audit_base.specs.CallOffences.{is_within, call_inactive, call_off_limit, other_price, bid_overfilled, ask_overfilled, matching_finding}
 use Rattle.audit_base.proofs.LeastLemmas.{least-none_more}
 use Rattle.audit_base.proofs.TotalsLemmas.{AreTotalsSoFar, totals-none, bid-more, ask-more, after, totals-more}
 use Rattle.std.specs.Bool.{OnTrue}
-use Rattle.matching_core.specs.DealFindings.{finding_at_deal}
+use Rattle.matching_core.specs.declared.breaches.Breach.{Breach}
+use Rattle.matching_core.specs.declared.breaches.Breach.TheVariants.{InactiveBid, InactiveAsk, OffLimit, OtherPrice, OverfilledBid, OverfilledAsk}
+use Rattle.matching_core.specs.DealFindings.{is_overfilled, finding_of, finding_at_deal}
 
 -- the first k deals have been gone over, with no finding at any
 pub record IsGoneOver (uniform : Bool) (orders : List Order) (deals : List Deal) (k : ℕ) (so_far : List ℕ) (total : ℕ) : Type 0 where
   pub totals : AreTotalsSoFar orders deals k so_far total
   pub clean : least_answer (matching_finding uniform orders deals) k ≡ None
 
+-- the finding of the first rule that is broken is the first of their findings
+first-made : (a b c d e g : Bool) (f : Breach → Finding)
+    → option_map f (first_of (only_if a InactiveBid ∷ only_if b InactiveAsk ∷ only_if c OffLimit ∷ only_if d OtherPrice ∷ only_if e OverfilledBid ∷ only_if g OverfilledAsk ∷ []))
+    ≡ first_of (first_of (only_if a (f InactiveBid) ∷ only_if b (f InactiveAsk) ∷ []) ∷ only_if c (f OffLimit) ∷ only_if d (f OtherPrice) ∷ only_if e (f OverfilledBid) ∷ only_if g (f OverfilledAsk) ∷ [])
+first-made true b c d e g f = refl
+first-made false true c d e g f = refl
+first-made false false true d e g f = refl
+first-made false false false true e g f = refl
+first-made false false false false true g f = refl
+first-made false false false false false true f = refl
+first-made false false false false false false f = refl
+
 -- the finding at the deal at k is that of its orders and of what they trade up to it
 pub finding-is : (uniform : Bool) (orders : List Order) (deals : List Deal) (k : ℕ) → finding_at_deal uniform (deal_at deals k) (deal_at deals 0) (order_at orders (deal_at deals k).bid) (order_at orders (deal_at deals k).ask) (traded (take (k + 1) deals) (deal_at deals k).bid) (traded (take (k + 1) deals) (deal_at deals k).ask) ≡ matching_finding uniform orders deals k
 unfolding call_inactive call_off_limit other_price bid_overfilled ask_overfilled
-finding-is uniform orders deals k = refl
+finding-is uniform orders deals k =
+    let d = deal_at deals k in
+    let first = deal_at deals 0 in
+    let bid = order_at orders d.bid in
+    let ask = order_at orders d.ask in
+    let bid_traded = traded (take (k + 1) deals) d.bid in
+    let ask_traded = traded (take (k + 1) deals) d.ask in
+    first-made (is_some bid.cancelled) (is_some ask.cancelled) (not (is_within bid ask d)) (uniform && not (d.price == first.price)) (is_overfilled bid bid_traded) (is_overfilled ask ask_traded) (finding_of d first bid ask bid_traded ask_traded)
 
 -- nothing is traded before the first deal
 pub gone_none : (uniform : Bool) (orders : List Order) (deals : List Deal) → IsGoneOver uniform orders deals 0 (replicate (length orders) 0) 0

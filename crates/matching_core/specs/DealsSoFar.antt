@@ -19,15 +19,22 @@ use Rattle.audit_base.specs.Shows.{found, show_place}
 use Rattle.audit_base.specs.Trades.{trades_of, trade_at, trade_place, duplicate_trade, unknown_order, deal_of}
 use Rattle.matching_core.specs.declared.deals_so_far.DealsSoFar.{DealsSoFar}
 use Rattle.matching_core.specs.declared.sound_deals.SoundDeals.{SoundDeals}
+use Rattle.matching_core.specs.declared.trade_ids.ShortId.{ShortId}
 use Rattle.matching_core.specs.declared.trade_ids.TradeIds.{TradeIds}
 use Rattle.matching_core.specs.declared.unsound.Unsound.{Unsound}
 use Rattle.matching_core.specs.declared.unsound.Unsound.TheVariants.{Repeated, Unknown}
+use Rattle.matching_core.specs.ShortIds.{short_of, same_block}
 
 -- Ids and keys.
 
--- the place of the first trade with an id, as a map holds it
+-- the place of the first trade with an id, given it as a short one, if it is short
+abbrev pub first_by : TradeIds → List ℕ → Option ShortId → Option ℕ
+first_by ids id (Some short) = get same_block ids.short short
+first_by ids id None = get same_name ids.long id
+
+-- the place of the first trade with an id, as two maps hold it
 abbrev pub first_in : TradeIds → List ℕ → Option ℕ
-first_in ids id = get same_name ids.map id
+first_in ids id = first_by ids id (short_of id)
 
 -- one id more: it has this place, and every other id has what it had
 abbrev pub AddsId : TradeIds → TradeIds → List ℕ → ℕ → Type 0

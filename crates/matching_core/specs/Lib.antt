@@ -5,3 +5,4 @@ pub mod DealsDraft
 -- What private functions pass on: what is kept while trades come, and the finding of one deal.
 pub mod DealFindings
 pub mod DealsSoFar
+pub mod ShortIds

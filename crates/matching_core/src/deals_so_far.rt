@@ -1,15 +1,17 @@
 //! What is known of the trades of a symbol after some records of a trade log.
-ghost use Rattle.std.specs.Prelude.{◌≡◌, ◌+◌, ◌-◌, ◌<◌, ◌^◌, ◌∷◌, [], ◌++◌, ℕ, List, OnOk, length};
+ghost use Rattle.std.specs.Prelude.{◌≡◌, ◌+◌, ◌-◌, ◌<◌, ◌^◌, ◌∷◌, [], ◌++◌, ℕ, List, OnOk, Some, length};
+ghost use Rattle.audit_base.specs.Orders.{same_name};
 ghost use Rattle.audit_base.specs.declared.orders.Order.{Order};
 ghost use Rattle.audit_base.specs.declared.records.TradeRecord.{TradeRecord};
 ghost use Rattle.log_source.specs.Collectors.{HasPlace};
-ghost use Rattle.matching_core.specs.DealsSoFar.{IsDealsSoFar, TakesTrade};
+ghost use Rattle.matching_core.specs.DealsSoFar.{IsDealsSoFar, TakesTrade, finding_of};
 
 use super::sound_deals::SoundDeals;
+use super::unsound::Unsound;
 use audit_base::faults::NoMemory;
 use audit_base::findings::Finding;
 use audit_base::names::Name;
-use audit_base::records::{TradeRecord, is_of};
+use audit_base::records::TradeRecord;
 use instruction_history::history::History;
 use seeded_hash::seed::HashSeed;
 use std::alloc::Global;
@@ -29,6 +31,13 @@ impl AuditedHistory for Brand {
     ghost symbol = { [] };
 
     ghost orders = { [] };
+}
+
+/// Whether the trade is one of this symbol.
+fn has_symbol(trade: &TradeRecord, symbol: &Name) -> bool
+    ensures { result ≡ same_name trade.now.symbol symbol.now }
+{
+    trade.symbol == *symbol
 }
 
 /// What is known of the trades of a symbol after some records of a trade log: their deals, or their first
@@ -73,12 +82,23 @@ impl<M: AuditedHistory> DealsSoFar<M> {
         if let Some(_) = self.finding {
             return Ok(());
         }
-        if !is_of(trade, symbol) {
+        if !has_symbol(trade, symbol) {
             return Ok(());
         }
         if let Some(unsound) = self.sound.take(history, trade, self.count)? {
-            self.finding = Some(unsound.finding(trade, self.count));
+            self.keep_finding(unsound, trade);
         }
         Ok(())
+    }
+
+    /// Keeps the finding about the last record. It stands apart, since a function that makes a finding
+    /// begins by writing zeros over the room for it, also where it makes none.
+    #[cold]
+    #[inline(never)]
+    fn keep_finding(&mut self, unsound: Unsound, trade: &TradeRecord)
+        ensures { let found = finding_of self.old.count trade.now unsound in
+            self.new ≡ record self.old { finding = Some found } }
+    {
+        self.finding = Some(unsound.finding(trade, self.count));
     }
 }

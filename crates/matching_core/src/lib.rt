@@ -1,6 +1,7 @@
 //! Deals, their totals, and whether they are a matching: the first part of every rule of a call.
 #![tactic(auto)]
 
+mod breaches;
 #[cfg(test)]
 mod check_tests;
 pub mod checking;

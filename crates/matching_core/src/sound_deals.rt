@@ -69,7 +69,7 @@ impl SoundDeals {
             IfOk result (λ unsound. knows (finding unsound)) }
     {
         // One look-up tells which trade had the id and adds it.
-        if let Some(first) = self.ids.add(trade.trade, place)? {
+        if let Some(first) = self.ids.add(&trade.trade, place)? {
             return Ok(Some(Unsound::Repeated(first)));
         }
         match deal_of(history, trade, place) {
