@@ -19,16 +19,6 @@ use Rattle.continuous_laws.proofs.StepLemmas.{rests-parts}
 use Rattle.continuous_audit.proofs.RestLemmas.{resting_left-parts}
 use Rattle.continuous_audit.proofs.HeadLemmas.{after_fills-holds}
 
--- an order of an earlier place has a lower index
-pub index-below : (orders : List Order) → IsOrderList orders → (k n : ℕ) → k < length orders → n < length orders → place_at orders k < place_at orders n → k < n
-index-below orders list k n inside n_inside earlier = elim (cases_lt k n) [
-  | inl lt ↦ lt
-  | inr ge ↦ elim (cases_eq k n) [
-    | inl e ↦ let same : place_at orders k ≡ place_at orders n = ap (place_at orders) e in absurd (omega arith)
-    | inr ne ↦ let up = place-rises orders list n k (omega (arith, ne)) inside in absurd (omega arith)
-  ]
-]
-
 pub refreshed-none : (deals : List Deal) (causes : List Cause) (start : ℕ) (sizes traded old : List ℕ) → IsRefreshed deals causes start start sizes traded old old
 refreshed-none deals causes start sizes traded old = record { count = refl; each = λ x. inr (refl, λ i le lt. absurd (omega arith)) }
 

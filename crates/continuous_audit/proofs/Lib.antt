@@ -1,5 +1,6 @@
 pub mod AuditLemmas
 pub mod BooksLemmas
+pub mod BreachLemmas
 pub mod CauseLemmas
 pub mod ChainLemmas
 pub mod DealingLemmas

@@ -64,16 +64,13 @@ module _ (orders : List Order) (deals : List Deal) (n : ℕ) (n_inside : n < len
     ];
   })
 
-  pub known : (entered : Bool) (before sizes left : List ℕ) → entered ≡ entered_of orders deals n → AreBefore orders deals (suc n) before → AreSizes orders deals (suc n) sizes → AreLeft orders deals n (place_at orders n) left → IsKnown orders deals n entered before sizes left
-  known entered before sizes left arrived b z l = record {
-    before_count = b.count;
+  pub known : (entered : Bool) (sizes left : List ℕ) → entered ≡ entered_of orders deals n → AreSizes orders deals (suc n) sizes → AreLeft orders deals n (place_at orders n) left → IsKnown orders deals n entered sizes left
+  known entered sizes left arrived z l = record {
     sizes_count = z.count;
     left_count = l.count;
     arrived = arrived;
-    before_is = λ x le. b.is x (omega arith);
     size_is = λ x le. z.is x (omega arith);
     left_is = l.is;
-    before_fits = b.fits;
   }
 
 module _ (orders : List Order) (list : IsOrderList orders) (deals : List Deal) (deal_list : IsDealList orders deals) (causes : List Cause) (are : AreCauses orders deals causes) where

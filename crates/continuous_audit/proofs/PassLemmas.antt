@@ -16,11 +16,10 @@ use Rattle.order_book.specs.declared.books.Resting.{Resting}
 use Rattle.order_book.specs.Books.{first}
 use Rattle.continuous_audit.specs.declared.causes.Cause.{Cause}
 use Rattle.continuous_audit.specs.Causes.{cause_of, AreCauses}
-use Rattle.continuous_audit.specs.DealFindings.{outranked_finding}
+use Rattle.continuous_audit.specs.Breaches.{outranked_finding}
 use Rattle.continuous_audit.specs.Holding.{IsFilledInFront, resting_left, resting_left_after}
 use Rattle.continuous_audit.specs.Scans.{missing_cause, order_in, deal_in, IsSplitAt}
 use Rattle.continuous_audit.proofs.CauseLemmas.{incoming-cause}
-use Rattle.continuous_audit.proofs.LeftLemmas.{index-below}
 use Rattle.continuous_audit.proofs.RecordLemmas.{IsOfCause, ends, priority-away, priority-clear, priority-found}
 
 module _ (orders : List Order) (list : IsOrderList orders) (deals : List Deal) (deal_list : IsDealList orders deals) (causes : List Cause) (are : AreCauses orders deals causes) (n : ℕ) (n_inside : n < length orders)
@@ -51,15 +50,6 @@ module _ (orders : List Order) (list : IsOrderList orders) (deals : List Deal) (
       let same : order_in causes i ≡ n = omega arith in
       let order_is : order_in causes i ≡ incoming orders (deal_at deals (deal_in causes i)) = ap (λ (c : Cause). c.order) h.1 in
       record { inside = h.0; at = sym (incoming-cause orders (deal_at deals (deal_in causes i))) ∙ ap (place_at orders) (sym order_is ∙ same) }
-
-  -- and its resting order comes before that of the record
-  pub resting-earlier : (i : ℕ) → start ≤ i → i < end → resting orders (deal_at deals (deal_in causes i)) < n
-  resting-earlier i from below =
-      let of = of-cause i from below in
-      let e = ends orders list deals deal_list.named n n_inside (deal_at deals (deal_in causes i)) (deal_list.named (deal_in causes i) missing_deal of.inside) of.at in
-      let less : e.0 < n = index-below orders list e.0 n e.1.inside n_inside e.1.earlier in
-      let same = e.1.resting_is in
-      omega arith
 
   module _ (h : Resting) (zs : List Resting) (s : IsFilledInFront orders (other_side (side_at orders n)) (resting_left orders (traded_before orders deals) p) (resting_left_after orders deals p) (h ∷ zs)) where
     clear-at : (at : ℕ) → at ≤ end → ((i : ℕ) → start ≤ i → i < at → better (order_at orders h.index) (order_at orders (resting orders (deal_at deals (deal_in causes i)))) ≡ false)
@@ -112,15 +102,12 @@ pub pass-found-first : (orders : List Order) (list : IsOrderList orders) (deals 
     (start end : ℕ) (within : end ≤ length causes) (split : IsSplitAt causes n start) (later : IsSplitAt causes (n + 1) end) (best : Resting) (ys : List Resting) → first ys ≡ Some best
     → IsFilledInFront orders (other_side (side_at orders n)) (resting_left orders (traded_before orders deals) (place_at orders n)) (resting_left_after orders deals (place_at orders n)) ys
     → (at : ℕ) → start ≤ at → at < end → ((i : ℕ) → start ≤ i → i < at → better (order_at orders best.index) (order_at orders (resting orders (deal_at deals (deal_in causes i)))) ≡ false)
-    → (d : Deal) (over rest : Order) (a b : ℕ) → d ≡ deal_at deals (deal_in causes at) → over ≡ order_at orders best.index → rest ≡ order_at orders (resting orders (deal_at deals (deal_in causes at)))
-    → better over rest ≡ true → a ≡ shown_after orders deals (place_at orders n) best.index → b ≡ shown_after orders deals (place_at orders n) (resting orders (deal_at deals (deal_in causes at)))
-    → least_answer (priority_finding orders deals (place_at orders n)) (length deals) ≡ Some (outranked_finding d over rest a b)
-pass-found-first orders list deals deal_list causes are n n_inside start end within split later best [] e s at from below under d over rest a b d_is o_is r_is t a_is b_is = absurd (cc)
-pass-found-first orders list deals deal_list causes are n n_inside start end within split later best (h ∷ zs) e s at from below under d over rest a b d_is o_is r_is t a_is b_is =
+    → better (order_at orders best.index) (order_at orders (resting orders (deal_at deals (deal_in causes at)))) ≡ true
+    → least_answer (priority_finding orders deals (place_at orders n)) (length deals) ≡ Some (outranked_finding orders (shown_after orders deals (place_at orders n)) (deal_at deals (deal_in causes at)) best.index)
+pass-found-first orders list deals deal_list causes are n n_inside start end within split later best [] e s at from below under t = absurd (cc)
+pass-found-first orders list deals deal_list causes are n n_inside start end within split later best (h ∷ zs) e s at from below under t =
     let is : best ≡ h = cc in
-    let o : over ≡ order_at orders h.index = o_is ∙ ap (λ (x : Resting). order_at orders x.index) is in
-    let av : a ≡ shown_after orders deals (place_at orders n) h.index = a_is ∙ ap (λ (x : Resting). shown_after orders deals (place_at orders n) x.index) is in
-    let found = pass-found orders list deals deal_list causes are n n_inside start end within split later h zs s at from below
+    pass-found orders list deals deal_list causes are n n_inside start end within split later h zs s at from below
     (λ i from below. subst (λ (x : Resting). better (order_at orders x.index) (order_at orders (resting orders (deal_at deals (deal_in causes i)))) ≡ false) is (under i from below))
-    (subst (λ (x : Order). better x (order_at orders (resting orders (deal_at deals (deal_in causes at)))) ≡ true) o (subst (λ (x : Order). better over x ≡ true) r_is t)) in
-    found ∙ sym (λ i. Some (outranked_finding (d_is i) (o i) (r_is i) (av i) (b_is i)))
+    (subst (λ (x : Resting). better (order_at orders x.index) (order_at orders (resting orders (deal_at deals (deal_in causes at)))) ≡ true) is t)
+    ∙ ap (λ (x : Resting). Some (outranked_finding orders (shown_after orders deals (place_at orders n)) (deal_at deals (deal_in causes at)) x.index)) (sym is)

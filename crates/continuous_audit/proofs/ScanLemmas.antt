@@ -1,6 +1,6 @@
 -- The deals of one record, one after another.
-use Rattle.std.proofs.Common.{◌≡◌, ◌≢◌, ◌<◌, ◌≤◌, ◌+◌, ◌-◌, ◌^◌, ◌⊎◌, ℕ, List, length, Bool, true, false, Some, None, refl, sym, ap, ◌∙◌, arith, inl, inr, subst, get_or, take, add-one}
-use Rattle.std.specs.Prelude.{nat_lt, ◌==◌, ◌&&◌, slice_set}
+use Rattle.std.proofs.Common.{◌≡◌, ◌≢◌, ◌<◌, ◌≤◌, ◌+◌, ◌-◌, ◌^◌, ◌⊎◌, ℕ, List, [], ◌∷◌, length, option_map, Bool, true, false, Some, None, refl, sym, ap, ◌∙◌, arith, inl, inr, subst, get_or, take, add-one}
+use Rattle.std.specs.Prelude.{nat_lt, not, ◌==◌, ◌&&◌, slice_set}
 use Rattle.std.proofs.lemmas.List.{length-set, get_or-set_same, get_or-set_other}
 use Rattle.std.proofs.lemmas.List.Sums.{sum_by_more}
 use Rattle.std.proofs.lemmas.Bool.{cases_eq, cases_lt, lt-ltb, le-ltb, eq-eqb, ne_eqb, or_left, or_right, or_from, cond-true, cond-false}
@@ -8,20 +8,26 @@ use Rattle.std.proofs.lemmas.Bool.Decides.{nat_tests}
 use Rattle.audit_base.specs.declared.orders.Order.{Order}
 use Rattle.audit_base.specs.declared.orders.Deal.{Deal}
 use Rattle.audit_base.specs.declared.findings.Finding.{Finding}
-use Rattle.audit_base.specs.Least.{least_answer}
-use Rattle.audit_base.specs.Shows.{with_traded}
+use Rattle.audit_base.specs.declared.terms.Side.TheVariants.{Buy, Sell}
+use Rattle.audit_base.specs.Least.{least_answer, first_of, only_if}
 use Rattle.audit_base.specs.Orders.{order_at, place_at, side_at, is_rests, IsOrderList}
 use Rattle.audit_base.specs.Deals.{names, deal_at, missing_deal, part_of, NamesOrders, IsDealList}
 use Rattle.audit_base.specs.Continuous.{cause, resting, incoming, traded_before, traded_at, entered_of, size_of, rests, size, uncancelled_before}
+use Rattle.audit_base.specs.CallOffences.{keeps_limits}
 use Rattle.audit_base.specs.ContinuousOffences.{continuous_inactive, continuous_off_limit, over_size, traded_upto, shown_upto, conservation_finding}
-use Rattle.audit_base.proofs.OrderLemmas.{not_both_sides, place-rises}
+use Rattle.audit_base.proofs.OrderLemmas.{not_both_sides}
 use Rattle.audit_base.proofs.LeastLemmas.{least-none, least-at}
 use Rattle.audit_base.proofs.OffenceLemmas.{get_or-default}
 use Rattle.continuous_audit.specs.declared.causes.Cause.{Cause}
 use Rattle.continuous_audit.specs.Causes.{cause_of, AreCauses, running_total}
+use Rattle.continuous_audit.specs.declared.breaches.DealRule.{DealRule}
+use Rattle.continuous_audit.specs.declared.breaches.DealRule.TheVariants.{Resting, Entered, Limits, Size}
 use Rattle.continuous_audit.specs.DealFindings as by_deal
+use Rattle.continuous_audit.specs.Breaches.{IsDealUpto, IsDealBreach, rule_finding}
 use Rattle.continuous_audit.specs.Scans.{number_in, missing_cause, order_in, deal_in, IsKnown, AreRunningTotals, IsSplitAt}
+use Rattle.continuous_audit.proofs.BreachLemmas.{upto-n, deal-upto}
 use Rattle.continuous_audit.proofs.CauseLemmas.{incoming-cause, running-upto}
+use Rattle.continuous_audit.proofs.NumberLemmas.{running-fits}
 use Rattle.continuous_audit.proofs.RecordLemmas.{ends}
 
 -- an order that rests before p, from what is left of it
@@ -37,6 +43,16 @@ waits-is orders past p r left earlier e =
     let now : nat_lt (place_at orders r) p ≡ true = lt-ltb _ _ earlier in
     rw (e, now) (wait-bools (is_rests (order_at orders r).life) (uncancelled_before (order_at orders r).cancelled p) (size orders past r) (past p r))
 
+-- the first rule that is broken, and its finding
+first-broken : (f : DealRule → Finding) (r e w b a : Bool) → first_of (first_of (only_if (not r) (f Resting) ∷ only_if (not e) (f Entered) ∷ []) ∷ only_if (not w) (f Limits) ∷ only_if b (f (Size Buy)) ∷ only_if a (f (Size Sell)) ∷ [])
+    ≡ option_map f (by_deal.first_broken r e w b a)
+first-broken f false e w b a = refl
+first-broken f true false w b a = refl
+first-broken f true true false b a = refl
+first-broken f true true true true a = refl
+first-broken f true true true false true = refl
+first-broken f true true true false false = refl
+
 module _ (orders : List Order) (list : IsOrderList orders) (deals : List Deal) (deal_list : IsDealList orders deals) (causes : List Cause) (are : AreCauses orders deals causes) (n : ℕ) (n_inside : n < length orders) where
   abbrev p : ℕ
   p = place_at orders n
@@ -44,16 +60,16 @@ module _ (orders : List Order) (list : IsOrderList orders) (deals : List Deal) (
   abbrev past : ℕ → ℕ → ℕ
   past = traded_before orders deals
 
-  -- the finding at a deal of this cause, by its resting and its incoming order
+  -- the finding at a deal of this cause, by the first rule that it breaks
   finding-is : (k : ℕ) → cause orders (deal_at deals k) ≡ p → conservation_finding orders deals p k
-      ≡ by_deal.deal_finding (deal_at deals k) (rests orders past p (resting orders (deal_at deals k))) (entered_of orders deals (incoming orders (deal_at deals k)))
-      (with_traded (order_at orders (resting orders (deal_at deals k))) (shown_upto orders deals p k (resting orders (deal_at deals k)))) (with_traded (order_at orders (incoming orders (deal_at deals k))) (shown_upto orders deals p k (incoming orders (deal_at deals k))))
-      (with_traded (order_at orders (deal_at deals k).bid) (shown_upto orders deals p k (deal_at deals k).bid)) (with_traded (order_at orders (deal_at deals k).ask) (shown_upto orders deals p k (deal_at deals k).ask))
-      (nat_lt (size_of orders deals (deal_at deals k).bid) (traded_upto orders deals p k (deal_at deals k).bid)) (nat_lt (size_of orders deals (deal_at deals k).ask) (traded_upto orders deals p k (deal_at deals k).ask))
+      ≡ option_map (rule_finding orders (shown_upto orders deals p k) (deal_at deals k)) (by_deal.first_broken (rests orders past p (resting orders (deal_at deals k))) (entered_of orders deals (incoming orders (deal_at deals k))) (keeps_limits orders (deal_at deals k))
+      (nat_lt (size_of orders deals (deal_at deals k).bid) (traded_upto orders deals p k (deal_at deals k).bid)) (nat_lt (size_of orders deals (deal_at deals k).ask) (traded_upto orders deals p k (deal_at deals k).ask)))
   unfolding continuous_inactive continuous_off_limit over_size
   finding-is k at = cond-true (cause orders (deal_at deals k) == p) _ None (eq-eqb _ _ at)
+      ∙ first-broken (rule_finding orders (shown_upto orders deals p k) (deal_at deals k)) (rests orders past p (resting orders (deal_at deals k))) (entered_of orders deals (incoming orders (deal_at deals k))) (keeps_limits orders (deal_at deals k))
+      (nat_lt (size_of orders deals (deal_at deals k).bid) (traded_upto orders deals p k (deal_at deals k).bid)) (nat_lt (size_of orders deals (deal_at deals k).ask) (traded_upto orders deals p k (deal_at deals k).ask))
 
-  module _ (entered : Bool) (before sizes left : List ℕ) (known : IsKnown orders deals n entered before sizes left) (at : ℕ) (lt : at < length causes) (of : order_in causes at ≡ n) where
+  module _ (entered : Bool) (sizes left : List ℕ) (known : IsKnown orders deals n entered sizes left) (at : ℕ) (lt : at < length causes) (of : order_in causes at ≡ n) where
     abbrev k : ℕ
     k = deal_in causes at
 
@@ -76,53 +92,46 @@ module _ (orders : List Order) (list : IsOrderList orders) (deals : List Deal) (
     running_here x = ap (λ (m : ℕ). running_total deals causes m x) (add-one at) ∙ running-upto orders list deals deal_list.named causes are at missing_cause lt x
         ∙ ap (λ (m : ℕ). traded_before orders deals (place_at orders m) x + traded_at orders (take (k + 1) deals) (place_at orders m) x) of
 
-    upto-n : (x : ℕ) → x < length orders → place_at orders x ≤ p → x ≤ n
-    upto-n x inside le = elim (cases_lt n x) [ inr ok ↦ ok | inl more ↦ let up = place-rises orders list n x more inside in absurd (omega arith) ]
-
     below-n : (x : ℕ) → x < length orders → place_at orders x < p → x < n
     below-n x inside less = elim (cases_eq x n) [
       | inl e ↦ let same : place_at orders x ≡ p = ap (place_at orders) e in absurd (omega arith)
-      | inr ne ↦ let le = upto-n x inside (omega arith) in omega (arith, ne)
+      | inr ne ↦ let le = upto-n orders list n n_inside x inside (omega arith) in omega (arith, ne)
     ]
 
-    pub checked : (bt at' : ℕ) → bt ≡ running_total deals causes (at + 1) d.bid → at' ≡ running_total deals causes (at + 1) d.ask
-        → by_deal.check_deal d (order_at orders d.bid) (order_at orders d.ask) p entered bt at' (number_in before d.bid) (number_in before d.ask) (number_in sizes d.bid) (number_in sizes d.ask) (number_in left d.bid) (number_in left d.ask) ≡ conservation_finding orders deals p k
-    checked bt at' bt_is at_is =
-        let bid_in : d.bid ≤ n = upto-n d.bid named_here.bid_inside (omega (arith, cause_here)) in
-        let ask_in : d.ask ≤ n = upto-n d.ask named_here.ask_inside (omega (arith, cause_here)) in
-        let tb : bt ≡ traded_upto orders deals p k d.bid = bt_is ∙ running_here d.bid in
-        let ta : at' ≡ traded_upto orders deals p k d.ask = at_is ∙ running_here d.ask in
-        let sb : bt + number_in before d.bid ≡ shown_upto orders deals p k d.bid = let e = known.before_is d.bid bid_in in omega arith in
-        let sa : at' + number_in before d.ask ≡ shown_upto orders deals p k d.ask = let e = known.before_is d.ask ask_in in omega arith in
-        let zb = known.size_is d.bid bid_in in
-        let za = known.size_is d.ask ask_in in
+    pub here-upto : IsDealUpto deals n k
+    here-upto = deal-upto orders list deals deal_list n n_inside k k_inside cause_here
+
+    -- whether its resting order rests
+    waits-here : by_deal.resting_waits (order_at orders d.bid) (order_at orders d.ask) p (number_in left d.bid) (number_in left d.ask) ≡ rests orders past p (resting orders d)
+    waits-here =
         let e = ends orders list deals deal_list.named n n_inside d named_here cause_here in
         elim (cases_lt (place_at orders d.bid) (place_at orders d.ask)) [
           | inl less ↦
               let t : nat_lt (place_at orders d.bid) (place_at orders d.ask) ≡ true = lt-ltb _ _ less in
               let r_is : d.bid ≡ resting orders d = sym (cond-true _ d.bid d.ask t) in
-              let n_is : d.ask ≡ incoming orders d = sym (cond-true _ d.ask d.bid t) in
               let earlier : place_at orders d.bid < p = omega (arith, cause_here) in
-              let w : by_deal.waits (order_at orders d.bid) p (number_in left d.bid) ≡ rests orders past p (resting orders d) = waits-is orders past p d.bid (number_in left d.bid) earlier (known.left_is d.bid (below-n d.bid named_here.bid_inside earlier)) ∙ ap (rests orders past p) r_is in
-              let a : entered ≡ entered_of orders deals (incoming orders d) = known.arrived ∙ ap (entered_of orders deals) (sym incoming_here) in
-              let r_line : with_traded (order_at orders d.bid) (bt + number_in before d.bid) ≡ with_traded (order_at orders (resting orders d)) (shown_upto orders deals p k (resting orders d)) = ap (with_traded (order_at orders d.bid)) sb ∙ ap (λ (x : ℕ). with_traded (order_at orders x) (shown_upto orders deals p k x)) r_is in
-              let n_line : with_traded (order_at orders d.ask) (at' + number_in before d.ask) ≡ with_traded (order_at orders (incoming orders d)) (shown_upto orders deals p k (incoming orders d)) = ap (with_traded (order_at orders d.ask)) sa ∙ ap (λ (x : ℕ). with_traded (order_at orders x) (shown_upto orders deals p k x)) n_is in
-              cond-true (nat_lt (place_at orders d.bid) (place_at orders d.ask)) _ _ t
-              ∙ (λ i. by_deal.deal_finding d (w i) (a i) (r_line i) (n_line i) (with_traded (order_at orders d.bid) (sb i)) (with_traded (order_at orders d.ask) (sa i)) (nat_lt (zb i) (tb i)) (nat_lt (za i) (ta i)))
-              ∙ sym (finding-is k cause_here)
+              cond-true _ _ _ t ∙ waits-is orders past p d.bid (number_in left d.bid) earlier (known.left_is d.bid (below-n d.bid named_here.bid_inside earlier)) ∙ ap (rests orders past p) r_is
           | inr le ↦
               let f : nat_lt (place_at orders d.bid) (place_at orders d.ask) ≡ false = le-ltb _ _ le in
               let r_is : d.ask ≡ resting orders d = sym (cond-false _ d.bid d.ask f) in
-              let n_is : d.bid ≡ incoming orders d = sym (cond-false _ d.ask d.bid f) in
               let earlier : place_at orders d.ask < p = subst (λ x. place_at orders x < p) (sym (r_is ∙ e.1.resting_is)) e.1.earlier in
-              let w : by_deal.waits (order_at orders d.ask) p (number_in left d.ask) ≡ rests orders past p (resting orders d) = waits-is orders past p d.ask (number_in left d.ask) earlier (known.left_is d.ask (below-n d.ask named_here.ask_inside earlier)) ∙ ap (rests orders past p) r_is in
-              let a : entered ≡ entered_of orders deals (incoming orders d) = known.arrived ∙ ap (entered_of orders deals) (sym incoming_here) in
-              let r_line : with_traded (order_at orders d.ask) (at' + number_in before d.ask) ≡ with_traded (order_at orders (resting orders d)) (shown_upto orders deals p k (resting orders d)) = ap (with_traded (order_at orders d.ask)) sa ∙ ap (λ (x : ℕ). with_traded (order_at orders x) (shown_upto orders deals p k x)) r_is in
-              let n_line : with_traded (order_at orders d.bid) (bt + number_in before d.bid) ≡ with_traded (order_at orders (incoming orders d)) (shown_upto orders deals p k (incoming orders d)) = ap (with_traded (order_at orders d.bid)) sb ∙ ap (λ (x : ℕ). with_traded (order_at orders x) (shown_upto orders deals p k x)) n_is in
-              cond-false (nat_lt (place_at orders d.bid) (place_at orders d.ask)) _ _ f
-              ∙ (λ i. by_deal.deal_finding d (w i) (a i) (r_line i) (n_line i) (with_traded (order_at orders d.bid) (sb i)) (with_traded (order_at orders d.ask) (sa i)) (nat_lt (zb i) (tb i)) (nat_lt (za i) (ta i)))
-              ∙ sym (finding-is k cause_here)
+              cond-false _ _ _ f ∙ waits-is orders past p d.ask (number_in left d.ask) earlier (known.left_is d.ask (below-n d.ask named_here.ask_inside earlier)) ∙ ap (rests orders past p) r_is
         ]
+
+    pub checked : (bt at' : ℕ) → bt ≡ running_total deals causes (at + 1) d.bid → at' ≡ running_total deals causes (at + 1) d.ask
+        → conservation_finding orders deals p k ≡ option_map (rule_finding orders (shown_upto orders deals p k) d)
+        (by_deal.broken_rule d (order_at orders d.bid) (order_at orders d.ask) p entered bt at' (number_in sizes d.bid) (number_in sizes d.ask) (number_in left d.bid) (number_in left d.ask))
+    checked bt at' bt_is at_is =
+        let tb : bt ≡ traded_upto orders deals p k d.bid = bt_is ∙ running_here d.bid in
+        let ta : at' ≡ traded_upto orders deals p k d.ask = at_is ∙ running_here d.ask in
+        let zb = known.size_is d.bid here-upto.bid_upto in
+        let za = known.size_is d.ask here-upto.ask_upto in
+        let a : entered ≡ entered_of orders deals (incoming orders d) = known.arrived ∙ ap (entered_of orders deals) (sym incoming_here) in
+        finding-is k cause_here
+        ∙ sym (λ i. option_map (rule_finding orders (shown_upto orders deals p k) d) (by_deal.first_broken (waits-here i) (a i) (keeps_limits orders d) (nat_lt (zb i) (tb i)) (nat_lt (za i) (ta i))))
+
+    pub traded-here : (traded : List ℕ) → AreRunningTotals orders deals causes (at + 1) traded → (x : ℕ) → x < length orders → number_in traded x ≡ traded_upto orders deals p k x
+    traded-here traded run x inside = run.sums x inside ∙ running_here x
 
   -- deals of other causes have no finding, and those of this one stand among its causes
   module _ (start at : ℕ) (split : IsSplitAt causes n start) (clean : (i : ℕ) → start ≤ i → i < at → conservation_finding orders deals p (deal_in causes i) ≡ None) where
@@ -238,13 +247,27 @@ module _ (orders : List Order) (deals : List Deal) (causes : List Cause) (at : �
 
 -- the same, in the words of the code: the deal and the two orders that it reads
 pub checked-read : (orders : List Order) (list : IsOrderList orders) (deals : List Deal) (deal_list : IsDealList orders deals) (causes : List Cause) (are : AreCauses orders deals causes) (n : ℕ) (n_inside : n < length orders)
-    (entered : Bool) (before sizes left : List ℕ) (known : IsKnown orders deals n entered before sizes left) (at : ℕ) (lt : at < length causes) (of : order_in causes at ≡ n)
+    (entered : Bool) (sizes left : List ℕ) (known : IsKnown orders deals n entered sizes left) (at : ℕ) (lt : at < length causes) (of : order_in causes at ≡ n)
     (d : Deal) (d_is : d ≡ deal_at deals (deal_in causes at)) (bid ask : Order) (b_is : bid ≡ order_at orders d.bid) (a_is : ask ≡ order_at orders d.ask) (place : ℕ) (p_is : place ≡ place_at orders n)
     (bt at' : ℕ) (bt_is : bt ≡ running_total deals causes (at + 1) d.bid) (at_is : at' ≡ running_total deals causes (at + 1) d.ask)
-    → by_deal.check_deal d bid ask place entered bt at' (number_in before d.bid) (number_in before d.ask) (number_in sizes d.bid) (number_in sizes d.ask) (number_in left d.bid) (number_in left d.ask) ≡ conservation_finding orders deals (place_at orders n) (deal_in causes at)
-checked-read orders list deals deal_list causes are n n_inside entered before sizes left known at lt of d d_is bid ask b_is a_is place p_is bt at' bt_is at_is =
+    → conservation_finding orders deals (place_at orders n) (deal_in causes at) ≡ option_map (rule_finding orders (shown_upto orders deals (place_at orders n) (deal_in causes at)) (deal_at deals (deal_in causes at)))
+    (by_deal.broken_rule d bid ask place entered bt at' (number_in sizes d.bid) (number_in sizes d.ask) (number_in left d.bid) (number_in left d.ask))
+checked-read orders list deals deal_list causes are n n_inside entered sizes left known at lt of d d_is bid ask b_is a_is place p_is bt at' bt_is at_is =
     let e = deal_at deals (deal_in causes at) in
     let b : bid ≡ order_at orders e.bid = b_is ∙ ap (λ (x : Deal). order_at orders x.bid) d_is in
     let a : ask ≡ order_at orders e.ask = a_is ∙ ap (λ (x : Deal). order_at orders x.ask) d_is in
-    (λ i. by_deal.check_deal (d_is i) (b i) (a i) (p_is i) entered bt at' (number_in before (d_is i).bid) (number_in before (d_is i).ask) (number_in sizes (d_is i).bid) (number_in sizes (d_is i).ask) (number_in left (d_is i).bid) (number_in left (d_is i).ask))
-    ∙ checked orders list deals deal_list causes are n n_inside entered before sizes left known at lt of bt at' (bt_is ∙ ap (λ (x : Deal). running_total deals causes (at + 1) x.bid) d_is) (at_is ∙ ap (λ (x : Deal). running_total deals causes (at + 1) x.ask) d_is)
+    checked orders list deals deal_list causes are n n_inside entered sizes left known at lt of bt at' (bt_is ∙ ap (λ (x : Deal). running_total deals causes (at + 1) x.bid) d_is) (at_is ∙ ap (λ (x : Deal). running_total deals causes (at + 1) x.ask) d_is)
+    ∙ sym (λ i. option_map (rule_finding orders (shown_upto orders deals (place_at orders n) (deal_in causes at)) e) (by_deal.broken_rule (d_is i) (b i) (a i) (p_is i) entered bt at' (number_in sizes (d_is i).bid) (number_in sizes (d_is i).ask) (number_in left (d_is i).bid) (number_in left (d_is i).ask)))
+
+-- the breach at the cause that the code has come to, after its deal is added
+pub breach-read : (orders : List Order) (list : IsOrderList orders) (deals : List Deal) (deal_list : IsDealList orders deals) (causes : List Cause) (are : AreCauses orders deals causes) (n : ℕ) (n_inside : n < length orders)
+    (entered : Bool) (sizes left : List ℕ) (known : IsKnown orders deals n entered sizes left) (start at : ℕ) (split : IsSplitAt causes n start) (clean : (i : ℕ) → start ≤ i → i < at → conservation_finding orders deals (place_at orders n) (deal_in causes i) ≡ None)
+    (lt : at < length causes) (of : order_in causes at ≡ n) (rule : DealRule) → conservation_finding orders deals (place_at orders n) (deal_in causes at) ≡ Some (rule_finding orders (shown_upto orders deals (place_at orders n) (deal_in causes at)) (deal_at deals (deal_in causes at)) rule)
+    → (traded : List ℕ) → AreRunningTotals orders deals causes (at + 1) traded → IsDealBreach orders deals n traded (record { deal = deal_in causes at; rule = rule })
+breach-read orders list deals deal_list causes are n n_inside entered sizes left known start at split clean lt of rule here traded run = record {
+  upto = here-upto orders list deals deal_list causes are n n_inside entered sizes left known at lt of;
+  traded_count = run.count;
+  traded_fits = running-fits orders list deals deal_list causes are (at + 1) traded run;
+  traded_is = traded-here orders list deals deal_list causes are n n_inside entered sizes left known at lt of traded run;
+  shown = first-finding orders list deals deal_list causes are n n_inside start at split clean _ lt of here;
+}

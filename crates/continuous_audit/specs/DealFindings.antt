@@ -1,17 +1,14 @@
--- The finding of one deal, from what is known of its orders.
-use Rattle.std.specs.Prelude.{◌+◌, ◌-◌, ℕ, Bool, ◌&&◌, not, nat_lt, nat_le, List, [], ◌∷◌, Option, None, Some, slice_index_or, if◌then◌else◌}
+-- The first rule that a deal breaks, from what is known of its orders.
+use Rattle.std.specs.Prelude.{◌-◌, ℕ, Bool, ◌&&◌, not, nat_lt, List, [], ◌∷◌, Option, slice_index_or, if◌then◌else◌}
+use Rattle.audit_base.specs.declared.terms.Side.TheVariants.{Buy, Sell}
 use Rattle.audit_base.specs.declared.orders.Order.{Order}
 use Rattle.audit_base.specs.declared.orders.Deal.{Deal}
-use Rattle.audit_base.specs.declared.findings.OrderLine.{OrderLine}
-use Rattle.audit_base.specs.declared.findings.Property.{Property}
-use Rattle.audit_base.specs.declared.findings.Property.TheVariants as property
-use Rattle.audit_base.specs.declared.findings.Shown.TheVariants as shown
-use Rattle.audit_base.specs.declared.findings.Finding.{Finding}
 use Rattle.audit_base.specs.Least.{first_of, only_if}
-use Rattle.audit_base.specs.Shows.{at_deal, with_traded}
-use Rattle.audit_base.specs.ContinuousOffences.{priority_of}
+use Rattle.audit_base.specs.CallOffences.{is_within}
 use Rattle.audit_base.specs.Orders.{order_at}
 use Rattle.audit_base.specs.Continuous.{is_own_place}
+use Rattle.continuous_audit.specs.declared.breaches.DealRule.{DealRule}
+use Rattle.continuous_audit.specs.declared.breaches.DealRule.TheVariants.{Resting, Entered, Limits, Size}
 pub use Rattle.audit_base.specs.Orders.{is_rests}
 pub use Rattle.audit_base.specs.Continuous.{uncancelled_before}
 
@@ -19,47 +16,23 @@ pub use Rattle.audit_base.specs.Continuous.{uncancelled_before}
 abbrev pub waits : Order → ℕ → ℕ → Bool
 waits o p left = is_rests o.life && uncancelled_before o.cancelled p && nat_lt 0 left
 
--- 7: the resting order doesn't rest, or else the incoming one never entered
-abbrev pub inactive_at : Deal → Bool → Bool → OrderLine → OrderLine → Option Finding
-inactive_at d rests entered rest come = first_of
-    (only_if (not rests) (at_deal property.Inactive d (Some (shown.Order rest)) None)
-    ∷ only_if (not entered) (at_deal property.Inactive d (Some (shown.Order come)) None) ∷ [])
+-- of a bid and an ask that trade the earlier one rests before p, with so much left of each
+abbrev pub resting_waits : Order → Order → ℕ → ℕ → ℕ → Bool
+resting_waits bid ask p bid_left ask_left =
+    if nat_lt bid.place ask.place then waits bid p bid_left else waits ask p ask_left
 
--- 8: the price is outside a limit
-abbrev pub off_limit_at : Deal → OrderLine → OrderLine → Option Finding
-off_limit_at d bid ask = only_if (not (nat_le ask.limit d.price && nat_le d.price bid.limit))
-    (at_deal property.Limit d (Some (shown.Order bid)) (Some (shown.Order ask)))
+-- the first rule that a deal breaks: 7 its resting order rests, and its incoming one entered; 8 its price
+-- is within the limits; 10 and 11 neither order trades more than its Size
+abbrev pub first_broken : Bool → Bool → Bool → Bool → Bool → Option DealRule
+first_broken rests entered within bid_over ask_over = first_of
+    (only_if (not rests) Resting ∷ only_if (not entered) Entered ∷ only_if (not within) Limits
+    ∷ only_if bid_over (Size Buy) ∷ only_if ask_over (Size Sell) ∷ [])
 
--- 10 or 11: an order trades more than its Size
-abbrev pub overfilled_at : Property → Deal → Bool → OrderLine → Option Finding
-overfilled_at property d over line = only_if over
-    (at_deal property d (Some (shown.Order line)) None)
-
--- the first of these of a deal
-abbrev pub deal_finding : Deal → Bool → Bool → OrderLine → OrderLine → OrderLine → OrderLine
-    → Bool → Bool → Option Finding
-deal_finding d rests entered rest come bid ask bid_over ask_over = first_of
-    (inactive_at d rests entered rest come ∷ off_limit_at d bid ask
-    ∷ overfilled_at property.BuyQuantity d bid_over bid
-    ∷ overfilled_at property.SellQuantity d ask_over ask ∷ [])
-
--- the same, from what its bid and its ask have traded, and had before
-abbrev pub check_deal : Deal → Order → Order → ℕ → Bool → ℕ → ℕ → ℕ → ℕ → ℕ → ℕ → ℕ → ℕ
-    → Option Finding
-check_deal d bid ask p entered bid_traded ask_traded bid_before ask_before bid_size ask_size bid_left ask_left =
-    let bid_line = with_traded bid (bid_traded + bid_before) in
-    let ask_line = with_traded ask (ask_traded + ask_before) in
-    if nat_lt bid.place ask.place
-    then deal_finding d (waits bid p bid_left) entered bid_line ask_line bid_line ask_line
+-- the same, from what its bid and its ask have traded and had left
+abbrev pub broken_rule : Deal → Order → Order → ℕ → Bool → ℕ → ℕ → ℕ → ℕ → ℕ → ℕ → Option DealRule
+broken_rule d bid ask p entered bid_traded ask_traded bid_size ask_size bid_left ask_left =
+    first_broken (resting_waits bid ask p bid_left ask_left) entered (is_within bid ask d)
     (nat_lt bid_size bid_traded) (nat_lt ask_size ask_traded)
-    else deal_finding d (waits ask p ask_left) entered ask_line bid_line bid_line ask_line
-    (nat_lt bid_size bid_traded) (nat_lt ask_size ask_traded)
-
--- the finding at a deal whose resting order is outranked
-abbrev pub outranked_finding : Deal → Order → Order → ℕ → ℕ → Finding
-outranked_finding d over rest over_traded rest_traded = at_deal (priority_of rest.side) d
-    (Some (shown.Order (with_traded over over_traded)))
-    (Some (shown.Order (with_traded rest rest_traded)))
 
 -- an order is placed, and its target rests if it has one
 abbrev pub enters : Order → Bool → Bool

@@ -1,6 +1,7 @@
 -- What a reader must believe: the answer of the audit.
 pub mod Audits
 -- What private functions pass on.
+pub mod Breaches
 pub mod Causes
 pub mod Chains
 pub mod DealFindings

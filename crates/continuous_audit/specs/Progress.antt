@@ -161,9 +161,7 @@ IsReadyNext orders deals causes endings n numbers standing =
 
 -- what is known after the deals of the order at n, when the spread is looked at
 pub record IsAtSpread (orders : List Order) (deals : List Deal) (n : ℕ)
-    (traded before left : List ℕ) (b : Books) : Type 0 where
-  pub traded_is : AreTraded orders deals (suc (place_at orders n)) traded
-  pub before_is : AreBefore orders deals (suc n) before
+    (left : List ℕ) (b : Books) : Type 0 where
   pub left_is : AreLeft orders deals (suc n) (suc (place_at orders n)) left
   pub holds : HoldWithoutOwn orders deals n b
   pub apart : IsApart orders (traded_before orders deals) (place_at orders n)

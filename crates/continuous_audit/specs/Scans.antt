@@ -4,7 +4,7 @@ use Rattle.audit_base.specs.declared.orders.Order.{Order}
 use Rattle.audit_base.specs.declared.orders.Deal.{Deal}
 use Rattle.audit_base.specs.Orders.{place_at}
 use Rattle.audit_base.specs.Deals.{names, deal_at}
-use Rattle.audit_base.specs.Continuous.{traded_after, before_of, entered_of, size_of, left_before, left_after}
+use Rattle.audit_base.specs.Continuous.{before_of, entered_of, size_of, left_before, left_after}
 use Rattle.continuous_audit.specs.declared.causes.Cause.{Cause}
 use Rattle.continuous_audit.specs.Causes.{running_total}
 
@@ -22,18 +22,15 @@ order_in causes i = (slice_index_or causes i missing_cause).order
 abbrev pub deal_in : List Cause → ℕ → ℕ
 deal_in causes i = (slice_index_or causes i missing_cause).deal
 
--- before the deals of the order at n: Before and Size of each order up to it, what is left of the
--- earlier ones, and whether it entered
+-- before the deals of the order at n: Size of each order up to it, what is left of the earlier ones, and
+-- whether it entered
 pub record IsKnown (orders : List Order) (deals : List Deal) (n : ℕ) (entered : Bool)
-    (before sizes left : List ℕ) : Type 0 where
-  pub before_count : length before ≡ length orders
+    (sizes left : List ℕ) : Type 0 where
   pub sizes_count : length sizes ≡ length orders
   pub left_count : length left ≡ length orders
   pub arrived : entered ≡ entered_of orders deals n
-  pub before_is : (x : ℕ) → x ≤ n → number_in before x ≡ before_of orders deals x
   pub size_is : (x : ℕ) → x ≤ n → number_in sizes x ≡ size_of orders deals x
   pub left_is : (x : ℕ) → x < n → number_in left x ≡ left_before orders deals (place_at orders n) x
-  pub before_fits : (x : ℕ) → number_in before x ≤ 2 ^ 126
 
 -- what each order has traded in the first causes
 pub record AreRunningTotals (orders : List Order) (deals : List Deal) (causes : List Cause)
@@ -71,20 +68,10 @@ pub record IsRefreshed (deals : List Deal) (causes : List Cause) (start at : ℕ
 abbrev pub AreSmall : List Order → List ℕ → Type 0
 AreSmall orders traded = (x : ℕ) → x < length orders → number_in traded x ≤ 2 ^ 72
 
--- after the deals of the order at n: what each order has traded, and what is left of the earlier ones
-abbrev pub AreTradedAfter : List Order → List Deal → ℕ → List ℕ → Type 0
-AreTradedAfter orders deals n traded =
-    (x : ℕ) → x < length orders
-    → number_in traded x ≡ traded_after orders deals (place_at orders n) x
-
+-- after the deals of the order at n: what is left of the earlier ones
 abbrev pub AreLeftAfter : List Order → List Deal → ℕ → List ℕ → Type 0
 AreLeftAfter orders deals n left = (x : ℕ) → x < n
     → number_in left x ≡ left_after orders deals (place_at orders n) x
-
--- Before of each order up to the one at n
-abbrev pub AreBeforeUpto : List Order → List Deal → ℕ → List ℕ → Type 0
-AreBeforeUpto orders deals n before = (x : ℕ) → x ≤ n
-    → number_in before x ≡ before_of orders deals x
 
 -- whether the order at n entered, with its Before and its Size
 pub record IsOpened (orders : List Order) (deals : List Deal) (n : ℕ) (entered : Bool)

@@ -9,6 +9,7 @@ ghost use Rattle.continuous_audit.specs.Causes.{AreCauses};
 ghost use Rattle.continuous_audit.specs.Endings.{AreEndings};
 ghost use Rattle.continuous_audit.specs.Progress.{AreAtStart, AreEmptyBooks, IsReadyNext, ready_place};
 
+use super::breaches::breach_finding;
 use super::causes::{Cause, sort_causes};
 use super::endings::{Books, Ending, sort_endings};
 use super::record_audit::{Numbers, Standing, audit_record};
@@ -111,10 +112,11 @@ fn first_offence(
         standing.new }
 {
     for order in 0..orders.len() {
-        if let Some(finding) = audit_record(
+        if let Some(breach) = audit_record(
             orders, deals, causes, endings, order, numbers, standing,
         )? {
-            return Ok(Some(finding));
+            let (traded, before) = (&numbers.traded, &numbers.before);
+            return Ok(Some(breach_finding(orders, deals, order, traded, before, breach)));
         }
     }
     Ok(None)

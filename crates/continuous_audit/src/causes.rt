@@ -2,7 +2,7 @@
 ghost use Rattle.std.specs.Prelude.{◌≡◌, ◌<◌, All, IfOk, length, IsPermutation, IsSorted};
 ghost use Rattle.audit_base.specs.Orders.{order_at, place_at};
 ghost use Rattle.audit_base.specs.Deals.{NamesOrders, IsDealList};
-ghost use Rattle.audit_base.specs.Continuous.{incoming};
+ghost use Rattle.audit_base.specs.Continuous.{incoming, resting};
 ghost use Rattle.continuous_audit.specs.Causes.{causes_upto, cause_cmp};
 
 use audit_base::faults::NoMemory;
@@ -17,14 +17,28 @@ pub struct Cause {
 }
 
 /// The order of a deal whose record is the cause.
-fn incoming(orders: &[Order], deal: &Deal) -> usize
+pub fn incoming(orders: &[Order], deal: &Deal) -> usize
     requires { NamesOrders orders.now deal.now }
     ensures same { result ≡ incoming orders.now deal.now }
+    ensures inside { result < length orders.now }
 {
     if orders[deal.bid].place < orders[deal.ask].place {
         deal.ask
     } else {
         deal.bid
+    }
+}
+
+/// The order of a deal that rested.
+pub fn resting_of(orders: &[Order], deal: &Deal) -> usize
+    requires { NamesOrders orders.now deal.now }
+    ensures same { result ≡ resting orders.now deal.now }
+    ensures inside { result < length orders.now }
+{
+    if orders[deal.bid].place < orders[deal.ask].place {
+        deal.bid
+    } else {
+        deal.ask
     }
 }
 

@@ -1,19 +1,21 @@
 //! What the deals of a record do to the books.
-ghost use Rattle.std.specs.Prelude.{◌≡◌, ◌<◌, ◌≤◌, ◌+◌, ◌^◌, ℕ, All, None, length};
+ghost use Rattle.std.specs.Prelude.{◌≡◌, ◌<◌, ◌≤◌, ◌+◌, All, None, Some, length, option_map};
 ghost use Rattle.audit_base.specs.Orders.{IsOrderList};
 ghost use Rattle.audit_base.specs.Deals.{IsDealList};
 ghost use Rattle.order_book.specs.Books.{first};
+ghost use Rattle.continuous_audit.specs.declared.breaches.Breach.{Breach as ABreach};
+ghost use Rattle.continuous_audit.specs.Breaches.{IsBreachUpto, breach_after};
 ghost use Rattle.continuous_audit.specs.Causes.{AreCauses};
 ghost use Rattle.continuous_audit.specs.Endings.{list_of, with_fills};
 ghost use Rattle.continuous_audit.specs.Holding.{IsWithin};
 ghost use Rattle.continuous_audit.specs.Progress.{HoldBefore, HoldAfterDeals, priority_at};
-ghost use Rattle.continuous_audit.specs.Scans.{AreBeforeUpto, AreLeftAfter, AreSmall, AreTradedAfter, IsSplitAt, number_in};
+ghost use Rattle.continuous_audit.specs.Scans.{AreLeftAfter, IsSplitAt};
 
+use super::breaches::Breach;
 use super::causes::Cause;
 use super::endings::Books;
 use super::filling::fill_best;
 use super::passing::check_priority;
-use audit_base::findings::Finding;
 use audit_base::orders::{Deal, Order};
 use audit_base::terms::Side;
 use order_book::books::Resting;
@@ -50,10 +52,8 @@ pub fn pass_deals(
     start: usize,
     end: usize,
     left: &[u64],
-    traded: &[u128],
-    before: &[u128],
     books: &mut Books,
-) -> Option<Finding>
+) -> Option<Breach>
     requires list { IsOrderList orders.now }
     requires deal_list { IsDealList orders.now deals.now }
     requires causes { AreCauses orders.now deals.now causes.now }
@@ -64,22 +64,17 @@ pub fn pass_deals(
     requires later { IsSplitAt causes.now (order + 1) end }
     requires left_count { length left.now ≡ length orders.now }
     requires left { AreLeftAfter orders.now deals.now order left.now }
-    requires traded_count { length traded.now ≡ length orders.now }
-    requires before_count { length before.now ≡ length orders.now }
-    requires traded { AreTradedAfter orders.now deals.now order traded.now }
-    requires before { AreBeforeUpto orders.now deals.now order before.now }
-    requires traded_fits { AreSmall orders.now traded.now }
-    requires before_fits { (x : ℕ) → number_in before.now x ≤ 2 ^ 126 }
     requires books { HoldBefore orders.now deals.now order books.old }
-    ensures finding { result ≡ priority_at orders.now deals.now order }
+    ensures finding { priority_at orders.now deals.now order
+        ≡ option_map (breach_after orders.now deals.now order) result }
+    ensures upto { (breach : ABreach) → result ≡ Some breach
+        → IsBreachUpto deals.now order breach }
     ensures holds { result ≡ None → HoldAfterDeals orders.now deals.now order books.new }
 {
     let side = orders[order].side.other();
     fill_side(books, side, left);
     match best_of(books, side) {
-        Some(best) => check_priority(
-            orders, deals, causes, order, start, end, best, traded, before,
-        ),
+        Some(best) => check_priority(orders, deals, causes, order, start, end, best),
         None => None,
     }
 }

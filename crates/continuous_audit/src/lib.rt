@@ -1,9 +1,8 @@
 //! The rule of continuous trading.
 #![tactic(auto)]
 
-#[cfg(test)]
-mod audit_tests;
 pub mod auditing;
+mod breaches;
 mod causes;
 mod chains;
 mod checking;

@@ -2,14 +2,15 @@
 ghost use Rattle.std.specs.Prelude.{◌≡◌, ◌<◌, ◌≤◌, ◌+◌, ◌-◌, ℕ, suc, All, None, Some, Ok, length, slice_set, vec_len};
 ghost use Rattle.audit_base.specs.Orders.{IsOrderList, place_at};
 ghost use Rattle.audit_base.specs.Deals.{IsDealList};
-ghost use Rattle.audit_base.specs.ContinuousOffences.{finding_at_place, IsContinuousOffence};
+ghost use Rattle.continuous_audit.specs.declared.breaches.Breach.{Breach as ABreach};
+ghost use Rattle.continuous_audit.specs.Breaches.{IsBreach};
 ghost use Rattle.continuous_audit.specs.Causes.{AreCauses};
 ghost use Rattle.continuous_audit.specs.Scans.{number_in};
 ghost use Rattle.continuous_audit.specs.Progress.{AreNumbersAfter, AreNumbersFor, HoldBefore, IsAfterDeals};
 ghost use Rattle.continuous_audit.specs.Progress.{ConformsBelow, IsReadyFor, IsReadyNext, conservation_at, ready_place};
 ghost use Rattle.continuous_audit.specs.Endings.{AreEndings, BooksHold, IsEnding, place_in, amount_without, resting_count};
-ghost use Rattle.audit_base.specs.declared.findings.Finding.{Finding as AFinding};
 
+use super::breaches::Breach;
 use super::causes::Cause;
 use super::dealing::pass_deals;
 use super::endings::{Books, Ending, drop_endings};
@@ -18,7 +19,6 @@ use super::opening::open_order;
 use super::scanning::check_deals;
 use super::spreading::{enter_own, spread_of};
 use audit_base::faults::NoMemory;
-use audit_base::findings::Finding;
 use audit_base::orders::{Deal, Order};
 
 /// What is known of the orders, by their indices, and where their deals stand among the causes.
@@ -76,21 +76,24 @@ fn left_at(sizes: &[u64], traded: &[u128], order: usize) -> u64
     left_of(sizes[order], traded[order])
 }
 
-/// What the deals of the order at `order` trade and leave, or their first finding.
+/// What the deals of the order at `order` trade and leave, or the first that breaks a rule.
 pub fn deal_order(
     orders: &[Order],
     deals: &[Deal],
     causes: &[Cause],
     order: usize,
     numbers: &mut Numbers,
-) -> Option<Finding>
+) -> Option<Breach>
     requires list { IsOrderList orders.now }
     requires deal_list { IsDealList orders.now deals.now }
     requires causes { AreCauses orders.now deals.now causes.now }
     requires order { order < length orders.now }
     requires conforms { ConformsBelow orders.now deals.now (place_at orders.now order) }
     requires known { AreNumbersFor orders.now deals.now causes.now order numbers.old }
-    ensures finding { result ≡ conservation_at orders.now deals.now order }
+    ensures found { (breach : ABreach) → result ≡ Some breach
+        → IsBreach orders.now deals.now order numbers.new.traded.items numbers.new.before.items
+        breach }
+    ensures clean { result ≡ None → conservation_at orders.now deals.now order ≡ None }
     ensures start { numbers.new.start ≡ numbers.old.at }
     ensures from { result ≡ None → numbers.new.start ≤ numbers.new.at }
     ensures known { result ≡ None
@@ -116,7 +119,6 @@ pub fn deal_order(
         order,
         opening.entered,
         start,
-        &numbers.before,
         &numbers.sizes,
         &numbers.left,
         &mut numbers.traded,
@@ -136,11 +138,11 @@ pub fn deal_order(
             numbers.at = end;
             None
         }
-        Err(finding) => Some(finding),
+        Err(breach) => Some(Breach::Deal(breach)),
     }
 }
 
-/// What the deals of an order do to the numbers and the books, or their first finding.
+/// What the deals of an order do to the numbers and the books, or how they break a rule first.
 fn trade(
     orders: &[Order],
     deals: &[Deal],
@@ -148,7 +150,7 @@ fn trade(
     order: usize,
     numbers: &mut Numbers,
     books: &mut Books,
-) -> Option<Finding>
+) -> Option<Breach>
     requires list { IsOrderList orders.now }
     requires deal_list { IsDealList orders.now deals.now }
     requires causes { AreCauses orders.now deals.now causes.now }
@@ -156,13 +158,14 @@ fn trade(
     requires conforms { ConformsBelow orders.now deals.now (place_at orders.now order) }
     requires known { AreNumbersFor orders.now deals.now causes.now order numbers.old }
     requires books { HoldBefore orders.now deals.now order books.old }
-    ensures found { (finding : AFinding) → result ≡ Some finding
-        → finding_at_place orders.now deals.now (place_at orders.now order) ≡ Some finding }
+    ensures found { (breach : ABreach) → result ≡ Some breach
+        → IsBreach orders.now deals.now order numbers.new.traded.items numbers.new.before.items
+        breach }
     ensures after_deals { result ≡ None
         → IsAfterDeals orders.now deals.now causes.now order numbers.new books.new }
 {
-    if let Some(finding) = deal_order(orders, deals, causes, order, numbers) {
-        return Some(finding);
+    if let Some(breach) = deal_order(orders, deals, causes, order, numbers) {
+        return Some(breach);
     }
     pass_deals(
         orders,
@@ -172,8 +175,6 @@ fn trade(
         numbers.start,
         numbers.at,
         &numbers.left,
-        &numbers.traded,
-        &numbers.before,
         books,
     )
 }
@@ -219,7 +220,8 @@ fn own_left(numbers: &Numbers, order: usize) -> u64
     numbers.left[order]
 }
 
-/// The record of the order at `order`: its finding if there is one, and else what is known before the next order.
+/// The record of the order at `order`: how it breaks a rule if it does, with the numbers as they are there, and else
+/// what is known before the next order.
 pub fn audit_record(
     orders: &[Order],
     deals: &[Deal],
@@ -228,7 +230,7 @@ pub fn audit_record(
     order: usize,
     numbers: &mut Numbers,
     standing: &mut Standing,
-) -> Result<Option<Finding>, NoMemory>
+) -> Result<Option<Breach>, NoMemory>
     requires list { IsOrderList orders.now }
     requires deal_list { IsDealList orders.now deals.now }
     requires causes { AreCauses orders.now deals.now causes.now }
@@ -236,26 +238,20 @@ pub fn audit_record(
     requires order { order < length orders.now }
     requires ready { IsReadyFor orders.now deals.now causes.now endings.now order numbers.old
         standing.old }
-    ensures found { (finding : AFinding) → result ≡ Ok (Some finding)
-        → IsContinuousOffence orders.now deals.now finding }
+    ensures found { (breach : ABreach) → result ≡ Ok (Some breach)
+        → IsBreach orders.now deals.now order numbers.new.traded.items numbers.new.before.items
+        breach }
     ensures ready { result ≡ Ok None
         → IsReadyNext orders.now deals.now causes.now endings.now (suc order) numbers.new
         standing.new }
 {
-    if let Some(finding) = trade(orders, deals, causes, order, numbers, &mut standing.books) {
-        return Ok(Some(finding));
+    if let Some(breach) = trade(orders, deals, causes, order, numbers, &mut standing.books) {
+        return Ok(Some(breach));
     }
     let place = orders[order].place;
     drop_upto(orders, endings, standing, place as u64 + 1);
-    if let Some(finding) = spread_of(
-        orders,
-        order,
-        &numbers.traded,
-        &numbers.before,
-        &numbers.left,
-        &standing.books,
-    ) {
-        return Ok(Some(finding));
+    if let Some(other) = spread_of(orders, order, &numbers.left, &standing.books) {
+        return Ok(Some(Breach::Crossed(other)));
     }
     let left = own_left(numbers, order);
     enter_own(orders, order, left, &mut standing.books)?;

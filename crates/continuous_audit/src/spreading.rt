@@ -1,25 +1,19 @@
 //! Whether the order of a record meets one that rests, and its way into the book.
-ghost use Rattle.std.specs.Prelude.{◌≡◌, ◌<◌, ◌≤◌, ◌+◌, ◌^◌, ℕ, min, suc, ◌&&◌, List, Some, All, OnOk, length};
-ghost use Rattle.audit_base.specs.declared.terms.Which.TheVariants as which;
-ghost use Rattle.audit_base.specs.declared.findings.Property.TheVariants as property;
-ghost use Rattle.audit_base.specs.declared.findings.Shown.TheVariants as shown;
-ghost use Rattle.audit_base.specs.Shows.{found};
+ghost use Rattle.std.specs.Prelude.{◌≡◌, ◌<◌, ◌≤◌, ◌+◌, min, ◌&&◌, ℕ, List, Some, All, OnOk, length, option_map};
 ghost use Rattle.audit_base.specs.declared.orders.Deal.{Deal as ADeal};
 ghost use Rattle.audit_base.specs.Orders.{IsOrderList, place_at};
 ghost use Rattle.audit_base.specs.Expected.{limits_meet};
 ghost use Rattle.audit_base.specs.ContinuousOffences.{spread_finding};
 ghost use Rattle.continuous_audit.specs.Endings.{resting_count};
-ghost use Rattle.continuous_audit.specs.Scans.{AreSmall, number_in};
+ghost use Rattle.continuous_audit.specs.Breaches.{met_after};
 ghost use Rattle.continuous_audit.specs.Progress as progress;
 
 use super::dealing::best_of;
 use super::endings::{Books, enter_order};
-use super::passing::shown_of;
 use audit_base::faults::NoMemory;
-use audit_base::findings::{Finding, OrderLine, Property, Shown};
 use audit_base::numbers::Price;
 use audit_base::orders::Order;
-use audit_base::terms::{Side, Which};
+use audit_base::terms::Side;
 use order_book::books::Resting;
 
 /// Whether an order is active after its own record, where so much is left of it.
@@ -58,54 +52,18 @@ fn meets(order: &Order, left: u64, other: Price) -> bool
     is_active(order, left) && limits_meet(order.side, order.limit, other)
 }
 
-/// The finding at a place where a bid and an ask meet.
-fn spread_at(place: u32, bid: OrderLine, ask: OrderLine) -> Finding
-    ensures { result ≡ found property.Spread which.Orders place (Some (shown.Order bid)) (Some
-        (shown.Order ask)) }
-{
-    Finding {
-        property: Property::Spread,
-        log: Which::Orders,
-        place,
-        first: Some(Shown::Order(bid)),
-        second: Some(Shown::Order(ask)),
-        short: None,
-    }
-}
-
-/// The finding at the record of an order that meets another one.
-fn meeting_finding(own: &Order, other: &Order, own_traded: u128, other_traded: u128) -> Finding
-    ensures { result ≡ progress.spread_by own.now.side own.now other.now own_traded other_traded }
-{
-    let own_line = OrderLine::of(own, own_traded);
-    let other_line = OrderLine::of(other, other_traded);
-    match own.side {
-        Side::Buy => spread_at(own.place, own_line, other_line),
-        Side::Sell => spread_at(own.place, other_line, own_line),
-    }
-}
-
-/// The finding of the spread after the record of an order: it is active and meets the best of the other side.
-pub fn spread_of(
-    orders: &[Order],
-    order: usize,
-    traded: &[u128],
-    before: &[u128],
-    left: &[u64],
-    books: &Books,
-) -> Option<Finding>
+/// The best order of the other side, by its index, if the order of a record is active after it and meets that one.
+pub fn spread_of(orders: &[Order], order: usize, left: &[u64], books: &Books) -> Option<usize>
     requires list { IsOrderList orders.now }
     requires order { order < length orders.now }
-    requires traded_count { length traded.now ≡ length orders.now }
-    requires before_count { length before.now ≡ length orders.now }
     requires left_count { length left.now ≡ length orders.now }
-    requires traded_fits { AreSmall orders.now traded.now }
-    requires before_fits { (x : ℕ) → number_in before.now x ≤ 2 ^ 126 }
     requires bids { All (λ r. r.index < order) books.now.bids.resting }
     requires asks { All (λ r. r.index < order) books.now.asks.resting }
-    ensures { (deals : List ADeal)
-        → progress.IsAtSpread orders.now deals order traded.now before.now left.now books.now
-        → result ≡ spread_finding orders.now deals (place_at orders.now order) }
+    ensures finding { (deals : List ADeal)
+        → progress.IsAtSpread orders.now deals order left.now books.now
+        → spread_finding orders.now deals (place_at orders.now order)
+        ≡ option_map (met_after orders.now deals order) result }
+    ensures upto { (other : ℕ) → result ≡ Some other → other ≤ order }
 {
     let own = &orders[order];
     match best_of(books, own.side.other()) {
@@ -113,9 +71,7 @@ pub fn spread_of(
             if !meets(own, left[order], best.limit) {
                 return None;
             }
-            let own_traded = shown_of(traded, before, order);
-            let best_traded = shown_of(traded, before, best.index);
-            Some(meeting_finding(own, &orders[best.index], own_traded, best_traded))
+            Some(best.index)
         }
         None => None,
     }

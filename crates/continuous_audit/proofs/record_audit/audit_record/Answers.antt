@@ -1,4 +1,4 @@
-use Rattle.std.proofs.Common.{◌≡◌, ◌+◌, ◌∙◌, suc, Some, None, inl, inr, sym, ap, subst, arith, get_or}
+use Rattle.std.proofs.Common.{◌≡◌, ◌+◌, ◌∙◌, suc, Some, None, option_map, inl, inr, sym, ap, subst, arith, get_or}
 use Rattle.audit_base.specs.declared.orders.Order.{Order}
 use Rattle.audit_base.specs.Orders.{missing_order, place_at}
 use Rattle.audit_base.specs.Continuous.{traded_before}
@@ -6,12 +6,15 @@ use Rattle.audit_base.specs.ContinuousOffences.{spread_finding}
 use Rattle.audit_base.proofs.LeastLemmas.{cases_Option}
 use Rattle.audit_base.proofs.OffenceLemmas.{get_or-default}
 use Rattle.continuous_audit.specs.Holding.{resting_left_after, resting_left}
-use Rattle.continuous_audit.specs.Progress.{AreTraded, AreBefore, AreLeft}
+use Rattle.continuous_audit.specs.declared.breaches.Breach.TheVariants.{Crossed}
+use Rattle.continuous_audit.specs.Breaches.{IsBreach, met_after}
+use Rattle.continuous_audit.specs.Progress.{AreLeft}
 use Rattle.continuous_audit.proofs.BooksLemmas.{earlier-bids, earlier-asks}
 use Rattle.continuous_audit.proofs.ReadyLemmas.{others-hold, next-holds, next-above, next-first, left-next, dropped-more}
 use Rattle.continuous_audit.proofs.StandLemmas.{quiet-apart}
 use Rattle.continuous_audit.proofs.RecordLemmas.{spread-shown, none-shown}
-use Rattle.continuous_audit.proofs.VerdictLemmas.{offence, calm-next}
+use Rattle.continuous_audit.proofs.BreachLemmas.{after-breach}
+use Rattle.continuous_audit.proofs.VerdictLemmas.{calm-next}
 use Rattle.continuous_audit.proofs.record_audit.audit_record.Goals as goal
 
 pub spread_of-requires-clause-bids : goal.spread_of-requires-clause-bids
@@ -66,6 +69,11 @@ enter_own-requires-clause-asks c =
     c.drop_upto.ensures.before c.drop_upto.ensures.inside c.drop_upto.ensures.next c.drop_upto.new.standing.books (c.drop_upto.ensures.holds (resting_left_after orders deals (place_at orders n)) after_deals.holds) in
     earlier-asks orders c.requires.list deals c.requires.deal_list.named n c.requires.order c.drop_upto.new.standing.books others
 
+pub returns-in-Some-clause-found : goal.returns-in-Some-clause-found
+returns-in-Some-clause-found c = λ breach e.
+    let same : c.in-Some.breach ≡ breach = cc in
+    c.trade.ensures.found breach (c.in-Some.is ∙ ap Some same)
+
 pub returns-in-Some-spread_of-clause-found : goal.returns-in-Some-spread_of-clause-found
 returns-in-Some-spread_of-clause-found c =
     let orders = c.args.orders.now in
@@ -77,16 +85,17 @@ returns-in-Some-spread_of-clause-found c =
     let upto_is : (get_or orders n c.index-orders-order.result).place + 1 ≡ suc (place_at orders n) = omega arith in
     let others = others-hold orders c.requires.list deals c.requires.deal_list.named n c.requires.order c.args.endings.now c.requires.endings c.args.standing.now.start c.drop_upto.new.standing.start ((get_or orders n c.index-orders-order.result).place + 1) upto_is c.requires.ready.dropped
     c.drop_upto.ensures.before c.drop_upto.ensures.inside c.drop_upto.ensures.next c.drop_upto.new.standing.books (c.drop_upto.ensures.holds (resting_left_after orders deals (place_at orders n)) after_deals.holds) in
-    let is = c.spread_of.ensures deals (record {
-      traded_is = subst (AreTraded orders deals (suc (place_at orders n))) (sym c.deref.ensures.value) after_deals.traded;
-      before_is = subst (AreBefore orders deals (suc n)) (sym c.deref-2.ensures.value) after_deals.known.before;
-      left_is = subst (AreLeft orders deals (suc n) (suc (place_at orders n))) (sym c.deref-3.ensures.value) after_deals.known.left;
+    let is = c.spread_of.ensures.finding deals (record {
+      left_is = subst (AreLeft orders deals (suc n) (suc (place_at orders n))) (sym c.deref.ensures.value) after_deals.known.left;
       holds = others;
       apart = c.requires.ready.calm.apart;
     }) in
-    λ finding e.
-    let here : c.in-Some-spread_of.finding ≡ finding = cc in
-    offence orders deals (place_at orders n) finding c.requires.ready.calm (spread-shown orders deals (place_at orders n) finding after_deals.conserved after_deals.ranked (sym is ∙ c.in-Some-spread_of.is ∙ ap Some here))
+    let found = spread-shown orders deals (place_at orders n) _ after_deals.conserved after_deals.ranked (is ∙ ap (option_map (met_after orders deals n)) c.in-Some-spread_of.is) in
+    let made = after-breach orders deals n c.requires.order c.trade.new.numbers.traded.items c.trade.new.numbers.before.items after_deals.traded after_deals.known.before (Crossed c.in-Some-spread_of.other)
+    (c.spread_of.ensures.upto c.in-Some-spread_of.other c.in-Some-spread_of.is) found in
+    λ breach e.
+    let same : Crossed c.in-Some-spread_of.other ≡ breach = cc in
+    subst (IsBreach orders deals n c.trade.new.numbers.traded.items c.trade.new.numbers.before.items) same made
 
 pub returns-clause-ready : goal.returns-clause-ready
 returns-clause-ready c =
@@ -99,14 +108,12 @@ returns-clause-ready c =
     let upto_is : (get_or orders n c.index-orders-order.result).place + 1 ≡ suc (place_at orders n) = omega arith in
     let others = others-hold orders c.requires.list deals c.requires.deal_list.named n c.requires.order c.args.endings.now c.requires.endings c.args.standing.now.start c.drop_upto.new.standing.start ((get_or orders n c.index-orders-order.result).place + 1) upto_is c.requires.ready.dropped
     c.drop_upto.ensures.before c.drop_upto.ensures.inside c.drop_upto.ensures.next c.drop_upto.new.standing.books (c.drop_upto.ensures.holds (resting_left_after orders deals (place_at orders n)) after_deals.holds) in
-    let is = c.spread_of.ensures deals (record {
-      traded_is = subst (AreTraded orders deals (suc (place_at orders n))) (sym c.deref.ensures.value) after_deals.traded;
-      before_is = subst (AreBefore orders deals (suc n)) (sym c.deref-2.ensures.value) after_deals.known.before;
-      left_is = subst (AreLeft orders deals (suc n) (suc (place_at orders n))) (sym c.deref-3.ensures.value) after_deals.known.left;
+    let is = c.spread_of.ensures.finding deals (record {
+      left_is = subst (AreLeft orders deals (suc n) (suc (place_at orders n))) (sym c.deref.ensures.value) after_deals.known.left;
       holds = others;
       apart = c.requires.ready.calm.apart;
     }) in
-    let spread_none : spread_finding orders deals (place_at orders n) ≡ None = sym is ∙ elim (cases_Option c.spread_of.result) [ inl e ↦ e | inr some ↦ absurd (c.in_default-spread_of.not-Some some.0 some.1) ] in
+    let spread_none : spread_finding orders deals (place_at orders n) ≡ None = is ∙ ap (option_map (met_after orders deals n)) (elim (cases_Option c.spread_of.result) [ inl e ↦ e | inr some ↦ absurd (c.in_default-spread_of.not-Some some.0 some.1) ]) in
     let entered = c.in_ok-enter_own.ensures.entered deals (record { list = c.requires.list; named = c.requires.deal_list.named; left_is = c.own_left-left.ensures ∙ after_deals.known.left.is n (omega arith); holds = others }) in
     let old = dropped-more c.args.endings.now c.args.standing.now.start c.drop_upto.new.standing.start (place_at orders n) (suc (place_at orders n)) c.requires.ready.dropped (omega arith) c.drop_upto.ensures.inside (λ i le lt. let l = c.drop_upto.ensures.before i le lt in omega arith) in
     let above = next-above orders c.requires.list deals c.requires.deal_list.named n c.requires.order in
