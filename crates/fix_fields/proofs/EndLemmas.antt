@@ -1,9 +1,9 @@
 -- The SOH bytes of a body that are left, against the first of them.
-use Rattle.std.proofs.Common.{◌≡◌, ℕ, zero, suc, ◌+◌, ◌-◌, ◌<◌, ◌≤◌, false, Some, None, List, [], ◌∷◌, length, get_or, drop, sym, subst, inl, inr, ◌∙◌, ap, arith}
-use Rattle.std.proofs.lemmas.Bool.{cases_Bool}
-use Rattle.std.proofs.lemmas.List.{get_or-drop, length-drop}
+use Rattle.std.proofs.Common.{◌≡◌, ◌⊎◌, ℕ, zero, suc, ◌+◌, ◌-◌, ◌<◌, ◌≤◌, false, Some, None, List, [], ◌∷◌, ◌++◌, length, get_or, take, drop, refl, sym, subst, inl, inr, ◌∙◌, ap, arith}
+use Rattle.std.proofs.lemmas.Bool.{cases_Bool, cases_lt}
+use Rattle.std.proofs.lemmas.List.{append-nil, get_or-drop, get_or_append_left, get_or-take, length-append, length-drop, length-take-le, take-append-drop}
 use Rattle.memchr.specs.Find.{IsFirst, IsFirstByte, is_byte, places, places_from}
-use Rattle.fix_fields.specs.Ends.{IsEnd, AreEnds, HoldsEnds}
+use Rattle.fix_fields.specs.Ends.{IsEnd, AreEnds, HoldsEnds, IsClosed, SeeksEnd}
 use Rattle.fix_fields.proofs.PlaceLemmas.{fails-here}
 
 module _ (body : List ℕ) where
@@ -25,29 +25,83 @@ module _ (body : List ℕ) where
         | inr fails ↦ rw fails (ends-behind i (places_from (is_byte 1) body (i + 1) n) fails rest)
       ]
 
+  are-all : (ends : List ℕ) → ends ≡ places (is_byte 1) body → AreEnds body 0 ends
+  are-all ends is = subst (λ (xs : List ℕ). AreEnds body 0 xs) (sym is) (ends-from 0 (length body - 0) (omega arith))
+
   pub holds-all : (ends : List ℕ) → ends ≡ places (is_byte 1) body → HoldsEnds body 0 ends
   holds-all ends is =
-      record { from = 0; low = omega arith; are = subst (λ (xs : List ℕ). AreEnds body 0 xs) (sym is) (ends-from 0 (length body - 0) (omega arith)) }
+      record { more = []; closed = inl refl; from = 0; low = omega arith; are = subst (λ (t : List ℕ). AreEnds t 0 ends) (sym (append-nil body)) (are-all ends is) }
+
+  -- those of the text that begins with these first bytes, the last of which is SOH
+  pub holds-front : (size : ℕ) (ends : List ℕ) → IsClosed (take size body) → ends ≡ places (is_byte 1) body → HoldsEnds (take size body) 0 ends
+  holds-front size ends closed is = record {
+    more = drop size body;
+    closed = inr closed;
+    from = 0;
+    low = omega arith;
+    are = subst (λ (t : List ℕ). AreEnds t 0 ends) (sym (take-append-drop size body)) (are-all ends is);
+  }
+
+  pub closed-front : (size : ℕ) → 0 < size → size ≤ length body → get_or body (size - 1) 0 ≡ 1 → IsClosed (take size body)
+  closed-front size some fits last =
+      let long : length (take size body) ≡ size = length-take-le size body fits in
+      let here : get_or (take size body) (length (take size body) - 1) 0 ≡ 1 =
+      ap (λ (n : ℕ). get_or (take size body) (n - 1) 0) long ∙ get_or-take size body (size - 1) 0 (omega (arith, some)) ∙ last in (omega (arith, long, some), rw here refl)
+
+  -- a byte of the body stands in each text that begins with it
+  passes-in : (more : List ℕ) (k : ℕ) → k < length body → IsEnd body k → IsEnd (body ++ more) k
+  passes-in more k inside passes = ap (is_byte 1) (get_or_append_left body more 0 k inside) ∙ passes
+
+  passes-back : (more : List ℕ) (k : ℕ) → k < length body → IsEnd (body ++ more) k → IsEnd body k
+  passes-back more k inside passes = ap (is_byte 1) (sym (get_or_append_left body more 0 k inside)) ∙ passes
+
+  -- from one place to another
+  pub seeks : (at from : ℕ) (ends : List ℕ) → at ≤ from → HoldsEnds body at ends → (IsClosed body → from < length body) → SeeksEnd body from ends
+  seeks at from ends later h inside = record { more = h.more; closed = closed-at h.closed; from = h.from; low = omega (arith, h.low, later); are = h.are }
+    where
+      closed-at : (h.more ≡ []) ⊎ IsClosed body → (h.more ≡ []) ⊎ ((from < length body) × IsClosed body)
+      closed-at (inl none) = inl none
+      closed-at (inr closed) = inr (inside closed, closed)
+
+  closed-of : (at : ℕ) (more : List ℕ) → (more ≡ []) ⊎ ((at < length body) × IsClosed body) → (more ≡ []) ⊎ IsClosed body
+  closed-of at more (inl none) = inl none
+  closed-of at more (inr closed) = inr closed.1
+
+  pub holds-later : (at later : ℕ) (ends : List ℕ) → at ≤ later → SeeksEnd body at ends → HoldsEnds body later ends
+  holds-later at later ends behind h = record { more = h.more; closed = closed-of at h.more h.closed; from = h.from; low = omega (arith, h.low, behind); are = h.are }
 
   -- where none is left
-  pub none-left : (at : ℕ) (ends : List ℕ) → ends ≡ [] → HoldsEnds body at ends → IsFirst (IsEnd body) at (length body) None
+  pub none-left : (at : ℕ) (ends : List ℕ) → ends ≡ [] → SeeksEnd body at ends → IsFirst (IsEnd body) at (length body) None
   none-left at ends none h =
-      let are = subst (λ (xs : List ℕ). AreEnds body h.from xs) none h.are in λ k low high passes. are k (omega (arith, h.low, low)) high passes
+      let are = subst (λ (xs : List ℕ). AreEnds (body ++ h.more) h.from xs) none h.are in
+      λ k low high passes. are k (omega (arith, h.low, low)) (omega (arith, high, length-append body h.more)) (passes-in h.more k high passes)
 
   -- where one is left, it is passed over or the first
-  module _ (at end : ℕ) (ends left : List ℕ) (is : ends ≡ end ∷ left) (h : HoldsEnds body at ends) where
-    are-left : AreEnds body h.from (end ∷ left)
-    are-left = subst (λ (xs : List ℕ). AreEnds body h.from xs) is h.are
+  module _ (at end : ℕ) (ends left : List ℕ) (is : ends ≡ end ∷ left) (h : SeeksEnd body at ends) where
+    are-left : AreEnds (body ++ h.more) h.from (end ∷ left)
+    are-left = subst (λ (xs : List ℕ). AreEnds (body ++ h.more) h.from xs) is h.are
 
-    pub passed-over : end < at → HoldsEnds body at left
-    passed-over before = record { from = end + 1; low = omega (arith, before); are = are-left.2 }
+    pub passed-over : end < at → SeeksEnd body at left
+    passed-over before = record { more = h.more; closed = h.closed; from = end + 1; low = omega (arith, before); are = are-left.2 }
+
+    none-between : (k : ℕ) → at ≤ k → k < end → k < length body → ¬ IsEnd body k
+    none-between k low high inside passes = are-left.0.before k (omega (arith, h.low, low)) high (passes-in h.more k inside passes)
+
+    inside-body : (h.more ≡ []) ⊎ ((at < length body) × IsClosed body) → at ≤ end → end < length body
+    inside-body (inl none) behind =
+        omega (arith, are-left.0.high, ap (λ (xs : List ℕ). length (body ++ xs)) none ∙ ap length (append-nil body))
+    inside-body (inr closed) behind = elim (cases_lt end (length body)) [
+      | inl low ↦ low
+      | inr high ↦ absurd (none-between (length body - 1) (omega (arith, closed.0)) (omega (arith, high, closed.0)) (omega (arith, closed.0)) closed.1.1)
+    ]
 
     pub first-left : at ≤ end → IsFirst (IsEnd body) at (length body) (Some end)
     first-left behind =
-        (record { low = behind; high = are-left.0.high; before = λ k low high passes. are-left.0.before k (omega (arith, h.low, low)) high passes }, are-left.1)
+        let inside = inside-body h.closed behind in
+        (record { low = behind; high = inside; before = λ k low high passes. none-between k low high (omega (arith, high, inside)) passes }, passes-back h.more end inside are-left.1)
 
     pub left-behind : HoldsEnds body (end + 1) left
-    left-behind = record { from = end + 1; low = omega arith; are = are-left.2 }
+    left-behind = record { more = h.more; closed = closed-of at h.more h.closed; from = end + 1; low = omega arith; are = are-left.2 }
 
   -- the same, counted from a byte on
   module _ (from : ℕ) (low : from ≤ length body) where
@@ -68,4 +122,4 @@ module _ (body : List ℕ) where
         )
 
     pub left-from : (end : ℕ) (ends : List ℕ) → from ≤ end → HoldsEnds body (end + 1) ends → HoldsEnds body (from + (end - from) + 1) ends
-    left-from end ends behind h = record { from = h.from; low = omega (arith, h.low, behind); are = h.are }
+    left-from end ends behind h = record { more = h.more; closed = h.closed; from = h.from; low = omega (arith, h.low, behind); are = h.are }

@@ -1,8 +1,8 @@
 //! The SOH bytes of a body, which are sought once for all its fields.
-ghost use Rattle.std.specs.Prelude.{◌≡◌, ◌+◌, length, IfSome};
+ghost use Rattle.std.specs.Prelude.{◌≡◌, ◌≤◌, ◌+◌, length, take, IfSome};
 ghost use Rattle.audit_base.specs.Sizes.{soh};
 ghost use Rattle.memchr.specs.Find.{IsFirst};
-ghost use Rattle.fix_fields.specs.Ends.{IsEnd, HoldsEnds};
+ghost use Rattle.fix_fields.specs.Ends.{IsEnd, HoldsEnds, SeeksEnd};
 
 use audit_base::sizes::SOH;
 use memchr::{Memchr, memchr_iter};
@@ -14,9 +14,23 @@ pub(crate) fn ends_of<'b>(body: &'b [u8]) -> Memchr<'b>
     memchr_iter(SOH, body)
 }
 
+/// The SOH bytes of the body that the first bytes of a text are. Where the last of them is SOH, those behind
+/// the body are given too and never asked for: with more bytes behind it, the last SOH bytes of the body are
+/// found as fast as the others.
+pub(crate) fn ends_of_front<'b>(text: &'b [u8], size: usize) -> Memchr<'b>
+    requires { size ≤ length text.now }
+    ensures { HoldsEnds (take size text.now) 0 result }
+{
+    if size > 0 && text[size - 1] == SOH {
+        memchr_iter(SOH, text)
+    } else {
+        memchr_iter(SOH, &text[..size])
+    }
+}
+
 /// The first SOH at the byte `at` or behind it. Those before it are passed over.
 pub(crate) fn next_end(body: &[u8], ends: &mut Memchr<'_>, at: usize) -> Option<usize>
-    requires { HoldsEnds body.now at ends.old }
+    requires { SeeksEnd body.now at ends.old }
     ensures first { IsFirst (IsEnd body.now) at (length body.now) result }
     ensures left { IfSome result (λ end. HoldsEnds body.now (end + 1) ends.new) }
 {

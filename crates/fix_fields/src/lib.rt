@@ -2,9 +2,9 @@
 //!
 //! `split` reads a body as its list of fields, each with the range of its value: `fields` makes a
 //! list, and `read_fields` uses one again, which is what a log of many messages wants. `find` looks
-//! a tag up, `notes` many tags of one body, and `write` appends a field. The value of a data field may hold any byte: it is read by
-//! the length field right before it, for the pairs of tags in `pairs`. `laws` says what holds of
-//! every body.
+//! a tag up, `notes` many tags of one body, and `write` appends a field. The value of a data field
+//! may hold any byte: it is read by the length field right before it, for the pairs of tags in
+//! `pairs`. `laws` says what holds of every body.
 #![tactic(auto)]
 
 mod ends;

@@ -1,5 +1,5 @@
 //! Reads a body as its list of fields, in one pass from left to right.
-ghost use Rattle.std.specs.Prelude.{◌≡◌, ◌≤◌, ◌+◌, ℕ, List, [], length, drop, IfOk, IfErr, IfSome, IfNone, IsOk, IsOkAnd, OnOk, OnErr};
+ghost use Rattle.std.specs.Prelude.{◌≡◌, ◌≤◌, ◌+◌, ℕ, List, [], length, take, drop, IfOk, IfErr, IfSome, IfNone, IsOk, IsOkAnd, OnOk, OnErr};
 ghost use Rattle.std.specs.Option.{option_map, ForSome};
 ghost use Rattle.std.specs.Result.{IsErrOf};
 ghost use Rattle.audit_base.specs.Sizes.{longest_body};
@@ -9,7 +9,7 @@ ghost use Rattle.fix_fields.specs.Grammar.{TagValue, Fields, IsUnreadable, Lacks
 ghost use Rattle.fix_fields.specs.Ranges.{AreFieldsOf, HasRangeIn, all_shown, shown};
 ghost use Rattle.fix_fields.specs.FieldAt.{BeginsAt, first_is_type};
 
-use crate::ends::ends_of;
+use crate::ends::{ends_of, ends_of_front};
 use crate::field::{Field, FieldFault};
 use crate::tags::tag_at;
 use crate::values::value_size;
@@ -62,8 +62,46 @@ pub fn read_fields(body: &[u8], list: &mut Vec<Field>) -> Result<(), FieldFault>
         → OrMemory result (IsErrOf result (FieldFault.Field n)) }
     ensures untyped { LacksType body.now → OrMemory result (IsErrOf result FieldFault.MsgType) }
 {
+    refill(body, ends_of(body), list)
+}
+
+/// Reads the fields of the body that the first `size` bytes of a text are, as `read_fields` does. The
+/// bytes behind the body change nothing: where there are some, the last fields of the body are found
+/// as fast as the others.
+pub fn read_front_fields(text: &[u8], size: usize, list: &mut Vec<Field>) -> Result<(), FieldFault>
+    requires inside { size ≤ length text.now }
+    requires short { size ≤ longest_body }
+
+    // What each answer says.
+    ensures fields { OnOk result (AreFieldsOf (take size text.now) list.new.items) }
+    ensures fault { IfErr result (λ e. Refuses (take size text.now) e) }
+    ensures empty { OnErr result (list.new.items ≡ []) }
+
+    // Each comes wherever what it says holds, unless memory runs out.
+    ensures reads { (fs : List TagValue) → Fields (take size text.now) fs
+        → OrMemory result (IsOk result) }
+    ensures unreadable { (n : ℕ) → IsUnreadable (take size text.now) n
+        → OrMemory result (IsErrOf result (FieldFault.Field n)) }
+    ensures untyped { LacksType (take size text.now)
+        → OrMemory result (IsErrOf result FieldFault.MsgType) }
+{
+    refill(&text[..size], ends_of_front(text, size), list)
+}
+
+/// Reads the fields of a body, whose SOH bytes are given, into a list whose members are dropped.
+fn refill(body: &[u8], ends: Memchr<'_>, list: &mut Vec<Field>) -> Result<(), FieldFault>
+    requires size { length body.now ≤ longest_body }
+    requires ends { HoldsEnds body.now 0 ends }
+    ensures fields { OnOk result (AreFieldsOf body.now list.new.items) }
+    ensures fault { IfErr result (λ e. Refuses body.now e) }
+    ensures empty { OnErr result (list.new.items ≡ []) }
+    ensures reads { (fs : List TagValue) → Fields body.now fs → OrMemory result (IsOk result) }
+    ensures unreadable { (n : ℕ) → IsUnreadable body.now n
+        → OrMemory result (IsErrOf result (FieldFault.Field n)) }
+    ensures untyped { LacksType body.now → OrMemory result (IsErrOf result FieldFault.MsgType) }
+{
     list.clear();
-    let read = append_fields(body, list);
+    let read = append_fields(body, ends, list);
     if read.is_err() {
         list.clear();
     }
@@ -71,8 +109,9 @@ pub fn read_fields(body: &[u8], list: &mut Vec<Field>) -> Result<(), FieldFault>
 }
 
 /// The same into an empty list; after a fault it holds the fields before that.
-fn append_fields(body: &[u8], list: &mut Vec<Field>) -> Result<(), FieldFault>
+fn append_fields(body: &[u8], mut ends: Memchr<'_>, list: &mut Vec<Field>) -> Result<(), FieldFault>
     requires size { length body.now ≤ longest_body }
+    requires ends { HoldsEnds body.now 0 ends }
     requires empty { list.old.items ≡ [] }
     ensures fields { OnOk result (AreFieldsOf body.now list.new.items) }
     ensures fault { IfErr result (λ e. Refuses body.now e) }
@@ -81,7 +120,6 @@ fn append_fields(body: &[u8], list: &mut Vec<Field>) -> Result<(), FieldFault>
         → OrMemory result (IsErrOf result (FieldFault.Field n)) }
     ensures untyped { LacksType body.now → OrMemory result (IsErrOf result FieldFault.MsgType) }
 {
-    let mut ends = ends_of(body);
     let mut before = None;
     let mut at = 0;
     while at < body.len() {

@@ -3,7 +3,7 @@ ghost use Rattle.std.specs.Prelude.{◌≡◌, ◌≤◌, ◌+◌, Some, length,
 ghost use Rattle.std.specs.Option.{option_map, ForSome};
 ghost use Rattle.audit_base.specs.Sizes.{soh};
 ghost use Rattle.memchr.specs.Find.{IsFirstByte, is_byte};
-ghost use Rattle.fix_fields.specs.Ends.{HoldsEnds};
+ghost use Rattle.fix_fields.specs.Ends.{HoldsEnds, SeeksEnd};
 ghost use Rattle.fix_fields.specs.Forms.{length_form};
 ghost use Rattle.fix_fields.specs.Grammar.{IsDelimited, HasForm};
 ghost use Rattle.fix_fields.specs.Ranges.{HasRangeIn, shown};
@@ -28,7 +28,7 @@ pub fn value_size(
 ) -> Option<usize>
     requires before { ForSome before (λ f. HasRangeIn body.now f) }
     requires from { from ≤ length body.now }
-    requires ends { HoldsEnds body.now from ends.old }
+    requires ends { SeeksEnd body.now from ends.old }
     ensures end { IfSome result (EndsAt (drop from body.now)) }
     ensures form { IfSome result (λ n.
         HasForm (option_map (shown body.now) before) tag (take n (drop from body.now))) }
@@ -62,7 +62,7 @@ fn data_size(count: &[u8], bytes: &[u8]) -> Option<usize>
 /// How far the first SOH at the byte `from` or behind it is from there.
 fn first_soh(body: &[u8], from: usize, ends: &mut Memchr<'_>) -> Option<usize>
     requires from { from ≤ length body.now }
-    requires ends { HoldsEnds body.now from ends.old }
+    requires ends { SeeksEnd body.now from ends.old }
     ensures first { IsFirstByte (is_byte soh) (drop from body.now) result }
     ensures ends { IfSome result (λ n. HoldsEnds body.now (from + n + 1) ends.new) }
 {
@@ -73,7 +73,7 @@ fn first_soh(body: &[u8], from: usize, ends: &mut Memchr<'_>) -> Option<usize>
 /// The same of any other field.
 fn delimited_size(body: &[u8], from: usize, ends: &mut Memchr<'_>) -> Option<usize>
     requires from { from ≤ length body.now }
-    requires ends { HoldsEnds body.now from ends.old }
+    requires ends { SeeksEnd body.now from ends.old }
     ensures end { IfSome result (EndsAt (drop from body.now)) }
     ensures form { IfSome result (λ n. IsDelimited (take n (drop from body.now))) }
     ensures none { IfNone result (NoValue IsDelimited (drop from body.now)) }

@@ -144,7 +144,7 @@ none-disagrees (trade ∷ earlier) =
 trades-paired : (trades : List TradeRecord) → trades_of (pairs (listed trades)) ≡ reverse trades
 trades-paired [] = refl
 trades-paired (trade ∷ earlier) =
-    ap trades_of (pairs-more trade earlier) ∙ map-append (λ (pair : Pair). trade_of pair.first pair.second) (pairs (listed earlier)) (the_pair trade earlier ∷ [])
+    ap trades_of (pairs-more trade earlier) ∙ map-append (λ (pair : Pair). trade_of pair.first.report pair.second.report) (pairs (listed earlier)) (the_pair trade earlier ∷ [])
     ∙ ap (λ (l : List TradeRecord). l ++ trade ∷ []) (trades-paired earlier)
     ∙ sym (reverse-append (trade ∷ []) earlier)
 

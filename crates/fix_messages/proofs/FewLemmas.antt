@@ -32,7 +32,7 @@ unfolding pairing
 pairing-few reports entries is =
     let all : List Report = reverse reports in
     let same : trades_of (pairs all) ≡ entries = unless-paired (first_disagreement all) (least_waiting all) (trades_of (pairs all)) entries is in
-    let long : length (trades_of (pairs all)) ≡ length (pairs all) = length-map (pairs all) (λ (pair : Pair). trade_of pair.first pair.second) in
+    let long : length (trades_of (pairs all)) ≡ length (pairs all) = length-map (pairs all) (λ (pair : Pair). trade_of pair.first.report pair.second.report) in
     let few = pairs-few all in
     let turned : length all ≡ length reports = length-reverse reports in
     subst (λ (ts : List TradeRecord). length ts ≤ length reports) same (omega arith)

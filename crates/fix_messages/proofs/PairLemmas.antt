@@ -116,7 +116,7 @@ module _ {K : Type 0} (has_taken : K → List TradeRecord → Type 0) where
       let pair : Pair = record { first = first; second = placed_report report all } in
       by (agree first.report report) takes ∙ sym (ap (λ (l : List Pair). disagreement (find disagrees l)) (pairs-second report all first some) ∙ found-last (pairs all) pair is)
     where
-      by : (b : Bool) → MatchBool b ((found ≡ None) × Adds (has_taken trades) (has_taken after) (trade_of first (placed_report report all) ∷ [])) (found ≡ Some (disagreement_of (record { first = first; second = placed_report report all })))
+      by : (b : Bool) → MatchBool b ((found ≡ None) × Adds (has_taken trades) (has_taken after) (trade_of first.report report ∷ [])) (found ≡ Some (disagreement_of (record { first = first; second = placed_report report all })))
           → found ≡ cond (not b) (Some (disagreement_of (record { first = first; second = placed_report report all }))) None
       by true t = t.0
       by false t = t
@@ -126,12 +126,12 @@ module _ {K : Type 0} (has_taken : K → List TradeRecord → Type 0) where
   second-handed (Some old) found first report all trades after some handed takes good = absurd (cc (takes, good))
   second-handed None found first report all trades after some handed takes good =
       let pair : Pair = record { first = first; second = placed_report report all } in
-      let shown : trades_of (pairs (report ∷ all)) ≡ trades_of (pairs all) ++ trade_of first (placed_report report all) ∷ [] =
-      ap trades_of (pairs-second report all first some) ∙ map-append (λ (p : Pair). trade_of p.first p.second) (pairs all) (pair ∷ []) in
+      let shown : trades_of (pairs (report ∷ all)) ≡ trades_of (pairs all) ++ trade_of first.report report ∷ [] =
+      ap trades_of (pairs-second report all first some) ∙ map-append (λ (p : Pair). trade_of p.first.report p.second.report) (pairs all) (pair ∷ []) in
       subst (has_taken after) (sym shown) (by (agree first.report report) takes)
     where
-      by : (b : Bool) → MatchBool b ((found ≡ None) × Adds (has_taken trades) (has_taken after) (trade_of first (placed_report report all) ∷ [])) (found ≡ Some (disagreement_of (record { first = first; second = placed_report report all })))
-          → has_taken after (trades_of (pairs all) ++ trade_of first (placed_report report all) ∷ [])
+      by : (b : Bool) → MatchBool b ((found ≡ None) × Adds (has_taken trades) (has_taken after) (trade_of first.report report ∷ [])) (found ≡ Some (disagreement_of (record { first = first; second = placed_report report all })))
+          → has_taken after (trades_of (pairs all) ++ trade_of first.report report ∷ [])
       by true t = t.1 (trades_of (pairs all)) (handed refl)
       by false t = absurd (cc (t, good))
 
@@ -164,7 +164,7 @@ module _ {K : Type 0} (has_taken : K → List TradeRecord → Type 0) where
       let known = place.has.known in
       let few = pairs-count (reverse place.entries) in
       let sizes = length-reverse place.entries in
-      let shown = Rattle.std.proofs.lemmas.List.length-map (pairs (reverse place.entries)) (λ (p : Pair). trade_of p.first p.second) in
+      let shown = Rattle.std.proofs.lemmas.List.length-map (pairs (reverse place.entries)) (λ (p : Pair). trade_of p.first.report p.second.report) in
       record { entries = trades_of (pairs (reverse place.entries)); has = known.handed good; few = omega (arith, few, sizes, shown, place.few) }
 
   pub takes-report : (draft : PairingDraft K) (firsts : FirstReports) (trades : K) (found : Option Finding) (report : Report) (place : ℕ) → place ≡ draft.count + 1

@@ -12,6 +12,10 @@ use Rattle.fix_messages.specs.declared.pairing_draft.PairingDraft.{PairingDraft}
 use Rattle.fix_messages.specs.Pairings.{agree, disagreement_of, first_disagreement, pairs, trade_of, trades_of, waiting}
 use Rattle.log_source.specs.Handing.{Adds}
 
+-- a report at a place
+abbrev pub report_at : ℕ → Report → PlacedReport
+report_at place report = record { place = place; report = report }
+
 -- the report with an id, as a map holds it
 abbrev pub held_in : EarlierReports → List ℕ → Option PlacedReport
 held_in reports id = get same_name reports.map id
@@ -21,13 +25,17 @@ abbrev pub is_latest : Option PlacedReport → List ℕ → Bool
 is_latest None id = false
 is_latest (Some latest) id = same_name latest.report.trade id
 
+-- the report that came last, where it still waits
+abbrev pub latest_of : FirstReports → Option PlacedReport
+latest_of reports = if reports.waits then reports.latest else None
+
 -- the latest report where it has the id, else what is found among the earlier ones
 abbrev pub latest_or : Option PlacedReport → List ℕ → Option PlacedReport → Option PlacedReport
 latest_or latest id found = if is_latest latest id then latest else found
 
 -- the first report with an id
 abbrev pub first_in : FirstReports → List ℕ → Option PlacedReport
-first_in reports id = latest_or reports.latest id (held_in reports.earlier id)
+first_in reports id = latest_or (latest_of reports) id (held_in reports.earlier id)
 
 -- Of some reports, the latest first: which wait for a second one, the least disagreement, and where there is none
 -- that their trades were handed on.
@@ -56,7 +64,7 @@ abbrev pub TakesPair : {K : Type 0} → (K → List TradeRecord → Type 0) → 
 TakesPair has_taken (Some found) first second old new finding = finding ≡ Some found
 TakesPair has_taken None first second old new finding =
     MatchBool (agree first.report second.report)
-    ((finding ≡ None) × Adds (has_taken old) (has_taken new) (trade_of first second ∷ []))
+    ((finding ≡ None) × Adds (has_taken old) (has_taken new) (trade_of first.report second.report ∷ []))
     (finding ≡ Some (disagreement_of (record { first = first; second = second })))
 
 -- the first of the entries up to an index that came first, if there are any

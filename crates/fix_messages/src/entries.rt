@@ -1,5 +1,7 @@
 //! What a kind of log has of its own, what the fields of a message mean, and what a body says by that.
-ghost use Rattle.std.specs.Prelude.{◌≡◌, ◌≤◌, ◌∷◌, [], IfOk, IfSome, List, OnOk, Option, Result, length};
+ghost use Rattle.std.specs.Prelude.{◌≡◌, ◌≤◌, ◌-◌, ◌∷◌, [], IfOk, IfSome, List, OnOk, Option, Result, length};
+ghost use Rattle.std.specs.List.{slice_range};
+ghost use Rattle.audit_base.specs.Sizes.{longest_body};
 ghost use Rattle.fix_fields.specs.Grammar.{TagValue};
 ghost use Rattle.fix_fields.specs.Ranges.{AreFieldsOf, all_shown};
 ghost use Rattle.fix_messages.specs.declared.meanings.MessageFault.{MessageFault};
@@ -17,7 +19,7 @@ use audit_base::faults::{NoMemory, Reason};
 use audit_base::records::{OrderRecord, Traded};
 use fix_fields::field::{Field, FieldFault};
 use fix_fields::notes::TagNotes;
-use fix_fields::split::read_fields;
+use fix_fields::split::read_front_fields;
 use log_source::collector::Collector;
 
 /// A record of a FIX log: an order, or a report of a trade.
@@ -29,11 +31,12 @@ pub trait FixEntry: Traded {
     ghost sound: { Self → Type 0 };
 
     /// Hands the record that the fields of a body mean to a collector, if they mean one, and gives the
-    /// first test that they fail.
+    /// first test that they fail. Where their tags stand is noted in place of what was noted before.
     fn take_fields<K: Collector<Entry = Self>>(
         entries: &mut K,
         body: &[u8],
         fields: &[Field],
+        notes: &mut TagNotes,
     ) -> Result<Result<(), Reason>, NoMemory>
         requires fields { AreFieldsOf body.now fields.now }
         requires place { HasPlace K.has_taken entries.old }
@@ -57,9 +60,9 @@ impl FixEntry for OrderRecord {
         entries: &mut K,
         body: &[u8],
         fields: &[Field],
+        notes: &mut TagNotes,
     ) -> Result<Result<(), Reason>, NoMemory> {
-        let mut notes = TagNotes::new();
-        let message = Message::of(body, fields, &mut notes);
+        let message = Message::of(body, fields, notes);
         take_order(entries, order_text(&message))
     }
 
@@ -78,9 +81,9 @@ impl FixEntry for Report {
         entries: &mut K,
         body: &[u8],
         fields: &[Field],
+        notes: &mut TagNotes,
     ) -> Result<Result<(), Reason>, NoMemory> {
-        let mut notes = TagNotes::new();
-        let message = Message::of(body, fields, &mut notes);
+        let message = Message::of(body, fields, notes);
         take_report(entries, report_text(&message))
     }
 
@@ -185,19 +188,26 @@ fn take_report<K: Collector<Entry = Report>>(
 }
 
 /// Hands on the record that the body of a message means, if it means one, and gives the first test that
-/// the body fails. Its fields are read into a list that may be used again for the next body.
+/// the body fails. The body stands in a text from one byte on and up to another. Its fields are read into a
+/// list, and its tags noted in notes, that may be used again for the next body.
 pub(crate) fn take_body<R: FixEntry, K: Collector<Entry = R>>(
     entries: &mut K,
-    body: &[u8],
+    text: &[u8],
+    from: usize,
+    to: usize,
     fields: &mut Vec<Field>,
+    notes: &mut TagNotes,
 ) -> Result<Result<(), Reason>, NoMemory>
     requires place { HasPlace K.has_taken entries.old }
-    requires short { length body.now ≤ 1048576 }
-    ensures { IfOk result (TakesSaid (body_says R.meaning body.now) (K.has_taken entries.old)
-        (K.has_taken entries.new)) }
+    requires ordered { from ≤ to }
+    requires inside { to ≤ length text.now }
+    requires short { to - from ≤ longest_body }
+    ensures { IfOk result (TakesSaid (body_says R.meaning (slice_range text.now from to))
+        (K.has_taken entries.old) (K.has_taken entries.new)) }
 {
-    match read_fields(body, fields) {
-        Ok(()) => R::take_fields(entries, body, fields),
+    let body = &text[from..to];
+    match read_front_fields(&text[from..], to - from, fields) {
+        Ok(()) => R::take_fields(entries, body, fields, notes),
         Err(FieldFault::Field(at)) => Ok(Err(Reason::Field(at))),
         Err(FieldFault::MsgType) => Ok(Err(Reason::MsgType)),
         Err(FieldFault::Memory) => Err(NoMemory),

@@ -12,6 +12,7 @@ use crate::meanings::Report;
 use audit_base::faults::{BadPlace, LogFault, NoMemory, Reason};
 use audit_base::records::OrderRecord;
 use fix_fields::field::Field;
+use fix_fields::notes::TagNotes;
 use fix_framing::framer::{Framer, Step};
 use fix_framing::frames::FrameFault;
 use log_source::collector::Collector;
@@ -85,7 +86,7 @@ impl<R: FixEntry, K: Collector<Entry = R>> FixFeed<K> {
     }
 
     // Takes the next message. True says that it was good, and that another may follow.
-    fn take_next(&mut self, fields: &mut Vec<Field>) -> Result<bool, NoMemory>
+    fn take_next(&mut self, fields: &mut Vec<Field>, notes: &mut TagNotes) -> Result<bool, NoMemory>
         requires good { self.old.bad ≡ None }
         requires room { HasLog K.has_taken R.meaning self.old }
         ensures { IfOk result (λ more. MatchBool more
@@ -100,8 +101,8 @@ impl<R: FixEntry, K: Collector<Entry = R>> FixFeed<K> {
                 Ok(false)
             }
             Step::Whole { start, body, to } => {
-                let body = &self.framer.held()[body..to];
-                match take_body(&mut self.entries, body, fields)? {
+                let held = self.framer.held();
+                match take_body(&mut self.entries, held, body, to, fields, notes)? {
                     Ok(()) => Ok(true),
                     Err(reason) => {
                         let bad = bad_at(&self.entries, start, reason);
@@ -113,15 +114,17 @@ impl<R: FixEntry, K: Collector<Entry = R>> FixFeed<K> {
         }
     }
 
-    // Takes messages as long as there is one and it is good. All have their fields read into one list.
+    // Takes messages as long as there is one and it is good. All have their fields read into one list, and
+    // their tags noted in the same notes.
     fn take_messages(&mut self) -> Result<(), NoMemory>
         requires good { self.old.bad ≡ None }
         requires room { HasLog K.has_taken R.meaning self.old }
         ensures { OnOk result (Ends K.has_taken R.meaning self.old self.new) }
     {
         let mut fields = Vec::new(self.alloc);
+        let mut notes = TagNotes::new();
         'messages: loop {
-            if !self.take_next(&mut fields)? {
+            if !self.take_next(&mut fields, &mut notes)? {
                 return Ok(());
             }
         }

@@ -14,8 +14,6 @@ pub mod entries;
 pub mod feeds;
 mod first_reports;
 pub mod laws;
-#[cfg(test)]
-mod log_tests;
 pub mod logs;
 pub mod meanings;
 mod message;
@@ -27,6 +25,4 @@ pub mod pairing_draft;
 pub mod pairs;
 pub mod reports;
 mod rows;
-#[cfg(test)]
-mod tests;
 pub mod writers;

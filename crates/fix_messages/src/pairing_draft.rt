@@ -2,7 +2,7 @@
 ghost use Rattle.std.specs.Prelude.{◌≡◌, ◌∷◌, ◌+◌, [], List, IfOk, OnOk, None, false, length};
 ghost use Rattle.log_source.specs.Collectors.{HasPlace};
 ghost use Rattle.log_source.specs.Handing.{Adds};
-ghost use Rattle.fix_messages.specs.Drafts.{IsKnown, IsPairingDraft, TakesPair, is_latest};
+ghost use Rattle.fix_messages.specs.Drafts.{IsKnown, IsPairingDraft, TakesPair, is_latest, latest_of, report_at};
 ghost use Rattle.fix_messages.specs.Pairings.{IsPairedAs, pairing, trade_of};
 ghost use Rattle.fix_messages.specs.declared.meanings.Report.{Report};
 
@@ -30,14 +30,14 @@ pub struct PairingDraft<K> {
 // Hands on the trade of a pair. Where the collector does not look at trades of its symbol, none is made.
 fn hand_on_pair<K: Collector<Entry = TradeRecord>>(
     trades: &mut K,
-    first: &PlacedReport,
-    second: &PlacedReport,
+    first: &Report,
+    second: &Report,
 ) -> Result<(), NoMemory>
     requires { HasPlace K.has_taken trades.old }
     ensures { let trade = trade_of first.now second.now in
         OnOk result (Adds (K.has_taken trades.old) (K.has_taken trades.new) (trade ∷ [])) }
 {
-    if trades.wants(second.report.symbol.bytes()) {
+    if trades.wants(second.symbol.bytes()) {
         trades.take(trade_of(first, second))
     } else {
         trades.pass_over();
@@ -51,42 +51,67 @@ fn take_pair<K: Collector<Entry = TradeRecord>>(
     trades: &mut K,
     finding: &mut Option<Finding>,
     first: &PlacedReport,
-    second: &PlacedReport,
+    place: u32,
+    second: &Report,
 ) -> Result<(), NoMemory>
     requires { finding.old ≡ None → HasPlace K.has_taken trades.old }
-    ensures { OnOk result
-        (TakesPair K.has_taken finding.old first.now second.now trades.old trades.new finding.new) }
+    ensures { let second = report_at place second.now in OnOk result
+        (TakesPair K.has_taken finding.old first.now second trades.old trades.new finding.new) }
 {
     if finding.is_some() {
         return Ok(());
     }
-    if !agree(&first.report, &second.report) {
+    if !agree(&first.report, second) {
         let shown = Shown::Place {
             log: Which::Trades,
             place: first.place,
         };
-        *finding = Some(unpaired_at(second.place, Some(shown)));
+        *finding = Some(unpaired_at(place, Some(shown)));
         return Ok(());
     }
-    hand_on_pair(trades, first, second)
+    hand_on_pair(trades, &first.report, second)
 }
 
-// Takes a report whose id is not that of the report that came last.
+// Takes a report whose id is not that of the report that came last, where earlier ones may wait. Room for an
+// earlier one is made ready where this is called, so it stands apart.
+fn take_with_earlier<K: Collector<Entry = TradeRecord>>(
+    firsts: &mut FirstReports,
+    trades: &mut K,
+    finding: &mut Option<Finding>,
+    place: u32,
+    report: &Report,
+) -> Result<(), NoMemory>
+    requires other { is_latest (latest_of firsts.old) report.now.trade ≡ false }
+    requires place { finding.old ≡ None → HasPlace K.has_taken trades.old }
+    ensures { OnOk result ((all : List Report) → place ≡ length all + 1
+        → IsKnown K.has_taken firsts.old finding.old trades.old all
+        → IsKnown K.has_taken firsts.new finding.new trades.new (report.now ∷ all)) }
+{
+    match firsts.take_earlier(&report.trade) {
+        None => firsts.add(place, report),
+        Some(first) => take_pair(trades, finding, &first, place, report),
+    }
+}
+
+// Takes a report whose id is not that of the report that came last. Mostly no earlier one waits, and then its
+// id need not be hashed.
 fn take_other<K: Collector<Entry = TradeRecord>>(
     firsts: &mut FirstReports,
     trades: &mut K,
     finding: &mut Option<Finding>,
-    report: &PlacedReport,
+    place: u32,
+    report: &Report,
 ) -> Result<(), NoMemory>
-    requires other { is_latest firsts.old.latest report.now.report.trade ≡ false }
+    requires other { is_latest (latest_of firsts.old) report.now.trade ≡ false }
     requires place { finding.old ≡ None → HasPlace K.has_taken trades.old }
-    ensures { OnOk result ((all : List Report) → report.now.place ≡ length all + 1
+    ensures { OnOk result ((all : List Report) → place ≡ length all + 1
         → IsKnown K.has_taken firsts.old finding.old trades.old all
-        → IsKnown K.has_taken firsts.new finding.new trades.new (report.now.report ∷ all)) }
+        → IsKnown K.has_taken firsts.new finding.new trades.new (report.now ∷ all)) }
 {
-    match firsts.take_earlier(&report.report.trade) {
-        None => firsts.add(report),
-        Some(first) => take_pair(trades, finding, &first, report),
+    if firsts.has_no_earlier() {
+        firsts.add(place, report)
+    } else {
+        take_with_earlier(firsts, trades, finding, place, report)
     }
 }
 
@@ -96,17 +121,18 @@ fn take_report<K: Collector<Entry = TradeRecord>>(
     firsts: &mut FirstReports,
     trades: &mut K,
     finding: &mut Option<Finding>,
-    report: &PlacedReport,
+    place: u32,
+    report: &Report,
 ) -> Result<(), NoMemory>
     requires { finding.old ≡ None → HasPlace K.has_taken trades.old }
-    ensures { OnOk result ((all : List Report) → report.now.place ≡ length all + 1
+    ensures { OnOk result ((all : List Report) → place ≡ length all + 1
         → IsKnown K.has_taken firsts.old finding.old trades.old all
-        → IsKnown K.has_taken firsts.new finding.new trades.new (report.now.report ∷ all)) }
+        → IsKnown K.has_taken firsts.new finding.new trades.new (report.now ∷ all)) }
 {
-    let Some(first) = firsts.latest_with(&report.report.trade) else {
-        return take_other(firsts, trades, finding, report);
+    let Some(first) = firsts.latest_with(&report.trade) else {
+        return take_other(firsts, trades, finding, place, report);
     };
-    take_pair(trades, finding, first, report)?;
+    take_pair(trades, finding, first, place, report)?;
     firsts.forget_latest();
     Ok(())
 }
@@ -161,17 +187,15 @@ impl<K: Collector<Entry = TradeRecord>> Collector for PairingDraft<K> {
     ghost wants = { λ draft symbol. true };
 
     fn take(&mut self, report: Report) -> Result<(), NoMemory> {
-        let report = PlacedReport {
-            place: self.count + 1,
-            report,
-        };
+        let place = self.count + 1;
         take_report(
             &mut self.firsts,
             &mut self.trades,
             &mut self.finding,
+            place,
             &report,
         )?;
-        self.count += 1;
+        self.count = place;
         Ok(())
     }
 

@@ -1,7 +1,7 @@
 //! Reports by their trade ids, and what a pair of reports comes to.
-ghost use Rattle.std.specs.Prelude.{◌≡◌, ◌≤◌, ℕ, List, None, Some, IfNone, IfSome, OnOk, if◌then◌else◌};
+ghost use Rattle.std.specs.Prelude.{◌≡◌, ◌≤◌, ℕ, List, None, Some, IfNone, IfSome, IsTrue, OnOk, if◌then◌else◌};
 ghost use Rattle.audit_base.specs.Orders.{same_name};
-ghost use Rattle.fix_messages.specs.Drafts.{earlier, held_in};
+ghost use Rattle.fix_messages.specs.Drafts.{earlier, held_in, report_at};
 ghost use Rattle.fix_messages.specs.Pairings.{agree, trade_of, unpaired_at};
 ghost use Rattle.fix_messages.specs.declared.pairs.PlacedReport.{PlacedReport};
 
@@ -38,16 +38,19 @@ impl EarlierReports {
         }
     }
 
+    /// Whether there are none.
+    pub fn is_empty(&self) -> bool
+        ensures { IsTrue result → (id : List ℕ) → held_in self.now id ≡ None }
+    {
+        self.map.is_empty()
+    }
+
     /// Takes out the report with the id, if there is one.
     pub fn take(&mut self, id: &Name) -> Option<PlacedReport>
         ensures first { result ≡ held_in self.old id.now }
         ensures others { (q : List ℕ) → held_in self.new q ≡ (if same_name id.now q then None
             else held_in self.old q) }
     {
-        // Mostly none waits here, and then the id need not be hashed.
-        if self.map.is_empty() {
-            return None;
-        }
         self.map.swap_remove(id)
     }
 
@@ -79,6 +82,31 @@ impl EarlierReports {
     }
 }
 
+// Keeps a report. Room for a report is made ready where this is called, so it stands apart from the writing
+// over one that is kept.
+fn keep(kept: &mut Option<PlacedReport>, place: u32, report: &Report)
+    ensures { kept.new ≡ Some (report_at place report.now) }
+{
+    *kept = Some(PlacedReport {
+        place,
+        report: *report,
+    });
+}
+
+/// Keeps a report in place of the one that is kept, if there is one: there it is copied only once, since it
+/// is large.
+pub(crate) fn write_over(kept: &mut Option<PlacedReport>, place: u32, report: &Report)
+    ensures { kept.new ≡ Some (report_at place report.now) }
+{
+    match kept {
+        Some(last) => {
+            last.place = place;
+            last.report = *report;
+        }
+        None => keep(kept, place, report),
+    }
+}
+
 /// The report with the lesser place.
 pub(crate) fn earlier(least: Option<PlacedReport>, first: PlacedReport) -> PlacedReport
     ensures { result ≡ earlier least first }
@@ -101,21 +129,21 @@ pub(crate) fn agree(first: &Report, second: &Report) -> bool
 }
 
 /// The trade of a pair: the keys of its two reports, and the time of the second one.
-pub(crate) fn trade_of(first: &PlacedReport, second: &PlacedReport) -> TradeRecord
+pub(crate) fn trade_of(first: &Report, second: &Report) -> TradeRecord
     ensures { result ≡ trade_of first.now second.now }
 {
-    let (buy, sell) = match first.report.side {
-        Side::Buy => (first.report.key, second.report.key),
-        Side::Sell => (second.report.key, first.report.key),
+    let (buyer, seller) = match first.side {
+        Side::Buy => (first, second),
+        Side::Sell => (second, first),
     };
     TradeRecord {
-        trade: second.report.trade,
-        time: second.report.time,
-        symbol: second.report.symbol,
-        buy,
-        sell,
-        quantity: second.report.quantity,
-        price: second.report.price,
+        trade: second.trade,
+        time: second.time,
+        symbol: second.symbol,
+        buy: buyer.key,
+        sell: seller.key,
+        quantity: second.quantity,
+        price: second.price,
     }
 }
 

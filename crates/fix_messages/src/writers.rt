@@ -363,6 +363,3 @@ pub fn write_trade(alloc: Global, trade: &TradeRecord, out: &mut Vec<u8>) -> Res
     out.extend_from_slice(&text)?;
     Ok(())
 }
-
-#[cfg(test)]
-mod tests;

@@ -7,7 +7,7 @@ use Rattle.fix_messages.proofs.pairing_draft.take_report.Goals as goal
 pub returns : goal.returns
 returns g c = λ all at known.
     let first = c.in-Some.first.now in
-    let report = c.args.report.now.report in
+    let report = c.args.report.now in
     known-second g.K.Collector.has_taken c.args.firsts.now c.forget_latest.new.self c.args.finding.now c.take_pair.new.finding c.args.trades.now c.take_pair.new.trades first report all
     (sym (known.waits report.trade) ∙ c.in-Some.ensures.first) known
     (λ q. c.forget_latest.ensures report.trade q c.in-Some.ensures.some)

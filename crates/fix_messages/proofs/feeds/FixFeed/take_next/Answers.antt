@@ -28,7 +28,7 @@ bad_at-bad-requires-in-Err g c =
 pub returns-in-Ok : goal.returns-in-Ok
 returns-in-Ok g c =
     goes-said g.K.Collector.has_taken g.R.FixEntry.meaning c.args.self.now _ c.in-Whole.start c.in-Whole.body c.in-Whole.to c.in_ok-take_body-in-Whole.field-0 c.requires.good refl c.in-Whole.ensures.answers
-    (subst (λ (t : _). TakesSaid (body_says g.R.FixEntry.meaning (slice_range t c.in-Whole.body c.in-Whole.to)) (g.K.Collector.has_taken c.args.self.now.entries) (g.K.Collector.has_taken c.take_body.new.entries) c.in_ok-take_body-in-Whole.field-0) c.held.ensures c.in_ok-take_body-in-Whole.ensures)
+    (subst (λ (t : _). TakesSaid (body_says g.R.FixEntry.meaning (slice_range t c.in-Whole.body c.in-Whole.to)) (g.K.Collector.has_taken c.args.self.now.entries) (g.K.Collector.has_taken c.take_body.new.entries) c.in_ok-take_body-in-Whole.field-0) c.held-held.ensures c.in_ok-take_body-in-Whole.ensures)
     (ap is_ok c.in-Ok.is)
 
 pub returns-in-Err : goal.returns-in-Err
@@ -36,5 +36,5 @@ returns-in-Err g c =
     ends-message g.K.Collector.has_taken g.R.FixEntry.meaning c.args.self.now c.shut-in-Err.new.self c.next_frame.new.self c.in-Whole.start c.in-Whole.body c.in-Whole.to c.in-Err.reason c.take_body.new.entries c.bad_at-bad-in-Err.result
     c.shut-in-Err.ensures.bad c.shut-in-Err.ensures.nothing c.in-Whole.ensures.answers
     (subst (λ (a : Result (Unit {0}) Reason). TakesSaid (body_says g.R.FixEntry.meaning (slice_range (held c.next_frame.new.self) c.in-Whole.body c.in-Whole.to)) (g.K.Collector.has_taken c.args.self.now.entries) (g.K.Collector.has_taken c.take_body.new.entries) a) c.in-Err.is
-    (subst (λ (t : _). TakesSaid (body_says g.R.FixEntry.meaning (slice_range t c.in-Whole.body c.in-Whole.to)) (g.K.Collector.has_taken c.args.self.now.entries) (g.K.Collector.has_taken c.take_body.new.entries) c.in_ok-take_body-in-Whole.field-0) c.held.ensures c.in_ok-take_body-in-Whole.ensures))
+    (subst (λ (t : _). TakesSaid (body_says g.R.FixEntry.meaning (slice_range t c.in-Whole.body c.in-Whole.to)) (g.K.Collector.has_taken c.args.self.now.entries) (g.K.Collector.has_taken c.take_body.new.entries) c.in_ok-take_body-in-Whole.field-0) c.held-held.ensures c.in_ok-take_body-in-Whole.ensures))
     c.bad_at-bad-in-Err.ensures
