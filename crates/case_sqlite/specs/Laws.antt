@@ -10,4 +10,5 @@ RowHasOneCase = (row : Row) (a b : Case) → IsRowOf row a → IsRowOf row b →
 
 -- what is read of the row of a case is this case
 abbrev pub WrittenCaseIsRead : Type 0
-WrittenCaseIsRead = (row : Row) (case : Case) (told : Option Case) → IsRowOf row case → Tells row told → told ≡ Some case
+WrittenCaseIsRead = (row : Row) (case : Case) (told : Option Case)
+    → IsRowOf row case → Tells row told → told ≡ Some case

@@ -69,7 +69,8 @@ name_in (Blob b) = None
 -- the offence of a property, a log and a place
 abbrev pub offence_with : ℕ → ℕ → ℕ → Option Offence
 offence_with property log place =
-    option_and_then (λ p. option_and_then (λ w. only_if (not (place == 0)) (record { property = p; log = w; place = place }))
+    option_and_then (λ p. option_and_then
+    (λ w. only_if (not (place == 0)) (record { property = p; log = w; place = place }))
     (log_with log)) (property_with property)
 
 -- what three numbers tell of an offence: that there is none, or which it is
@@ -105,7 +106,9 @@ case_that test row = option_and_then (λ case. only_if (test case) case) (case_f
 -- the cases that the rows tell, if each row tells one that passes a test
 abbrev pub cases_that : (Case → Bool) → List Row → Option (List Case)
 cases_that test [] = Some []
-cases_that test (row ∷ rows) = option_and_then (λ case. option_map (λ cases. case ∷ cases) (cases_that test rows)) (case_that test row)
+cases_that test (row ∷ rows) =
+    option_and_then (λ case. option_map (λ cases. case ∷ cases) (cases_that test rows))
+    (case_that test row)
 
 -- what the rows with a label tell: no case where there is none, the case of the one row, and else it is a failure
 abbrev pub one_that : (Case → Bool) → List Row → Result (Option Case) KeepFault

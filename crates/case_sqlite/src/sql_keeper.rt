@@ -13,11 +13,13 @@ use case_keeper::keeper::{KeepFault, Keeper};
 use sqlite::{Alter, Connection};
 use std::alloc::Global;
 
-/// A keeper over a connection to a database, whose table `cases` it makes at its first call where it is not there.
+/// A keeper over a connection to a database, whose table `cases` it makes at its first call where it
+/// is not there.
 ///
-/// It does not tell its cases. A call fails, and its fault is counted, where the database refuses or gives a row that is
-/// no case, has another label or does not pass the filter. Want of memory is no failure and is not counted. After either
-/// no transaction is open, and what the call began is rolled back.
+/// It does not tell its cases. A call fails, and its fault is counted, where the database refuses or
+/// gives a row that is no case, has another label or does not pass the filter. Want of memory is no
+/// failure and is not counted. After either no transaction is open, and what the call began is rolled
+/// back.
 #[derive(Drop)]
 pub struct SqlKeeper<S: Alter> {
     connection: Connection<S>,
