@@ -17,7 +17,5 @@ mod last_orders;
 pub mod laws;
 mod lines;
 mod order_lines;
-#[cfg(test)]
-mod tests;
 mod texts;
 pub mod verifying;

@@ -6,7 +6,6 @@
 //! are over CSV logs, as are those in `continuous`, `days` and `certificates`; `fix` has FIX logs. `word_rows`
 //! has words that are not well-formed, `cuts` logs that end too early, `source_faults` and `sink_faults` sources
 //! and sinks that fail, `endless` and `longest` sources that are too long, and `large` has generated logs.
-//! `expected_trades` looks at calls over order lists, below all logs.
 #![tactic(auto)]
 
 #[cfg(test)]
@@ -25,8 +24,6 @@ mod days;
 mod endless;
 #[cfg(test)]
 mod expected_rows;
-#[cfg(test)]
-mod expected_trades;
 #[cfg(test)]
 mod fair_rows;
 #[cfg(test)]

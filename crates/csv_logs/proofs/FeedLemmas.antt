@@ -269,23 +269,6 @@ module _ {R : Type 0} (names : List (List ℕ)) (entry : List (List ℕ) → Res
       some-size (full_lines log) size (length log) bad reads
       (λ at_end. both_ways (list_any is_lf (drop bad.offset (log ++ 10 ∷ []))) (ap (list_any is_lf) (drop_all bad.offset (log ++ 10 ∷ []) (omega (arith, at_end)))) is.ended)
 
-  any-size : (lines : List Line) (size : ℕ) (entries : List R) → read_lines names entry size lines ≡ Ok entries → read_lines names entry 0 lines ≡ Ok entries
-  any-size [] size entries e = absurd (cc e)
-  any-size (first ∷ lines) size entries e = e
-
-  -- a good log of whole lines, and a line that has not ended
-  pub open-after : (entries : List R) (lines rest : List ℕ) (offset : ℕ) → read_log names entry lines ≡ Ok entries → is_whole lines ≡ true → length lines ≡ offset
-      → list_any is_lf rest ≡ false → IsOpen names entry entries rest offset true (lines ++ rest)
-  unfolding read_log
-  open-after entries lines rest offset reads whole size none = record {
-    lines = lines;
-    cut = refl;
-    whole = whole;
-    size = size;
-    unfinished = none;
-    good = any-size (full_lines lines) (length lines) entries reads;
-  }
-
   pub open-new : IsOpen names entry [] [] 0 false []
   unfolding full_lines
   open-new = record { lines = []; cut = refl; whole = refl; size = refl; unfinished = refl; good = (refl, refl) }
@@ -563,9 +546,3 @@ pub sound-kept : {R : Type 0} (reading : Result (List R) BadPlace) (result : Res
     → IsReadAs reading result → IfOk reading (All sound) → IfOk result (λ kept. All sound kept.items)
 sound-kept reading (Ok kept) sound is all = rw is at all
 sound-kept reading (Err why) sound is all = tt
-
--- one more part of a log was fed
-pub goes-piece : (old middle new : List ℕ → Type 0) (log left part rest : List ℕ) → Goes old middle log left → left ≡ part ++ rest
-    → ((bytes : List ℕ) → middle bytes → new (bytes ++ part)) → Goes old new log rest
-goes-piece old middle new log left part rest goes split fed =
-    goes-then old middle new log left rest goes (record { done = part; split = split; stands = fed })

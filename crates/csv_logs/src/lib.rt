@@ -19,8 +19,6 @@ pub mod log_text;
 pub mod logs;
 mod orders;
 mod reader;
-#[cfg(test)]
-mod tests;
 mod trades;
 pub mod writers;
 mod written_lines;

@@ -22,6 +22,4 @@ pub mod laws;
 mod leaving;
 pub mod phases;
 mod progress;
-#[cfg(test)]
-mod tests;
 pub mod texts;

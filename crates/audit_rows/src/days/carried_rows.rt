@@ -1,23 +1,10 @@
 //! Rows of days whose orders are carried from a phase to later ones.
 use crate::checks::inputs::{ORDERS, TRADES};
 use crate::checks::rows::{Row, check_rows};
-use crate::days::logs::{CALL_FIRST, CALL_TRADES, DAY_ORDERS, DAY_TRADES};
+use crate::days::logs::{CALL_FIRST, DAY_ORDERS, DAY_TRADES};
 use std::test::Fail;
 
-const TWO_PHASES: [Row; 6] = [
-    Row {
-        name: "a call, and what it leaves trades on",
-        words: CALL_FIRST,
-        orders: &DAY_ORDERS,
-        trades: &DAY_TRADES,
-        status: 0,
-        report: "session,Z,uniform@1,continuous@3
-totals,3,2,5
-order,1,5
-order,2,3
-order,3,2
-",
-    },
+const TWO_PHASES: [Row; 3] = [
     Row {
         name: "without a table",
         words: "session Z uniform@1,continuous@3 orders trades",
@@ -26,32 +13,6 @@ order,3,2
         status: 0,
         report: "session,Z,uniform@1,continuous@3
 totals,3,2,5
-",
-    },
-    Row {
-        name: "an order that is carried has to trade on",
-        words: CALL_FIRST,
-        orders: &DAY_ORDERS,
-        trades: &CALL_TRADES,
-        status: 1,
-        report: "rejected,spread,orders,3
-order,1,buy,A,b1,2,10,0
-order,3,sell,B,s2,4,10,0
-",
-    },
-    Row {
-        name: "an order that is carried trades too much",
-        words: CALL_FIRST,
-        orders: &DAY_ORDERS,
-        trades: &[
-            TRADES,
-            "T1,20240102-09:00:01,Z,A,b1,B,s1,3,9.5
-T2,20240102-09:00:01,Z,A,b1,B,s2,4,10
-",
-        ],
-        status: 1,
-        report: "rejected,buy-quantity,trades,2
-order,1,buy,A,b1,2,10,4
 ",
     },
     Row {

@@ -1,6 +1,6 @@
 -- A log has fewer records than there are places.
 use Rattle.std.proofs.Common.{arith}
-use Rattle.csv_logs.proofs.tests.count_of.Goals as goal
+use Rattle.log_rows.proofs.csv.count_of.Goals as goal
 
 pub count-requires : goal.count-requires
 count-requires g c =

@@ -2,41 +2,20 @@
 //! written as its side (B, S) and its limit in currency units, and each has the quantity 1.
 ghost use Rattle.audit_base.specs.Deals.{IsDealList};
 
-use super::certifying::certify;
-use super::faults::VerifyFault;
-use super::verifying::verify;
-use audit_base::names::{Key, Name, read_name};
-use audit_base::numbers::{Quantity, read_price};
+use crate::records::{deals_of, history_of, new_order, new_trade, price_in, symbol};
 use audit_base::orders::Deal;
 use audit_base::records::{OrderRecord, TradeRecord};
-use audit_base::stamps::Stamp;
 use audit_base::terms::{Life, Rule, Side};
+use audit_certificate::certifying::certify;
+use audit_certificate::faults::VerifyFault;
+use audit_certificate::verifying::verify;
 use instruction_history::history::History;
-use matching_core::resolving::resolve;
 use std::process::Abort;
-
-fn name(rt: &impl Abort, text: &[u8]) -> Name {
-    read_name(text).expect(rt, "a name")
-}
-
-fn key(rt: &impl Abort, id: u8) -> Key {
-    Key {
-        firm: name(rt, b"A"),
-        id: name(rt, &[id]),
-    }
-}
 
 /// The order with this digit as its id.
 fn order(rt: &impl Abort, id: u8, side: Side, limit: u8) -> OrderRecord {
-    OrderRecord::New {
-        key: key(rt, id),
-        time: Stamp { second: 5, nano: 0 },
-        symbol: name(rt, b"Z"),
-        side,
-        quantity: Quantity::of(1).expect(rt, "a quantity"),
-        price: read_price(&[limit]).expect(rt, "a price"),
-        life: Life::Rests,
-    }
+    let price = price_in(rt, &[limit]);
+    new_order(rt, &[id], side, 1, price, Life::Rests)
 }
 
 /// Bids at 1, 2 and 3, then asks at 1, 2 and 3.
@@ -49,23 +28,13 @@ fn staircase<R: AllocGlobal + Abort>(rt: &R) -> History {
         order(rt, b'5', Side::Sell, b'2'),
         order(rt, b'6', Side::Sell, b'3'),
     ];
-    let Ok(history) = History::build(rt.alloc(), &entries, &name(rt, b"Z")) else {
-        panic!(rt; "no history");
-    };
-    history
+    history_of(rt, &entries)
 }
 
 /// A trade of 1 at 2 between the orders with these digits as their ids.
 fn trade(rt: &impl Abort, id: u8, buy: u8, sell: u8) -> TradeRecord {
-    TradeRecord {
-        trade: name(rt, &[id]),
-        time: Stamp { second: 5, nano: 0 },
-        symbol: name(rt, b"Z"),
-        buy: key(rt, buy),
-        sell: key(rt, sell),
-        quantity: Quantity::of(1).expect(rt, "a quantity"),
-        price: read_price(b"2").expect(rt, "a price"),
-    }
+    let price = price_in(rt, b"2");
+    new_trade(rt, &[id], &[buy], &[sell], 1, price)
 }
 
 /// The two trades of the staircase: the bids at 2 and 3 with the asks at 1 and 2.
@@ -73,10 +42,7 @@ fn two_deals<R: AllocGlobal + Abort>(rt: &R, history: &History) -> Vec<Deal>
     ensures { IsDealList history.now result.items }
 {
     let trades = [trade(rt, b'1', b'2', b'4'), trade(rt, b'2', b'3', b'5')];
-    let Ok(deals) = resolve(rt.alloc(), history, &trades, &name(rt, b"Z")) else {
-        panic!(rt; "unsound trades");
-    };
-    deals
+    deals_of(rt, history, &trades)
 }
 
 /// The lines of the certificate of these trades.
@@ -108,14 +74,14 @@ fn answer<R: AllocGlobal + Abort>(rt: &R, bytes: &[u8]) -> Result<Rule, VerifyFa
     let history = staircase(rt);
     let deals = two_deals(rt, &history);
     assert!(rt; bytes.len() <= 67_108_864);
-    verify(rt.alloc(), &name(rt, b"Z"), history.orders(), &deals, bytes)
+    verify(rt.alloc(), &symbol(rt), history.orders(), &deals, bytes)
 }
 
 #[test]
 fn the_certificate_of_a_staircase(rt: HostRuntime) {
     let history = staircase(&rt);
     let deals = two_deals(&rt, &history);
-    let symbol = name(&rt, b"Z");
+    let symbol = symbol(&rt);
     let wanted = text_of(&rt, &LINES);
     assert!(rt; wanted.len() <= 67_108_864);
     let Ok(rule) = verify(rt.alloc(), &symbol, history.orders(), &deals, &wanted) else {

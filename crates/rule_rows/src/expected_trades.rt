@@ -1,9 +1,7 @@
 //! Small order lists with the Expected trades of `uniform` and `maximum`, which their audits accept.
-use audit_base::names::{Key, Name, read_name};
-use audit_base::numbers::{Price, Quantity};
+use crate::records::{history_of, new_order, price_of};
 use audit_base::orders::Deal;
 use audit_base::records::OrderRecord;
-use audit_base::stamps::Stamp;
 use audit_base::terms::{Life, Side};
 use instruction_history::history::History;
 use matching_core::outcomes::Outcome;
@@ -19,25 +17,11 @@ type Row = (Side, u64, u64);
 /// A trade as the indices of its bid and its ask, its quantity and its price.
 type Trade = (usize, usize, u64, u64);
 
-fn name(rt: &impl Abort, text: &[u8]) -> Name {
-    read_name(text).expect(rt, "a name")
-}
-
 /// The order with this digit as its id.
 fn order(rt: &impl Abort, id: u8, row: Row) -> OrderRecord {
     let (side, quantity, limit) = row;
-    OrderRecord::New {
-        key: Key {
-            firm: name(rt, b"A"),
-            id: name(rt, &[id]),
-        },
-        time: Stamp { second: 5, nano: 0 },
-        symbol: name(rt, b"Z"),
-        side,
-        quantity: Quantity::of(quantity).expect(rt, "a quantity"),
-        price: Price::of(limit).expect(rt, "a price"),
-        life: Life::Rests,
-    }
+    let price = price_of(rt, limit);
+    new_order(rt, &[id], side, quantity, price, Life::Rests)
 }
 
 fn history<R: AllocGlobal + Abort>(rt: &R, rows: &[Row]) -> History {
@@ -46,11 +30,7 @@ fn history<R: AllocGlobal + Abort>(rt: &R, rows: &[Row]) -> History {
         let stored = entries.push(order(rt, id, *row)).is_ok();
         assert!(rt; stored);
     }
-    assert!(rt; entries.len() < 4_294_967_296);
-    let Ok(history) = History::build(rt.alloc(), &entries, &name(rt, b"Z")) else {
-        panic!(rt; "no history");
-    };
-    history
+    history_of(rt, &entries)
 }
 
 fn assert_trades(rt: &impl Abort, deals: &[Deal], trades: &[Trade]) {

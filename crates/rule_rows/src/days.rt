@@ -2,18 +2,16 @@
 //! the bid.
 ghost use Rattle.session_audit.specs.Phases.{ArePhases};
 
-use super::auditing::audit_session;
-use super::days::Day;
-use super::phases::{Phase, PhaseKind};
-use super::texts::session_text;
+use crate::records::{
+    deals_of, history_of, new_order, new_trade, price_in, replacement_of, symbol,
+};
 use audit_base::findings::{Finding, Property};
-use audit_base::names::{Key, Name, read_name};
-use audit_base::numbers::{Quantity, read_price};
 use audit_base::records::{OrderRecord, TradeRecord};
-use audit_base::stamps::Stamp;
 use audit_base::terms::{Life, Side, Which};
-use instruction_history::history::History;
-use matching_core::resolving::resolve;
+use session_audit::auditing::audit_session;
+use session_audit::days::Day;
+use session_audit::phases::{Phase, PhaseKind};
+use session_audit::texts::session_text;
 use std::process::Abort;
 
 const PHASES: [Phase; 2] = [
@@ -27,77 +25,28 @@ const PHASES: [Phase; 2] = [
     },
 ];
 
-fn name(rt: &impl Abort, text: &[u8]) -> Name {
-    read_name(text).expect(rt, "a name")
-}
-
-fn key(rt: &impl Abort, id: u8) -> Key {
-    Key {
-        firm: name(rt, b"A"),
-        id: name(rt, &[id]),
-    }
-}
-
 /// The new order with this digit as its id.
 fn order(rt: &impl Abort, id: u8, side: Side, quantity: u64, limit: &[u8]) -> OrderRecord {
-    OrderRecord::New {
-        key: key(rt, id),
-        time: Stamp { second: 5, nano: 0 },
-        symbol: name(rt, b"Z"),
-        side,
-        quantity: Quantity::of(quantity).expect(rt, "a quantity"),
-        price: read_price(limit).expect(rt, "a price"),
-        life: Life::Rests,
-    }
+    let price = price_in(rt, limit);
+    new_order(rt, &[id], side, quantity, price, Life::Rests)
 }
 
 /// The same with the life of an immediate order.
 fn immediate(rt: &impl Abort, id: u8, side: Side, quantity: u64, limit: &[u8]) -> OrderRecord {
-    OrderRecord::New {
-        key: key(rt, id),
-        time: Stamp { second: 5, nano: 0 },
-        symbol: name(rt, b"Z"),
-        side,
-        quantity: Quantity::of(quantity).expect(rt, "a quantity"),
-        price: read_price(limit).expect(rt, "a price"),
-        life: Life::Immediate,
-    }
+    let price = price_in(rt, limit);
+    new_order(rt, &[id], side, quantity, price, Life::Immediate)
 }
 
 /// The replacement with this digit as its id of the bid with that one.
 fn replacement(rt: &impl Abort, id: u8, target: u8, quantity: u64, limit: &[u8]) -> OrderRecord {
-    OrderRecord::Replace {
-        key: key(rt, id),
-        time: Stamp { second: 5, nano: 0 },
-        symbol: name(rt, b"Z"),
-        target: name(rt, &[target]),
-        side: Side::Buy,
-        quantity: Quantity::of(quantity).expect(rt, "a quantity"),
-        price: read_price(limit).expect(rt, "a price"),
-    }
+    let price = price_in(rt, limit);
+    replacement_of(rt, &[id], &[target], Side::Buy, quantity, price)
 }
 
 /// A trade between the bid and the ask with these digits as their ids.
 fn trade(rt: &impl Abort, bid: u8, ask: u8, quantity: u64, price: &[u8]) -> TradeRecord {
-    TradeRecord {
-        trade: name(rt, &[ask]),
-        time: Stamp { second: 5, nano: 0 },
-        symbol: name(rt, b"Z"),
-        buy: key(rt, bid),
-        sell: key(rt, ask),
-        quantity: Quantity::of(quantity).expect(rt, "a quantity"),
-        price: read_price(price).expect(rt, "a price"),
-    }
-}
-
-/// The history of these records.
-fn history_of<R: AllocGlobal + Abort>(rt: &R, entries: &[OrderRecord]) -> History {
-    let symbol = name(rt, b"Z");
-    assert!(rt; entries.len() < 10);
-    let Ok(history) = History::build(rt.alloc(), entries, &symbol) else {
-        panic!(rt; "no history");
-    };
-    history
+    let price = price_in(rt, price);
+    new_trade(rt, &[ask], &[bid], &[ask], quantity, price)
 }
 
 /// The text of the day, or its first offence.
@@ -110,11 +59,9 @@ fn answer<R: AllocGlobal + Abort>(
     requires { ArePhases phases.now }
 {
     let history = history_of(rt, entries);
-    let symbol = name(rt, b"Z");
+    let symbol = symbol(rt);
+    let deals = deals_of(rt, &history, trades);
     assert!(rt; trades.len() < 10);
-    let Ok(deals) = resolve(rt.alloc(), &history, trades, &symbol) else {
-        panic!(rt; "unsound trades");
-    };
     let count = trades.len() as u32;
     assert!(rt; deals.len() <= trades.len());
     let orders = history.orders();
