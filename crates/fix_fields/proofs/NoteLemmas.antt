@@ -1,5 +1,5 @@
 -- What is found of a tag where one more field stands behind others, and what is noted of it.
-use Rattle.std.proofs.Common.{◌≡◌, ℕ, ◌+◌, ◌-◌, ◌<◌, ◌≤◌, Bool, true, false, cond, eqb, ltb, Option, Some, None, List, [], ◌∷◌, ◌++◌, length, get_or, set, replicate, ap, sym, refl, inl, inr, ◌∙◌, arith, rules}
+use Rattle.std.proofs.Common.{◌≡◌, ◌⊎◌, ℕ, ◌+◌, ◌-◌, ◌<◌, ◌≤◌, Bool, true, false, cond, eqb, ltb, Option, Some, None, List, [], ◌∷◌, ◌++◌, length, get_or, set, replicate, ap, sym, refl, inl, inr, ◌∙◌, arith, rules}
 use Rattle.std.specs.List.{count_by, position, position_or_len}
 use Rattle.std.proofs.lemmas.Bool.{cases_eq}
 use Rattle.std.proofs.lemmas.Bool.Decides.{nat_tests}
@@ -10,7 +10,7 @@ use Rattle.std.proofs.lemmas.List.Sums.{sum_by-append, sum_by-cons, fails_before
 use Rattle.fix_fields.specs.declared.field.Field.{Field}
 use Rattle.fix_fields.specs.declared.field.Found.TheVariants.{Absent, One, Many}
 use Rattle.fix_fields.specs.TagSearch.{found_at, found_of, has_tag}
-use Rattle.fix_fields.specs.TagNotes.{noted, AreNoted}
+use Rattle.fix_fields.specs.TagNotes.{noted, AreNoted, place_of}
 use Rattle.fix_fields.proofs.FindLemmas.{count_none}
 
 -- the first place below a length, if there is one
@@ -89,31 +89,81 @@ module _ (fields : List Field) (field : Field) (tag : ℕ) where
       counts ∙ ap (λ (b : Bool). count_by (has_tag tag) fields + cond {A = ℕ} b 1 0) passes ∙ omega (arith, zero_count) in
       ap (λ (o : Option ℕ). found_at o (count_by (has_tag tag) (fields ++ field ∷ []))) place ∙ ap (λ (n : ℕ). found_at (Some (length fields)) n) one
 
+-- the place of a note, where the two tests of its tag are known
+place-of-tests : (tag place : ℕ) (low trade : Bool) → cond low (Some tag) (cond trade (Some 160) None) ≡ Some place
+    → ((low ≡ true) × (place ≡ tag)) ⊎ ((trade ≡ true) × (place ≡ 160))
+place-of-tests tag place true trade has = inl (refl, (cc))
+place-of-tests tag place false true has = inr (refl, (cc))
+place-of-tests tag place false false has = (cc)
+
+-- the place of a low tag
+pub place-low : (tag : ℕ) → tag < 160 → place_of tag ≡ Some tag
+place-low tag low =
+    let test : ltb tag 160 ≡ true = grind (arith, nat_tests, low) in rw test refl
+
+-- any other tag but 527 has no place
+pub place-none : (tag : ℕ) → 160 ≤ tag → (tag ≡ 527 → ⊥) → place_of tag ≡ None
+place-none tag high other =
+    let test : ltb tag 160 ≡ false = grind (arith, nat_tests, high) in
+    let apart : eqb tag 527 ≡ false = grind (arith, nat_tests, other) in rw (test, apart) refl
+
+-- a tag that is noted is below 160, or 527
+place-cases : (tag place : ℕ) → place_of tag ≡ Some place → ((tag < 160) × (place ≡ tag)) ⊎ ((tag ≡ 527) × (place ≡ 160))
+place-cases tag place has = elim (place-of-tests tag place (ltb tag 160) (eqb tag 527) has) [
+  | inl (low, own) ↦ inl (grind (arith, nat_tests, low), own)
+  | inr (trade, last) ↦ inr (grind (arith, nat_tests, trade), last)
+]
+
+-- there is room for each note
+place-below : (tag place : ℕ) → place_of tag ≡ Some place → place < 161
+place-below tag place has = elim (place-cases tag place has) [
+  | inl (low, own) ↦ omega (arith, low, own)
+  | inr (trade, last) ↦ omega (arith, last)
+]
+
+-- no two tags have one place
+place-apart : (a b p q : ℕ) → place_of a ≡ Some p → place_of b ≡ Some q → q ≡ p → a ≡ b
+place-apart a b p q has other same = elim (place-cases a p has) [
+  | inl (low, own) ↦ elim (place-cases b q other) [
+    | inl (below, same-place) ↦ omega (arith, own, same-place, same)
+    | inr (trade, last) ↦ omega (arith, low, own, last, same)
+  ]
+  | inr (trade, last) ↦ elim (place-cases b q other) [
+    | inl (below, same-place) ↦ omega (arith, last, below, same-place, same)
+    | inr (trade2, last2) ↦ omega (arith, trade, trade2)
+  ]
+]
+
 -- no field is noted at first
-pub noted-none : AreNoted (replicate 160 0) []
-noted-none tag low = ap noted (sym (get_or-replicate 160 tag 0 0 low))
+pub noted-none : AreNoted (replicate 161 0) []
+noted-none tag place has = ap noted (sym (get_or-replicate 161 place 0 0 (place-below tag place has)))
 
 -- a field whose tag is not noted changes no note
-pub noted-past : (notes : List ℕ) (fields : List Field) (field : Field) → 160 ≤ field.tag → AreNoted notes fields → AreNoted notes (fields ++ field ∷ [])
-noted-past notes fields field high are tag low =
-    let fails : has_tag tag field ≡ false = grind (arith, nat_tests, high, low) in found-other fields field tag fails ∙ are tag low
+pub noted-past : (notes : List ℕ) (fields : List Field) (field : Field) → place_of field.tag ≡ None → AreNoted notes fields → AreNoted notes (fields ++ field ∷ [])
+noted-past notes fields field past are tag place has = elim (cases_eq field.tag tag) [
+  | inl same ↦ let none : place_of tag ≡ None = ap place_of (sym same) ∙ past in (cc)
+  | inr other ↦
+      let fails : has_tag tag field ≡ false = grind (arith, nat_tests, other) in found-other fields field tag fails ∙ are tag place has
+]
 
 -- a field whose tag has no note yet is noted
-pub noted-more : (notes : List ℕ) (fields : List Field) (field : Field) → length notes ≡ 160 → field.tag < 160 → get_or notes field.tag 0 ≡ 0 → AreNoted notes fields
-    → AreNoted (set notes field.tag (length fields + 1)) (fields ++ field ∷ [])
-noted-more notes fields field size small free are tag low = elim (cases_eq field.tag tag) [
+pub noted-more : (notes : List ℕ) (fields : List Field) (field : Field) (at : ℕ) → length notes ≡ 161 → place_of field.tag ≡ Some at → get_or notes at 0 ≡ 0
+    → AreNoted notes fields → AreNoted (set notes at (length fields + 1)) (fields ++ field ∷ [])
+noted-more notes fields field at size own free are tag place has = elim (cases_eq field.tag tag) [
   | inl same ↦
       let passes : has_tag tag field ≡ true = grind (arith, nat_tests, same) in
-      let note : get_or notes tag 0 ≡ 0 = ap (λ (t : ℕ). get_or notes t 0) (sym same) ∙ free in
-      let absent : found_of fields tag ≡ Absent = are tag low ∙ ap noted note in
-      let new : get_or (set notes field.tag (length fields + 1)) tag 0 ≡ length fields + 1 =
-      ap (λ (t : ℕ). get_or (set notes field.tag (length fields + 1)) t 0) (sym same) ∙ get_or-set_same notes field.tag (length fields + 1) 0 (omega (arith, size, small)) in
+      let found : place_of tag ≡ Some at = ap place_of (sym same) ∙ own in
+      let here : at ≡ place = (cc) in
+      let note : get_or notes place 0 ≡ 0 = ap (λ (t : ℕ). get_or notes t 0) (sym here) ∙ free in
+      let absent : found_of fields tag ≡ Absent = are tag place has ∙ ap noted note in
+      let new : get_or (set notes at (length fields + 1)) place 0 ≡ length fields + 1 =
+      ap (λ (t : ℕ). get_or (set notes at (length fields + 1)) t 0) (sym here) ∙ get_or-set_same notes at (length fields + 1) 0 (omega (arith, size, place-below field.tag at own)) in
       found-first fields field tag passes absent ∙ sym (ap noted new ∙ noted-one (length fields))
   | inr other ↦
       let fails : has_tag tag field ≡ false = grind (arith, nat_tests, other) in
-      let old : get_or (set notes field.tag (length fields + 1)) tag 0 ≡ get_or notes tag 0 =
-      get_or-set_other notes field.tag tag (length fields + 1) 0 (λ e. other (sym e)) in
-      found-other fields field tag fails ∙ are tag low ∙ ap noted (sym old)
+      let old : get_or (set notes at (length fields + 1)) place 0 ≡ get_or notes place 0 =
+      get_or-set_other notes at place (length fields + 1) 0 (λ e. other (place-apart field.tag tag at place own has e)) in
+      found-other fields field tag fails ∙ are tag place has ∙ ap noted (sym old)
 ]
   where
     noted-one : (n : ℕ) → noted (n + 1) ≡ One n

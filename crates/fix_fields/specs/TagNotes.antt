@@ -1,5 +1,5 @@
 -- Notes of where the tags of a body's fields stand.
-use Rattle.std.specs.Prelude.{◌≡◌, ℕ, ◌-◌, ◌<◌, ◌==◌, true, List, [], ◌∷◌, ◌++◌, length, slice_index, if◌then◌else◌}
+use Rattle.std.specs.Prelude.{◌≡◌, ℕ, ◌-◌, ◌==◌, nat_lt, true, Option, Some, None, List, [], ◌∷◌, ◌++◌, length, slice_index, if◌then◌else◌}
 use Rattle.fix_fields.specs.declared.field.Field.{Field}
 use Rattle.fix_fields.specs.declared.field.Found.{Found}
 use Rattle.fix_fields.specs.declared.field.Found.TheVariants.{Absent, One}
@@ -11,9 +11,15 @@ use Rattle.fix_fields.specs.TagSearch.{found_of}
 abbrev pub noted : ℕ → Found
 noted note = if note == 0 then Absent else One (note - 1)
 
--- the notes of the tags below 160 say what is found of them among the fields
+-- the place of the note of a tag, where it is noted: its own below 160, and the one behind them for 527
+abbrev pub place_of : ℕ → Option ℕ
+place_of tag = if nat_lt tag 160 then Some tag else if tag == 527 then Some 160 else None
+
+-- the notes say what is found of their tags among the fields
 abbrev pub AreNoted : List ℕ → List Field → Type 0
-AreNoted notes fields = (tag : ℕ) → tag < 160 → found_of fields tag ≡ noted (slice_index notes tag)
+AreNoted notes fields =
+    (tag place : ℕ) → place_of tag ≡ Some place
+    → found_of fields tag ≡ noted (slice_index notes place)
 
 -- where the notes may be used, they are those of the fields
 abbrev pub AreNotesOf : TagNotes → List Field → Type 0

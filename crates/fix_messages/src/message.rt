@@ -55,6 +55,7 @@ impl<'a> Message<'a> {
     }
 
     /// The value of the tag, if it is there; it may not occur more than once.
+    #[inline(always)]
     pub(crate) fn only(&self, tag: u32) -> Result<Option<&[u8]>, MessageFault>
         ensures { as_some_bytes result ≡ only tag self.now }
     {
@@ -66,6 +67,7 @@ impl<'a> Message<'a> {
     }
 
     /// Whether the tag is there, once or more often.
+    #[inline(always)]
     pub(crate) fn has(&self, tag: u32) -> bool
         ensures { result ≡ has tag self.now }
     {
@@ -76,6 +78,7 @@ impl<'a> Message<'a> {
     }
 
     /// The first value of the tag, and no bytes where the tag is absent.
+    #[inline(always)]
     pub(crate) fn first(&self, tag: u32) -> &[u8]
         ensures { result.now ≡ value_of tag self.now }
     {
@@ -86,6 +89,7 @@ impl<'a> Message<'a> {
         }
     }
 
+    #[inline(always)]
     fn value(&self, at: usize) -> &[u8]
         ensures { result.now ≡ value_in (slice_get self.now at) }
     {

@@ -35,12 +35,14 @@ fn read_limits(text: &[u8]) -> Option<Limits>
     }
 }
 
+#[inline(always)]
 fn limits_at(tag: u32, message: &Message<'_>) -> Result<Limits, MessageFault>
     ensures { result ≡ limits_at tag message.now }
 {
     supported(tag, read_limits(required(tag, message)?))
 }
 
+#[inline(always)]
 fn price_by(
     limits: Limits,
     side: Side,
@@ -70,6 +72,7 @@ fn read_life(text: &[u8]) -> Option<Life>
     }
 }
 
+#[inline(always)]
 fn life_at(tag: u32, message: &Message<'_>) -> Result<Life, MessageFault>
     ensures { result ≡ life_at tag message.now }
 {
@@ -94,6 +97,7 @@ fn read_limit(text: &[u8]) -> Option<()>
     if is_word(b"2", text) { Some(()) } else { None }
 }
 
+#[inline(always)]
 fn limit_at(tag: u32, message: &Message<'_>) -> Result<(), MessageFault>
     ensures { result ≡ limit_at tag message.now }
 {
@@ -110,6 +114,7 @@ fn read_resting(text: &[u8]) -> Option<()>
     }
 }
 
+#[inline(always)]
 fn resting_at(tag: u32, message: &Message<'_>) -> Result<(), MessageFault>
     ensures { result ≡ resting_at tag message.now }
 {

@@ -107,7 +107,7 @@ fn trade_report<'m>(message: &'m Message<'_>) -> Result<ReportText<'m>, MessageF
 fn is_other(message: &Message<'_>) -> bool
     ensures { result ≡ is_other message.now }
 {
-    message.has(150) && !is_word(b"F", message.first(150))
+    !is_word(b"F", message.first(150)) && message.has(150)
 }
 
 fn is_passed_over(message: &Message<'_>) -> bool
