@@ -101,19 +101,16 @@ impl Framer {
                     to: frame.end - TRAILER,
                 }
             }
-            // One match more than needed: behind it the prover knows that the fault is another.
-            Err(fault) => match fault {
-                FrameFault::Truncated => {
-                    drop_front(&mut self.bytes, at);
-                    self.base += at as u64;
-                    self.next = 0;
-                    Step::Wait
-                }
-                fault => Step::Fault {
-                    at: self.base + at as u64,
-                    fault,
-                },
+            Err(fault) if fault != FrameFault::Truncated => Step::Fault {
+                at: self.base + at as u64,
+                fault,
             },
+            Err(_) => {
+                drop_front(&mut self.bytes, at);
+                self.base += at as u64;
+                self.next = 0;
+                Step::Wait
+            }
         }
     }
 
