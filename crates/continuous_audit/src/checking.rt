@@ -1,6 +1,5 @@
 //! Whether the deals of one record keep their limits, and no order trades that isn't there or more than its size.
 ghost use Rattle.std.specs.Prelude.{◌≡◌};
-ghost use Rattle.audit_base.specs.CallOffences.{is_within};
 ghost use Rattle.continuous_audit.specs.DealFindings as by_deal;
 
 use super::breaches::DealRule;
@@ -33,13 +32,6 @@ fn resting_waits(bid: &Order, ask: &Order, place: u32, bid_left: u64, ask_left: 
     } else {
         waits(ask, place, ask_left)
     }
-}
-
-/// Whether the price of a deal is within the limits of its bid and its ask.
-fn is_within(deal: &Deal, bid: &Order, ask: &Order) -> bool
-    ensures { result ≡ is_within bid.now ask.now deal.now }
-{
-    ask.limit <= deal.price && deal.price <= bid.limit
 }
 
 /// The first rule that a deal breaks, from whether it keeps each of them.
@@ -96,7 +88,7 @@ pub fn broken_rule(
         own_bid.traded own_ask.traded own_bid.size own_ask.size own_bid.left own_ask.left }
 {
     let rests = resting_waits(bid, ask, place, own_bid.left, own_ask.left);
-    let within = is_within(deal, bid, ask);
+    let within = deal.is_within(bid, ask);
     let bid_over = (own_bid.size as u128) < own_bid.traded;
     let ask_over = (own_ask.size as u128) < own_ask.traded;
     first_broken(rests, entered, within, bid_over, ask_over)
