@@ -148,6 +148,3 @@ impl<S: Alter> Keeper for SqlKeeper<S> {
 
     ghost own_labels = { λ _. tt };
 }
-
-#[cfg(test)]
-mod tests;

@@ -1,11 +1,1 @@
-mod PlayLemmas
-mod OnePlayLemmas
 mod OpenerLemmas
-mod JoinLemmas
-mod RunLemmas
-mod ReadyLemmas
-mod TurnLemmas
-mod VerdictLemmas
-mod AnswerLemmas
-mod CommandLemmas
-mod CaseLemmas

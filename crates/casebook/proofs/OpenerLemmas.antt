@@ -2,7 +2,7 @@
 use Rattle.std.proofs.Common.{◌≡◌, sym, ◌∙◌, refl, arith, ℕ, true, false, List, Ok, Err}
 use Rattle.case_keeper.specs.Keepers.{KeeperState}
 use Rattle.case_keeper.specs.declared.keeper.KeepFault.TheVariants.{Failed}
-use Rattle.casebook.specs.Openers.{OpenerState, Opens}
+use Rattle.case_run.specs.Openers.{OpenerState, Opens}
 
 pub opens_untold : {B : Type 0} (state : B → KeeperState) (old : OpenerState) (path : List ℕ) (book : B)
     → (state book).faults ≡ 0 → old.tells ≡ false → Opens state old old path (Ok book)

@@ -1,6 +1,6 @@
 -- The opener over files: it tells nothing of what is under a path.
 use Rattle.std.specs.Prelude.{false, None}
-use Rattle.casebook.specs.Openers.{OpenerState}
+use Rattle.case_run.specs.Openers.{OpenerState}
 use Rattle.casebook.specs.declared.file_opener.FileOpener.{FileOpener}
 
 -- what it stands at: its faults alone are known

@@ -1,12 +1,12 @@
 //! Runs of commands over a casebook in memory: the words, and the status and the lines.
-use super::books::run_book;
-use super::map_opener::MapOpener;
-use super::running::run_case;
-use super::statuses::CaseStatus;
 use audit_base::names::read_name;
 use case_keeper::casebook::Casebook;
 use case_keeper::keeper::Keeper;
 use case_keeper::map_keeper::MapKeeper;
+use case_run::books::run_book;
+use case_run::map_opener::MapOpener;
+use case_run::running::run_case;
+use case_run::statuses::CaseStatus;
 use log_source::memory_shelf::MemoryShelf;
 use log_source::memory_sink::MemorySink;
 use std::alloc::Global;

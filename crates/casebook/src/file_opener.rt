@@ -1,8 +1,8 @@
 //! The opener of the program: databases, each in a file under its path.
 ghost use Rattle.std.specs.Prelude.{◌≡◌};
 
-use super::opener::Opener;
 use case_keeper::keeper::KeepFault;
+use case_run::opener::Opener;
 use case_sqlite::faults::fault_of;
 use case_sqlite::sql_keeper::SqlKeeper;
 use sqlite::{Connection, File, FileStore};

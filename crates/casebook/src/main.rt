@@ -1,44 +1,32 @@
 //! The program `casebook`: files the verdicts of audits under labels in a database, and lists and shows
 //! them.
 //!
-//! `books::run_book` is the top call: it opens the casebook that the first word names (`opener`) and hands
-//! the other words to `running::run_case`, which reads them (`words`) into commands (`commands`) and does
-//! these in order. Each is answered whole (`answers`, over `verdicts`, which reads and judges two logs, and
-//! `lines`), and then written (`writing`). The contracts of both calls cite Play, which says over the bytes
-//! of the logs, the cases and the commands what is left of all three.
+//! `main` hands words, files, standard output and an opener over files (`file_opener`) to `run_book` of
+//! `case_run`, which does all the rest, and closes the database.
 #![tactic(auto)]
 
-mod answers;
-mod books;
 #[cfg(test)]
 mod case_tests;
-mod commands;
 #[cfg(test)]
 mod database_tests;
+#[cfg(test)]
+mod file_books;
 mod file_opener;
-mod halts;
-mod laws;
-mod lines;
-mod map_opener;
-mod opener;
+#[cfg(test)]
+mod keeper_tests;
 #[cfg(test)]
 mod opener_tests;
-mod running;
-mod statuses;
 #[cfg(test)]
 mod stopped_tests;
-mod verdicts;
-mod words;
-mod writing;
 
-use books::{Ended, run_book};
 use case_keeper::casebook::Casebook;
+use case_run::books::{Ended, run_book};
+use case_run::statuses::CaseStatus;
 use case_sqlite::sql_keeper::SqlKeeper;
 use file_opener::FileOpener;
 use log_source::file_shelf::FileShelf;
 use log_source::std_sink::StdSink;
 use sqlite::{File, FileStore};
-use statuses::CaseStatus;
 use std::io::ErrorKind;
 use std::process::ExitCode;
 use std::{env, io};

@@ -1,9 +1,9 @@
 //! Runs over databases in files: what is under a path, and a path under which nothing can be.
-use super::books::{Ended, run_book};
 use super::case_tests::{Row, shelf_of, split_words};
 use super::close_book;
 use super::file_opener::FileOpener;
-use super::statuses::CaseStatus;
+use case_run::books::{Ended, run_book};
+use case_run::statuses::CaseStatus;
 use log_source::memory_sink::MemorySink;
 use std::fs;
 use std::test::Fail;

@@ -1,0 +1,10 @@
+mod PlayLemmas
+mod OnePlayLemmas
+mod JoinLemmas
+mod RunLemmas
+mod ReadyLemmas
+mod TurnLemmas
+mod VerdictLemmas
+mod AnswerLemmas
+mod CommandLemmas
+mod CaseLemmas

@@ -1,0 +1,15 @@
+use Rattle.std.proofs.Common.{sym, ◌∙◌}
+use Rattle.case_run.proofs.RunLemmas.{ends_in, goes_in}
+use Rattle.case_run.proofs.running.run_commands.Goals as goal
+
+pub returns-then-ends_run-clause-runs : goal.returns-then-ends_run-clause-runs
+returns-then-ends_run-clause-runs g c =
+    let take = c.take_turn-status in
+    ends_in g.F.Shelf c.args.commands.now c.loop-command.command-index c.command-item.result c.loop-command-test.true c.command-item.is c.args.shelf.now c.loop-command.shelf take.new.shelf _ _ _ _ _ _
+    c.loop-command.status take.result c.loop-command.invariant take.ensures.keeps take.ensures.turn (sym c.ends_run.ensures ∙ c.if-ends_run.true)
+
+pub loop-command-preserved : goal.loop-command-preserved
+loop-command-preserved g c =
+    let take = c.take_turn-status in
+    goes_in g.F.Shelf c.args.commands.now c.loop-command.command-index c.command-item.result c.loop-command-test.true c.command-item.is c.args.shelf.now c.loop-command.shelf take.new.shelf _ _ _ _ _ _
+    c.loop-command.status take.result c.loop-command.invariant take.ensures.keeps take.ensures.turn (sym c.ends_run.ensures ∙ c.if-ends_run.false) take.ensures.length

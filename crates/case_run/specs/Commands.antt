@@ -1,0 +1,143 @@
+-- The words of a casebook, and the commands that they ask for. LABEL and SYMBOL are names, and no word of a
+-- command is `then`.
+use Rattle.std.specs.Prelude.{ℕ, Bool, ◌&&◌, ◌==◌, Option, None, Some, option_and_then, option_map, List, [], ◌∷◌, codes, length, map, if◌then◌else◌}
+use Rattle.std.specs.List.{position_or_len, slice_split}
+use Rattle.audit_base.specs.Least.{first_of, only_if}
+use Rattle.audit_base.specs.Words.{property_word}
+use Rattle.audit_base.specs.declared.findings.Property.{Property}
+use Rattle.audit_base.specs.declared.findings.Property.TheVariants as property
+use Rattle.audit_base.specs.declared.terms.Form.{Form}
+use Rattle.audit_base.specs.declared.terms.Rule.{Rule}
+use Rattle.audit_run.specs.Options.{form_named, is_word}
+use Rattle.audit_run.specs.Words.{is_path, is_symbol, rule_named, word_at}
+use Rattle.case_keeper.specs.declared.case.Filter.{Filter}
+use Rattle.case_keeper.specs.declared.case.Mark.{Mark}
+use Rattle.case_keeper.specs.declared.case.Mark.TheVariants.{Accepted, Broken}
+use Rattle.case_run.specs.declared.commands.Command.{Command}
+use Rattle.case_run.specs.declared.commands.Command.TheVariants as command
+use Rattle.case_run.specs.declared.commands.Filing.{Filing}
+
+-- LABEL is a name that does not begin with `-`, as SYMBOL is
+abbrev pub is_label : List ℕ → Bool
+is_label word = is_symbol word
+
+-- seven words: `file`, LABEL, any word, SYMBOL
+abbrev pub names_case : List (List ℕ) → Bool
+names_case words = length words == 7 && is_word (word_at words 0) (codes "file")
+    && is_label (word_at words 1) && is_symbol (word_at words 3)
+
+-- `file LABEL RULE SYMBOL FORM ORDERS TRADES`, but that RULE and FORM may be any words
+abbrev pub is_file : List (List ℕ) → Bool
+is_file words = names_case words && is_path (word_at words 5) && is_path (word_at words 6)
+
+-- the rule and the form that the third and the fifth word name
+abbrev pub file_choice : List (List ℕ) → Option (Rule × Form)
+file_choice words =
+    if is_file words
+    then option_and_then (λ rule. option_map (λ form. (rule, form)) (form_named (word_at words 4)))
+    (rule_named (word_at words 2))
+    else None
+
+abbrev pub filing_with : List (List ℕ) → Rule × Form → Filing
+filing_with words choice =
+    record {
+      label = word_at words 1;
+      rule = choice.0;
+      symbol = word_at words 3;
+      form = choice.1;
+      orders = word_at words 5;
+      trades = word_at words 6;
+    }
+
+abbrev pub file_command : List (List ℕ) → Option Command
+file_command words = option_map (λ choice. command.File (filing_with words choice)) (file_choice words)
+
+-- the property of a history or of trades, looked at before any rule, that a word names
+abbrev pub log_property : List ℕ → Option Property
+log_property word = first_of (only_if (is_word word (property_word property.DuplicateId)) property.DuplicateId
+    ∷ only_if (is_word word (property_word property.TimeBack)) property.TimeBack
+    ∷ only_if (is_word word (property_word property.UnknownTarget)) property.UnknownTarget
+    ∷ only_if (is_word word (property_word property.InstantOrder)) property.InstantOrder
+    ∷ only_if (is_word word (property_word property.Unpaired)) property.Unpaired
+    ∷ only_if (is_word word (property_word property.DuplicateTrade)) property.DuplicateTrade
+    ∷ only_if (is_word word (property_word property.UnknownOrder)) property.UnknownOrder ∷ [])
+
+-- the property of a rule that a word names
+abbrev pub rule_property : List ℕ → Option Property
+rule_property word = first_of (only_if (is_word word (property_word property.Inactive)) property.Inactive
+    ∷ only_if (is_word word (property_word property.Limit)) property.Limit
+    ∷ only_if (is_word word (property_word property.UniformPrice)) property.UniformPrice
+    ∷ only_if (is_word word (property_word property.BuyQuantity)) property.BuyQuantity
+    ∷ only_if (is_word word (property_word property.SellQuantity)) property.SellQuantity
+    ∷ only_if (is_word word (property_word property.BuyPriority)) property.BuyPriority
+    ∷ only_if (is_word word (property_word property.SellPriority)) property.SellPriority
+    ∷ only_if (is_word word (property_word property.Volume)) property.Volume
+    ∷ only_if (is_word word (property_word property.Spread)) property.Spread ∷ [])
+
+-- the property that a word names, one of sixteen
+abbrev pub property_named : List ℕ → Option Property
+property_named word = first_of (log_property word ∷ rule_property word ∷ [])
+
+-- RESULT is `accepted` or the word of a property
+abbrev pub mark_named : List ℕ → Option Mark
+mark_named word =
+    if is_word word (codes "accepted") then Some Accepted
+    else option_map Broken (property_named word)
+
+-- the name that a word is, where it may stand for a symbol
+abbrev pub symbol_named : List ℕ → Option (List ℕ)
+symbol_named word = only_if (is_symbol word) word
+
+-- the filter of a symbol, which must be one, and of a mark
+abbrev pub filter_of : List ℕ → Option Mark → Option Filter
+filter_of word mark =
+    option_map (λ symbol. record { symbol = Some symbol; mark = mark }) (symbol_named word)
+
+-- the words after `list`: none, SYMBOL, or SYMBOL and RESULT
+abbrev pub filter_named : List (List ℕ) → Option Filter
+filter_named [] = Some (record { symbol = None; mark = None })
+filter_named (symbol ∷ []) = filter_of symbol None
+filter_named (symbol ∷ result ∷ []) =
+    option_and_then (λ mark. filter_of symbol (Some mark)) (mark_named result)
+filter_named (symbol ∷ result ∷ more ∷ rest) = None
+
+-- `list`, `list SYMBOL`, `list SYMBOL RESULT`
+abbrev pub list_filter : List (List ℕ) → Option Filter
+list_filter [] = None
+list_filter (word ∷ words) =
+    if is_word word (codes "list") then filter_named words else None
+
+abbrev pub list_command : List (List ℕ) → Option Command
+list_command words = option_map command.List (list_filter words)
+
+-- `show LABEL`
+abbrev pub is_show : List (List ℕ) → Bool
+is_show words =
+    length words == 2 && is_word (word_at words 0) (codes "show") && is_label (word_at words 1)
+
+abbrev pub show_command : List (List ℕ) → Option Command
+show_command words = only_if (is_show words) (command.Show (word_at words 1))
+
+-- the command that words ask for; nothing where they are not well-formed
+abbrev pub command_of : List (List ℕ) → Option Command
+command_of words = first_of (file_command words ∷ list_command words ∷ show_command words ∷ [])
+
+-- the separator of commands
+abbrev pub is_then : List ℕ → Bool
+is_then word = is_word word (codes "then")
+
+-- how many words stand before the first separator
+abbrev pub part_length : List (List ℕ) → ℕ
+part_length words = position_or_len is_then words
+
+-- all of these, where each is there
+abbrev pub with_next : {A : Type 0} → Option A → Option (List A) → Option (List A)
+with_next a rest = option_and_then (λ x. option_map (λ xs. x ∷ xs) rest) a
+
+abbrev pub all_there : {A : Type 0} → List (Option A) → Option (List A)
+all_there [] = Some []
+all_there (a ∷ rest) = with_next a (all_there rest)
+
+-- the commands that words ask for: one or more with `then` between them; nothing where they are not well-formed
+abbrev pub commands_of : List (List ℕ) → Option (List Command)
+commands_of words = all_there (map command_of (slice_split is_then words))

@@ -1,0 +1,282 @@
+-- One command of a run, as the functions that do it pass it on.
+use Rattle.std.specs.Prelude.{◌≡◌, ◌≢◌, ◌≤◌, ◌⊎◌, ℕ, true, false, Option, Some, Result, Ok, Err, List, MatchResult}
+use Rattle.audit_base.specs.declared.findings.Finding.{Finding}
+use Rattle.audit_base.specs.declared.faults.BadPlace.{BadPlace}
+use Rattle.audit_base.specs.declared.records.OrderRecord.{OrderRecord}
+use Rattle.audit_base.specs.declared.records.TradeRecord.{TradeRecord}
+use Rattle.audit_base.specs.declared.terms.Which.{Which}
+use Rattle.audit_base.specs.declared.terms.Which.TheVariants.{Orders, Trades}
+use Rattle.audit_report.specs.declared.verdicts.Verdict.{Verdict}
+use Rattle.audit_report.specs.declared.verdicts.Verdict.TheVariants as verdict
+use Rattle.audit_run.specs.Collecting.{step_of, IsReadAs, IsUnread}
+use Rattle.audit_run.specs.Judgements.{question, IsJudged}
+use Rattle.audit_run.specs.LogVerdicts.{order_log, trade_log}
+use Rattle.audit_run.specs.Steps.{Reading, BeginsWithin, EndsWithin, KeepsLogs, NeverFall, reading}
+use Rattle.audit_run.specs.declared.reading.Unread.{Unread}
+use Rattle.audit_run.specs.declared.reading.Unread.TheVariants as unread
+use Rattle.case_keeper.specs.Keepers.{KeeperState}
+use Rattle.case_keeper.specs.declared.case.Case.{Case}
+use Rattle.case_keeper.specs.declared.keeper.KeepFault.{KeepFault}
+use Rattle.case_keeper.specs.declared.keeper.KeepFault.TheVariants as keeping
+use Rattle.log_source.specs.declared.shelf.Shelf.{Ghosts as Shelf}
+use Rattle.log_source.specs.Sinks.{SinkState, AppendsPart, MayFail, Stays}
+use Rattle.case_run.specs.Play.{Turn, IsTurn, IsVerdictOn, verdict_turn}
+use Rattle.log_source.specs.Sources.{Rose, longest_log}
+use Rattle.case_run.specs.Runs.{Call, call_of, HasCause, IsBadLog, IsCause, IsPlayed, Leaves, OfLog, ReadsBadLog, Tells, halt_line, name_in}
+use Rattle.audit_run.specs.Steps.{IsReadFault, IsTooLong}
+use Rattle.case_run.specs.Statuses.{ends_run}
+use Rattle.case_run.specs.declared.answers.Answer.{Answer}
+use Rattle.case_run.specs.declared.commands.Command.{Command}
+use Rattle.case_run.specs.declared.commands.Filing.{Filing}
+use Rattle.case_run.specs.declared.halts.Halt.{Halt}
+use Rattle.case_run.specs.declared.halts.Halt.TheVariants as halt
+use Rattle.case_run.specs.declared.statuses.CaseStatus.{CaseStatus}
+use Rattle.case_run.specs.declared.statuses.CaseStatus.TheVariants as status
+
+-- why a command halts where the keeper of the cases did not do what it was asked
+abbrev pub halt_of_keeper : KeepFault → Halt
+halt_of_keeper keeping.Failed = halt.KeeperFault
+halt_of_keeper keeping.Memory = halt.Memory
+
+-- what is answered where a log was not read into records
+abbrev pub without_log : Which → Unread → Result Verdict Halt
+without_log log (unread.Bad bad) = Ok (verdict.Malformed log bad)
+without_log log unread.ReadFault = Err (halt.ReadFault log)
+without_log log unread.TooLong = Err (halt.TooLong log)
+without_log log unread.Memory = Err halt.Memory
+
+-- a log was read to its end, and this is what it says
+abbrev pub SaysRead : {R : Type 0} → (List ℕ → Result R BadPlace) → Reading → Which → List ℕ → R
+    → Type 0
+SaysRead meaning r log name said = IsReadAs r log name (λ bytes. meaning bytes ≡ Ok said)
+
+-- a log of the filing was read to its end and is not in its grammar, where the verdict says so
+abbrev pub ReadsMalformed : Reading → Filing → Verdict → Type 0
+ReadsMalformed r wanted (verdict.Accepted accepted) = Unit {0}
+ReadsMalformed r wanted (verdict.Rejected finding) = Unit {0}
+ReadsMalformed r wanted (verdict.Malformed log bad) =
+    IsReadAs r log (name_in wanted log) (IsBadLog log wanted.form)
+
+-- The verdict is that on the two logs of the filing.
+pub record JudgesLogs (r : Reading) (wanted : Filing) (the_verdict : Verdict) : Type 0 where
+  pub on : r.tells ≡ true → IsVerdictOn r.log_of wanted the_verdict
+  pub bad : ReadsMalformed r wanted the_verdict
+
+-- why there is no verdict on the two logs of a filing
+abbrev pub IsLogHalt : Reading → Filing → Halt → Type 0
+IsLogHalt r wanted (halt.ReadFault log) = OfLog IsReadFault r wanted log
+IsLogHalt r wanted (halt.TooLong log) = OfLog IsTooLong r wanted log
+IsLogHalt r wanted halt.Memory = Unit {0}
+IsLogHalt r wanted halt.KeeperFault = ⊥
+
+-- the trade log was read to its end after an order log with these records, and this is the verdict
+abbrev pub JudgesTrades : Reading → Filing → List OrderRecord → Verdict → Type 0
+JudgesTrades r wanted entries the_verdict = IsReadAs r Trades wanted.trades
+    (λ bytes. MatchResult (trade_log wanted.form bytes)
+    (λ paired. IsJudged (question wanted.rule wanted.symbol false) entries paired the_verdict)
+    (λ bad. the_verdict ≡ verdict.Malformed Trades bad))
+
+-- why there is no verdict after an order log
+abbrev pub IsTradesHalt : Reading → Filing → Halt → Type 0
+IsTradesHalt r wanted (halt.ReadFault log) =
+    (log ≡ Trades) × IsReadFault r (step_of r Trades wanted.trades)
+IsTradesHalt r wanted (halt.TooLong log) =
+    (log ≡ Trades) × IsTooLong r (step_of r Trades wanted.trades)
+IsTradesHalt r wanted halt.Memory = Unit {0}
+IsTradesHalt r wanted halt.KeeperFault = ⊥
+
+-- the answer is that a log is too long
+abbrev pub IsLengthHalt : {T : Type 0} → Result T Halt → Type 0
+IsLengthHalt (Ok x) = ⊥
+IsLengthHalt (Err (halt.ReadFault log)) = ⊥
+IsLengthHalt (Err (halt.TooLong log)) = Unit {0}
+IsLengthHalt (Err halt.Memory) = ⊥
+IsLengthHalt (Err halt.KeeperFault) = ⊥
+
+-- where no log was too long, both slots end within the longest log if they began so
+abbrev pub StaysWithin : {T : Type 0} → Reading → Result T Halt → Type 0
+StaysWithin r result = BeginsWithin r → IsLengthHalt result ⊎ EndsWithin r
+
+-- the same of the slot of the trade log
+abbrev pub StaysWithinTrades : {T : Type 0} → Reading → Result T Halt → Type 0
+StaysWithinTrades r result = IsLengthHalt result ⊎ ((r.after Trades).taken ≤ longest_log)
+
+-- what the orders and the trades of a filing are
+abbrev pub HasOrders : Reading → Filing → List OrderRecord → Type 0
+HasOrders r wanted entries = SaysRead (order_log wanted.form) r Orders wanted.orders entries
+
+abbrev pub HasTrades : Reading → Filing → Result (List TradeRecord) Finding → Type 0
+HasTrades r wanted paired = SaysRead (trade_log wanted.form) r Trades wanted.trades paired
+
+-- why they were not read
+abbrev pub LacksOrders : Reading → Filing → Unread → Type 0
+LacksOrders r wanted why = IsUnread (order_log wanted.form) r Orders wanted.orders why
+
+abbrev pub LacksTrades : Reading → Filing → Unread → Type 0
+LacksTrades r wanted why = IsUnread (trade_log wanted.form) r Trades wanted.trades why
+
+-- the verdict after the records of an order log, or why there is none
+abbrev pub AfterOrders : Reading → Filing → List OrderRecord → Result Verdict Halt → Type 0
+AfterOrders r wanted entries result =
+    MatchResult result (JudgesTrades r wanted entries) (IsTradesHalt r wanted)
+
+-- the verdict on two logs, or why there is none
+abbrev pub OnLogs : Reading → Filing → Result Verdict Halt → Type 0
+OnLogs r wanted result = MatchResult result (JudgesLogs r wanted) (IsLogHalt r wanted)
+
+-- The answer has the status and the text of this turn, and the book has its cases.
+pub record HasTurn (turn : Turn) (book : KeeperState) (answer : Answer) : Type 0 where
+  pub status_is : turn.status ≡ answer.status
+  pub text_is : turn.text ≡ answer.text.items
+  pub cases_are : book.cases ≡ Some turn.cases
+
+-- why a command halts that reads no log
+abbrev pub IsKeeperCause : KeeperState → KeeperState → Halt → Type 0
+IsKeeperCause old new (halt.ReadFault log) = ⊥
+IsKeeperCause old new (halt.TooLong log) = ⊥
+IsKeeperCause old new halt.KeeperFault = Rose old.faults new.faults
+IsKeeperCause old new halt.Memory = Unit {0}
+
+-- The answer has the status and the text of a turn, and the book has its cases, where it tells.
+pub record IsTurnOf (turn_of : List Case → Turn) (old new : KeeperState)
+    (answer : Answer) : Type 0 where
+  pub known : (cases : List Case) → old.cases ≡ Some cases
+      → HasTurn (turn_of cases) new answer
+  pub goes_on : ends_run answer.status ≡ false
+
+-- The keeper was asked in vain, and no case was changed.
+pub record IsKeeperHalt (old new : KeeperState) (why : Halt) : Type 0 where
+  pub cause : IsKeeperCause old new why
+  pub stays : new.cases ≡ old.cases
+
+-- the answer is that of a turn, or the keeper was asked in vain
+abbrev pub AnswersBook : (List Case → Turn) → KeeperState → KeeperState → Result Answer Halt → Type 0
+AnswersBook turn_of old new result =
+    MatchResult result (IsTurnOf turn_of old new) (IsKeeperHalt old new)
+
+-- the run ends exactly where the verdict is that a log is not in its grammar
+abbrev pub HasVerdictStatus : Verdict → CaseStatus → Type 0
+HasVerdictStatus (verdict.Accepted accepted) answer = ends_run answer ≡ false
+HasVerdictStatus (verdict.Rejected finding) answer = ends_run answer ≡ false
+HasVerdictStatus (verdict.Malformed log bad) answer = answer ≡ status.Malformed
+
+-- The answer is that of filing a verdict.
+pub record IsVerdictTurn (wanted : Filing) (the_verdict : Verdict) (old new : KeeperState)
+    (answer : Answer) : Type 0 where
+  pub known : (cases : List Case) → old.cases ≡ Some cases
+      → HasTurn (verdict_turn cases wanted the_verdict) new answer
+  pub status_is : HasVerdictStatus the_verdict answer.status
+
+abbrev pub FilesVerdict : KeeperState → KeeperState → Filing → Verdict → Result Answer Halt → Type 0
+FilesVerdict old new wanted the_verdict result =
+    MatchResult result (IsVerdictTurn wanted the_verdict old new) (IsKeeperHalt old new)
+
+-- the statuses of an answer
+abbrev pub IsAnswerStatus : CaseStatus → Type 0
+IsAnswerStatus status.Done = Unit {0}
+IsAnswerStatus status.Refused = Unit {0}
+IsAnswerStatus status.Malformed = Unit {0}
+IsAnswerStatus status.Usage = ⊥
+IsAnswerStatus status.ReadFault = ⊥
+IsAnswerStatus status.WriteFault = ⊥
+IsAnswerStatus status.TooLong = ⊥
+IsAnswerStatus status.Memory = ⊥
+IsAnswerStatus status.KeeperFault = ⊥
+
+-- The command has a turn, and the answer is that of it.
+pub record IsAnswer (logs : Which → List ℕ → Option (List ℕ)) (cases : List Case)
+    (the_command : Command) (book : KeeperState) (answer : Answer) : Type 0 where
+  pub turn : Turn
+  pub is : IsTurn logs cases the_command turn
+  pub has : HasTurn turn book answer
+
+-- The command was answered: as Play has it, where shelf and book tell.
+pub record IsAnswered (r : Reading) (book_old book_new : KeeperState) (the_command : Command)
+    (answer : Answer) : Type 0 where
+  pub known : (cases : List Case) → r.tells ≡ true → book_old.cases ≡ Some cases
+      → IsAnswer r.log_of cases the_command book_new answer
+  pub status_is : IsAnswerStatus answer.status
+  pub bad : answer.status ≡ status.Malformed → ReadsBadLog r the_command
+
+-- The command was halted for a cause, and no case was changed.
+pub record IsHalted (r : Reading) (book_old book_new : KeeperState) (the_command : Command)
+    (why : Halt) : Type 0 where
+  pub cause : IsCause r book_old book_new the_command why
+  pub stays : book_new.cases ≡ book_old.cases
+
+abbrev pub AnswersCommand : Reading → KeeperState → KeeperState → Command → Result Answer Halt
+    → Type 0
+AnswersCommand r book_old book_new the_command result =
+    MatchResult result (IsAnswered r book_old book_new the_command)
+    (IsHalted r book_old book_new the_command)
+
+-- The turn of the command was written, and the book has its cases.
+pub record LeavesTurn (call : Call) (the_command : Command) (answer : CaseStatus)
+    (cases : List Case) : Type 0 where
+  pub turn : Turn
+  pub is : IsTurn call.shelf.log_of cases the_command turn
+  pub status_is : turn.status ≡ answer
+  pub leaves : Leaves call turn.cases turn.text
+
+abbrev pub IsTaken : Call → Command → CaseStatus → Type 0
+IsTaken call the_command answer =
+    (cases : List Case) → Tells call cases → LeavesTurn call the_command answer cases
+
+-- The command was halted, and the line of its cause was written.
+pub record TellsHalt (call : Call) (the_command : Command) (why : Halt) : Type 0 where
+  pub cause : HasCause call the_command why
+  pub left : (cases : List Case) → Tells call cases → Leaves call cases (halt_line why)
+
+-- A proper prefix of the turn's text was written, and the book has its cases.
+pub record CutsTurn (call : Call) (the_command : Command) (cases : List Case) : Type 0 where
+  pub turn : Turn
+  pub is : IsTurn call.shelf.log_of cases the_command turn
+  pub cases_are : call.book_new.cases ≡ Some turn.cases
+  pub wrote : AppendsPart call.sink_old.wrote call.sink_new.wrote turn.text
+
+-- A proper prefix of the line of a halt was written, and no case was changed.
+pub record CutsLine (call : Call) (the_command : Command) (cases : List Case) : Type 0 where
+  pub why : Halt
+  pub told : why ≢ halt.Memory
+  pub cause : HasCause call the_command why
+  pub cases_are : call.book_new.cases ≡ Some cases
+  pub wrote : AppendsPart call.sink_old.wrote call.sink_new.wrote (halt_line why)
+
+-- The sink's faults rose while the command was answered.
+pub record IsCut (call : Call) (the_command : Command) : Type 0 where
+  pub cause : MayFail call.sink_old call.sink_new
+  pub left : (cases : List Case) → Tells call cases
+      → CutsTurn call the_command cases ⊎ CutsLine call the_command cases
+
+-- what one command does, by its status
+abbrev pub TakesTurn : Call → Command → CaseStatus → Type 0
+TakesTurn call the_command status.Done = IsTaken call the_command status.Done
+TakesTurn call the_command status.Refused = IsTaken call the_command status.Refused
+TakesTurn call the_command status.Malformed =
+    IsTaken call the_command status.Malformed × ReadsBadLog call.shelf the_command
+TakesTurn call the_command status.ReadFault =
+    (log : Which) × TellsHalt call the_command (halt.ReadFault log)
+TakesTurn call the_command status.TooLong =
+    (log : Which) × TellsHalt call the_command (halt.TooLong log)
+TakesTurn call the_command status.Memory = TellsHalt call the_command halt.Memory
+TakesTurn call the_command status.KeeperFault = TellsHalt call the_command halt.KeeperFault
+TakesTurn call the_command status.WriteFault = IsCut call the_command
+TakesTurn call the_command status.Usage = ⊥
+
+-- What any call leaves: the shelf has what it had; no count of faults falls; the sink is of the same kind.
+pub record KeepsAll {S : Type 0} (shelf : Shelf S) (old new : S) (sink_old sink_new : SinkState)
+    (book_old book_new : KeeperState) : Type 0 where
+  pub logs : KeepsLogs shelf old new
+  pub later : NeverFall (reading shelf old new)
+  pub sink : Stays sink_old sink_new
+  pub book : book_old.faults ≤ book_new.faults
+
+-- The commands done so far are Play's, and none of them ended the run.
+pub record IsGoing {S : Type 0} (shelf : Shelf S) (commands : List Command) (old now : S)
+    (sink_old sink_now : SinkState) (book_old book_now : KeeperState)
+    (answer : CaseStatus) : Type 0 where
+  pub played : IsPlayed (call_of (reading shelf old now) sink_old sink_now book_old book_now)
+      commands answer
+  pub goes_on : ends_run answer ≡ false
+  pub within : BeginsWithin (reading shelf old now) → EndsWithin (reading shelf old now)
+  pub stays : KeepsAll shelf old now sink_old sink_now book_old book_now

@@ -1,0 +1,249 @@
+//! One command: its answer, the status and the text, is made whole, and then written.
+ghost use Rattle.std.specs.Prelude.{◌≡◌, ◌≤◌, ◌++◌, IfOk};
+ghost use Rattle.std.specs.List.{flat_map};
+ghost use Rattle.audit_report.specs.Lines.{malformed_line};
+ghost use Rattle.audit_report.specs.Texts.{IsVerdictInRange};
+ghost use Rattle.audit_run.specs.Steps.{reading, KeepsLogs, NeverFall};
+ghost use Rattle.case_run.specs.Lines.{case_line, known_line};
+ghost use Rattle.case_run.specs.Play as spec;
+ghost use Rattle.case_run.specs.Runs.{call_of, AnswersLength};
+ghost use Rattle.case_run.specs.Turns.{AnswersBook, AnswersCommand, FilesVerdict, KeepsAll, StaysWithin, TakesTurn};
+
+use super::commands::{Command, Filing};
+use super::halts::Halt;
+use super::lines::{append_case_line, append_known_line, append_no_case_line};
+use super::statuses::CaseStatus;
+use super::verdicts::verdict_on;
+use super::writing::{write_halt, write_text};
+use audit_base::faults::{BadPlace, NoMemory};
+use audit_base::findings::Finding;
+use audit_base::names::Name;
+use audit_base::terms::Which;
+use audit_report::reports::report_text;
+use audit_report::verdicts::Verdict;
+use case_keeper::case::{Case, Filter, Offence};
+use case_keeper::casebook::{Casebook, Filed};
+use case_keeper::keeper::Keeper;
+use log_source::shelf::Shelf;
+use log_source::sink::Sink;
+use std::alloc::Global;
+
+/// What a command answers and writes.
+#[derive(Debug, Drop)]
+pub(crate) struct Answer {
+    pub(crate) status: CaseStatus,
+    pub(crate) text: Vec<u8>,
+}
+
+impl Filing {
+    /// The case of the filing, whose audit ended so.
+    fn case(&self, offence: Option<Offence>) -> Case
+        ensures { result ≡ spec.case_of self.now offence }
+    {
+        Case {
+            label: self.label,
+            rule: self.rule,
+            symbol: self.symbol,
+            offence,
+        }
+    }
+}
+
+/// The offence of a finding.
+fn offence_of(finding: &Finding) -> Offence
+    ensures { result ≡ spec.offence_of finding.now }
+{
+    Offence {
+        property: finding.property,
+        log: finding.log,
+        place: finding.place,
+    }
+}
+
+/// The line of a case.
+fn case_text(alloc: Global, case: &Case) -> Result<Vec<u8>, NoMemory>
+    ensures { IfOk result (λ text. text.items ≡ case_line case.now) }
+{
+    let mut text = Vec::new(alloc);
+    append_case_line(alloc, case, &mut text)?;
+    Ok(text)
+}
+
+/// That a label is known, and the line of the case that has it.
+fn known_text(alloc: Global, known: &Case) -> Result<Vec<u8>, NoMemory>
+    ensures { IfOk result (λ text. text.items ≡ known_line ++ case_line known.now) }
+{
+    let mut text = Vec::new(alloc);
+    append_known_line(alloc, &mut text)?;
+    append_case_line(alloc, known, &mut text)?;
+    Ok(text)
+}
+
+/// The lines of cases, in their order.
+fn list_text(alloc: Global, cases: &[Case]) -> Result<Vec<u8>, NoMemory>
+    ensures { IfOk result (λ text. text.items ≡ flat_map case_line cases.now) }
+{
+    let mut text = Vec::new(alloc);
+    for case in cases {
+        append_case_line(alloc, case, &mut text)?;
+    }
+    Ok(text)
+}
+
+/// The line of the case that a label has, or that it has none.
+fn shown_text(alloc: Global, label: &Name, found: &Option<Case>) -> Result<Vec<u8>, NoMemory>
+    ensures { IfOk result (λ text. text.items ≡ spec.shown_text label.now found.now) }
+{
+    let mut text = Vec::new(alloc);
+    match found {
+        Some(case) => append_case_line(alloc, case, &mut text)?,
+        None => append_no_case_line(alloc, label, &mut text)?,
+    }
+    Ok(text)
+}
+
+/// The status of showing what was found.
+fn shown_status(found: &Option<Case>) -> CaseStatus
+    ensures { result ≡ spec.shown_status found.now }
+{
+    match found {
+        Some(_) => CaseStatus::Done,
+        None => CaseStatus::Refused,
+    }
+}
+
+/// Files a case. Its line is made before the book is changed.
+fn file_case<B: Keeper>(alloc: Global, case: &Case, book: &mut Casebook<B>) -> Result<Answer, Halt>
+    ensures files { AnswersBook (λ cases. spec.filed_turn cases case.now)
+        (B.state book.old) (B.state book.new) result }
+    ensures later { (B.state book.old).faults ≤ (B.state book.new).faults }
+{
+    let line = case_text(alloc, case)?;
+    match book.file(case)? {
+        Filed::Kept => Ok(Answer {
+            status: CaseStatus::Done,
+            text: line,
+        }),
+        Filed::Known(known) => Ok(Answer {
+            status: CaseStatus::Refused,
+            text: known_text(alloc, &known)?,
+        }),
+    }
+}
+
+/// Files a verdict. A log that is not in its grammar is told, and nothing is filed.
+fn file_verdict<B: Keeper>(
+    alloc: Global,
+    filing: &Filing,
+    verdict: &Verdict,
+    book: &mut Casebook<B>,
+) -> Result<Answer, Halt>
+    ensures files { FilesVerdict (B.state book.old) (B.state book.new)
+        filing.now verdict.now result }
+    ensures later { (B.state book.old).faults ≤ (B.state book.new).faults }
+{
+    match verdict {
+        Verdict::Accepted(_) => file_case(alloc, &filing.case(None), book),
+        Verdict::Rejected(finding) => {
+            file_case(alloc, &filing.case(Some(offence_of(finding))), book)
+        }
+        Verdict::Malformed { log, bad } => Ok(Answer {
+            status: CaseStatus::Malformed,
+            text: malformed_text(alloc, *log, bad)?,
+        }),
+    }
+}
+
+/// The line of a bad place.
+fn malformed_text(alloc: Global, log: Which, bad: &BadPlace) -> Result<Vec<u8>, NoMemory>
+    ensures { IfOk result (λ text. text.items ≡ malformed_line log bad.now) }
+{
+    report_text(alloc, &Verdict::Malformed { log, bad: *bad })
+}
+
+/// Audits two logs and files the verdict.
+fn file<F: Shelf, B: Keeper>(
+    alloc: Global,
+    filing: &Filing,
+    shelf: &mut F,
+    book: &mut Casebook<B>,
+) -> Result<Answer, Halt>
+    ensures logs { KeepsLogs F.Shelf shelf.old shelf.new }
+    ensures later { NeverFall (reading F.Shelf shelf.old shelf.new) }
+    ensures book { (B.state book.old).faults ≤ (B.state book.new).faults }
+    ensures answers { AnswersCommand (reading F.Shelf shelf.old shelf.new)
+        (B.state book.old) (B.state book.new) (Command.File filing.now) result }
+    ensures within { StaysWithin (reading F.Shelf shelf.old shelf.new) result }
+{
+    match verdict_on(alloc, filing, shelf) {
+        Ok(verdict) => file_verdict(alloc, filing, &verdict, book),
+        Err(halt) => Err(halt),
+    }
+}
+
+/// Lists the cases that pass a filter.
+fn list<B: Keeper>(alloc: Global, filter: &Filter, book: &mut Casebook<B>) -> Result<Answer, Halt>
+    ensures lists { AnswersBook (λ cases. spec.list_turn cases filter.now)
+        (B.state book.old) (B.state book.new) result }
+    ensures later { (B.state book.old).faults ≤ (B.state book.new).faults }
+{
+    let cases = book.list(filter)?;
+    Ok(Answer {
+        status: CaseStatus::Done,
+        text: list_text(alloc, cases.as_slice())?,
+    })
+}
+
+/// Shows the case of a label.
+fn show<B: Keeper>(alloc: Global, label: &Name, book: &mut Casebook<B>) -> Result<Answer, Halt>
+    ensures shows { AnswersBook (λ cases. spec.show_turn cases label.now)
+        (B.state book.old) (B.state book.new) result }
+    ensures later { (B.state book.old).faults ≤ (B.state book.new).faults }
+{
+    let found = book.show(label)?;
+    Ok(Answer {
+        status: shown_status(&found),
+        text: shown_text(alloc, label, &found)?,
+    })
+}
+
+/// The answer to a command, or why there is none.
+fn answer_to<F: Shelf, B: Keeper>(
+    alloc: Global,
+    command: &Command,
+    shelf: &mut F,
+    book: &mut Casebook<B>,
+) -> Result<Answer, Halt>
+    ensures logs { KeepsLogs F.Shelf shelf.old shelf.new }
+    ensures later { NeverFall (reading F.Shelf shelf.old shelf.new) }
+    ensures book { (B.state book.old).faults ≤ (B.state book.new).faults }
+    ensures answers { AnswersCommand (reading F.Shelf shelf.old shelf.new)
+        (B.state book.old) (B.state book.new) command.now result }
+    ensures within { StaysWithin (reading F.Shelf shelf.old shelf.new) result }
+{
+    match command {
+        Command::File(filing) => file(alloc, filing, shelf, book),
+        Command::List(filter) => list(alloc, filter, book),
+        Command::Show(label) => show(alloc, label, book),
+    }
+}
+
+/// Does one command: its whole text is made, and then written.
+pub(crate) fn take_turn<F: Shelf, K: Sink, B: Keeper>(
+    alloc: Global,
+    command: &Command,
+    shelf: &mut F,
+    out: &mut K,
+    book: &mut Casebook<B>,
+) -> CaseStatus
+    ensures keeps { KeepsAll F.Shelf shelf.old shelf.new (K.state out.old) (K.state out.new)
+        (B.state book.old) (B.state book.new) }
+    ensures turn { TakesTurn (call_of (reading F.Shelf shelf.old shelf.new) (K.state out.old)
+        (K.state out.new) (B.state book.old) (B.state book.new)) command.now result }
+    ensures length { AnswersLength (reading F.Shelf shelf.old shelf.new) result }
+{
+    match answer_to(alloc, command, shelf, book) {
+        Ok(answer) => write_text(out, &answer.text, answer.status),
+        Err(halt) => write_halt(out, halt),
+    }
+}

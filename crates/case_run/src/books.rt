@@ -1,0 +1,88 @@
+//! The top call: a run over the casebook that the first word names.
+ghost use Rattle.std.specs.Prelude.{◌≡◌, map};
+ghost use Rattle.std.specs.Option.{option_map};
+ghost use Rattle.std.specs.String.{string_bytes};
+ghost use Rattle.audit_run.specs.Steps.{KeepsLogs};
+ghost use Rattle.log_source.specs.Sinks.{Stays};
+ghost use Rattle.case_run.specs.Books.{RunsPath, RunsWords};
+ghost use Rattle.case_run.specs.Openers.{KeepsBooks};
+
+use super::halts::Halt;
+use super::lines::usage_text;
+use super::opener::Opener;
+use super::running::run_case;
+use super::statuses::CaseStatus;
+use super::writing::{write_halt, write_text};
+use case_keeper::casebook::Casebook;
+use log_source::shelf::Shelf;
+use log_source::sink::Sink;
+use std::alloc::Global;
+
+/// How a run ended: its status, and the casebook, where it was opened.
+#[derive(Drop)]
+pub struct Ended<B> {
+    pub status: CaseStatus,
+    pub book: Option<Casebook<B>>,
+}
+
+/// Opens the path and runs the other words over its casebook.
+fn run_path<F: Shelf, K: Sink, O: Opener>(
+    alloc: Global,
+    path: &str,
+    words: &[String],
+    shelf: &mut F,
+    out: &mut K,
+    opener: &mut O,
+) -> Ended<O::Book>
+    ensures logs { KeepsLogs F.Shelf shelf.old shelf.new }
+    ensures sink { Stays (K.state out.old) (K.state out.new) }
+    ensures books { KeepsBooks (O.state opener.old) (O.state opener.new) }
+    ensures runs { RunsPath F.Shelf shelf.old shelf.new (O.state opener.old) (O.state opener.new)
+        path.now (map string_bytes words.now) (K.state out.old) (K.state out.new)
+        (option_map O.Book.state result.book) result.status }
+{
+    match opener.open_book(path) {
+        Ok(keeper) => {
+            let mut book = Casebook::new(keeper);
+            let status = run_case(alloc, words, shelf, out, &mut book);
+            Ended {
+                status,
+                book: Some(book),
+            }
+        }
+        Err(fault) => Ended {
+            status: write_halt(out, Halt::from(fault)),
+            book: None,
+        },
+    }
+}
+
+/// Opens the casebook that the first word names, and runs the commands that the other words ask for over
+/// it, as `run_case` does. The casebook is handed back.
+///
+/// With no word nothing is opened, and the answer is `Usage`. The path is opened before the other words are
+/// looked at. Where it is not opened the answer is `Memory`, with nothing written, or `KeeperFault`, which
+/// comes only where the opener's faults rose or where it tells and has nothing under the path; there is
+/// then no casebook.
+pub fn run_book<F: Shelf, K: Sink, O: Opener>(
+    alloc: Global,
+    words: &[String],
+    shelf: &mut F,
+    out: &mut K,
+    opener: &mut O,
+) -> Ended<O::Book>
+    ensures logs { KeepsLogs F.Shelf shelf.old shelf.new }
+    ensures sink { Stays (K.state out.old) (K.state out.new) }
+    ensures books { KeepsBooks (O.state opener.old) (O.state opener.new) }
+    ensures runs { RunsWords F.Shelf shelf.old shelf.new (O.state opener.old) (O.state opener.new)
+        (map string_bytes words.now) (K.state out.old) (K.state out.new)
+        (option_map O.Book.state result.book) result.status }
+{
+    match words.split_first() {
+        Some((path, rest)) => run_path(alloc, path.as_str(), rest, shelf, out, opener),
+        None => Ended {
+            status: write_text(out, usage_text(), CaseStatus::Usage),
+            book: None,
+        },
+    }
+}

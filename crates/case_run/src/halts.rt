@@ -1,0 +1,41 @@
+//! Why a command of a casebook comes to no answer.
+use audit_base::faults::NoMemory;
+use audit_base::terms::Which;
+use case_keeper::keeper::KeepFault;
+
+/// Why a command has no answer. No case was changed.
+#[derive(Clone, Copy, Debug, PartialEq, Eq)]
+pub enum Halt {
+    /// The log could not be read.
+    ReadFault(Which),
+    /// The log has more than 67,108,864 bytes.
+    TooLong(Which),
+    Memory,
+    /// The keeper of the cases failed.
+    KeeperFault,
+}
+
+impl From<NoMemory> for Halt {
+    ghost use Rattle.std.specs.Prelude.{◌≡◌};
+    ghost use Rattle.case_run.specs.declared.halts.Halt.TheVariants.{Memory};
+
+    ghost from_gives = { λ _ made. made ≡ Memory };
+
+    fn from(_fault: NoMemory) -> Halt {
+        Halt::Memory
+    }
+}
+
+impl From<KeepFault> for Halt {
+    ghost use Rattle.std.specs.Prelude.{◌≡◌};
+    ghost use Rattle.case_run.specs.Turns.{halt_of_keeper};
+
+    ghost from_gives = { λ fault made. made ≡ halt_of_keeper fault };
+
+    fn from(fault: KeepFault) -> Halt {
+        match fault {
+            KeepFault::Failed => Halt::KeeperFault,
+            KeepFault::Memory => Halt::Memory,
+        }
+    }
+}

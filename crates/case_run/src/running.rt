@@ -1,0 +1,76 @@
+//! A run: the commands that the words ask for, in order, over a casebook.
+ghost use Rattle.std.specs.Prelude.{◌≡◌, ◌≤◌, map};
+ghost use Rattle.std.specs.String.{string_bytes};
+ghost use Rattle.audit_run.specs.Steps.{reading};
+ghost use Rattle.case_run.specs.Commands.{commands_of};
+ghost use Rattle.case_run.specs.Laws.{OnePlay};
+ghost use Rattle.case_run.specs.Runs.{call_of, AnswersLength, IsCaseRun, RunsCommands};
+ghost use Rattle.case_run.specs.Turns.{KeepsAll};
+
+use super::answers::take_turn;
+use super::commands::Command;
+use super::laws::one_play;
+use super::lines::usage_text;
+use super::statuses::CaseStatus;
+use super::words::read_commands;
+use super::writing::write_text;
+use audit_run::requests::WordsFault;
+use case_keeper::casebook::Casebook;
+use case_keeper::keeper::Keeper;
+use log_source::shelf::Shelf;
+use log_source::sink::Sink;
+use std::alloc::Global;
+
+/// Does the commands in order. The first that has a status above 1 is the last.
+fn run_commands<F: Shelf, K: Sink, B: Keeper>(
+    alloc: Global,
+    commands: &[Command],
+    shelf: &mut F,
+    out: &mut K,
+    book: &mut Casebook<B>,
+) -> CaseStatus
+    ensures keeps { KeepsAll F.Shelf shelf.old shelf.new (K.state out.old) (K.state out.new)
+        (B.state book.old) (B.state book.new) }
+    ensures runs { RunsCommands (call_of (reading F.Shelf shelf.old shelf.new) (K.state out.old)
+        (K.state out.new) (B.state book.old) (B.state book.new)) commands.now result }
+    ensures length { AnswersLength (reading F.Shelf shelf.old shelf.new) result }
+{
+    let mut status = CaseStatus::Done;
+    for command in commands {
+        status = take_turn(alloc, command, shelf, out, book);
+        if status.ends_run() {
+            return status;
+        }
+    }
+    status
+}
+
+/// Runs the commands that the words ask for over a casebook, and writes what each comes to. The status is
+/// answered: that of the last command, or the first above 1, which ends the run.
+///
+/// The words are one or more commands with the word `then` between them: `file LABEL RULE SYMBOL FORM
+/// ORDERS TRADES`, `list`, `list SYMBOL`, `list SYMBOL RESULT`, `show LABEL`. `Usage` comes exactly where
+/// they are not well-formed. `file` audits two logs and files the verdict under the label, unless that
+/// has a case, which is then told (`Refused`). `ReadFault` comes only where a log that the last command
+/// names could not be read, `TooLong` where it has more than 67,108,864 bytes, `KeeperFault` only where the
+/// book's faults rose, `WriteFault` only where the sink's did, and `Memory` where memory ran out. A
+/// command's text is made before the book is changed, and written after: where writing fails, the case stays
+/// filed; after `Memory` and `KeeperFault` the last command has filed none. What commands leave is one (`one_play`).
+pub fn run_case<F: Shelf, K: Sink, B: Keeper>(
+    alloc: Global,
+    words: &[String],
+    shelf: &mut F,
+    out: &mut K,
+    book: &mut Casebook<B>,
+) -> CaseStatus
+    ensures run { IsCaseRun F.Shelf (commands_of (map string_bytes words.now)) shelf.old shelf.new
+        (K.state out.old) (K.state out.new) (B.state book.old) (B.state book.new) result }
+    ensures one { OnePlay }
+{
+    one_play();
+    match read_commands(alloc, words) {
+        Ok(commands) => run_commands(alloc, &commands, shelf, out, book),
+        Err(WordsFault::Usage) => write_text(out, usage_text(), CaseStatus::Usage),
+        Err(WordsFault::Memory) => CaseStatus::Memory,
+    }
+}

@@ -1,5 +1,0 @@
-use Rattle.casebook.proofs.OnePlayLemmas as one
-use Rattle.casebook.proofs.laws.one_play.Goals as goal
-
-pub returns : goal.returns
-returns c = one.one_play c.one_verdict.ensures
