@@ -149,33 +149,3 @@ impl Finding {
         }
     }
 }
-
-#[cfg(test)]
-mod tests {
-    use super::*;
-
-    #[test]
-    fn words_of_properties(rt: HostRuntime) {
-        let cases = [
-            (Property::DuplicateId, "duplicate-id"),
-            (Property::TimeBack, "time-back"),
-            (Property::UnknownTarget, "unknown-target"),
-            (Property::Unpaired, "unpaired"),
-            (Property::DuplicateTrade, "duplicate-trade"),
-            (Property::UnknownOrder, "unknown-order"),
-            (Property::Inactive, "inactive"),
-            (Property::Limit, "limit"),
-            (Property::UniformPrice, "uniform-price"),
-            (Property::BuyQuantity, "buy-quantity"),
-            (Property::SellQuantity, "sell-quantity"),
-            (Property::BuyPriority, "buy-priority"),
-            (Property::SellPriority, "sell-priority"),
-            (Property::Volume, "volume"),
-            (Property::Spread, "spread"),
-            (Property::InstantOrder, "instant-order"),
-        ];
-        for (property, word) in cases {
-            assert_eq!(rt; property.word(), word.as_bytes());
-        }
-    }
-}

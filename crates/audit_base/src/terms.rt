@@ -88,22 +88,3 @@ impl Life {
         }
     }
 }
-
-#[cfg(test)]
-mod tests {
-    use super::*;
-
-    #[test]
-    fn words_of_rules(rt: HostRuntime) {
-        let cases = [
-            (Rule::Matching, "matching"),
-            (Rule::Fair, "fair"),
-            (Rule::Uniform, "uniform"),
-            (Rule::Maximum, "maximum"),
-            (Rule::Continuous, "continuous"),
-        ];
-        for (rule, word) in cases {
-            assert_eq!(rt; rule.word(), word.as_bytes());
-        }
-    }
-}

@@ -3,9 +3,5 @@
 #![tactic(auto)]
 
 mod parts;
-#[cfg(test)]
-mod share_tests;
 pub mod shares;
-#[cfg(test)]
-mod trade_tests;
 pub mod trades;

@@ -27,26 +27,3 @@ fn occurs(fields: &[Field], tag: u32) -> bool
 {
     fields.iter().any(|field| field.tag == tag)
 }
-
-#[cfg(test)]
-mod tests {
-    use super::find_field;
-    use crate::field::{Field, Found};
-
-    #[test]
-    fn the_first_field_is_found(rt: HostRuntime) {
-        let fields = [35, 448, 447, 448, 448].map(|tag| Field {
-            tag,
-            from: 0,
-            to: 1,
-        });
-        for (tag, want) in [
-            (35, Found::One(0)),
-            (448, Found::Many(1)),
-            (447, Found::One(2)),
-            (44, Found::Absent),
-        ] {
-            assert_eq!(rt; find_field(&fields, tag), want, "{tag}");
-        }
-    }
-}

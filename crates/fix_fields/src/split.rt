@@ -165,6 +165,3 @@ fn begins_with_type(fields: &[Field]) -> bool
         None => false,
     }
 }
-
-#[cfg(test)]
-mod tests;

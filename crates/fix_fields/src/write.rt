@@ -44,30 +44,3 @@ fn append(tag: &[u8], value: &[u8], out: &mut Vec<u8>) -> Result<(), AllocError>
     out.push(SOH)?;
     Ok(())
 }
-
-#[cfg(test)]
-mod tests {
-    use super::write_field;
-    use crate::field::Found;
-    use crate::find::find_field;
-    use crate::split::fields;
-    use audit_base::sizes::LONGEST_BODY;
-    use std::test::Fail;
-
-    #[test]
-    fn a_written_body_is_read_again(rt: HostRuntime) -> Result<(), Fail> {
-        let mut body = Vec::new(rt.alloc());
-        write_field(rt.alloc(), 35, b"D", &mut body)?;
-        write_field(rt.alloc(), 44, b"10", &mut body)?;
-        write_field(rt.alloc(), 999_999_999, b"a=b", &mut body)?;
-        assert_eq!(rt;
-            body.as_slice(),
-            b"35=D\x0144=10\x01999999999=a=b\x01".as_slice()
-        );
-        assert!(rt; body.len() <= LONGEST_BODY);
-        let read = fields(rt.alloc(), &body)?;
-        assert_eq!(rt; find_field(&read, 44), Found::One(1));
-        assert_eq!(rt; body.get(read[1].from..read[1].to), Some(b"10".as_slice()));
-        Ok(())
-    }
-}

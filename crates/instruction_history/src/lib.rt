@@ -10,13 +10,9 @@
 //! the orders and keys of the symbol, whatever else the log holds.
 #![tactic(auto)]
 
-#[cfg(test)]
-mod draft_tests;
 pub mod faults;
 mod findings;
 pub mod history;
 pub mod history_draft;
 mod history_so_far;
 mod keys;
-#[cfg(test)]
-mod tests;

@@ -125,33 +125,3 @@ impl<R: Files + Drop> Shelf for FileShelf<R> {
         }
     }
 }
-
-#[cfg(test)]
-mod tests {
-    use super::FileShelf;
-    use crate::take::{TakeFault, take_log};
-    use audit_base::terms::Which;
-    use std::test::Fail;
-    use std::{env, fs, process};
-
-    #[test]
-    fn a_file_is_taken_whole_and_what_is_none_is_a_fault(rt: HostRuntime) -> Result<(), Fail> {
-        let folder = env::temp_dir(&rt)?;
-        let name = format!(in rt.alloc(); "file_shelf-{}.test", process::id(rt.process()))?;
-        let path = folder.join(rt.alloc(), name.as_str())?;
-        let log = vec![in rt.alloc(); b'x'; 200_000]?;
-        fs::write(&rt, path.as_str(), log.as_slice())?;
-        let mut shelf = FileShelf::new(&rt);
-        let taken = take_log(rt.alloc(), &mut shelf, Which::Orders, path.as_str());
-        fs::remove_file(&rt, path.as_str())?;
-        assert!(rt; taken?.as_slice() == log.as_slice());
-
-        // The file is gone, and a folder is no file.
-        let gone = take_log(rt.alloc(), &mut shelf, Which::Orders, path.as_str());
-        assert!(rt; gone == Err(TakeFault::Fault));
-        let none = take_log(rt.alloc(), &mut shelf, Which::Trades, folder.as_str());
-        assert!(rt; none == Err(TakeFault::Fault));
-        assert_eq!(rt; (shelf.orders.faults, shelf.trades.faults), (1, 1));
-        Ok(())
-    }
-}

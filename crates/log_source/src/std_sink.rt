@@ -47,28 +47,3 @@ impl<W: Write> Sink for StdSink<W> {
         }
     }
 }
-
-#[cfg(test)]
-mod tests {
-    use super::StdSink;
-    use crate::put::put_all;
-    use crate::shelf::Failed;
-    use std::io;
-    use std::test::Fail;
-
-    #[test]
-    fn a_text_reaches_its_writer(rt: HostRuntime) -> Result<(), Fail> {
-        let text = b"accepted,matching,Z\n";
-        let mut written = Vec::new(rt.alloc());
-        assert_eq!(rt; put_all(&mut StdSink::new(&mut written), text), Ok(()));
-        assert!(rt; written.as_slice() == text.as_slice());
-        assert_eq!(rt; put_all(&mut StdSink::new(io::writer(&rt)), text), Ok(()));
-
-        // A writer that takes nothing more is a fault.
-        let mut room = [0u8; 4];
-        let mut full = StdSink::new(room.as_mut_slice());
-        assert_eq!(rt; put_all(&mut full, text), Err(Failed));
-        assert_eq!(rt; full.faults, 1);
-        Ok(())
-    }
-}

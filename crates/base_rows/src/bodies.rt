@@ -1,8 +1,8 @@
 //! What is read from bodies, in which `|` stands for SOH: `35:3-4` is a field with tag 35 whose
 //! value stands from byte 3 up to byte 4.
-use super::{fields, read_fields};
-use crate::field::{Field, FieldFault};
 use audit_base::sizes::LONGEST_BODY;
+use fix_fields::field::{Field, FieldFault};
+use fix_fields::split::{fields, read_fields};
 use std::alloc::{AllocError, Global};
 use std::fmt::Write;
 use std::process::Abort;

@@ -1,32 +1,21 @@
 //! Deals between one bid of 100 at 12 and one ask of 80 at 8, with their totals or the finding that they
 //! have. A deal is written as its quantity and its price.
-use super::checking::check_matching;
-use super::outcomes::CheckFault;
-use super::resolving::resolve;
-use super::totals::Totals;
+use crate::names::{key, name};
 use audit_base::findings::{Property, Shown};
-use audit_base::names::{Key, Name, read_name};
 use audit_base::numbers::{Price, Quantity};
 use audit_base::records::{OrderRecord, TradeRecord};
 use audit_base::stamps::Stamp;
 use audit_base::terms::{Life, Side, Which};
 use instruction_history::history::History;
+use matching_core::checking::check_matching;
+use matching_core::outcomes::CheckFault;
+use matching_core::resolving::resolve;
+use matching_core::totals::Totals;
 use std::process::Abort;
-
-fn name(rt: &impl Abort, text: &str) -> Name {
-    read_name(text.as_bytes()).expect(rt, "a name")
-}
-
-fn key(rt: &impl Abort, id: &str) -> Key {
-    Key {
-        firm: name(rt, "A"),
-        id: name(rt, id),
-    }
-}
 
 fn order(rt: &impl Abort, id: &str, side: Side, quantity: u64, limit: u64) -> OrderRecord {
     OrderRecord::New {
-        key: key(rt, id),
+        key: key(rt, "A", id),
         time: Stamp { second: 5, nano: 0 },
         symbol: name(rt, "Z"),
         side,
@@ -41,8 +30,8 @@ fn trade(rt: &impl Abort, id: &str, quantity: u64, price: u64) -> TradeRecord {
         trade: name(rt, id),
         time: Stamp { second: 5, nano: 0 },
         symbol: name(rt, "Z"),
-        buy: key(rt, "b1"),
-        sell: key(rt, "s1"),
+        buy: key(rt, "A", "b1"),
+        sell: key(rt, "A", "s1"),
         quantity: Quantity::of(quantity).expect(rt, "a quantity"),
         price: Price::of(price).expect(rt, "a price"),
     }

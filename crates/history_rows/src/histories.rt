@@ -1,18 +1,14 @@
 //! Histories by name, with the orders or the finding that they have. A record is written as kind (New,
 //! Cancel, Replace), firm, id, target, second, symbol and side (Buy, Sell).
-use super::faults::HistoryFault;
-use super::history::History;
+use crate::names::{key, name};
 use audit_base::findings::{Property, Shown};
-use audit_base::names::{Key, Name, read_name};
 use audit_base::numbers::{Price, Quantity};
 use audit_base::records::OrderRecord;
 use audit_base::stamps::Stamp;
 use audit_base::terms::{Life, Side, Which};
+use instruction_history::faults::HistoryFault;
+use instruction_history::history::History;
 use std::process::Abort;
-
-pub(crate) fn name(rt: &impl Abort, text: &str) -> Name {
-    read_name(text.as_bytes()).expect(rt, "a name")
-}
 
 fn stamp(rt: &impl Abort, text: &str) -> Stamp {
     let second = text.parse::<u64>().expect(rt, "a number");
@@ -23,8 +19,8 @@ fn stamp(rt: &impl Abort, text: &str) -> Stamp {
 pub(crate) fn record(rt: &impl Abort, text: &str) -> OrderRecord {
     let mut words = text.split(' ');
     let kind = words.next().expect(rt, "a kind");
-    let firm = name(rt, words.next().expect(rt, "a firm"));
-    let id = name(rt, words.next().expect(rt, "an id"));
+    let firm = words.next().expect(rt, "a firm");
+    let id = words.next().expect(rt, "an id");
     let target = name(rt, words.next().expect(rt, "a target"));
     let time = stamp(rt, words.next().expect(rt, "a second"));
     let symbol = name(rt, words.next().expect(rt, "a symbol"));
@@ -33,7 +29,7 @@ pub(crate) fn record(rt: &impl Abort, text: &str) -> OrderRecord {
     } else {
         Side::Sell
     };
-    let key = Key { firm, id };
+    let key = key(rt, firm, id);
     let quantity = Quantity::of(5).expect(rt, "a quantity");
     let price = Price::of(10).expect(rt, "a price");
     match kind {
@@ -325,10 +321,6 @@ fn a_key_that_names_no_order_is_not_found(rt: HostRuntime) {
         panic!(rt; "refused");
     };
     for (firm, id, wanted) in [("A", "b1", Some(0)), ("A", "x1", None), ("B", "b1", None)] {
-        let key = Key {
-            firm: name(&rt, firm),
-            id: name(&rt, id),
-        };
-        assert_eq!(rt; history.find(&key), wanted, "{firm} {id}");
+        assert_eq!(rt; history.find(&key(&rt, firm, id)), wanted, "{firm} {id}");
     }
 }

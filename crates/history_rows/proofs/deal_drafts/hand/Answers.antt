@@ -1,6 +1,6 @@
 use Rattle.std.proofs.Common.{◌≡◌, false}
 use Rattle.audit_base.specs.Orders.{same_name}
-use Rattle.matching_core.proofs.draft_tests.hand.Goals as goal
+use Rattle.history_rows.proofs.deal_drafts.hand.Goals as goal
 
 pub returns-then-not-wants : goal.returns-then-not-wants
 returns-then-not-wants g c = λ trades has.

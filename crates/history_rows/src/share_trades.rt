@@ -1,31 +1,20 @@
 //! The trade records of the deals of a small history.
 ghost use Rattle.std.specs.Prelude.{◌<◌, ◌^◌, length};
 
-use super::trades::trades_of_deals;
-use audit_base::names::{Key, Name, read_name};
+use crate::names::{key, name};
 use audit_base::numbers::{Price, Quantity};
 use audit_base::records::{OrderRecord, TradeRecord};
 use audit_base::stamps::Stamp;
 use audit_base::terms::{Life, Side};
+use canonical_form::trades::trades_of_deals;
 use instruction_history::history::History;
 use matching_core::resolving::resolve;
 use std::process::Abort;
 
-fn name(rt: &impl Abort, text: &str) -> Name {
-    read_name(text.as_bytes()).expect(rt, "a name")
-}
-
-fn key(rt: &impl Abort, id: &str) -> Key {
-    Key {
-        firm: name(rt, "A"),
-        id: name(rt, id),
-    }
-}
-
 fn order(rt: &impl Abort, id: &str, second: u64, side: Side) -> OrderRecord {
     assert!(rt; second < 10);
     OrderRecord::New {
-        key: key(rt, id),
+        key: key(rt, "A", id),
         time: Stamp { second, nano: 0 },
         symbol: name(rt, "Z"),
         side,
@@ -41,8 +30,8 @@ fn trade(rt: &impl Abort, id: &str, second: u64, bid: &str, number: u64) -> Trad
         trade: name(rt, id),
         time: Stamp { second, nano: 0 },
         symbol: name(rt, "Z"),
-        buy: key(rt, bid),
-        sell: key(rt, "s1"),
+        buy: key(rt, "A", bid),
+        sell: key(rt, "A", "s1"),
         quantity: Quantity::of(number).expect(rt, "a quantity"),
         price: Price::of(10).expect(rt, "a price"),
     }

@@ -1,7 +1,7 @@
 use Rattle.std.proofs.Common.{◌≡◌, List, length}
 use Rattle.audit_base.specs.declared.records.OrderRecord.{OrderRecord}
 use Rattle.instruction_history.specs.HistoryDraft.{IsHistoryDraft}
-use Rattle.instruction_history.proofs.draft_tests.drafted.Given as goal
+use Rattle.history_rows.proofs.history_drafts.drafted.Given as goal
 
 -- the draft has been handed as many records as there were lines
 abbrev pub invariant-loop-line : goal.invariant-loop-line

@@ -1,27 +1,16 @@
 //! Trades by name, with the deals or the finding that they have. An order is written as firm, id and side
 //! (B, S), a trade as id, buyer's firm and id, seller's firm and id, and symbol.
-use super::outcomes::CheckFault;
-use super::resolving::resolve;
+use crate::names::{key, name};
 use audit_base::findings::{Property, Shown};
-use audit_base::names::{Key, Name, read_name};
 use audit_base::numbers::{Price, Quantity};
 use audit_base::orders::Deal;
 use audit_base::records::{OrderRecord, TradeRecord};
 use audit_base::stamps::Stamp;
 use audit_base::terms::{Life, Side, Which};
 use instruction_history::history::History;
+use matching_core::outcomes::CheckFault;
+use matching_core::resolving::resolve;
 use std::process::Abort;
-
-pub(crate) fn name(rt: &impl Abort, text: &str) -> Name {
-    read_name(text.as_bytes()).expect(rt, "a name")
-}
-
-fn key(rt: &impl Abort, firm: &str, id: &str) -> Key {
-    Key {
-        firm: name(rt, firm),
-        id: name(rt, id),
-    }
-}
 
 fn order(rt: &impl Abort, text: &str) -> OrderRecord {
     let mut words = text.split(' ');

@@ -4,14 +4,15 @@ ghost use Rattle.log_source.specs.Collectors.{HasPlace};
 ghost use Rattle.log_source.specs.Handing.{Adds};
 ghost use Rattle.matching_core.specs.DealsDraft.{IsDealsDraft};
 
-use super::deals_draft::{AuditedHistory, DealsDraft, ResolvedTrades};
-use super::resolve_tests::{history, name, trade};
+use crate::names::name;
+use crate::resolving::{history, trade};
 use audit_base::faults::NoMemory;
 use audit_base::findings::Property;
 use audit_base::names::Name;
 use audit_base::records::TradeRecord;
 use instruction_history::history::History;
 use log_source::collector::Collector;
+use matching_core::deals_draft::{AuditedHistory, DealsDraft, ResolvedTrades};
 use seeded_hash::seed::HashSeed;
 use std::marker::Brand;
 use std::process::Abort;

@@ -1,7 +1,7 @@
 use Rattle.std.proofs.Common.{◌≡◌, false}
 use Rattle.audit_base.specs.Histories.{symbol_of}
 use Rattle.audit_base.specs.Orders.{same_name}
-use Rattle.instruction_history.proofs.draft_tests.hand.Goals as goal
+use Rattle.history_rows.proofs.history_drafts.hand.Goals as goal
 
 pub returns-then-not-wants : goal.returns-then-not-wants
 returns-then-not-wants g c = λ entries has.

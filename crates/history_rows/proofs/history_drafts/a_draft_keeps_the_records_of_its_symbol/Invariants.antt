@@ -1,4 +1,4 @@
-use Rattle.instruction_history.proofs.draft_tests.a_draft_keeps_the_records_of_its_symbol.Given as goal
+use Rattle.history_rows.proofs.history_drafts.a_draft_keeps_the_records_of_its_symbol.Given as goal
 
 -- the draft is of the symbol that it is made for
 abbrev pub ghosts-drafted : goal.ghosts-drafted

@@ -1,5 +1,5 @@
-use Rattle.std.proofs.Common.{◌∷◌, [], ◌++◌, arith, length, length-append}
-use Rattle.matching_core.proofs.draft_tests.drafted.Goals as goal
+use Rattle.std.proofs.Common.{◌∷◌, [], ◌++◌, arith, length-append}
+use Rattle.history_rows.proofs.deal_drafts.drafted.Goals as goal
 
 pub hand-requires : goal.hand-requires
 hand-requires g c =

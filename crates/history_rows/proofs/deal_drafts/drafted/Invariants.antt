@@ -1,7 +1,7 @@
 use Rattle.std.proofs.Common.{◌≡◌, List, length}
 use Rattle.audit_base.specs.declared.records.TradeRecord.{TradeRecord}
 use Rattle.matching_core.specs.DealsDraft.{IsDealsDraft}
-use Rattle.matching_core.proofs.draft_tests.drafted.Given as goal
+use Rattle.history_rows.proofs.deal_drafts.drafted.Given as goal
 
 -- the draft has been handed as many trades as there were lines
 abbrev pub invariant-loop-line : goal.invariant-loop-line

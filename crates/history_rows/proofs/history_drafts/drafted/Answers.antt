@@ -1,5 +1,5 @@
 use Rattle.std.proofs.Common.{◌∷◌, [], ◌++◌, arith, length-append}
-use Rattle.instruction_history.proofs.draft_tests.drafted.Goals as goal
+use Rattle.history_rows.proofs.history_drafts.drafted.Goals as goal
 
 pub hand-requires : goal.hand-requires
 hand-requires g c =

@@ -3,13 +3,14 @@ ghost use Rattle.std.specs.Prelude.{◌≡◌, ◌<◌, OnOk, length};
 ghost use Rattle.instruction_history.specs.HistoryDraft.{IsHistoryDraft, TakesRecord};
 ghost use Rattle.log_source.specs.Collectors.{HasPlace};
 
-use super::history::History;
-use super::history_draft::{AuditedSymbol, HistoryDraft};
-use super::tests::{name, record};
+use crate::histories::record;
+use crate::names::name;
 use audit_base::faults::NoMemory;
 use audit_base::findings::{Finding, Property};
 use audit_base::names::Name;
 use audit_base::records::{OrderRecord, Traded};
+use instruction_history::history::History;
+use instruction_history::history_draft::{AuditedSymbol, HistoryDraft};
 use log_source::collector::Collector;
 use seeded_hash::seed::HashSeed;
 use std::marker::Brand;

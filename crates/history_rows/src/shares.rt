@@ -1,7 +1,7 @@
 //! The shares of a few deals, in any order.
-use super::shares::{Share, canonical};
 use audit_base::numbers::{Price, Quantity};
 use audit_base::orders::Deal;
+use canonical_form::shares::{Share, canonical};
 use std::process::Abort;
 
 fn deal(rt: &impl Abort, place: u32, bid: usize, ask: usize, quantity: u64) -> Deal {
