@@ -110,15 +110,14 @@ pub fn deal_order(
     set_total(&mut numbers.before, order, opening.before);
     set_flag(&mut numbers.closed, order, opening.closed);
     set_amount(&mut numbers.sizes, order, opening.size);
-    let start = numbers.at;
-    numbers.start = start;
+    numbers.start = numbers.at;
     match check_deals(
         orders,
         deals,
         causes,
         order,
         opening.entered,
-        start,
+        numbers.start,
         &numbers.sizes,
         &numbers.left,
         &mut numbers.traded,
@@ -127,7 +126,7 @@ pub fn deal_order(
             refresh_left(
                 deals,
                 causes,
-                start,
+                numbers.start,
                 end,
                 &numbers.sizes,
                 &numbers.traded,

@@ -105,6 +105,7 @@ impl Framer {
                 at: self.base + at as u64,
                 fault,
             },
+            // A truncated message may go on in the next piece: it is held, and nothing before it.
             Err(_) => {
                 drop_front(&mut self.bytes, at);
                 self.base += at as u64;

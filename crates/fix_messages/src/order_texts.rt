@@ -10,31 +10,19 @@ use audit_base::stamps::Stamp;
 use audit_base::terms::{Life, Side};
 use std::marker::Model;
 
-/// The parts of an order, by its kind.
+/// What only one kind of order says.
 #[derive(Drop)]
 pub(crate) enum OrderParts<'m> {
     New {
-        firm: NameText<'m>,
-        id: NameText<'m>,
-        time: Stamp,
-        symbol: NameText<'m>,
         side: Side,
         quantity: Quantity,
         price: Price,
         life: Life,
     },
     Cancel {
-        firm: NameText<'m>,
-        id: NameText<'m>,
-        time: Stamp,
-        symbol: NameText<'m>,
         target: NameText<'m>,
     },
     Replace {
-        firm: NameText<'m>,
-        id: NameText<'m>,
-        time: Stamp,
-        symbol: NameText<'m>,
         target: NameText<'m>,
         side: Side,
         quantity: Quantity,
@@ -46,6 +34,10 @@ pub(crate) enum OrderParts<'m> {
 /// Contracts see the record.
 #[derive(Drop)]
 pub(crate) struct OrderText<'m> {
+    pub(crate) firm: NameText<'m>,
+    pub(crate) id: NameText<'m>,
+    pub(crate) time: Stamp,
+    pub(crate) symbol: NameText<'m>,
     pub(crate) parts: OrderParts<'m>,
 }
 
@@ -55,7 +47,8 @@ impl<'m> Model for OrderText<'m> {
 
     ghost Value = { OrderRecord };
 
-    ghost view = { λ order. order_of_text order.parts };
+    ghost view = { λ order.
+        order_of_text order.firm order.id order.time order.symbol order.parts };
 }
 
 fn key_of(firm: &NameText<'_>, id: &NameText<'_>) -> Key
@@ -72,61 +65,46 @@ impl<'m> OrderText<'m> {
     pub(crate) fn symbol(&self) -> &[u8]
         ensures { result.now ≡ symbol_of self.now }
     {
-        match &self.parts {
-            OrderParts::New { symbol, .. } => symbol.bytes(),
-            OrderParts::Cancel { symbol, .. } => symbol.bytes(),
-            OrderParts::Replace { symbol, .. } => symbol.bytes(),
-        }
+        self.symbol.bytes()
     }
 
     /// The record.
     pub(crate) fn record(&self) -> OrderRecord
         ensures { result ≡ self.now }
     {
+        let key = key_of(&self.firm, &self.id);
+        let time = self.time;
+        let symbol = self.symbol.name();
         match &self.parts {
             OrderParts::New {
-                firm,
-                id,
-                time,
-                symbol,
                 side,
                 quantity,
                 price,
                 life,
             } => OrderRecord::New {
-                key: key_of(firm, id),
-                time: *time,
-                symbol: symbol.name(),
+                key,
+                time,
+                symbol,
                 side: *side,
                 quantity: *quantity,
                 price: *price,
                 life: *life,
             },
-            OrderParts::Cancel {
-                firm,
-                id,
+            OrderParts::Cancel { target } => OrderRecord::Cancel {
+                key,
                 time,
                 symbol,
-                target,
-            } => OrderRecord::Cancel {
-                key: key_of(firm, id),
-                time: *time,
-                symbol: symbol.name(),
                 target: target.name(),
             },
             OrderParts::Replace {
-                firm,
-                id,
-                time,
-                symbol,
                 target,
                 side,
                 quantity,
                 price,
             } => OrderRecord::Replace {
-                key: key_of(firm, id),
-                time: *time,
-                symbol: symbol.name(),
+                key,
+                time,
+                symbol,
                 target: target.name(),
                 side: *side,
                 quantity: *quantity,

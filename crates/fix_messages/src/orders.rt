@@ -143,16 +143,18 @@ fn new_order<'m>(message: &'m Message<'_>) -> Result<OrderText<'m>, MessageFault
     absent_at(110, message)?;
     absent_at(111, message)?;
     let parts = OrderParts::New {
-        firm,
-        id,
-        time,
-        symbol,
         side,
         quantity,
         price,
         life,
     };
-    Ok(OrderText { parts })
+    Ok(OrderText {
+        firm,
+        id,
+        time,
+        symbol,
+        parts,
+    })
 }
 
 /// Type F, a cancel.
@@ -167,14 +169,14 @@ fn cancel<'m>(message: &'m Message<'_>) -> Result<OrderText<'m>, MessageFault>
     let time = stamp_at(60, message)?;
     let symbol = name_at(55, message)?;
     let target = name_at(41, message)?;
-    let parts = OrderParts::Cancel {
+    let parts = OrderParts::Cancel { target };
+    Ok(OrderText {
         firm,
         id,
         time,
         symbol,
-        target,
-    };
-    Ok(OrderText { parts })
+        parts,
+    })
 }
 
 /// Type G, a replacement.
@@ -197,16 +199,18 @@ fn replacement<'m>(message: &'m Message<'_>) -> Result<OrderText<'m>, MessageFau
     absent_at(110, message)?;
     absent_at(111, message)?;
     let parts = OrderParts::Replace {
-        firm,
-        id,
-        time,
-        symbol,
         target,
         side,
         quantity,
         price,
     };
-    Ok(OrderText { parts })
+    Ok(OrderText {
+        firm,
+        id,
+        time,
+        symbol,
+        parts,
+    })
 }
 
 fn order_by(kind: &[u8], message: &Message<'_>) -> Result<OrderMeaning, MessageFault>

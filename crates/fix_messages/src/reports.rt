@@ -107,6 +107,7 @@ fn trade_report<'m>(message: &'m Message<'_>) -> Result<ReportText<'m>, MessageF
 fn is_other(message: &Message<'_>) -> bool
     ensures { result ≡ is_other message.now }
 {
+    // Most reports are of a trade: for them one look at the value is enough.
     !is_word(b"F", message.first(150)) && message.has(150)
 }
 
