@@ -10,7 +10,5 @@ pub mod reports;
 pub mod statuses;
 pub mod summaries;
 pub mod tables;
-#[cfg(test)]
-mod tests;
 pub mod verdicts;
 pub mod words;

@@ -107,7 +107,7 @@ const FAULTS: [(&str, &str); 23] = [
 
 #[test]
 fn messages_are_read(rt: HostRuntime) -> Result<(), Fail> {
-    for (body, want) in MESSAGES {
+    for &(body, want) in &MESSAGES {
         let bytes = bytes_of(rt.alloc(), body)?;
         assert!(rt; bytes.len() <= LONGEST_BODY);
         let list = fields(rt.alloc(), &bytes)?;
@@ -119,7 +119,7 @@ fn messages_are_read(rt: HostRuntime) -> Result<(), Fail> {
 #[test]
 fn data_is_read_by_length(rt: HostRuntime) -> Result<(), Fail> {
     let mut list = Vec::new(rt.alloc());
-    for (body, want) in DATA {
+    for &(body, want) in &DATA {
         assert_eq!(rt;
             answer(&rt, rt.alloc(), body, &mut list)?.as_str(),
             want,
@@ -132,7 +132,7 @@ fn data_is_read_by_length(rt: HostRuntime) -> Result<(), Fail> {
 #[test]
 fn the_first_fault_is_given(rt: HostRuntime) -> Result<(), Fail> {
     let mut list = Vec::new(rt.alloc());
-    for (body, want) in FAULTS {
+    for &(body, want) in &FAULTS {
         assert_eq!(rt;
             answer(&rt, rt.alloc(), body, &mut list)?.as_str(),
             want,

@@ -1,15 +1,22 @@
-//! Tests of what all else stands on: values and their texts, the fields of FIX bodies, and the reading and
-//! writing of logs. They stand in a crate of their own, so that neither `audit_base`, `fix_fields` nor
-//! `log_source` is proved once more with its tests.
+//! Tests of what all else stands on: values and their texts, the lines of reports, the fields of FIX bodies, the
+//! reading and writing of logs, seeds of hashes, and casebooks in memory. They stand in a crate of their own, so
+//! that no crate that they try is proved once more with its tests.
 //!
-//! `values` has names, numbers, prices, times and words. `bodies` has bodies of FIX messages with their fields,
-//! `tags` what is found and written in them. `taking` reads logs from shelves, and `putting` writes to sinks.
+//! `values` has names, numbers, prices, times and words, `reports` whole texts of verdicts. `bodies` has bodies
+//! of FIX messages with their fields, `tags` what is found and written in them. `taking` reads logs from shelves,
+//! and `putting` writes to sinks. `seeds` has seeds of hashes, and `casebooks` files and lists cases.
 #![tactic(auto)]
 
 #[cfg(test)]
 mod bodies;
 #[cfg(test)]
+mod casebooks;
+#[cfg(test)]
 mod putting;
+#[cfg(test)]
+mod reports;
+#[cfg(test)]
+mod seeds;
 #[cfg(test)]
 mod tags;
 #[cfg(test)]

@@ -31,7 +31,7 @@ fn names_hold_printable_bytes_but_commas_and_quotes(rt: HostRuntime) {
         (0x7F, false),
         (0xFF, false),
     ];
-    for (byte, allowed) in cases {
+    for &(byte, allowed) in &cases {
         assert_eq!(rt; read_name(&[b'A', byte]).is_some(), allowed, "at {byte}");
     }
 }
@@ -68,7 +68,7 @@ fn prices(rt: HostRuntime) {
         (" 1", None),
         ("1,5", None),
     ];
-    for (text, units) in cases {
+    for &(text, units) in &cases {
         assert_eq!(rt;
             read_price(text.as_bytes()).map(|price| price.units()),
             units,
@@ -96,7 +96,7 @@ fn quantities(rt: HostRuntime) {
         ("", None),
         ("-5", None),
     ];
-    for (text, value) in cases {
+    for &(text, value) in &cases {
         let read = read_quantity(text.as_bytes());
         assert_eq!(rt; read.map(|quantity| quantity.value()), value, "{text}");
     }
@@ -121,7 +121,7 @@ fn stamps(rt: HostRuntime) {
         ("00000101-00:00:00", 0, 0),
         ("99991231-23:59:60.999999999", 326_764_799_999, 999_999_999),
     ];
-    for (text, second, nano) in cases {
+    for &(text, second, nano) in &cases {
         let read = read_stamp(text.as_bytes()).map(|stamp| (stamp.second, stamp.nano));
         assert_eq!(rt; read, Some((second, nano)), "{text}");
     }
@@ -155,7 +155,7 @@ fn texts_that_are_no_stamps(rt: HostRuntime) {
         "20240102-09:00:00.12a",
         "20240102-09:00:00Z",
     ];
-    for text in cases {
+    for &text in &cases {
         assert_eq!(rt; read_stamp(text.as_bytes()), None, "{text}");
     }
 }
@@ -168,7 +168,7 @@ fn numbers_have_no_leading_zeros(rt: HostRuntime) -> Result<(), Fail> {
         (1_000_000_000_000, "1000000000000"),
         (u128::MAX, "340282366920938463463374607431768211455"),
     ];
-    for (number, text) in cases {
+    for &(number, text) in &cases {
         let mut out = Vec::new(rt.alloc());
         write_number(rt.alloc(), number, &mut out)?;
         assert_eq!(rt; out.as_slice(), text.as_bytes());
@@ -187,7 +187,7 @@ fn prices_have_no_trailing_zeros(rt: HostRuntime) -> Result<(), Fail> {
         (999_999_999_999_999_999, "9999999999.99999999"),
         (1_000_000_000_000_000_000, "10000000000"),
     ];
-    for (units, text) in cases {
+    for &(units, text) in &cases {
         assert!(rt; units <= 1_000_000_000_000_000_000);
         let mut out = Vec::new(rt.alloc());
         write_price(rt.alloc(), units, &mut out)?;
@@ -206,7 +206,7 @@ fn stamps_have_the_fewest_digits(rt: HostRuntime) -> Result<(), Fail> {
         (66_137_316_300, 123, "20240102-09:00:00.000000123"),
         (326_764_799_999, 999_999_999, "99991231-23:59:60.999999999"),
     ];
-    for (second, nano, text) in cases {
+    for &(second, nano, text) in &cases {
         assert!(rt; second < 326_764_800_000 && nano < 1_000_000_000);
         let mut out = Vec::new(rt.alloc());
         write_stamp(rt.alloc(), Stamp { second, nano }, &mut out)?;
@@ -224,7 +224,7 @@ fn words_of_rules(rt: HostRuntime) {
         (Rule::Maximum, "maximum"),
         (Rule::Continuous, "continuous"),
     ];
-    for (rule, word) in cases {
+    for &(rule, word) in &cases {
         assert_eq!(rt; rule.word(), word.as_bytes());
     }
 }
@@ -249,7 +249,7 @@ fn words_of_properties(rt: HostRuntime) {
         (Property::Spread, "spread"),
         (Property::InstantOrder, "instant-order"),
     ];
-    for (property, word) in cases {
+    for &(property, word) in &cases {
         assert_eq!(rt; property.word(), word.as_bytes());
     }
 }

@@ -6,8 +6,6 @@
 pub mod case;
 pub mod case_list;
 pub mod casebook;
-#[cfg(test)]
-mod casebook_tests;
 mod indexed_cases;
 pub mod keeper;
 pub mod map_keeper;

@@ -55,7 +55,7 @@ pub(crate) fn split_words(alloc: Global, line: &str) -> Result<Vec<String>, Fail
 /// A shelf that has the logs, and whose call of this number fails.
 pub(crate) fn shelf_of(alloc: Global, fails: u32) -> Result<MemoryShelf, Fail> {
     let mut shelf = MemoryShelf::new(alloc, 64, Vec::from_slice(alloc, &[fails])?);
-    for (name, log) in LOGS {
+    for &(name, log) in &LOGS {
         shelf.put(
             String::from_str(alloc, name)?,
             Vec::from_slice(alloc, log.as_bytes())?,
@@ -120,7 +120,7 @@ nocase,c9
 
 #[test]
 fn cases_are_filed_once_and_listed(rt: HostRuntime) -> Result<(), Fail> {
-    for row in FILED {
+    for &row in &FILED {
         let mut book = book_of(rt.alloc(), 0)?;
         assert_row(&rt, row, &mut book)?;
     }
@@ -176,7 +176,7 @@ const LINES: [Row; 14] = [
 #[test]
 fn a_casebook_is_asked_again_and_again(rt: HostRuntime) -> Result<(), Fail> {
     let mut book = book_of(rt.alloc(), 0)?;
-    for row in LINES {
+    for &row in &LINES {
         assert_row(&rt, row, &mut book)?;
     }
     Ok(())
@@ -207,7 +207,7 @@ const FAULTY: [&str; 18] = [
 #[test]
 fn faulty_words_are_told_the_usage(rt: HostRuntime) -> Result<(), Fail> {
     let mut book = book_of(rt.alloc(), 0)?;
-    for line in FAULTY {
+    for &line in &FAULTY {
         assert_row(&rt, (line, 2, USAGE), &mut book)?;
     }
     Ok(())
@@ -272,7 +272,7 @@ const OPENINGS: [(&str, u32, u8, &str, bool); 4] = [
 
 #[test]
 fn a_refused_opening_leaves_no_casebook(rt: HostRuntime) -> Result<(), Fail> {
-    for (line, fails, number, lines, opened) in OPENINGS {
+    for &(line, fails, number, lines, opened) in &OPENINGS {
         let words = split_words(rt.alloc(), line)?;
         let mut shelf = shelf_of(rt.alloc(), 0)?;
         let mut out = MemorySink::new(rt.alloc(), 4096, 4096, Vec::new(rt.alloc()))?;

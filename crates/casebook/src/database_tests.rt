@@ -1,24 +1,16 @@
 //! Runs of commands over a casebook in a database, beside the same over one in memory.
-use super::case_tests::{FILED, Row, assert_row, run_line};
-use super::file_books::{book_with_row, finish, new_book};
+use super::case_tests::{FILED, assert_row, run_line};
+use super::file_books::{Command, Visit, visit_new, visit_with_row};
 use case_keeper::casebook::Casebook;
 use case_keeper::keeper::Keeper;
 use case_keeper::map_keeper::MapKeeper;
 use std::process::Abort;
 use std::test::Fail;
 
-/// Asserts a row over a new casebook.
-fn assert_filed<R: AllocGlobal + Abort>(rt: &R, row: Row) -> Result<(), Fail> {
-    let mut book = new_book(rt.alloc())?;
-    let filed = assert_row(rt, row, &mut book);
-    finish(book);
-    filed
-}
-
 #[test]
 fn cases_are_filed_in_a_database(rt: HostRuntime) -> Result<(), Fail> {
-    for row in FILED {
-        assert_filed(&rt, row)?;
+    for &row in &FILED {
+        visit_new(&rt, &Command(row))?;
     }
     Ok(())
 }
@@ -57,45 +49,53 @@ const COMMANDS: [&str; 30] = [
     "list Z duplicate-id",
 ];
 
-/// Asserts that the commands are answered over a casebook as over one in memory.
-fn assert_alike<R: AllocGlobal + Abort, B: Keeper>(
-    rt: &R,
-    stored: &mut Casebook<B>,
-) -> Result<(), Fail> {
-    let mut kept = Casebook::new(MapKeeper::new(rt.alloc(), Vec::new(rt.alloc())));
-    for line in COMMANDS {
-        let (stored_status, stored_out) = run_line(rt.alloc(), line, stored)?;
-        let (kept_status, kept_out) = run_line(rt.alloc(), line, &mut kept)?;
-        assert_eq!(rt; stored_status, kept_status, "{line}");
-        assert_eq!(rt; stored_out.bytes(), kept_out.bytes(), "{line}");
+/// The commands are answered as over a casebook in memory.
+struct AnswersAlike;
+
+impl Visit for AnswersAlike {
+    type Answer = ();
+
+    fn visit<R: AllocGlobal + Abort, B: Keeper>(
+        &self,
+        rt: &R,
+        book: &mut Casebook<B>,
+    ) -> Result<(), Fail> {
+        let mut kept = Casebook::new(MapKeeper::new(rt.alloc(), Vec::new(rt.alloc())));
+        for &line in &COMMANDS {
+            let (status, out) = run_line(rt.alloc(), line, book)?;
+            let (kept_status, kept_out) = run_line(rt.alloc(), line, &mut kept)?;
+            assert!(rt;
+                status == kept_status && out.bytes() == kept_out.bytes(),
+                "{line}"
+            );
+        }
+        Ok(())
     }
-    Ok(())
 }
 
 #[test]
 fn thirty_commands_are_answered_alike(rt: HostRuntime) -> Result<(), Fail> {
-    let mut stored = new_book(rt.alloc())?;
-    let alike = assert_alike(&rt, &mut stored);
-    finish(stored);
-    alike
+    visit_new(&rt, &AnswersAlike)
 }
 
-/// Asserts that the keeper has a fault whatever it is asked for, if the row was put into its table.
-fn assert_faulty<R: AllocGlobal + Abort, B: Keeper>(
-    rt: &R,
-    put: Result<(), Fail>,
-    book: &mut Casebook<B>,
-) -> Result<(), Fail> {
-    put?;
-    assert_row(rt, ("list", 8, "keeperfault\n"), book)?;
-    assert_row(rt, ("show c1", 8, "keeperfault\n"), book)
+/// The keeper has a fault whatever it is asked for.
+struct Faulty;
+
+impl Visit for Faulty {
+    type Answer = ();
+
+    fn visit<R: AllocGlobal + Abort, B: Keeper>(
+        &self,
+        rt: &R,
+        book: &mut Casebook<B>,
+    ) -> Result<(), Fail> {
+        assert_row(rt, ("list", 8, "keeperfault\n"), book)?;
+        assert_row(rt, ("show c1", 8, "keeperfault\n"), book)
+    }
 }
 
 // A row with rule 9 is no case.
 #[test]
 fn a_foreign_row_is_a_fault_of_the_keeper(rt: HostRuntime) -> Result<(), Fail> {
-    let (mut book, put) = book_with_row(rt.alloc(), "'c1', 9, 'Z', 0, 0, 0")?;
-    let faulty = assert_faulty(&rt, put, &mut book);
-    finish(book);
-    faulty
+    visit_with_row(&rt, "'c1', 9, 'Z', 0, 0, 0", &Faulty)
 }

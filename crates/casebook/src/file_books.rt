@@ -1,10 +1,9 @@
 //! Casebooks in databases whose files lie in memory. All tests of databases but the one of real files use these, since
 //! a database is compiled anew for each kind of file.
 //!
-//! A test closes its casebook before it asks what came of the calls, and what is done with the casebook stands in
-//! functions over any keeper. So no function here or in the tests drops a casebook: the proof of one that does goes
-//! through all that a database is made of, which takes a minute.
-use super::case_tests::run_line;
+//! What a test does with a casebook is a visit, over any keeper. So one function has the database, which it closes:
+//! the proof of each that has one goes through all that a database is made of, which takes half a minute.
+use super::case_tests::{Row, assert_row, run_line};
 use case_keeper::casebook::Casebook;
 use case_keeper::keeper::Keeper;
 use case_run::statuses::CaseStatus;
@@ -12,13 +11,61 @@ use case_sqlite::sql_keeper::SqlKeeper;
 use sqlite::{Alter, Connection, FileStore, Files, Options};
 use sqlite_disk::{Disk, Fuse, Memory};
 use std::alloc::Global;
+use std::process::Abort;
 use std::test::Fail;
 
 /// The log and the database file, each of which may stop.
 pub(crate) type Disks = Files<Fuse<Memory>>;
 
-/// A casebook over such files.
-pub(crate) type Book = Casebook<SqlKeeper<FileStore<Fuse<Memory>>>>;
+/// A database over such files.
+type Database = Connection<FileStore<Fuse<Memory>>>;
+
+/// What a test does with a casebook.
+pub(crate) trait Visit {
+    /// What is known when it is done.
+    type Answer;
+
+    fn visit<R: AllocGlobal + Abort, B: Keeper>(
+        &self,
+        rt: &R,
+        book: &mut Casebook<B>,
+    ) -> Result<Self::Answer, Fail>;
+}
+
+/// A command, its status and its lines.
+#[derive(Drop)]
+pub(crate) struct Command(pub(crate) Row);
+
+impl Visit for Command {
+    type Answer = ();
+
+    fn visit<R: AllocGlobal + Abort, B: Keeper>(
+        &self,
+        rt: &R,
+        book: &mut Casebook<B>,
+    ) -> Result<(), Fail> {
+        assert_row(rt, self.0, book)
+    }
+}
+
+/// Makes the table of cases, which the first call makes.
+struct MakeTable;
+
+impl Visit for MakeTable {
+    type Answer = ();
+
+    fn visit<R: AllocGlobal + Abort, B: Keeper>(
+        &self,
+        rt: &R,
+        book: &mut Casebook<B>,
+    ) -> Result<(), Fail> {
+        let (status, _) = run_line(rt.alloc(), "list", book)?;
+        if status != CaseStatus::Done {
+            return Err(Fail::new("no table"));
+        }
+        Ok(())
+    }
+}
 
 /// Empty files, each of which stops after so many calls.
 pub(crate) fn empty_files(alloc: Global, log_calls: u64, db_calls: u64) -> Disks {
@@ -28,81 +75,99 @@ pub(crate) fn empty_files(alloc: Global, log_calls: u64, db_calls: u64) -> Disks
     }
 }
 
-/// A casebook over the files, or what is left of them.
-pub(crate) fn open(alloc: Global, files: Disks) -> Result<Book, Disks> {
+/// Empty files that never stop.
+pub(crate) fn whole_files(alloc: Global) -> Disks {
+    empty_files(alloc, u64::MAX, u64::MAX)
+}
+
+/// A database over the files, or what is left of them.
+fn open(alloc: Global, files: Disks) -> Result<Database, Disks> {
     if !files.log.may_be_used() || !files.db.may_be_used() {
         return Err(files);
     }
     match Connection::open_files(alloc, files, Options::new(1)) {
-        Ok(connection) => Ok(Casebook::new(SqlKeeper::new(alloc, connection))),
+        Ok(connection) => Ok(connection),
         Err((_, left)) => Err(left.into_files()),
     }
 }
 
-/// A casebook over files that can be opened.
-pub(crate) fn open_whole(alloc: Global, files: Disks) -> Result<Book, Fail> {
-    match open(alloc, files) {
-        Ok(book) => Ok(book),
-        Err(_) => Err(Fail::new("not opened")),
-    }
-}
-
-/// A casebook of no cases, whose files never stop.
-pub(crate) fn new_book(alloc: Global) -> Result<Book, Fail> {
-    open_whole(alloc, empty_files(alloc, u64::MAX, u64::MAX))
-}
-
-/// The files of the casebook, and whether they were closed with no fault.
-pub(crate) fn close(book: Book) -> (bool, Disks) {
-    match book.into_keeper().into_connection().close_files() {
+/// Whether the files of the database were closed with no fault, and the files.
+fn close(connection: Database) -> (bool, Disks) {
+    match connection.close_files() {
         Ok(files) => (true, files),
         Err((_, store)) => (false, store.close()),
     }
 }
 
-/// Closes a casebook whose files are asked for no more.
-pub(crate) fn finish(book: Book) {
-    let _files = close(book);
-}
-
-/// Makes the table of cases, which the first call makes.
-fn make_table<B: Keeper>(alloc: Global, book: &mut Casebook<B>) -> Result<(), Fail> {
-    let (status, _) = run_line(alloc, "list", book)?;
-    if status != CaseStatus::Done {
-        return Err(Fail::new("no table"));
+/// Visits a casebook over the files: what the visit answers, if they could be opened, whether they were closed with
+/// no fault, and the files.
+pub(crate) fn visit_files<R: AllocGlobal + Abort, V: Visit>(
+    rt: &R,
+    files: Disks,
+    visit: &V,
+) -> (Result<Option<V::Answer>, Fail>, bool, Disks) {
+    match open(rt.alloc(), files) {
+        Ok(connection) => {
+            let mut book = Casebook::new(SqlKeeper::new(rt.alloc(), connection));
+            let answer = visit.visit(rt, &mut book);
+            let (closed, files) = close(book.into_keeper().into_connection());
+            (answer.map(Some), closed, files)
+        }
+        Err(files) => (Ok(None), false, files),
     }
-    Ok(())
 }
 
-/// Puts a row into the table, if it was made.
+/// What a visit to files that can be opened answers.
+pub(crate) fn opened<A>(answer: Result<Option<A>, Fail>) -> Result<A, Fail> {
+    match answer? {
+        Some(answer) => Ok(answer),
+        None => Err(Fail::new("not opened")),
+    }
+}
+
+/// Visits a casebook of no cases.
+pub(crate) fn visit_new<R: AllocGlobal + Abort, V: Visit>(
+    rt: &R,
+    visit: &V,
+) -> Result<V::Answer, Fail> {
+    let (answer, _, _) = visit_files(rt, whole_files(rt.alloc()), visit);
+    opened(answer)
+}
+
+/// Puts a row into the table.
 fn insert_row<S: Alter>(
     alloc: Global,
-    made: Result<(), Fail>,
     connection: &mut Connection<S>,
     row: &str,
 ) -> Result<(), Fail> {
-    made?;
     let columns = "label, rule, symbol, property, log, place";
     let sql = format!(in alloc; "INSERT INTO cases ({columns}) VALUES ({row})")?;
     connection.execute(sql.as_str(), &[])?;
     Ok(())
 }
 
-/// The casebook with this row in its table, if that was made, and whether it could be put there.
-fn put_row<S: Alter>(
-    alloc: Global,
-    made: Result<(), Fail>,
-    book: Casebook<SqlKeeper<S>>,
-    row: &str,
-) -> (Casebook<SqlKeeper<S>>, Result<(), Fail>) {
-    let mut connection = book.into_keeper().into_connection();
-    let put = insert_row(alloc, made, &mut connection, row);
-    (Casebook::new(SqlKeeper::new(alloc, connection)), put)
+/// Puts a row into the table of the files, as something else may: whether it could, and the files.
+fn put_row(alloc: Global, files: Disks, row: &str) -> (Result<(), Fail>, Disks) {
+    match open(alloc, files) {
+        Ok(mut connection) => {
+            let put = insert_row(alloc, &mut connection, row);
+            let (_, files) = close(connection);
+            (put, files)
+        }
+        Err(files) => (Err(Fail::new("not opened")), files),
+    }
 }
 
-/// A casebook into whose table something else has put this row, and whether it could.
-pub(crate) fn book_with_row(alloc: Global, row: &str) -> Result<(Book, Result<(), Fail>), Fail> {
-    let mut book = new_book(alloc)?;
-    let made = make_table(alloc, &mut book);
-    Ok(put_row(alloc, made, book, row))
+/// Visits a casebook into whose table something else has put this row.
+pub(crate) fn visit_with_row<R: AllocGlobal + Abort, V: Visit>(
+    rt: &R,
+    row: &str,
+    visit: &V,
+) -> Result<V::Answer, Fail> {
+    let (made, _, files) = visit_files(rt, whole_files(rt.alloc()), &MakeTable);
+    opened(made)?;
+    let (put, files) = put_row(rt.alloc(), files, row);
+    put?;
+    let (answer, _, _) = visit_files(rt, files, visit);
+    opened(answer)
 }

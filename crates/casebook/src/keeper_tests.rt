@@ -1,12 +1,11 @@
 //! Cases in a database: labels, filters, and rows that are no cases.
-use super::file_books::{book_with_row, finish, new_book};
+use super::file_books::{Visit, visit_new, visit_with_row};
 use audit_base::findings::Property;
 use audit_base::names::{Name, read_name};
 use audit_base::terms::{Rule, Which};
 use case_keeper::case::{Case, Filter, Mark, Offence};
 use case_keeper::casebook::{Casebook, Filed};
 use case_keeper::keeper::{KeepFault, Keeper};
-use std::alloc::Global;
 use std::process::Abort;
 use std::test::Fail;
 
@@ -40,24 +39,31 @@ fn broken(rt: &impl Abort, label: &str, symbol: &str, property: Property) -> Cas
     }
 }
 
-/// Asserts that of two cases with one label the first is kept.
-fn assert_first_kept<R: Abort, B: Keeper>(rt: &R, book: &mut Casebook<B>) -> Result<(), Fail> {
-    let first = broken(rt, "c1", "Z", Property::Volume);
-    let second = accepted(rt, "c1", "Y");
-    assert!(rt; book.show(&first.label)?.is_none());
-    assert!(rt; book.file(&first)? == Filed::Kept);
-    assert!(rt; book.file(&second)? == Filed::Known(first));
-    assert!(rt; book.show(&first.label)? == Some(first));
-    assert!(rt; book.list(&ALL)?.as_slice() == [first].as_slice());
-    Ok(())
+/// Of two cases with one label the first is kept.
+struct FirstKept;
+
+impl Visit for FirstKept {
+    type Answer = ();
+
+    fn visit<R: AllocGlobal + Abort, B: Keeper>(
+        &self,
+        rt: &R,
+        book: &mut Casebook<B>,
+    ) -> Result<(), Fail> {
+        let first = broken(rt, "c1", "Z", Property::Volume);
+        let second = accepted(rt, "c1", "Y");
+        assert!(rt; book.show(&first.label)?.is_none());
+        assert!(rt; book.file(&first)? == Filed::Kept);
+        assert!(rt; book.file(&second)? == Filed::Known(first));
+        assert!(rt; book.show(&first.label)? == Some(first));
+        assert!(rt; book.list(&ALL)?.as_slice() == [first].as_slice());
+        Ok(())
+    }
 }
 
 #[test]
 fn a_label_keeps_its_first_case(rt: HostRuntime) -> Result<(), Fail> {
-    let mut book = new_book(rt.alloc())?;
-    let kept = assert_first_kept(&rt, &mut book);
-    finish(book);
-    kept
+    visit_new(&rt, &FirstKept)
 }
 
 /// Asserts which cases are listed, by their labels of one letter.
@@ -71,8 +77,8 @@ fn assert_filtered<R: AllocGlobal + Abort, B: Keeper>(
         broken(rt, "d", "Z", Property::Spread),
         accepted(rt, "b", "Y"),
     ];
-    for case in filed {
-        assert!(rt; book.file(&case)? == Filed::Kept);
+    for case in &filed {
+        assert!(rt; book.file(case)? == Filed::Kept);
     }
     let volume = Some(Mark::Broken(Property::Volume));
     let cases = [
@@ -82,7 +88,7 @@ fn assert_filtered<R: AllocGlobal + Abort, B: Keeper>(
         (Some("Z"), volume, "c"),
         (Some("Y"), volume, ""),
     ];
-    for (symbol, mark, labels) in cases {
+    for &(symbol, mark, labels) in &cases {
         let filter = Filter {
             symbol: symbol.map(|symbol| name(rt, symbol)),
             mark,
@@ -96,12 +102,24 @@ fn assert_filtered<R: AllocGlobal + Abort, B: Keeper>(
     Ok(())
 }
 
+/// A filter picks cases by their symbols and marks.
+struct Filtered;
+
+impl Visit for Filtered {
+    type Answer = ();
+
+    fn visit<R: AllocGlobal + Abort, B: Keeper>(
+        &self,
+        rt: &R,
+        book: &mut Casebook<B>,
+    ) -> Result<(), Fail> {
+        assert_filtered(rt, book)
+    }
+}
+
 #[test]
 fn a_filter_picks_by_symbol_and_mark(rt: HostRuntime) -> Result<(), Fail> {
-    let mut book = new_book(rt.alloc())?;
-    let filtered = assert_filtered(&rt, &mut book);
-    finish(book);
-    filtered
+    visit_new(&rt, &Filtered)
 }
 
 // Rows that something else has put into the table, each with whether it is the row of a case.
@@ -128,28 +146,29 @@ const ROWS: [(&str, bool); 19] = [
 ];
 
 /// How many cases are listed.
-fn count_listed<B: Keeper>(book: &mut Casebook<B>) -> Result<usize, KeepFault> {
-    Ok(book.list(&ALL)?.as_slice().len())
-}
+struct CountListed;
 
-/// How many cases are listed over the table with this row.
-fn list_row(alloc: Global, row: &str) -> Result<Result<usize, KeepFault>, Fail> {
-    let (mut book, put) = book_with_row(alloc, row)?;
-    let listed = count_listed(&mut book);
-    finish(book);
-    put?;
-    Ok(listed)
+impl Visit for CountListed {
+    type Answer = Result<usize, KeepFault>;
+
+    fn visit<R: AllocGlobal + Abort, B: Keeper>(
+        &self,
+        _rt: &R,
+        book: &mut Casebook<B>,
+    ) -> Result<Result<usize, KeepFault>, Fail> {
+        Ok(book.list(&ALL).map(|listed| listed.as_slice().len()))
+    }
 }
 
 #[test]
 fn a_row_that_is_no_case_is_a_fault(rt: HostRuntime) -> Result<(), Fail> {
-    for (row, is_case) in ROWS {
+    for &(row, is_case) in &ROWS {
         let wanted = if is_case {
             Ok(1)
         } else {
             Err(KeepFault::Failed)
         };
-        assert_eq!(rt; list_row(rt.alloc(), row)?, wanted, "{row}");
+        assert_eq!(rt; visit_with_row(&rt, row, &CountListed)?, wanted, "{row}");
     }
     Ok(())
 }

@@ -39,7 +39,7 @@ const OPENED: [Row; 3] = [
 #[test]
 fn databases_are_opened_by_their_paths(rt: HostRuntime) -> Result<(), Fail> {
     remove_files(&rt);
-    for (line, number, lines) in OPENED {
+    for &(line, number, lines) in &OPENED {
         let (status, out) = run_words(&rt, line)?;
         assert_eq!(rt; status.number(), number, "{line}");
         assert_eq!(rt; out.bytes(), lines.as_bytes(), "{line}");

@@ -1,12 +1,13 @@
 //! Runs of commands over files whose machine stops, and which are opened again.
-use super::case_tests::{assert_row, run_line};
-use super::file_books::{Disks, close, empty_files, finish, new_book, open, open_whole};
+use super::case_tests::run_line;
+use super::file_books::{Command, Disks, Visit, empty_files, opened, visit_files, whole_files};
 use case_keeper::casebook::Casebook;
 use case_keeper::keeper::Keeper;
 use case_run::statuses::CaseStatus;
 use log_source::memory_sink::MemorySink;
 use sqlite_disk::Crash;
 use std::alloc::Global;
+use std::process::Abort;
 use std::test::Fail;
 
 const FILE: &str = "file c1 matching Z csv o t";
@@ -16,15 +17,12 @@ const LINE: &str = "case,c1,matching,Z,accepted\n";
 
 #[test]
 fn a_case_is_listed_when_the_files_are_opened_again(rt: HostRuntime) -> Result<(), Fail> {
-    let mut book = new_book(rt.alloc())?;
-    let filed = assert_row(&rt, (FILE, 0, LINE), &mut book);
-    let (closed, files) = close(book);
-    filed?;
+    let file = Command((FILE, 0, LINE));
+    let (filed, closed, files) = visit_files(&rt, whole_files(rt.alloc()), &file);
+    opened(filed)?;
     assert!(rt; closed);
-    let mut again = open_whole(rt.alloc(), files)?;
-    let listed = assert_row(&rt, ("list", 0, LINE), &mut again);
-    finish(again);
-    listed
+    let (listed, _, _) = visit_files(&rt, files, &Command(("list", 0, LINE)));
+    opened(listed)
 }
 
 /// Which file stops: the log, or the database file.
@@ -41,43 +39,47 @@ fn stopping_files(alloc: Global, stopped: Stopped, calls: u64) -> Disks {
     }
 }
 
-/// Whether the command `file` is done.
-fn files_a_case<B: Keeper>(alloc: Global, book: &mut Casebook<B>) -> Result<bool, Fail> {
-    let (status, _) = run_line(alloc, FILE, book)?;
-    Ok(status == CaseStatus::Done)
+/// Does the command `file`, and tells whether it was done.
+struct FileCase;
+
+impl Visit for FileCase {
+    type Answer = bool;
+
+    fn visit<R: AllocGlobal + Abort, B: Keeper>(
+        &self,
+        rt: &R,
+        book: &mut Casebook<B>,
+    ) -> Result<bool, Fail> {
+        let (status, _) = run_line(rt.alloc(), FILE, book)?;
+        Ok(status == CaseStatus::Done)
+    }
 }
 
-/// Does the command `file` over files that may stop: whether it was done, whether no call was stopped, and the
-/// files.
-fn file_one(alloc: Global, files: Disks) -> Result<(bool, bool, Disks), Fail> {
-    match open(alloc, files) {
-        Ok(mut book) => {
-            let filed = files_a_case(alloc, &mut book);
-            let (closed, files) = close(book);
-            let done = filed?;
-            Ok((done, done && closed, files))
+/// Does the command `list`, and gives what it writes.
+struct ListCases;
+
+impl Visit for ListCases {
+    type Answer = MemorySink;
+
+    fn visit<R: AllocGlobal + Abort, B: Keeper>(
+        &self,
+        rt: &R,
+        book: &mut Casebook<B>,
+    ) -> Result<MemorySink, Fail> {
+        let (status, out) = run_line(rt.alloc(), "list", book)?;
+        if status != CaseStatus::Done {
+            return Err(Fail::new("listed"));
         }
-        Err(files) => Ok((false, false, files)),
+        Ok(out)
     }
-}
-
-/// What the command `list` writes.
-fn listed<B: Keeper>(alloc: Global, book: &mut Casebook<B>) -> Result<MemorySink, Fail> {
-    let (status, out) = run_line(alloc, "list", book)?;
-    if status != CaseStatus::Done {
-        return Err(Fail::new("listed"));
-    }
-    Ok(out)
 }
 
 /// What the command `list` writes over the files after a crash.
-fn listed_after_crash(alloc: Global, mut files: Disks) -> Result<MemorySink, Fail> {
+fn list_after_crash<R: AllocGlobal + Abort>(rt: &R, mut files: Disks) -> Result<MemorySink, Fail> {
     files.log.crash();
     files.db.crash();
-    let mut book = open_whole(alloc, files)?;
-    let out = listed(alloc, &mut book);
-    finish(book);
-    out
+    let (listed, _, _) = visit_files(rt, files, &ListCases);
+    opened(listed)
 }
 
 /// More calls than one run of `file` makes of a file, from the first open to the close.
@@ -85,16 +87,17 @@ const MOST_CALLS: u64 = 60;
 
 /// Stops a file at each of its calls in turn, up to a run that is not stopped. Whether each time no case was listed
 /// or exactly the case, and this where `file` was done.
-fn leaves_one_or_none(alloc: Global, stopped: Stopped) -> Result<bool, Fail> {
+fn leaves_one_or_none<R: AllocGlobal + Abort>(rt: &R, stopped: Stopped) -> Result<bool, Fail> {
     for calls in 0..MOST_CALLS {
-        let files = stopping_files(alloc, stopped, calls);
-        let (done, whole, files) = file_one(alloc, files)?;
-        let listed = listed_after_crash(alloc, files)?;
+        let files = stopping_files(rt.alloc(), stopped, calls);
+        let (filed, closed, files) = visit_files(rt, files, &FileCase);
+        let done = filed? == Some(true);
+        let listed = list_after_crash(rt, files)?;
         let is_there = listed.bytes() == LINE.as_bytes();
         if !is_there && (done || !listed.bytes().is_empty()) {
             return Ok(false);
         }
-        if whole {
+        if done && closed {
             return Ok(calls > 0);
         }
     }
@@ -104,7 +107,7 @@ fn leaves_one_or_none(alloc: Global, stopped: Stopped) -> Result<bool, Fail> {
 #[test]
 fn a_stop_leaves_no_case_or_exactly_the_case(rt: HostRuntime) -> Result<(), Fail> {
     for stopped in [Stopped::Log, Stopped::Database] {
-        assert!(rt; leaves_one_or_none(rt.alloc(), stopped)?, "{stopped:?}");
+        assert!(rt; leaves_one_or_none(&rt, stopped)?, "{stopped:?}");
     }
     Ok(())
 }

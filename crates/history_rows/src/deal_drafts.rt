@@ -90,22 +90,25 @@ const ROWS: [Row; 5] = [
     ),
 ];
 
+/// Whether these are the places of the deals, and this is the property and the place of the finding.
+fn come_to(resolved: &ResolvedTrades, places: &[u32], finding: Option<(Property, u32)>) -> bool {
+    match &resolved.finding {
+        None => finding.is_none() && resolved.deals.iter().map(|deal| &deal.place).eq(places),
+        Some(found) => finding == Some((found.property, found.place)),
+    }
+}
+
 #[test]
 fn a_draft_keeps_the_deals_of_its_symbol(rt: HostRuntime) {
-    for (lines, places, finding) in ROWS {
+    for &(lines, places, finding) in &ROWS {
         for passes in [false, true] {
             let symbol = name(&rt, "Z");
             let orders = history(&rt);
             let (count, resolved) = drafted::<Brand, HostRuntime>(
                 &rt, symbol, orders, lines, passes,
             );
-            assert_eq!(rt; count as usize, lines.len());
-            assert_eq!(rt; resolved.count, count);
-            let found = resolved.finding.map(|found| (found.property, found.place));
-            assert_eq!(rt; found, finding);
-            if finding.is_none() {
-                assert!(rt; resolved.deals.iter().map(|deal| &deal.place).eq(places));
-            }
+            assert_eq!(rt; (count as usize, resolved.count), (lines.len(), count));
+            assert!(rt; come_to(&resolved, places, finding), "{lines:?}");
         }
     }
 }

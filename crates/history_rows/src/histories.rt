@@ -16,6 +16,15 @@ fn stamp(rt: &impl Abort, text: &str) -> Stamp {
     Stamp { second, nano: 0 }
 }
 
+/// The side that the letter is.
+pub(crate) fn side(word: Option<&str>) -> Side {
+    if word == Some("B") {
+        Side::Buy
+    } else {
+        Side::Sell
+    }
+}
+
 pub(crate) fn record(rt: &impl Abort, text: &str) -> OrderRecord {
     let mut words = text.split(' ');
     let kind = words.next().expect(rt, "a kind");
@@ -24,11 +33,7 @@ pub(crate) fn record(rt: &impl Abort, text: &str) -> OrderRecord {
     let target = name(rt, words.next().expect(rt, "a target"));
     let time = stamp(rt, words.next().expect(rt, "a second"));
     let symbol = name(rt, words.next().expect(rt, "a symbol"));
-    let side = if words.next() == Some("B") {
-        Side::Buy
-    } else {
-        Side::Sell
-    };
+    let side = side(words.next());
     let key = key(rt, firm, id);
     let quantity = Quantity::of(5).expect(rt, "a quantity");
     let price = Price::of(10).expect(rt, "a price");
@@ -78,19 +83,24 @@ fn build<R: AllocGlobal + Abort>(rt: &R, lines: &[&str]) -> Result<History, Hist
 }
 
 /// Asserts that the history has these orders, each of which is found by its key.
-fn has_orders<R: AllocGlobal + Abort>(rt: &R, label: &str, lines: &[&str], wanted: &[Shape]) {
-    let Ok(history) = build(rt, lines) else {
-        panic!(rt; "{label}: refused");
-    };
+fn assert_orders(rt: &impl Abort, label: &str, history: &History, wanted: &[Shape]) {
     let orders = history.orders();
-    assert_eq!(rt; orders.len(), wanted.len(), "{label}: orders");
-    for (i, order) in orders.iter().enumerate() {
+    assert!(rt; orders.len() == wanted.len(), "{label}");
+    for ((i, order), shape) in orders.iter().enumerate().zip(wanted) {
         assert_eq!(rt;
             (order.place, order.cancelled, order.target),
-            wanted[i],
-            "{label}: order {i}"
+            *shape,
+            "{label}"
         );
-        assert_eq!(rt; history.find(&order.key), Some(i), "{label}: key {i}");
+        assert!(rt; history.find(&order.key) == Some(i), "{label}: key {i}");
+    }
+}
+
+/// Asserts that the lines are a history of these orders.
+fn has_orders<R: AllocGlobal + Abort>(rt: &R, label: &str, lines: &[&str], wanted: &[Shape]) {
+    match build(rt, lines) {
+        Ok(history) => assert_orders(rt, label, &history, wanted),
+        Err(_) => panic!(rt; "{label}: refused"),
     }
 }
 
@@ -104,9 +114,12 @@ fn has_finding<R: AllocGlobal + Abort>(rt: &R, label: &str, lines: &[&str], want
         log: Which::Orders,
         place,
     });
-    assert_eq!(rt; finding.property, property, "{label}: property");
-    assert_eq!(rt; finding.place, place, "{label}: place");
-    assert_eq!(rt; finding.first, first, "{label}: shown");
+    assert_eq!(rt;
+        (finding.property, finding.place),
+        (property, place),
+        "{label}"
+    );
+    assert!(rt; finding.first == first, "{label}: shown");
 }
 
 /// Histories by name, and the finding of each.
@@ -185,7 +198,7 @@ const FINDINGS: [(&str, &[&str], Broken); 14] = [
 
 #[test]
 fn each_finding_stands_at_the_first_record_that_fails(rt: HostRuntime) {
-    for (label, lines, wanted) in FINDINGS {
+    for &(label, lines, wanted) in &FINDINGS {
         has_finding(&rt, label, lines, wanted);
     }
 }
@@ -310,7 +323,7 @@ const ORDERS: [(&str, &[&str], &[Shape]); 17] = [
 
 #[test]
 fn each_order_has_its_target_and_its_end(rt: HostRuntime) {
-    for (label, lines, wanted) in ORDERS {
+    for &(label, lines, wanted) in &ORDERS {
         has_orders(&rt, label, lines, wanted);
     }
 }

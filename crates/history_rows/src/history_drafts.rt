@@ -51,49 +51,63 @@ fn drafted<S: AuditedSymbol, R: AllocGlobal + Abort>(
     (draft.count(), draft.end())
 }
 
+/// The records, the places of the orders, and the finding.
+type Row = (
+    &'static [&'static str],
+    &'static [u32],
+    Option<(Property, u32)>,
+);
+
+const DRAFTED: [Row; 5] = [
+    (&[], &[], None),
+    // Places are counted over all symbols.
+    (
+        &[
+            "N A b1 - 5 Y B",
+            "N A b1 - 5 Z B",
+            "N A b2 - 5 Y B",
+            "N A b3 - 5 Z S",
+        ],
+        &[2, 4],
+        None,
+    ),
+    // Of another symbol nothing is asked.
+    (&["N A b1 - 5 Y B", "N A b1 - 4 Y B"], &[], None),
+    // The first finding stays, whatever comes behind it.
+    (
+        &["N A b1 - 5 Z B", "N A b2 - 4 Z B", "N A b1 - 3 Z B"],
+        &[],
+        Some((Property::TimeBack, 2)),
+    ),
+    (
+        &["N A b1 - 5 Z B", "N A b1 - 5 Z B", "N A b2 - 5 Y B"],
+        &[],
+        Some((Property::DuplicateId, 2)),
+    ),
+];
+
+/// Whether these are the places of the orders, or the property and the place of the finding.
+fn comes_to(
+    answer: &Result<History, Finding>,
+    places: &[u32],
+    finding: Option<(Property, u32)>,
+) -> bool {
+    match answer {
+        Ok(history) => {
+            let orders = history.orders().iter();
+            finding.is_none() && orders.map(|order| &order.place).eq(places)
+        }
+        Err(found) => finding == Some((found.property, found.place)),
+    }
+}
+
 #[test]
 fn a_draft_keeps_the_records_of_its_symbol(rt: HostRuntime) {
-    let back = Property::TimeBack;
-    let duplicate = Property::DuplicateId;
-    // The records, the places of the orders, and the finding.
-    let rows: [(&[&str], &[u32], Option<(Property, u32)>); 5] = [
-        (&[], &[], None),
-        // Places are counted over all symbols.
-        (
-            &[
-                "N A b1 - 5 Y B",
-                "N A b1 - 5 Z B",
-                "N A b2 - 5 Y B",
-                "N A b3 - 5 Z S",
-            ],
-            &[2, 4],
-            None,
-        ),
-        // Of another symbol nothing is asked.
-        (&["N A b1 - 5 Y B", "N A b1 - 4 Y B"], &[], None),
-        // The first finding stays, whatever comes behind it.
-        (
-            &["N A b1 - 5 Z B", "N A b2 - 4 Z B", "N A b1 - 3 Z B"],
-            &[],
-            Some((back, 2)),
-        ),
-        (
-            &["N A b1 - 5 Z B", "N A b1 - 5 Z B", "N A b2 - 5 Y B"],
-            &[],
-            Some((duplicate, 2)),
-        ),
-    ];
-    for (lines, places, finding) in rows {
+    for &(lines, places, finding) in &DRAFTED {
         for passes in [false, true] {
             let (count, result) = drafted::<Brand, HostRuntime>(&rt, name(&rt, "Z"), lines, passes);
             assert_eq!(rt; count as usize, lines.len());
-            match result {
-                Ok(history) => {
-                    assert_eq!(rt; None, finding);
-                    assert!(rt; history.orders().iter().map(|order| &order.place).eq(places));
-                }
-                Err(found) => assert_eq!(rt; Some((found.property, found.place)), finding),
-            }
+            assert!(rt; comes_to(&result, places, finding), "{lines:?}");
         }
     }
 }

@@ -1,7 +1,7 @@
 //! Deals between one bid of 100 at 12 and one ask of 80 at 8, with their totals or the finding that they
 //! have. A deal is written as its quantity and its price.
 use crate::names::{key, name};
-use audit_base::findings::{Property, Shown};
+use audit_base::findings::{Finding, Property, Shown};
 use audit_base::numbers::{Price, Quantity};
 use audit_base::records::{OrderRecord, TradeRecord};
 use audit_base::stamps::Stamp;
@@ -51,24 +51,37 @@ fn history<R: AllocGlobal + Abort>(rt: &R) -> History {
 /// What two deals come to.
 fn checked<R: AllocGlobal + Abort>(
     rt: &R,
+    history: &History,
     first: (u64, u64),
     second: (u64, u64),
     uniform: bool,
 ) -> Result<Totals, CheckFault> {
-    let history = history(rt);
     let trades = [
         trade(rt, "T1", first.0, first.1),
         trade(rt, "T2", second.0, second.1),
     ];
-    match resolve(rt.alloc(), &history, &trades, &name(rt, "Z")) {
+    match resolve(rt.alloc(), history, &trades, &name(rt, "Z")) {
         Ok(deals) => check_matching(rt.alloc(), history.orders(), &deals, uniform),
         Err(fault) => Err(fault),
     }
 }
 
+/// The finding that two deals have.
+fn finding_of<R: AllocGlobal + Abort>(
+    rt: &R,
+    first: (u64, u64),
+    second: (u64, u64),
+    uniform: bool,
+) -> Finding {
+    match checked(rt, &history(rt), first, second, uniform) {
+        Err(CheckFault::Found(finding)) => finding,
+        _ => panic!(rt; "accepted"),
+    }
+}
+
 #[test]
 fn a_matching_has_its_totals(rt: HostRuntime) {
-    let Ok(totals) = checked(&rt, (50, 9), (30, 12), false) else {
+    let Ok(totals) = checked(&rt, &history(&rt), (50, 9), (30, 12), false) else {
         panic!(rt; "refused");
     };
     assert_eq!(rt; totals.as_slice(), [80, 80].as_slice());
@@ -84,25 +97,19 @@ fn the_finding_is_the_first_of_the_least_deal(rt: HostRuntime) {
         ((50, 9), (51, 9), true, Property::BuyQuantity, 2),
         ((50, 9), (50, 10), false, Property::SellQuantity, 2),
     ];
-    for (first, second, uniform, property, place) in cases {
-        let Err(CheckFault::Found(finding)) = checked(&rt, first, second, uniform) else {
-            panic!(rt; "accepted");
-        };
-        assert!(rt; finding.property == property, "{property:?}");
-        assert_eq!(rt; finding.place, place, "{property:?}");
+    for &(first, second, uniform, property, place) in &cases {
+        let finding = finding_of(&rt, first, second, uniform);
+        assert_eq!(rt; (finding.property, finding.place), (property, place));
     }
 }
 
 // One price is broken against the first deal, which is shown.
 #[test]
 fn another_price_shows_the_first_trade(rt: HostRuntime) {
-    let Err(CheckFault::Found(finding)) = checked(&rt, (50, 9), (30, 10), true) else {
-        panic!(rt; "accepted");
-    };
+    let finding = finding_of(&rt, (50, 9), (30, 10), true);
     let shown = Shown::Place {
         log: Which::Trades,
         place: 1,
     };
-    assert!(rt; finding.first == Some(shown));
-    assert!(rt; finding.second.is_none());
+    assert!(rt; finding.first == Some(shown) && finding.second.is_none());
 }

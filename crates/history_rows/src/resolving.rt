@@ -175,7 +175,7 @@ const ROWS: [Row; 7] = [
 
 #[test]
 fn the_finding_stands_at_the_first_trade_that_fails(rt: HostRuntime) {
-    for (label, lines, property, place, shows) in ROWS {
+    for &(label, lines, property, place, shows) in &ROWS {
         let Err(CheckFault::Found(finding)) = resolved(&rt, lines) else {
             panic!(rt; "{label}: no finding");
         };

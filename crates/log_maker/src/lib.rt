@@ -7,5 +7,3 @@
 
 mod fields;
 pub mod generator;
-#[cfg(test)]
-mod tests;

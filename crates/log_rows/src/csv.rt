@@ -189,7 +189,7 @@ const BAD_LOGS: [(&[u8], Option<(u32, u64, Reason)>); 15] = [
 
 #[test]
 fn bad_logs_are_refused_at_their_place(rt: HostRuntime) {
-    for (log, want) in BAD_LOGS {
+    for &(log, want) in &BAD_LOGS {
         let bad = bad_of(&rt, rt.alloc(), log);
         assert_eq!(rt; bad.map(|bad| (bad.place, bad.offset, bad.reason)), want);
     }
@@ -368,7 +368,7 @@ const LINES: [(&[u8], Option<Reason>); 51] = [
 
 #[test]
 fn each_test_of_a_line_is_made_in_its_order(rt: HostRuntime) {
-    for (line, want) in LINES {
+    for &(line, want) in &LINES {
         assert_eq!(rt; reason_of(&rt, rt.alloc(), line), want, "{:?}", line);
     }
 }
@@ -387,7 +387,7 @@ fn trade_lines_name_the_first_column_that_is_out_of_form(rt: HostRuntime) {
         b"T1,20240102-09:00:01,Z,A,b1,B,s1,100,9.\n",
     ];
     let mut column = 0u8;
-    for line in lines {
+    for &line in &lines {
         let mut log = Vec::new(rt.alloc());
         assert!(rt; log.extend_from_slice(TRADES).is_ok());
         assert!(rt; log.extend_from_slice(line).is_ok());

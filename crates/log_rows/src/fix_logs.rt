@@ -102,7 +102,7 @@ const ORDER_LOGS: [(&[u8], Option<(u32, u64, Reason)>); 16] = [
 
 #[test]
 fn bad_logs_are_refused_at_their_place(rt: HostRuntime) {
-    for (log, want) in ORDER_LOGS {
+    for &(log, want) in &ORDER_LOGS {
         let bad = bad_of(&rt, rt.alloc(), log);
         assert_eq!(rt; bad.map(|bad| (bad.place, bad.offset, bad.reason)), want);
     }
@@ -248,7 +248,7 @@ const REPORT_LOGS: [(&[u8], Result<usize, (u32, u32)>); 11] = [
 
 #[test]
 fn reports_are_taken_two_by_two(rt: HostRuntime) {
-    for (log, want) in REPORT_LOGS {
+    for &(log, want) in &REPORT_LOGS {
         assert_eq!(rt; paired(&rt, rt.alloc(), log), want);
     }
 }

@@ -196,7 +196,7 @@ const ORDERS: [(&str, &str); 49] = [
 
 #[test]
 fn orders_mean_records(rt: HostRuntime) -> Result<(), Fail> {
-    for (body, want) in ORDERS {
+    for &(body, want) in &ORDERS {
         assert_eq!(rt; order_text(&rt, rt.alloc(), body)?.as_str(), want, "{body}");
     }
     Ok(())
@@ -273,7 +273,7 @@ const REPORTS: [(&str, &str); 20] = [
 
 #[test]
 fn reports_mean_sides_of_trades(rt: HostRuntime) -> Result<(), Fail> {
-    for (body, want) in REPORTS {
+    for &(body, want) in &REPORTS {
         assert_eq!(rt;
             report_text(&rt, rt.alloc(), body)?.as_str(),
             want,

@@ -51,7 +51,7 @@ const ORDERS: [(&[u8], &[u8]); 6] = [
 
 #[test]
 fn orders_are_written_and_read_again(rt: HostRuntime) -> Result<(), Fail> {
-    for (log, want) in ORDERS {
+    for &(log, want) in &ORDERS {
         let orders = orders_of(&rt, rt.alloc(), log);
         let mut text = Vec::new(rt.alloc());
         for order in &orders {

@@ -5,5 +5,3 @@
 pub mod comparing;
 pub mod ranking;
 mod ranks;
-#[cfg(test)]
-mod tests;

@@ -77,20 +77,32 @@ fn answer<R: AllocGlobal + Abort>(rt: &R, bytes: &[u8]) -> Result<Rule, VerifyFa
     verify(rt.alloc(), &symbol(rt), history.orders(), &deals, bytes)
 }
 
-#[test]
-fn the_certificate_of_a_staircase(rt: HostRuntime) {
-    let history = staircase(&rt);
-    let deals = two_deals(&rt, &history);
-    let symbol = symbol(&rt);
-    let wanted = text_of(&rt, &LINES);
-    assert!(rt; wanted.len() <= 67_108_864);
-    let Ok(rule) = verify(rt.alloc(), &symbol, history.orders(), &deals, &wanted) else {
+/// The certificate of the deals, which a text shows to conform to the uniform rule.
+fn certificate<R: AllocGlobal + Abort>(
+    rt: &R,
+    history: &History,
+    deals: &[Deal],
+    shown: &[u8],
+) -> Vec<u8>
+    requires { IsDealList history.now deals.now }
+{
+    assert!(rt; shown.len() <= 67_108_864);
+    let symbol = symbol(rt);
+    let Ok(rule) = verify(rt.alloc(), &symbol, history.orders(), deals, shown) else {
         panic!(rt; "refused");
     };
     assert_eq!(rt; rule, Rule::Uniform);
-    let Ok(text) = certify(rt.alloc(), rule, &symbol, history.orders(), &deals) else {
+    let Ok(text) = certify(rt.alloc(), rule, &symbol, history.orders(), deals) else {
         panic!(rt; "no memory");
     };
+    text
+}
+
+#[test]
+fn the_certificate_of_a_staircase(rt: HostRuntime) {
+    let history = staircase(&rt);
+    let wanted = text_of(&rt, &LINES);
+    let text = certificate(&rt, &history, &two_deals(&rt, &history), &wanted);
     assert_eq!(rt; text.as_slice(), wanted.as_slice());
 }
 
@@ -114,7 +126,7 @@ const WRONG: [(usize, &str, u32); 14] = [
 
 #[test]
 fn the_first_wrong_line_is_told(rt: HostRuntime) {
-    for (number, line, refused) in WRONG {
+    for &(number, line, refused) in &WRONG {
         let mut lines = LINES;
         lines[number - 1] = line;
         let told = answer(&rt, &text_of(&rt, &lines));

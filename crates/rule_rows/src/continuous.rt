@@ -90,25 +90,23 @@ fn history<R: AllocGlobal + Abort>(rt: &R, lines: &[Line<'_>]) -> History {
     history_of(rt, &entries)
 }
 
-/// What the audit of these logs answers.
-fn answer_to<R: AllocGlobal + Abort>(rt: &R, lines: &[Line<'_>], trades: &[Trade<'_>]) -> Outcome {
-    let history = history(rt, lines);
+/// What the audit of these trades over a history comes to.
+fn outcome_of<R: AllocGlobal + Abort>(rt: &R, history: &History, trades: &[Trade<'_>]) -> Outcome {
     let mut reports = Vec::new(rt.alloc());
     for (trade, id) in trades.iter().zip(["T1", "T2", "T3", "T4", "T5"]) {
         reports
             .push(trade_record(rt, id, *trade))
             .expect(rt, "memory");
     }
-    let deals = deals_of(rt, &history, &reports);
+    let deals = deals_of(rt, history, &reports);
     match audit_continuous(rt.alloc(), history.orders(), &deals) {
         Ok(outcome) => outcome,
         Err(_) => panic!(rt; "no memory"),
     }
 }
 
-/// The Expected trades of these lines: the index of the bid and of the ask, the quantity and the price.
-fn expected_of<R: AllocGlobal + Abort>(rt: &R, lines: &[Line<'_>]) -> Vec<Expected> {
-    let history = history(rt, lines);
+/// The Expected trades of a history: the index of the bid and of the ask, the quantity and the price.
+fn expected_of<R: AllocGlobal + Abort>(rt: &R, history: &History) -> Vec<Expected> {
     let deals = continuous_matching(rt.alloc(), history.orders()).expect(rt, "memory");
     let mut expected = Vec::new(rt.alloc());
     for (deal, number) in deals.iter().zip(1u32..) {
@@ -142,6 +140,11 @@ fn in_short(outcome: &Outcome) -> Answer {
     }
 }
 
+/// What the audit of these logs answers, in the words of a row.
+fn answer_to<R: AllocGlobal + Abort>(rt: &R, lines: &[Line<'_>], trades: &[Trade<'_>]) -> Answer {
+    in_short(&outcome_of(rt, &history(rt, lines), trades))
+}
+
 /// A row: its name, the lines of both logs, and the answer.
 type Row = (
     &'static str,
@@ -150,8 +153,16 @@ type Row = (
     Answer,
 );
 
-/// The rows of continuous trading.
-const ROWS: [Row; 41] = [
+/// Asserts that the audits of rows answer what the rows say. The rows are tables of a few each, handed on whole: the
+/// proof of a function with a long table in it takes a minute.
+fn assert_rows<R: AllocGlobal + Abort>(rt: &R, rows: &[Row]) {
+    for &(name, lines, trades, answer) in rows {
+        assert_eq!(rt; answer_to(rt, lines, trades), answer, "{name}");
+    }
+}
+
+/// Orders that rest: priority, limits and spreads.
+const RESTING_ORDERS: [Row; 12] = [
     ("no orders", &[], &[], Volume(0)),
     (
         "cancelled resting sell",
@@ -224,6 +235,38 @@ const ROWS: [Row; 41] = [
         Found(Property::Limit, 1, Some((2, 5)), Some((1, 5))),
     ),
     (
+        "an order behind an equal limit",
+        &[Ask("s1", 2, 10), Ask("s2", 3, 10), Bid("b1", 5, 10)],
+        &[Trade("b1", "s1", 2, 10)],
+        Found(Property::Spread, 3, Some((3, 2)), Some((2, 0))),
+    ),
+    (
+        "priority before spread",
+        &[Ask("s1", 5, 10), Ask("s2", 5, 11), Bid("b1", 5, 11)],
+        &[Trade("b1", "s2", 2, 11)],
+        Found(Property::SellPriority, 1, Some((1, 0)), Some((2, 2))),
+    ),
+    (
+        "two books that do not meet",
+        &[
+            Ask("s1", 5, 12),
+            Bid("b1", 5, 9),
+            Ask("s2", 5, 11),
+            Bid("b2", 5, 10),
+        ],
+        &[],
+        Volume(0),
+    ),
+];
+
+#[test]
+fn rows_of_orders_that_rest(rt: HostRuntime) {
+    assert_rows(&rt, &RESTING_ORDERS);
+}
+
+/// Replacements, also of replacements: what they trade and how they rank.
+const CHAINS: [Row; 7] = [
+    (
         "replaced and filled",
         &[
             Ask("s1", 10, 10),
@@ -244,30 +287,6 @@ const ROWS: [Row; 41] = [
         ],
         &[Trade("b1", "s1", 4, 10), Trade("b2", "r1", 7, 11)],
         Found(Property::SellQuantity, 2, Some((3, 11)), None),
-    ),
-    (
-        "market order partly filled",
-        &[Ask("s1", 5, 10), MarketBid("m1", 8), Bid("b2", 1, 9)],
-        &[Trade("m1", "s1", 5, 10)],
-        Volume(5),
-    ),
-    (
-        "market order unfilled",
-        &[Ask("s1", 5, 10), MarketBid("m1", 8), Bid("b2", 1, 9)],
-        &[],
-        Found(Property::Spread, 2, Some((2, 0)), Some((1, 0))),
-    ),
-    (
-        "immediate order lapses",
-        &[ImmediateBid("i1", 5, 10), Ask("s1", 5, 9)],
-        &[],
-        Volume(0),
-    ),
-    (
-        "immediate order trades late",
-        &[ImmediateBid("i1", 5, 10), Ask("s1", 5, 9)],
-        &[Trade("i1", "s1", 5, 9)],
-        Found(Property::Inactive, 1, Some((1, 5)), None),
     ),
     (
         "a chain of three replacements",
@@ -324,6 +343,15 @@ const ROWS: [Row; 41] = [
         &[Trade("b1", "r1", 5, 10)],
         Found(Property::SellPriority, 1, Some((2, 0)), Some((3, 5))),
     ),
+];
+
+#[test]
+fn rows_of_chains(rt: HostRuntime) {
+    assert_rows(&rt, &CHAINS);
+}
+
+/// Replacements that never enter, or end at once.
+const REPLACED_ORDERS: [Row; 9] = [
     (
         "a replacement of an immediate order",
         &[
@@ -420,6 +448,60 @@ const ROWS: [Row; 41] = [
         &[Trade("b1", "s1", 5, 10)],
         Found(Property::Inactive, 1, Some((1, 5)), None),
     ),
+];
+
+#[test]
+fn rows_of_replaced_orders(rt: HostRuntime) {
+    assert_rows(&rt, &REPLACED_ORDERS);
+}
+
+/// Immediate and market orders.
+const INSTANT_ORDERS: [Row; 6] = [
+    (
+        "market order partly filled",
+        &[Ask("s1", 5, 10), MarketBid("m1", 8), Bid("b2", 1, 9)],
+        &[Trade("m1", "s1", 5, 10)],
+        Volume(5),
+    ),
+    (
+        "market order unfilled",
+        &[Ask("s1", 5, 10), MarketBid("m1", 8), Bid("b2", 1, 9)],
+        &[],
+        Found(Property::Spread, 2, Some((2, 0)), Some((1, 0))),
+    ),
+    (
+        "immediate order lapses",
+        &[ImmediateBid("i1", 5, 10), Ask("s1", 5, 9)],
+        &[],
+        Volume(0),
+    ),
+    (
+        "immediate order trades late",
+        &[ImmediateBid("i1", 5, 10), Ask("s1", 5, 9)],
+        &[Trade("i1", "s1", 5, 9)],
+        Found(Property::Inactive, 1, Some((1, 5)), None),
+    ),
+    (
+        "a market order against a market order",
+        &[MarketAsk("m1", 5), MarketBid("m2", 5)],
+        &[],
+        Volume(0),
+    ),
+    (
+        "a market order trades with a market order",
+        &[MarketAsk("m1", 5), MarketBid("m2", 5)],
+        &[Trade("m2", "m1", 5, 10)],
+        Found(Property::Inactive, 1, Some((1, 5)), None),
+    ),
+];
+
+#[test]
+fn rows_of_instant_orders(rt: HostRuntime) {
+    assert_rows(&rt, &INSTANT_ORDERS);
+}
+
+/// Several deals, and the records that cause them.
+const CAUSES: [Row; 7] = [
     (
         "an order filled by an earlier deal of the same cause",
         &[Ask("s1", 5, 10), Bid("b1", 10, 10)],
@@ -467,49 +549,11 @@ const ROWS: [Row; 41] = [
         &[Trade("b1", "s1", 5, 10), Trade("b1", "s2", 1, 10)],
         Volume(6),
     ),
-    (
-        "a market order against a market order",
-        &[MarketAsk("m1", 5), MarketBid("m2", 5)],
-        &[],
-        Volume(0),
-    ),
-    (
-        "a market order trades with a market order",
-        &[MarketAsk("m1", 5), MarketBid("m2", 5)],
-        &[Trade("m2", "m1", 5, 10)],
-        Found(Property::Inactive, 1, Some((1, 5)), None),
-    ),
-    (
-        "an order behind an equal limit",
-        &[Ask("s1", 2, 10), Ask("s2", 3, 10), Bid("b1", 5, 10)],
-        &[Trade("b1", "s1", 2, 10)],
-        Found(Property::Spread, 3, Some((3, 2)), Some((2, 0))),
-    ),
-    (
-        "priority before spread",
-        &[Ask("s1", 5, 10), Ask("s2", 5, 11), Bid("b1", 5, 11)],
-        &[Trade("b1", "s2", 2, 11)],
-        Found(Property::SellPriority, 1, Some((1, 0)), Some((2, 2))),
-    ),
-    (
-        "two books that do not meet",
-        &[
-            Ask("s1", 5, 12),
-            Bid("b1", 5, 9),
-            Ask("s2", 5, 11),
-            Bid("b2", 5, 10),
-        ],
-        &[],
-        Volume(0),
-    ),
 ];
 
 #[test]
-fn rows_of_continuous_trading(rt: HostRuntime) {
-    for (name, lines, trades, answer) in ROWS {
-        let outcome = answer_to(&rt, lines, trades);
-        assert_eq!(rt; in_short(&outcome), answer, "{name}");
-    }
+fn rows_of_causes(rt: HostRuntime) {
+    assert_rows(&rt, &CAUSES);
 }
 
 const CHAIN: [Line<'static>; 8] = [
@@ -526,50 +570,59 @@ const CHAIN: [Line<'static>; 8] = [
 /// An expected trade: the index of the bid and of the ask, the quantity and the price.
 type Expected = (usize, usize, u64, u64);
 
-#[test]
-fn expected_trades(rt: HostRuntime) {
-    let rows: [(&str, &[Line<'_>], &[Expected]); 4] = [
-        (
-            "crossed book",
-            &[
-                Ask("s1", 5, 12),
-                Bid("b1", 5, 9),
-                Ask("s2", 5, 11),
-                Bid("b2", 5, 11),
-            ],
-            &[(3, 2, 5, 11)],
-        ),
-        (
-            "best first, at the limits of those that rest",
-            &[
-                Ask("s1", 2, 10),
-                Ask("s2", 3, 9),
-                Ask("s3", 4, 10),
-                Bid("b1", 7, 10),
-                MarketBid("m1", 9),
-            ],
-            &[(3, 0, 2, 10), (3, 1, 3, 9), (3, 2, 2, 10), (4, 2, 2, 10)],
-        ),
-        (
-            "a chain of three replacements",
-            &CHAIN,
-            &[(1, 0, 2, 10), (3, 2, 3, 11), (5, 4, 1, 12), (7, 6, 4, 10)],
-        ),
-        (
-            "an immediate order, and one that is cancelled",
-            &[
-                ImmediateBid("i1", 5, 10),
-                Ask("s1", 5, 9),
-                Cancel("x1", "s1"),
-                Bid("b1", 5, 9),
-            ],
-            &[],
-        ),
-    ];
-    for (name, lines, wanted) in rows {
-        let expected = expected_of(&rt, lines);
+/// Lines by name, and their Expected trades.
+type ExpectedRow = (&'static str, &'static [Line<'static>], &'static [Expected]);
+
+const EXPECTED: [ExpectedRow; 4] = [
+    (
+        "crossed book",
+        &[
+            Ask("s1", 5, 12),
+            Bid("b1", 5, 9),
+            Ask("s2", 5, 11),
+            Bid("b2", 5, 11),
+        ],
+        &[(3, 2, 5, 11)],
+    ),
+    (
+        "best first, at the limits of those that rest",
+        &[
+            Ask("s1", 2, 10),
+            Ask("s2", 3, 9),
+            Ask("s3", 4, 10),
+            Bid("b1", 7, 10),
+            MarketBid("m1", 9),
+        ],
+        &[(3, 0, 2, 10), (3, 1, 3, 9), (3, 2, 2, 10), (4, 2, 2, 10)],
+    ),
+    (
+        "a chain of three replacements",
+        &CHAIN,
+        &[(1, 0, 2, 10), (3, 2, 3, 11), (5, 4, 1, 12), (7, 6, 4, 10)],
+    ),
+    (
+        "an immediate order, and one that is cancelled",
+        &[
+            ImmediateBid("i1", 5, 10),
+            Ask("s1", 5, 9),
+            Cancel("x1", "s1"),
+            Bid("b1", 5, 9),
+        ],
+        &[],
+    ),
+];
+
+/// Asserts the Expected trades of lines.
+fn assert_expected<R: AllocGlobal + Abort>(rt: &R, rows: &[ExpectedRow]) {
+    for &(name, lines, wanted) in rows {
+        let expected = expected_of(rt, &history(rt, lines));
         assert_eq!(rt; expected.as_slice(), wanted, "{name}");
     }
+}
+
+#[test]
+fn expected_trades(rt: HostRuntime) {
+    assert_expected(&rt, &EXPECTED);
 }
 
 #[test]
@@ -580,7 +633,7 @@ fn what_each_order_traded(rt: HostRuntime) {
         Trade("b3", "r2", 1, 12),
         Trade("b4", "r3", 4, 10),
     ];
-    match answer_to(&rt, &CHAIN, &trades) {
+    match outcome_of(&rt, &history(&rt, &CHAIN), &trades) {
         Outcome::Conforms(reached) => {
             let traded: [u128; 8] = [2, 2, 3, 3, 1, 1, 4, 4];
             assert_eq!(rt; reached.traded.as_slice(), traded.as_slice());

@@ -8,6 +8,7 @@ use crate::records::{
 use audit_base::findings::{Finding, Property};
 use audit_base::records::{OrderRecord, TradeRecord};
 use audit_base::terms::{Life, Side, Which};
+use instruction_history::history::History;
 use session_audit::auditing::audit_session;
 use session_audit::days::Day;
 use session_audit::phases::{Phase, PhaseKind};
@@ -58,17 +59,34 @@ fn answer<R: AllocGlobal + Abort>(
 ) -> Result<Vec<u8>, Finding>
     requires { ArePhases phases.now }
 {
-    let history = history_of(rt, entries);
-    let symbol = symbol(rt);
-    let deals = deals_of(rt, &history, trades);
+    answer_over(rt, phases, &history_of(rt, entries), trades)
+}
+
+/// The text of the day over a history, or its first offence.
+fn answer_over<R: AllocGlobal + Abort>(
+    rt: &R,
+    phases: &[Phase],
+    history: &History,
+    trades: &[TradeRecord],
+) -> Result<Vec<u8>, Finding>
+    requires { ArePhases phases.now }
+{
+    let deals = deals_of(rt, history, trades);
     assert!(rt; trades.len() < 10);
     let count = trades.len() as u32;
     assert!(rt; deals.len() <= trades.len());
     let orders = history.orders();
     match audit_session(rt.alloc(), orders, phases, &deals, count) {
         Ok(Day::Conforms(totals)) => {
-            let Ok(text) = session_text(rt.alloc(), &symbol, phases, orders, &totals, count, true)
-            else {
+            let Ok(text) = session_text(
+                rt.alloc(),
+                &symbol(rt),
+                phases,
+                orders,
+                &totals,
+                count,
+                true,
+            ) else {
                 panic!(rt; "no memory");
             };
             Ok(text)

@@ -36,10 +36,13 @@ fn history<R: AllocGlobal + Abort>(rt: &R, rows: &[Row]) -> History {
 fn assert_trades(rt: &impl Abort, deals: &[Deal], trades: &[Trade]) {
     assert_eq!(rt; deals.len(), trades.len());
     for (deal, trade) in deals.iter().zip(trades) {
-        let (bid, ask, quantity, price) = *trade;
-        assert_eq!(rt; (deal.bid, deal.ask), (bid, ask));
-        assert_eq!(rt; deal.quantity.value(), quantity);
-        assert_eq!(rt; deal.price.units(), price);
+        let found = (
+            deal.bid,
+            deal.ask,
+            deal.quantity.value(),
+            deal.price.units(),
+        );
+        assert_eq!(rt; found, *trade);
     }
 }
 
@@ -73,10 +76,9 @@ const SPLIT: [Row; 5] = [
 fn bound_of_expected<R: AllocGlobal + Abort>(
     rt: &R,
     uniform: bool,
-    rows: &[Row],
+    history: &History,
     trades: &[Trade],
 ) -> (u128, u64) {
-    let history = history(rt, rows);
     let orders = history.orders();
     let made = if uniform {
         expected_uniform(rt.alloc(), orders)
@@ -105,39 +107,40 @@ fn bound_of_expected<R: AllocGlobal + Abort>(
 /// A case: whether the rule is `uniform`, the orders, their Expected trades, the volume and its bound.
 type Case = (bool, &'static [Row], &'static [Trade], u128, u64);
 
+const CASES: [Case; 8] = [
+    (true, &[], &[], 0, 0),
+    (true, &LADDER, &[(1, 4, 1, 2), (2, 3, 1, 2)], 2, 2),
+    (true, &CROSSED, &[(0, 2, 1, 5)], 1, 5),
+    (
+        true,
+        &SPLIT,
+        &[(0, 2, 2, 4), (0, 3, 3, 4), (1, 4, 4, 4)],
+        9,
+        4,
+    ),
+    (false, &[], &[], 0, 0),
+    (
+        false,
+        &LADDER,
+        &[(0, 3, 1, 1), (1, 4, 1, 2), (2, 5, 1, 3)],
+        3,
+        0,
+    ),
+    (false, &CROSSED, &[(0, 3, 1, 9), (1, 2, 1, 5)], 2, 0),
+    (
+        false,
+        &SPLIT,
+        &[(0, 2, 1, 3), (0, 4, 4, 4), (1, 2, 1, 3), (1, 3, 3, 2)],
+        9,
+        0,
+    ),
+];
+
 #[test]
 fn the_expected_trades_are_accepted(rt: HostRuntime) {
-    let cases: [Case; 8] = [
-        (true, &[], &[], 0, 0),
-        (true, &LADDER, &[(1, 4, 1, 2), (2, 3, 1, 2)], 2, 2),
-        (true, &CROSSED, &[(0, 2, 1, 5)], 1, 5),
-        (
-            true,
-            &SPLIT,
-            &[(0, 2, 2, 4), (0, 3, 3, 4), (1, 4, 4, 4)],
-            9,
-            4,
-        ),
-        (false, &[], &[], 0, 0),
-        (
-            false,
-            &LADDER,
-            &[(0, 3, 1, 1), (1, 4, 1, 2), (2, 5, 1, 3)],
-            3,
-            0,
-        ),
-        (false, &CROSSED, &[(0, 3, 1, 9), (1, 2, 1, 5)], 2, 0),
-        (
-            false,
-            &SPLIT,
-            &[(0, 2, 1, 3), (0, 4, 4, 4), (1, 2, 1, 3), (1, 3, 3, 2)],
-            9,
-            0,
-        ),
-    ];
-    for (uniform, rows, trades, volume, bound) in cases {
+    for &(uniform, rows, trades, volume, bound) in &CASES {
         assert_eq!(rt;
-            bound_of_expected(&rt, uniform, rows, trades),
+            bound_of_expected(&rt, uniform, &history(&rt, rows), trades),
             (volume, bound)
         );
     }

@@ -20,5 +20,3 @@ pub mod extremes;
 pub mod laws;
 mod limits;
 pub mod sums;
-#[cfg(test)]
-mod tests;

@@ -300,7 +300,7 @@ fn check_quantities(
 
 #[test]
 fn certificates_of_other_quantities(rt: HostRuntime) -> Result<(), Fail> {
-    for (lines, status, report) in QUANTITIES {
+    for &(lines, status, report) in &QUANTITIES {
         check_quantities(rt.alloc(), lines, status, report)?;
     }
     Ok(())

@@ -16,23 +16,26 @@ const BODY_LENGTH_LONG: &[u8] =
 const LAST_BYTE_MISSING: &[u8] =
     b"8=FIX.4.4\x019=64\x0135=D\x0149=A\x0111=1\x0160=20240102-09:00:00\x0155=Z\x0154=1\x0138=100\x0140=2\x0144=10\x0110=145\x018=FIX.4.4\x019=63\x0135=D\x0149=B\x0111=2\x0160=20240102-09:00:01\x0155=Z\x0154=2\x0138=100\x0140=2\x0144=9\x0110=108";
 
+/// Messages, and where their bodies begin.
+const WHOLE: [(&[u8], usize); 12] = [
+    (M1, 15),
+    (M2, 15),
+    (M3, 15),
+    (M4, 15),
+    (H, 14),
+    (Q, 15),
+    (P, 16),
+    (R1, 15),
+    (R2, 15),
+    // No body at all, and leading zeros in the length.
+    (b"8=FIX.4.4\x019=0\x0110=200\x01", 14),
+    (b"8=FIX.4.4\x019=05\x0135=0\x0110=211\x01", 15),
+    (b"8=FIX.4.4\x019=000000005\x0135=0\x0110=035\x01", 22),
+];
+
 #[test]
 fn messages_are_found_whole(rt: HostRuntime) {
-    for (text, body) in [
-        (M1, 15),
-        (M2, 15),
-        (M3, 15),
-        (M4, 15),
-        (H, 14),
-        (Q, 15),
-        (P, 16),
-        (R1, 15),
-        (R2, 15),
-        // No body at all, and leading zeros in the length.
-        (b"8=FIX.4.4\x019=0\x0110=200\x01", 14),
-        (b"8=FIX.4.4\x019=05\x0135=0\x0110=211\x01", 15),
-        (b"8=FIX.4.4\x019=000000005\x0135=0\x0110=035\x01", 22),
-    ] {
+    for &(text, body) in &WHOLE {
         let end = text.len();
         let want = Frame {
             start: 0,
@@ -105,7 +108,7 @@ const DAMAGED: [(&[u8], usize, FrameFault); 20] = [
 
 #[test]
 fn damaged_messages_give_the_first_failing_test(rt: HostRuntime) {
-    for (text, at, fault) in DAMAGED {
+    for &(text, at, fault) in &DAMAGED {
         assert!(rt; at <= text.len());
         assert_eq!(rt; frame_at(text, at), Err(fault));
     }

@@ -1,7 +1,7 @@
 //! A book of bids and a book of asks, one call after another.
-use super::books::{Book, Resting};
 use audit_base::numbers::Price;
 use audit_base::terms::Side;
+use order_book::books::{Book, Resting};
 use std::process::Abort;
 
 fn price(rt: &impl Abort, units: u64) -> Price {

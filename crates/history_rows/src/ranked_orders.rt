@@ -2,12 +2,12 @@
 ghost use Rattle.std.specs.Prelude.{◌≡◌, ◌<◌, None, length};
 ghost use Rattle.audit_base.specs.Orders.{IsOrderList};
 
-use super::ranking::ranked_sides;
-use audit_base::names::{Key, read_name};
+use crate::names::key;
 use audit_base::numbers::{Price, Quantity};
 use audit_base::orders::Order;
 use audit_base::stamps::Stamp;
 use audit_base::terms::{Life, Side};
+use rank_order::ranking::ranked_sides;
 use std::process::Abort;
 
 /// The side of an order, its limit, and where it is cancelled the place of the record that ends it.
@@ -19,13 +19,9 @@ fn order(rt: &impl Abort, place: u32, shape: Shape) -> Order
     ensures target { result.target ≡ None }
 {
     let (side, limit, cancelled) = shape;
-    let name = read_name(b"A").expect(rt, "a name");
     Order {
         place,
-        key: Key {
-            firm: name,
-            id: name,
-        },
+        key: key(rt, "A", "A"),
         time: Stamp { second: 5, nano: 0 },
         side,
         quantity: Quantity::of(100).expect(rt, "a quantity"),

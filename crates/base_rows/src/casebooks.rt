@@ -1,10 +1,10 @@
 //! A casebook over a keeper in memory.
-use super::case::{Case, Filter, Mark, Offence};
-use super::casebook::{Casebook, Filed};
-use super::map_keeper::MapKeeper;
 use audit_base::findings::Property;
 use audit_base::names::{Name, read_name};
 use audit_base::terms::{Rule, Which};
+use case_keeper::case::{Case, Filter, Mark, Offence};
+use case_keeper::casebook::{Casebook, Filed};
+use case_keeper::map_keeper::MapKeeper;
 use std::process::Abort;
 use std::test::Fail;
 
@@ -75,8 +75,8 @@ fn a_filter_picks_by_symbol_and_mark(rt: HostRuntime) -> Result<(), Fail> {
         broken(&rt, "d", "Z", Property::Spread),
         accepted(&rt, "b", "Y"),
     ];
-    for case in filed {
-        assert!(rt; book.file(&case)? == Filed::Kept);
+    for case in &filed {
+        assert!(rt; book.file(case)? == Filed::Kept);
     }
     let volume = Some(Mark::Broken(Property::Volume));
     let cases = [
@@ -86,7 +86,7 @@ fn a_filter_picks_by_symbol_and_mark(rt: HostRuntime) -> Result<(), Fail> {
         (Some("Z"), volume, "c"),
         (Some("Y"), volume, ""),
     ];
-    for (symbol, mark, labels) in cases {
+    for &(symbol, mark, labels) in &cases {
         let filter = Filter {
             symbol: symbol.map(|symbol| name(&rt, symbol)),
             mark,

@@ -1,15 +1,11 @@
 //! Generated records beside records that are written out.
-use super::generator::{generated_symbol, make_orders};
-use audit_base::names::{Key, Name, read_name};
+use crate::names::{key, name};
 use audit_base::numbers::{Quantity, read_price};
 use audit_base::records::OrderRecord;
 use audit_base::stamps::{Stamp, read_stamp};
 use audit_base::terms::{Life, Side};
+use log_maker::generator::{generated_symbol, make_orders};
 use std::process::Abort;
-
-fn name(rt: &impl Abort, text: &str) -> Name {
-    read_name(text.as_bytes()).expect(rt, "a name")
-}
 
 fn time(rt: &impl Abort, text: &str) -> Stamp {
     read_stamp(text.as_bytes()).expect(rt, "a stamp")
@@ -24,10 +20,7 @@ fn new_order(
     (quantity, price): (u64, &str),
 ) -> OrderRecord {
     OrderRecord::New {
-        key: Key {
-            firm: name(rt, firm_and_id.0),
-            id: name(rt, firm_and_id.1),
-        },
+        key: key(rt, firm_and_id.0, firm_and_id.1),
         time: time(rt, stamp),
         symbol: name(rt, "GEN"),
         side,
@@ -58,10 +51,7 @@ fn four_records_from_seven(rt: HostRuntime) {
 /// A cancel of firm `F0`, by its id, time and target.
 fn cancel(rt: &impl Abort, id: &str, stamp: &str, target: &str) -> OrderRecord {
     OrderRecord::Cancel {
-        key: Key {
-            firm: name(rt, "F0"),
-            id: name(rt, id),
-        },
+        key: key(rt, "F0", id),
         time: time(rt, stamp),
         symbol: generated_symbol(),
         target: name(rt, target),

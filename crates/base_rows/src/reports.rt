@@ -1,16 +1,16 @@
 //! Whole texts, one for each kind of line.
 ghost use Rattle.audit_report.specs.Texts.{IsVerdictInRange};
 
-use super::reports::{read_fault_text, report_text, too_long_text, usage_text};
-use super::statuses::Status;
-use super::tables::{Line, Table};
-use super::verdicts::{Accepted, Verdict, status_of};
 use audit_base::faults::{BadPlace, Reason};
 use audit_base::findings::{Finding, OrderLine, Property, Short, Shown};
 use audit_base::names::{Key, Name, read_name};
 use audit_base::numbers::{Price, Quantity};
 use audit_base::orders::Cut;
 use audit_base::terms::{Rule, Side, Which};
+use audit_report::reports::{read_fault_text, report_text, too_long_text, usage_text};
+use audit_report::statuses::Status;
+use audit_report::tables::{Line, Table};
+use audit_report::verdicts::{Accepted, Verdict, status_of};
 use std::process::Abort;
 
 /// Units of a price of 1.
@@ -119,7 +119,7 @@ const CALLS: [(Rule, u32, u32, u128, Option<u64>, &str); 4] = [
 
 #[test]
 fn accepted_without_a_table(rt: HostRuntime) {
-    for (rule, orders, trades, volume, price, text) in CALLS {
+    for &(rule, orders, trades, volume, price, text) in &CALLS {
         assert!(rt; price.unwrap_or(0) <= 1_000_000_000_000_000_000);
         let verdict = Verdict::Accepted(Accepted {
             rule,
@@ -505,7 +505,7 @@ const BAD_PLACES: [(Which, u32, u64, Reason, &str); 32] = [
 
 #[test]
 fn malformed(rt: HostRuntime) {
-    for (log, place, offset, reason, text) in BAD_PLACES {
+    for &(log, place, offset, reason, text) in &BAD_PLACES {
         let bad = BadPlace {
             place,
             offset,
@@ -529,7 +529,7 @@ fn numbers_of_statuses(rt: HostRuntime) {
         (Status::TooLong, 6),
         (Status::Memory, 7),
     ];
-    for (status, number) in cases {
+    for &(status, number) in &cases {
         assert_eq!(rt; status.number(), number);
     }
 }
@@ -546,7 +546,7 @@ fn lines_of_no_verdict(rt: HostRuntime) {
             "usage: audit RULE SYMBOL ORDERS TRADES | expect RULE SYMBOL ORDERS | convert orders|trades csv|fix PATH | generate START COUNT | certify RULE SYMBOL ORDERS TRADES | verify SYMBOL ORDERS TRADES CERTIFICATE | session SYMBOL PHASES ORDERS TRADES\n",
         ),
     ];
-    for (line, text) in cases {
+    for &(line, text) in &cases {
         assert_eq!(rt; line, text.as_bytes());
     }
 }

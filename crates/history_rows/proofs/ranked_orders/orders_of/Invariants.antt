@@ -1,6 +1,6 @@
 use Rattle.std.proofs.Common.{◌≡◌, ◌<◌, ◌+◌, ℕ, None, get_or, length}
 use Rattle.audit_base.specs.declared.orders.Order.{Order}
-use Rattle.rank_order.proofs.tests.orders_of.Given as goal
+use Rattle.history_rows.proofs.ranked_orders.orders_of.Given as goal
 
 -- the order at each index stands at the next place and has no target
 abbrev pub invariant-loop-i : goal.invariant-loop-i
