@@ -1,8 +1,8 @@
 //! Casebooks in databases whose files lie in memory. All tests of databases but the one of real files use these, since
 //! a database is compiled anew for each kind of file.
 //!
-//! What a test does with a casebook is a visit, over any keeper. So one function has the database, which it closes:
-//! the proof of each that has one goes through all that a database is made of, which takes half a minute.
+//! What a test does with a casebook is a visit, over any keeper. So few functions have a database, all of them here:
+//! the proof of each goes through all that a database is made of, which takes half a minute or more.
 use super::case_tests::{Row, assert_row, run_line};
 use case_keeper::casebook::Casebook;
 use case_keeper::keeper::Keeper;
