@@ -1,8 +1,9 @@
 //! Casebooks in databases whose files lie in memory. All tests of databases but the one of real files use these, since
 //! a database is compiled anew for each kind of file.
 //!
-//! What a test does with a casebook is a visit, over any keeper. So few functions have a database, all of them here:
-//! the proof of each goes through all that a database is made of, which takes half a minute or more.
+//! What a test does with a casebook is a visit, over any keeper. So few functions have a database by its own type, all
+//! of them here: the proof of one goes through all that a database is made of at each call that it hands one to, which
+//! takes ten seconds a call.
 use super::case_tests::{Row, assert_row, run_line};
 use case_keeper::casebook::Casebook;
 use case_keeper::keeper::Keeper;
@@ -16,9 +17,6 @@ use std::test::Fail;
 
 /// The log and the database file, each of which may stop.
 pub(crate) type Disks = Files<Fuse<Memory>>;
-
-/// A database over such files.
-type Database = Connection<FileStore<Fuse<Memory>>>;
 
 /// What a test does with a casebook.
 pub(crate) trait Visit {
@@ -80,37 +78,62 @@ pub(crate) fn whole_files(alloc: Global) -> Disks {
     empty_files(alloc, u64::MAX, u64::MAX)
 }
 
-/// A database over the files, or what is left of them.
-fn open(alloc: Global, files: Disks) -> Result<Database, Disks> {
+/// Puts a row into the table.
+fn insert_row<S: Alter>(
+    alloc: Global,
+    connection: &mut Connection<S>,
+    row: &str,
+) -> Result<(), Fail> {
+    let columns = "label, rule, symbol, property, log, place";
+    let sql = format!(in alloc; "INSERT INTO cases ({columns}) VALUES ({row})")?;
+    connection.execute(sql.as_str(), &[])?;
+    Ok(())
+}
+
+/// A keeper over the database in the files, or what is left of them.
+fn open<D: Disk + Drop>(
+    alloc: Global,
+    files: Files<D>,
+) -> Result<SqlKeeper<FileStore<D>>, Files<D>> {
     if !files.log.may_be_used() || !files.db.may_be_used() {
         return Err(files);
     }
     match Connection::open_files(alloc, files, Options::new(1)) {
-        Ok(connection) => Ok(connection),
+        Ok(connection) => Ok(SqlKeeper::new(alloc, connection)),
         Err((_, left)) => Err(left.into_files()),
     }
 }
 
-/// Whether the files of the database were closed with no fault, and the files.
-fn close(connection: Database) -> (bool, Disks) {
-    match connection.close_files() {
+/// Whether the database was closed with no fault, and its files.
+fn close<D: Disk + Drop>(keeper: SqlKeeper<FileStore<D>>) -> (bool, Files<D>) {
+    match keeper.into_connection().close_files() {
         Ok(files) => (true, files),
         Err((_, store)) => (false, store.close()),
     }
 }
 
+/// What a visit to a casebook over the keeper answers, and the keeper.
+fn visit_keeper<R: AllocGlobal + Abort, K: Keeper, V: Visit>(
+    rt: &R,
+    keeper: K,
+    visit: &V,
+) -> (Result<V::Answer, Fail>, K) {
+    let mut book = Casebook::new(keeper);
+    let answer = visit.visit(rt, &mut book);
+    (answer, book.into_keeper())
+}
+
 /// Visits a casebook over the files: what the visit answers, if they could be opened, whether they were closed with
 /// no fault, and the files.
-pub(crate) fn visit_files<R: AllocGlobal + Abort, V: Visit>(
+pub(crate) fn visit_files<R: AllocGlobal + Abort, D: Disk + Drop, V: Visit>(
     rt: &R,
-    files: Disks,
+    files: Files<D>,
     visit: &V,
-) -> (Result<Option<V::Answer>, Fail>, bool, Disks) {
+) -> (Result<Option<V::Answer>, Fail>, bool, Files<D>) {
     match open(rt.alloc(), files) {
-        Ok(connection) => {
-            let mut book = Casebook::new(SqlKeeper::new(rt.alloc(), connection));
-            let answer = visit.visit(rt, &mut book);
-            let (closed, files) = close(book.into_keeper().into_connection());
+        Ok(keeper) => {
+            let (answer, keeper) = visit_keeper(rt, keeper, visit);
+            let (closed, files) = close(keeper);
             (answer.map(Some), closed, files)
         }
         Err(files) => (Ok(None), false, files),
@@ -134,24 +157,27 @@ pub(crate) fn visit_new<R: AllocGlobal + Abort, V: Visit>(
     opened(answer)
 }
 
-/// Puts a row into the table.
-fn insert_row<S: Alter>(
+/// Puts a row into the table of a keeper, as something else may: whether it could, and a keeper over the same table.
+fn put_in_table<S: Alter>(
     alloc: Global,
-    connection: &mut Connection<S>,
+    keeper: SqlKeeper<S>,
     row: &str,
-) -> Result<(), Fail> {
-    let columns = "label, rule, symbol, property, log, place";
-    let sql = format!(in alloc; "INSERT INTO cases ({columns}) VALUES ({row})")?;
-    connection.execute(sql.as_str(), &[])?;
-    Ok(())
+) -> (Result<(), Fail>, SqlKeeper<S>) {
+    let mut connection = keeper.into_connection();
+    let put = insert_row(alloc, &mut connection, row);
+    (put, SqlKeeper::new(alloc, connection))
 }
 
-/// Puts a row into the table of the files, as something else may: whether it could, and the files.
-fn put_row(alloc: Global, files: Disks, row: &str) -> (Result<(), Fail>, Disks) {
+/// Puts a row into the table of the files: whether it could, and the files.
+fn put_row<D: Disk + Drop>(
+    alloc: Global,
+    files: Files<D>,
+    row: &str,
+) -> (Result<(), Fail>, Files<D>) {
     match open(alloc, files) {
-        Ok(mut connection) => {
-            let put = insert_row(alloc, &mut connection, row);
-            let (_, files) = close(connection);
+        Ok(keeper) => {
+            let (put, keeper) = put_in_table(alloc, keeper, row);
+            let (_, files) = close(keeper);
             (put, files)
         }
         Err(files) => (Err(Fail::new("not opened")), files),

@@ -2,11 +2,12 @@
 //! them.
 //!
 //! `main` hands words, files, standard output and an opener over files (`file_opener`) to `run_book` of
-//! `case_run`, which does all the rest, and closes the database.
+//! `case_run`, which does all the rest, and closes the database (`closing`).
 #![tactic(auto)]
 
 #[cfg(test)]
 mod case_tests;
+mod closing;
 #[cfg(test)]
 mod database_tests;
 #[cfg(test)]
@@ -19,14 +20,11 @@ mod opener_tests;
 #[cfg(test)]
 mod stopped_tests;
 
-use case_keeper::casebook::Casebook;
-use case_run::books::{Ended, run_book};
 use case_run::statuses::CaseStatus;
-use case_sqlite::sql_keeper::SqlKeeper;
+use closing::run_and_close;
 use file_opener::FileOpener;
 use log_source::file_shelf::FileShelf;
 use log_source::std_sink::StdSink;
-use sqlite::{File, FileStore};
 use std::io::ErrorKind;
 use std::process::ExitCode;
 use std::{env, io};
@@ -52,14 +50,6 @@ fn words_of(rt: &HostRuntime) -> io::Result<Vec<String>> {
     Ok(words)
 }
 
-/// Closes the database, where one was opened. What was filed is in its files before that, so that a close
-/// that fails loses nothing.
-fn close_book(book: Option<Casebook<SqlKeeper<FileStore<File>>>>) {
-    if let Some(book) = book {
-        let _closed = book.into_keeper().into_connection().close();
-    }
-}
-
 /// Runs the commands over the database that the first word names, and closes it.
 fn keep_cases(rt: HostRuntime) -> CaseStatus {
     let Ok(words) = words_of(&rt) else {
@@ -74,7 +64,5 @@ fn keep_cases(rt: HostRuntime) -> CaseStatus {
     let mut out = StdSink::new(io::writer(&rt));
     let mut shelf = FileShelf::new(files);
     let mut opener = FileOpener::new(databases);
-    let Ended { status, book } = run_book(rt.alloc(), &words, &mut shelf, &mut out, &mut opener);
-    close_book(book);
-    status
+    run_and_close(rt.alloc(), &words, &mut shelf, &mut out, &mut opener)
 }

@@ -1,8 +1,7 @@
 //! Runs over databases in files: what is under a path, and a path under which nothing can be.
 use super::case_tests::{Row, shelf_of, split_words};
-use super::close_book;
+use super::closing::run_and_close;
 use super::file_opener::FileOpener;
-use case_run::books::{Ended, run_book};
 use case_run::statuses::CaseStatus;
 use log_source::memory_sink::MemorySink;
 use std::fs;
@@ -20,8 +19,7 @@ fn run_words(rt: &HostRuntime, line: &str) -> Result<(CaseStatus, MemorySink), F
     let mut shelf = shelf_of(rt.alloc(), 0)?;
     let mut out = MemorySink::new(rt.alloc(), 4096, 4096, Vec::new(rt.alloc()))?;
     let mut opener = FileOpener::new(rt.clone()?);
-    let Ended { status, book } = run_book(rt.alloc(), &words, &mut shelf, &mut out, &mut opener);
-    close_book(book);
+    let status = run_and_close(rt.alloc(), &words, &mut shelf, &mut out, &mut opener);
     Ok((status, out))
 }
 

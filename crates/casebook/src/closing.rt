@@ -1,0 +1,44 @@
+//! The run of the commands, and the close of the database behind it.
+use case_keeper::keeper::Keeper;
+use case_run::books::{Ended, run_book};
+use case_run::opener::Opener;
+use case_run::statuses::CaseStatus;
+use case_sqlite::sql_keeper::SqlKeeper;
+use log_source::shelf::Shelf;
+use log_source::sink::Sink;
+use sqlite::{File, FileStore};
+use std::alloc::Global;
+
+/// A keeper that is closed once nothing more is asked of it.
+///
+/// What handles one by this knows nothing of what it is made of. A function that has a database by its own
+/// type is proved by way of all that the database is made of, which takes half a minute or more.
+pub(crate) trait Closing: Keeper {
+    /// Closes it. What it has kept stays kept, also where the close fails.
+    fn close(self);
+}
+
+impl Closing for SqlKeeper<FileStore<File>> {
+    /// What was filed is in the database's files before this, so that a close that fails loses nothing.
+    fn close(self) {
+        let _closed = self.into_connection().close();
+    }
+}
+
+/// Runs the commands over the casebook that the first word names, as `run_book` does, and closes it.
+pub(crate) fn run_and_close<F: Shelf, K: Sink, O: Opener>(
+    alloc: Global,
+    words: &[String],
+    shelf: &mut F,
+    out: &mut K,
+    opener: &mut O,
+) -> CaseStatus
+where
+    O::Book: Closing,
+{
+    let Ended { status, book } = run_book(alloc, words, shelf, out, opener);
+    if let Some(book) = book {
+        book.into_keeper().close();
+    }
+    status
+}
