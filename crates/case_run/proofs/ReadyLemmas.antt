@@ -62,7 +62,7 @@ module _ (r : Reading) (tells : r.tells ≡ true) (quiet : (log : Which) → ¬ 
   no_length : (log : Which) → OfLog IsTooLong r wanted log → ⊥
   no_length log is = held_within (r.log_of log (name_in wanted log)) (started_held log is.is_started) (is.holds.longer tells)
 
--- where all is there no cause but want of memory holds
+-- where all is there no cause but out of memory holds
 no_cause : (call : Call) (commands : List Command) (cases : List Case) (ready : IsReady call commands cases) (last : Command) (rest : List Command) (why : Halt)
     → HoldsLogs call.shelf.log_of (last ∷ rest) → HasCause call last why → why ≡ halt.Memory
 no_cause call commands cases ready (command.File wanted) rest (halt.ReadFault log) held is =

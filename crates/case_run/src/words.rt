@@ -255,7 +255,7 @@ fn part_length(words: &[String]) -> usize
 }
 
 /// The commands that the words ask for: one or more, with the word `then` between them. `Usage` comes
-/// exactly where they are not well-formed, want of memory aside.
+/// exactly where they are not well-formed, out of memory aside.
 pub(crate) fn read_commands(alloc: Global, words: &[String]) -> Result<Vec<Command>, WordsFault>
     ensures commands { IfOk result
         (λ commands. spec.commands_of (map string_bytes words.now) ≡ Some commands.items) }

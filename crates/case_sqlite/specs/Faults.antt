@@ -5,7 +5,7 @@ use Rattle.sqlite.specs.declared.error.Error.{Error}
 use Rattle.sqlite.specs.declared.error.Error.TheVariants.{SqliteFailure}
 use Rattle.sqlite.specs.declared.error.ErrorCode.TheVariants.{OutOfMemory}
 
--- want of memory is told from every other refusal
+-- out of memory is told from every other refusal
 abbrev pub fault_of : Error → KeepFault
 fault_of (SqliteFailure OutOfMemory) = Memory
 fault_of _ = Failed

@@ -19,7 +19,7 @@ sql_state keeper = silent_state keeper.faults
 abbrev pub connection_of : {S : Type 0} → SqlKeeper S → Held S
 connection_of keeper = keeper.connection
 
--- the answer is a failure, which is no want of memory
+-- the answer is a failure, which out of memory is not
 abbrev pub is_failure : {T : Type 0} → Result T KeepFault → Bool
 is_failure (Ok _) = false
 is_failure (Err fault.Failed) = true

@@ -17,7 +17,7 @@ use std::alloc::Global;
 /// is not there.
 ///
 /// It does not tell its cases. A call fails, and its fault is counted, where the database refuses or
-/// gives a row that is no case, has another label or does not pass the filter. Want of memory is no
+/// gives a row that is no case, has another label or does not pass the filter. Out of memory is no
 /// failure and is not counted. After either no transaction is open, and what the call began is rolled
 /// back.
 #[derive(Drop)]

@@ -6,7 +6,7 @@ use Rattle.std.proofs.lemmas.List.{append-nil, take_all}
 use Rattle.audit_base.specs.declared.orders.Order.{Order}
 use Rattle.audit_base.specs.Orders.{place_at}
 use Rattle.session_audit.specs.declared.phases.Phase.{Phase}
-use Rattle.session_audit.specs.Texts.{phase_text, phases_text, order_line, order_lines}
+use Rattle.session_audit.specs.Texts.{phase_text, phases_text, total_line, total_lines}
 use Rattle.session_audit.specs.TextParts.{after_comma}
 
 -- joined phases are the first one and the others with commas before them
@@ -18,12 +18,12 @@ pub phases-joined : (phases : List Phase) (d : Phase) → (length phases == 0) �
 phases-joined [] d e = absurd (cc)
 phases-joined (p ∷ ps) d e = joined p ps ∙ ap (λ (qs : List Phase). phase_text p ++ flat_map after_comma qs) (sym (take_all (length (p ∷ ps) - 1) ps (omega arith)))
 
-pub lines-more : (orders : List Order) (totals : List ℕ) (n : ℕ) → order_lines orders totals (n + 1) ≡ order_lines orders totals n ++ order_line (place_at orders n) (get_or totals n 0)
-unfolding order_lines
-lines-more orders totals n = ap (order_lines orders totals) (add-one n)
+pub lines-more : (orders : List Order) (totals : List ℕ) (n : ℕ) → total_lines orders totals (n + 1) ≡ total_lines orders totals n ++ total_line (place_at orders n) (get_or totals n 0)
+unfolding total_lines
+lines-more orders totals n = ap (total_lines orders totals) (add-one n)
 
-pub lines-none : (orders : List Order) (totals : List ℕ) → order_lines orders totals 0 ≡ []
-unfolding order_lines
+pub lines-none : (orders : List Order) (totals : List ℕ) → total_lines orders totals 0 ≡ []
+unfolding total_lines
 lines-none orders totals = refl
 
 pub one-line : (start before after lines line : List ℕ) → before ≡ start ++ lines → after ≡ before ++ line → after ≡ start ++ (lines ++ line)

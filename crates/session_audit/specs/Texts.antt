@@ -30,22 +30,22 @@ totals_line orders trades volume =
     codes "totals" ++ number_part orders ++ number_part trades ++ number_part volume ++ 10 ∷ []
 
 -- `order,PLACE,TRADED`
-abbrev pub order_line : ℕ → ℕ → List ℕ
-order_line place traded =
+abbrev pub total_line : ℕ → ℕ → List ℕ
+total_line place traded =
     codes "order" ++ number_part place ++ number_part traded ++ 10 ∷ []
 
--- the lines of the first n orders
-unfoldable pub order_lines : List Order → List ℕ → ℕ → List ℕ
-order_lines orders totals zero = []
-order_lines orders totals (suc n) =
-    order_lines orders totals n ++ order_line (place_at orders n) (slice_index totals n)
+-- the lines of what the first n orders traded over the day
+unfoldable pub total_lines : List Order → List ℕ → ℕ → List ℕ
+total_lines orders totals zero = []
+total_lines orders totals (suc n) =
+    total_lines orders totals n ++ total_line (place_at orders n) (slice_index totals n)
 
 -- with the option, a line for each order
-abbrev pub table_lines : Bool → List Order → List ℕ → List ℕ
-table_lines table orders totals =
-    if table then order_lines orders totals (length orders) else []
+abbrev pub table_text : Bool → List Order → List ℕ → List ℕ
+table_text table orders totals =
+    if table then total_lines orders totals (length orders) else []
 
 -- the accepted text of a day, from what each order traded over it. The volume is half the sum of these
 abbrev pub day_text : List ℕ → List Phase → List Order → List ℕ → ℕ → Bool → List ℕ
 day_text symbol phases orders totals trades table = session_line symbol phases
-    ++ totals_line (length orders) trades (sum totals / 2) ++ table_lines table orders totals
+    ++ totals_line (length orders) trades (sum totals / 2) ++ table_text table orders totals

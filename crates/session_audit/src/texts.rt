@@ -110,13 +110,13 @@ fn append_totals_line(
 
 /// Appends `order,PLACE,TRADED`.
 #[tactic(auto, using(std::proofs::Common::append_assoc))]
-fn append_order_line(
+fn append_total_line(
     alloc: Global,
     place: u32,
     traded: u128,
     out: &mut Vec<u8>,
 ) -> Result<(), NoMemory>
-    ensures { OnOk result (out.new.items ≡ out.old.items ++ text.order_line place traded) }
+    ensures { OnOk result (out.new.items ≡ out.old.items ++ text.total_line place traded) }
 {
     append(b"order", out)?;
     append_number(alloc, u128::from(place), out)?;
@@ -125,18 +125,18 @@ fn append_order_line(
 }
 
 /// Appends a line for each order.
-fn append_order_lines(
+fn append_total_lines(
     alloc: Global,
     orders: &[Order],
     totals: &[u128],
     out: &mut Vec<u8>,
 ) -> Result<(), NoMemory>
     requires { length totals.now ≡ length orders.now }
-    ensures { let lines = text.order_lines orders.now totals.now (length orders.now) in
+    ensures { let lines = text.total_lines orders.now totals.now (length orders.now) in
         OnOk result (out.new.items ≡ out.old.items ++ lines) }
 {
     for index in 0..orders.len() {
-        append_order_line(alloc, orders[index].place, totals[index], out)?;
+        append_total_line(alloc, orders[index].place, totals[index], out)?;
     }
     Ok(())
 }
@@ -150,11 +150,11 @@ fn append_table(
     out: &mut Vec<u8>,
 ) -> Result<(), NoMemory>
     requires { length totals.now ≡ length orders.now }
-    ensures { let lines = text.table_lines table orders.now totals.now in
+    ensures { let lines = text.table_text table orders.now totals.now in
         OnOk result (out.new.items ≡ out.old.items ++ lines) }
 {
     if table {
-        append_order_lines(alloc, orders, totals, out)
+        append_total_lines(alloc, orders, totals, out)
     } else {
         Ok(())
     }

@@ -1,9 +1,9 @@
 use Rattle.std.proofs.Common.{◌≡◌, ◌++◌, ◌∙◌, List, ℕ, ap, sym, get_or}
 use Rattle.std.proofs.lemmas.List.{append-nil}
-use Rattle.session_audit.specs.Texts.{order_line, order_lines}
+use Rattle.session_audit.specs.Texts.{total_line, total_lines}
 use Rattle.session_audit.proofs.TextLemmas.{lines-more, lines-none, one-line}
 use Rattle.session_audit.proofs.EnteringLemmas.{order-read}
-use Rattle.session_audit.proofs.texts.append_order_lines.Goals as goal
+use Rattle.session_audit.proofs.texts.append_total_lines.Goals as goal
 
 pub loop-index-init : goal.loop-index-init
 loop-index-init c = sym (ap (λ (ls : List ℕ). c.args.out.now.items ++ ls) (lines-none c.args.orders.now c.args.totals.now) ∙ append-nil c.args.out.now.items)
@@ -14,7 +14,7 @@ loop-index-preserved c =
     let totals = c.args.totals.now in
     let i = c.loop-index.index in
     let at = order-read orders i c.index-orders-index.result c.loop-index-test.true in
-    let read : c.append_order_line.new.out.items ≡ c.loop-index.out.items ++ order_line (get_or orders i c.index-orders-index.result).place (get_or totals i 0) = c.in_ok-append_order_line.ensures in
-    one-line c.args.out.now.items c.loop-index.out.items c.append_order_line.new.out.items (order_lines orders totals i) _ c.loop-index.invariant
-    (read ∙ (λ j. c.loop-index.out.items ++ order_line ((at j).place) (get_or totals i 0)))
+    let read : c.append_total_line.new.out.items ≡ c.loop-index.out.items ++ total_line (get_or orders i c.index-orders-index.result).place (get_or totals i 0) = c.in_ok-append_total_line.ensures in
+    one-line c.args.out.now.items c.loop-index.out.items c.append_total_line.new.out.items (total_lines orders totals i) _ c.loop-index.invariant
+    (read ∙ (λ j. c.loop-index.out.items ++ total_line ((at j).place) (get_or totals i 0)))
     ∙ ap (λ (ls : List ℕ). c.args.out.now.items ++ ls) (sym (lines-more orders totals i))
