@@ -15,13 +15,13 @@ use Rattle.audit_report.specs.declared.verdicts.Accepted.{Accepted}
 use Rattle.audit_report.specs.declared.verdicts.Verdict.{Verdict}
 use Rattle.audit_report.specs.declared.verdicts.Verdict.TheVariants as verdict
 use Rattle.audit_report.specs.Statuses.{verdict_status}
-use Rattle.audit_run.specs.declared.questions.Question.{Question}
+use Rattle.record_verdict.specs.declared.questions.Question.{Question}
 use Rattle.audit_run.specs.declared.requests.Request.{Request}
 use Rattle.audit_run.specs.declared.requests.Request.TheVariants.{Expect}
 use Rattle.audit_run.specs.ExpectedTrades.{AuditAcceptsExpectedTrades, ExpectedTradesAreAccepted, WroteExpected}
-use Rattle.audit_run.specs.Judgements.{question, IsJudged}
+use Rattle.record_verdict.specs.Judgements.{question, IsJudged}
 use Rattle.audit_run.specs.Laws.{GenerateWrites}
-use Rattle.audit_run.specs.LogVerdicts.{Log, log_in, order_log, trade_log}
+use Rattle.log_verdict.specs.LogVerdicts.{Log, log_in, order_log, trade_log}
 use Rattle.audit_run.specs.OtherTexts.{orders_finding, ExpectsOf, IsAcceptedBeside, IsDone, IsExpectedLog, IsExpectReport, IsRefused}
 use Rattle.audit_run.specs.Requests.{IsReport}
 use Rattle.audit_run.proofs.LawLemmas.{one-verdict}

@@ -1,4 +1,4 @@
--- The commands that read two logs up to the rule: which steps lead to a report, and where they stop.
+-- The commands that read two logs: which steps lead to a report, and where they stop.
 use Rattle.std.proofs.Common.{◌≡◌, ◌∙◌, refl, ℕ, true, false, List, [], ◌∷◌, None, Some, Result, Ok, Err, IsOk}
 use Rattle.audit_base.specs.declared.faults.BadPlace.{BadPlace}
 use Rattle.audit_base.specs.declared.records.OrderRecord.{OrderRecord}
@@ -6,23 +6,23 @@ use Rattle.audit_base.specs.declared.terms.Which.{Which}
 use Rattle.audit_base.specs.declared.terms.Which.TheVariants.{Orders, Trades}
 use Rattle.audit_report.specs.declared.statuses.Status.{Status}
 use Rattle.audit_report.specs.Lines.{read_fault_line, too_long_line}
-use Rattle.audit_run.specs.declared.before_rule.BeforeRule.{BeforeRule}
-use Rattle.audit_run.specs.declared.questions.Question.{Question}
-use Rattle.audit_run.specs.declared.questions.Source.{Source}
+use Rattle.record_verdict.specs.declared.before_rule.BeforeRule.{BeforeRule}
+use Rattle.record_verdict.specs.declared.questions.Question.{Question}
+use Rattle.log_verdict.specs.declared.sources.Source.{Source}
 use Rattle.audit_run.specs.declared.requests.Request.{Request}
-use Rattle.audit_run.specs.declared.stops.Stop.{Stop}
-use Rattle.audit_run.specs.declared.stops.Stop.TheVariants as stop
-use Rattle.audit_run.specs.Auditing.{source_of, IsAuditStop, IsStarted, IsStop, OrdersComeTo, ReadsUpToRule, StartsBoth, TradesComeTo}
-use Rattle.audit_run.specs.Collecting.{step_of}
-use Rattle.audit_run.specs.LogVerdicts.{log_in, order_log, trade_log}
+use Rattle.log_verdict.specs.declared.stops.Stop.{Stop}
+use Rattle.log_verdict.specs.declared.stops.Stop.TheVariants as stop
+use Rattle.log_verdict.specs.BothLogs.{source_of, IsAuditStop, IsStarted, ReadsAfterOrders, ReadsLogs}
+use Rattle.audit_run.specs.Deciding.{IsStop, StartsBoth}
+use Rattle.log_verdict.specs.Collecting.{step_of}
+use Rattle.log_verdict.specs.LogVerdicts.{log_in, order_log, trade_log}
 use Rattle.audit_run.specs.Reporting.{IsReportStatus}
 use Rattle.audit_run.specs.Requests.{log_at, next_log, IsReport}
 use Rattle.audit_run.specs.Runs.{IsText, ReportsLogs, StopsAtLog}
-use Rattle.audit_run.specs.Steps.{Reading, Step, IsRead, IsReadFault, IsTooLong, Lead, NeverFall, with_slot}
-use Rattle.audit_run.specs.UpToRule.{LogsComeTo}
+use Rattle.log_verdict.specs.Steps.{Reading, Step, IsRead, IsReadFault, IsTooLong, Lead, NeverFall, with_slot}
 use Rattle.audit_run.proofs.ReportLemmas.{text-of}
 
-module _ (r : Reading) (later : NeverFall r) (q : Question) (orders trades : Source) (request : Request) (starts : StartsBoth request orders trades) where
+module _ (r : Reading) (later : NeverFall r) (orders trades : Source) (request : Request) (starts : StartsBoth request orders trades) where
   abbrev first_step : Step
   first_step = step_of r Orders orders.name.now
 
@@ -55,13 +55,13 @@ module _ (r : Reading) (later : NeverFall r) (q : Question) (orders trades : Sou
       not_good : false ≡ true → ⊥
       not_good e = cc
 
-  -- a report on what both logs come to, where the command needs no third log then
-  module _ (reached : BeforeRule) (the_status : Status) (text : List ℕ)
-      (reports : (logs : List (List ℕ)) → log_at logs 2 ≡ [] → LogsComeTo q (log_in orders.form (log_at logs 0)) (log_in trades.form (log_at logs 1)) reached → IsReport request logs the_status text)
-      (ends : (first second : List ℕ) (entries : List OrderRecord) → order_log orders.form first ≡ Ok entries → TradesComeTo q entries (trade_log trades.form second) reached
+  -- a report on what was read of both logs, where the command needs no third log then
+  module _ (of_records : List OrderRecord → Result (List TradeRecord) Finding → Type 0) (of_bad : Which → BadPlace → Type 0) (the_status : Status) (text : List ℕ)
+      (reports : (logs : List (List ℕ)) → log_at logs 2 ≡ [] → OfLogs of_records of_bad (log_in orders.form (log_at logs 0)) (log_in trades.form (log_at logs 1)) → IsReport request logs the_status text)
+      (ends : (first second : List ℕ) (entries : List OrderRecord) → order_log orders.form first ≡ Ok entries → MatchResult (trade_log trades.form second) (of_records entries) (of_bad Trades)
       → next_log request (first ∷ second ∷ []) ≡ None) where
     both_reports : (bytes : List ℕ) → IsRead r first_step bytes → (said : Result (List OrderRecord) BadPlace) → order_log orders.form bytes ≡ said
-        → OrdersComeTo r q trades said reached → ReportsLogs r request the_status text
+        → ReadsAfterOrders r trades of_records of_bad said → ReportsLogs r request the_status text
     both_reports bytes read (Err bad) e (is, untouched) = record {
       steps = first_step ∷ [];
       logs = bytes ∷ [];
@@ -79,7 +79,7 @@ module _ (r : Reading) (later : NeverFall r) (q : Question) (orders trades : Sou
       report = reports (bytes ∷ is.bytes ∷ []) refl (rw e is.holds);
     }
 
-    pub both_text : ((logs : List (List ℕ)) → IsReport request logs the_status text → IsReportStatus the_status) → ReadsUpToRule r q orders trades reached → IsText r request the_status text
+    pub both_text : ((logs : List (List ℕ)) → IsReport request logs the_status text → IsReportStatus the_status) → ReadsLogs r orders trades of_records of_bad → IsText r request the_status text
     both_text answers is =
         let whole = both_reports is.bytes is.read (order_log orders.form is.bytes) refl is.holds in
         text-of r request the_status text (answers whole.logs whole.report) whole

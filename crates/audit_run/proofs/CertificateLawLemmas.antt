@@ -11,6 +11,7 @@ use Rattle.audit_base.specs.declared.terms.Rule.TheVariants as rule
 use Rattle.audit_base.specs.Histories.{history_finding, order_list}
 use Rattle.audit_base.specs.Least.{first_of}
 use Rattle.audit_base.specs.Trades.{deals_of, unsound_trade}
+use Rattle.record_verdict.specs.Scopes.{call_scope, early_finding}
 use Rattle.audit_base.specs.Verdicts.{call_finding, log_finding, paired_trades, pairing_finding, IsRuleVerdict}
 use Rattle.audit_certificate.specs.Agreement.{Agrees, IsHeadLine}
 use Rattle.audit_certificate.specs.Lines.{behind_lines, ended_line}
@@ -20,11 +21,11 @@ use Rattle.audit_report.specs.declared.verdicts.Accepted.{Accepted}
 use Rattle.audit_report.specs.declared.verdicts.Verdict.{Verdict}
 use Rattle.audit_report.specs.declared.verdicts.Verdict.TheVariants as verdict
 use Rattle.call_laws.specs.Laws.{asks_for_greatest}
-use Rattle.audit_run.specs.declared.questions.Question.{Question}
+use Rattle.record_verdict.specs.declared.questions.Question.{Question}
 use Rattle.audit_run.specs.Certificates.{IsCertificateOf, ReportsWith, Verifies, VerifiesRecords}
-use Rattle.audit_run.specs.Judgements.{IsJudged, IsOutcome}
+use Rattle.record_verdict.specs.Judgements.{IsJudged, IsOutcome}
 use Rattle.audit_run.specs.Laws.{CertifiedIsVerified}
-use Rattle.audit_run.specs.LogVerdicts.{IsLogVerdict, Log}
+use Rattle.log_verdict.specs.LogVerdicts.{IsLogVerdict, Log}
 
 -- a certificate that agrees is of a rule that asks for a greatest volume
 asks : (the_rule : Rule) (symbol : List ℕ) (orders : List Order) (deals : List Deal) (text : List ℕ) → Agrees the_rule symbol orders deals text → IsTrue (asks_for_greatest the_rule)
@@ -79,7 +80,7 @@ module _ (q : Question) (orders trades : Log) (certificate text : List ℕ) (the
       let judged : IsJudged q is.entries is.paired (verdict.Accepted a) = rw (is.logs.records, is.logs.trades_are) at accepted in
       let none : log_finding q.rule q.symbol is.entries is.paired ≡ None = none_before q is.entries is.paired a judged in
       let admits = same_call q.rule (order_list q.symbol is.entries) (asks q.rule q.symbol _ _ certificate is.agrees) in
-      let same : log_finding rule.Uniform q.symbol is.entries is.paired ≡ None =
+      let same : early_finding (call_scope q.symbol) is.entries is.paired ≡ None =
       ap (λ (i : Option Finding). first_of (history_finding q.symbol is.entries ∷ i ∷ pairing_finding is.paired ∷ unsound_trade (order_list q.symbol is.entries) q.symbol (paired_trades is.paired) ∷ [])) (sym admits) ∙ none in
       let came : Verifies q.symbol (order_list q.symbol is.entries) (deals_of (order_list q.symbol is.entries) q.symbol (paired_trades is.paired)) certificate the_status text = rw same at verified in
       ⊎_elim (λ verified. verified.status_is) (λ disproved. absurd (disproved.none q.rule is.agrees)) came

@@ -1,50 +1,50 @@
 -- The command `verify`: the certificate is read after both logs.
-use Rattle.std.proofs.Common.{◌≡◌, ◌∙◌, sym, subst, refl, inl, inr, ⊎_elim, ℕ, ◌≤◌, true, false, List, [], ◌∷◌, Some, Result, Ok, Err, arith}
-use Rattle.std.specs.Prelude.{is_ok}
+use Rattle.std.proofs.Common.{◌<◌, length, Option, ◌≡◌, ◌∙◌, sym, subst, refl, inl, inr, ⊎_elim, ℕ, ◌≤◌, true, false, List, [], ◌∷◌, Some, Result, Ok, Err, arith}
+use Rattle.std.specs.Prelude.{is_ok, IsSomeAnd, MatchResult}
 use Rattle.audit_base.specs.declared.faults.BadPlace.{BadPlace}
 use Rattle.audit_base.specs.declared.findings.Finding.{Finding}
 use Rattle.audit_base.specs.declared.records.OrderRecord.{OrderRecord}
 use Rattle.audit_base.specs.declared.records.TradeRecord.{TradeRecord}
-use Rattle.audit_base.specs.declared.terms.Rule.TheVariants as rule
 use Rattle.audit_base.specs.declared.terms.Which.{Which}
 use Rattle.audit_base.specs.declared.terms.Which.TheVariants.{Orders, Trades}
 use Rattle.audit_report.specs.Lines.{read_fault_line, too_long_line}
-use Rattle.log_source.specs.Sources.{Slot, longest_log}
-use Rattle.audit_run.specs.declared.before_rule.BeforeRule.{BeforeRule}
-use Rattle.audit_run.specs.declared.before_rule.BeforeRule.TheVariants as upto
-use Rattle.audit_run.specs.declared.questions.Question.{Question}
-use Rattle.audit_run.specs.declared.questions.Source.{Source}
+use Rattle.log_source.specs.Sources.{Slot}
+use Rattle.record_verdict.specs.declared.before_rule.BeforeRule.{BeforeRule}
+use Rattle.record_verdict.specs.declared.before_rule.BeforeRule.TheVariants as upto
+use Rattle.record_verdict.specs.declared.scopes.Scope.{Scope}
+use Rattle.record_verdict.specs.Scopes.{call_scope}
+use Rattle.log_verdict.specs.declared.sources.Source.{Source}
 use Rattle.audit_run.specs.declared.reports.Report.{Report}
 use Rattle.audit_run.specs.declared.requests.Request.{Request}
-use Rattle.audit_run.specs.declared.stops.Stop.{Stop}
-use Rattle.audit_run.specs.declared.stops.Stop.TheVariants as stop
-use Rattle.audit_run.specs.Auditing.{verify_of, DecidesReport, IsAfterOrders, IsLogStop, IsStop, OrdersComeTo, ReadsUpToRule, StaysWithin, StaysWithinAt, TradesComeTo}
+use Rattle.log_verdict.specs.declared.stops.Stop.{Stop}
+use Rattle.log_verdict.specs.declared.stops.Stop.TheVariants as stop
+use Rattle.log_verdict.specs.BothLogs.{IsAfterOrders, IsLogStop, ReadsAfterOrders, ReadsUpToRule, StaysWithin, StaysWithinAt}
 use Rattle.audit_run.specs.Certificates.{IsVerifyReport}
-use Rattle.audit_run.specs.Collecting.{step_of, IsReadAs, TouchesOnly}
-use Rattle.audit_run.specs.Judgements.{question}
+use Rattle.log_verdict.specs.Collecting.{step_of, IsReadAs, TouchesOnly}
 use Rattle.audit_run.specs.JudgedReports.{VerifiesAs}
-use Rattle.audit_run.specs.LogVerdicts.{log_in, order_log, trade_log}
+use Rattle.log_verdict.specs.LogVerdicts.{log_in, order_log, trade_log}
 use Rattle.audit_run.specs.Reporting.{DecidesLog, SaysReport}
 use Rattle.audit_run.specs.Requests.{next_log}
 use Rattle.audit_run.specs.Runs.{IsText, ReadsOn, StopsAtLog}
-use Rattle.audit_run.specs.Steps.{Reading, Step, IsRead, IsReadFault, IsTooLong, Lead, NeverFall, with_slot}
-use Rattle.audit_run.specs.UpToRule.{is_malformed, IsBeforeRule}
-use Rattle.audit_run.proofs.AuditLemmas.{joined}
+use Rattle.log_verdict.specs.Steps.{Reading, Step, IsRead, IsReadFault, IsTooLong, Lead, NeverFall, with_slot}
+use Rattle.record_verdict.specs.BeforeRule.{is_malformed, IsBeforeRule}
+use Rattle.log_verdict.proofs.AuditLemmas.{joined}
 use Rattle.audit_run.proofs.ReportLemmas.{text-of, verify-status}
+use Rattle.audit_run.specs.Deciding.{verify_of, DecidesReport, IsStop}
 
 not_both : true ≡ false → ⊥
 not_both e = cc
 
 -- a trade log that is not in its grammar starts no certificate
-pub bad_trades : (q : Question) (entries : List OrderRecord) (said : Result (Result (List TradeRecord) Finding) BadPlace) (reached : BeforeRule) → TradesComeTo q entries said reached → is_malformed reached ≡ true
+pub bad_trades : (scope : Scope) (entries : List OrderRecord) (said : Result (Result (List TradeRecord) Finding) BadPlace) (reached : BeforeRule) → MatchResult said (λ paired. IsBeforeRule scope entries paired reached) (λ bad. reached ≡ upto.Malformed Trades bad) → is_malformed reached ≡ true
     → is_ok said ≡ false
-bad_trades q entries (Err bad) reached come malformed = refl
-bad_trades q entries (Ok paired) (upto.Malformed log bad) come malformed = absurd come
-bad_trades q entries (Ok paired) (upto.Found finding) come malformed = absurd (not_both (sym malformed))
-bad_trades q entries (Ok paired) (upto.Sound resolved) come malformed = absurd (not_both (sym malformed))
+bad_trades scope entries (Err bad) reached come malformed = refl
+bad_trades scope entries (Ok paired) (upto.Malformed log bad) come malformed = absurd come
+bad_trades scope entries (Ok paired) (upto.Found finding) come malformed = absurd (not_both (sym malformed))
+bad_trades scope entries (Ok paired) (upto.Sound resolved) come malformed = absurd (not_both (sym malformed))
 
 -- Both logs were read, are in their grammars, and come to this.
-pub record BothRead (r : Reading) (q : Question) (orders trades : Source) (reached : BeforeRule) : Type 0 where
+pub record BothRead (r : Reading) (scope : Scope) (orders trades : Source) (reached : BeforeRule) : Type 0 where
   pub one : List ℕ
   pub two : List ℕ
   pub entries : List OrderRecord
@@ -53,16 +53,16 @@ pub record BothRead (r : Reading) (q : Question) (orders trades : Source) (reach
   pub read_two : IsRead r (step_of r Trades trades.name.now) two
   pub orders_are : order_log orders.form one ≡ Ok entries
   pub trades_are : trade_log trades.form two ≡ Ok paired
-  pub come : IsBeforeRule q entries paired reached
+  pub come : IsBeforeRule scope entries paired reached
 
-pub both_read : (r : Reading) (q : Question) (orders trades : Source) (reached : BeforeRule) → is_malformed reached ≡ false → ReadsUpToRule r q orders trades reached → BothRead r q orders trades reached
-both_read r q orders trades reached good is = of_orders (order_log orders.form is.bytes) refl is.holds
+pub both_read : (r : Reading) (scope : Scope) (orders trades : Source) (reached : BeforeRule) → is_malformed reached ≡ false → ReadsUpToRule r scope orders trades reached → BothRead r scope orders trades reached
+both_read r scope orders trades reached good is = of_orders (order_log orders.form is.bytes) refl is.holds
   where
     no_bad : (log : Which) (bad : BadPlace) → reached ≡ upto.Malformed log bad → ⊥
     no_bad log bad e = not_both (rw e at good)
 
-    of_trades : (entries : List OrderRecord) → order_log orders.form is.bytes ≡ Ok entries → (after : IsAfterOrders r q trades entries reached) → (said : Result (Result (List TradeRecord) Finding) BadPlace)
-        → trade_log trades.form after.bytes ≡ said → TradesComeTo q entries said reached → BothRead r q orders trades reached
+    of_trades : (entries : List OrderRecord) → order_log orders.form is.bytes ≡ Ok entries → (after : IsAfterOrders r scope trades entries reached) → (said : Result (Result (List TradeRecord) Finding) BadPlace)
+        → trade_log trades.form after.bytes ≡ said → MatchResult said (λ paired. IsBeforeRule scope entries paired reached) (λ bad. reached ≡ upto.Malformed Trades bad) → BothRead r scope orders trades reached
     of_trades entries e after (Ok paired) f come = record {
       one = is.bytes;
       two = after.bytes;
@@ -76,12 +76,13 @@ both_read r q orders trades reached good is = of_orders (order_log orders.form i
     }
     of_trades entries e after (Err bad) f come = absurd (no_bad Trades bad come)
 
-    of_orders : (said : Result (List OrderRecord) BadPlace) → order_log orders.form is.bytes ≡ said → OrdersComeTo r q trades said reached → BothRead r q orders trades reached
+    of_orders : (said : Result (List OrderRecord) BadPlace) → order_log orders.form is.bytes ≡ said → ReadsAfterOrders r trades (λ es paired. IsBeforeRule scope es paired reached) (λ log bad. reached ≡ upto.Malformed log bad) said → BothRead r scope orders trades reached
     of_orders (Ok entries) e after = of_trades entries e after (trade_log trades.form after.bytes) refl after.holds
     of_orders (Err bad) e (same, untouched) = absurd (no_bad Orders bad same)
 
 -- The second reading goes on where the first ended, on the same shelf.
 pub record Continues (first second : Reading) : Type 0 where
+  pub limit : second.limit ≡ first.limit
   pub tells : second.tells ≡ first.tells
   pub logs : (log : Which) (name : List ℕ) → second.log_of log name ≡ first.log_of log name
   pub slots : (log : Which) → second.before log ≡ first.after log
@@ -90,8 +91,8 @@ module _ (first second : Reading) (after : Continues first second) (later : Neve
   abbrev whole : Reading
   whole = joined first second
 
-  abbrev asked : Question
-  asked = question rule.Uniform symbol false
+  abbrev asked : Scope
+  asked = call_scope symbol
 
   abbrev request : Request
   request = verify_of symbol orders trades certificate
@@ -119,7 +120,7 @@ module _ (first second : Reading) (after : Continues first second) (later : Neve
   read_third bytes is = record {
     started = is.started;
     at_end = is.at_end;
-    within = is.within;
+    within = subst (λ (n : ℕ). length bytes ≤ n) after.limit is.within;
     taken = is.taken;
     known = λ t. sym (after.logs Trades certificate) ∙ is.known (after.tells ∙ t);
   }
@@ -176,7 +177,11 @@ module _ (first second : Reading) (after : Continues first second) (later : Neve
     third_fault (inr (t, none)) = inr (sym after.tells ∙ t, sym (after.logs Trades certificate) ∙ none)
 
     third_long : IsTooLong second third_step → IsTooLong whole third_step
-    third_long is = record { taken = is.taken; longer = λ t. rw (← after.logs Trades certificate) (is.longer (after.tells ∙ t)) }
+    third_long is = record {
+      taken = subst (λ (n : ℕ). n < (second.after Trades).taken) after.limit is.taken;
+      longer = λ t. subst (λ (n : ℕ). IsSomeAnd (first.log_of Trades certificate) (λ bytes. n < length bytes)) after.limit
+          (subst (λ (o : Option (List ℕ)). IsSomeAnd o (λ bytes. second.limit < length bytes)) (after.logs Trades certificate) (is.longer (after.tells ∙ t)));
+    }
 
     certificate_stop : (the_stop : Stop) → IsLogStop second Trades certificate the_stop → IsStop whole request the_stop
     certificate_stop (stop.ReadFault log) (is, fault) = rw is (stops_third IsReadFault read_fault_line (third_fault fault))
@@ -198,8 +203,8 @@ module _ (first second : Reading) (after : Continues first second) (later : Neve
       (subst (λ (s : Slot). s.faults ≤ (second.after Trades).faults) (after.slots Trades) only.later)
 
   pub within_certificate : (reached : BeforeRule) (result : Result Report Stop) → StaysWithin {T = BeforeRule} first (Ok reached) → StaysWithinAt second Trades result → StaysWithin whole result
-  within_certificate reached result before stays begins = ⊎_elim (λ stop. inl stop) (λ taken. ⊎_elim (λ none. absurd none) (λ ends. inr (all_within taken ends)) (before begins)) stays
+  within_certificate reached result before stays begins = ⊎_elim (λ stop. inl stop) (λ taken. ⊎_elim (λ none. absurd none) (λ ends. inr (all_within (subst (λ (n : ℕ). (second.after Trades).taken ≤ n) after.limit taken) ends)) (before begins)) stays
     where
-      all_within : (second.after Trades).taken ≤ longest_log → ((log : Which) → (first.after log).taken ≤ longest_log) → (log : Which) → (whole.after log).taken ≤ longest_log
-      all_within taken ends Orders = subst (λ (s : Slot). s.taken ≤ longest_log) (sym (only.other ∙ after.slots Orders)) (ends Orders)
+      all_within : (second.after Trades).taken ≤ first.limit → ((log : Which) → (first.after log).taken ≤ first.limit) → (log : Which) → (whole.after log).taken ≤ first.limit
+      all_within taken ends Orders = subst (λ (s : Slot). s.taken ≤ first.limit) (sym (only.other ∙ after.slots Orders)) (ends Orders)
       all_within taken ends Trades = taken

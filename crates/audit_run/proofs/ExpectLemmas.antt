@@ -3,6 +3,7 @@ use Rattle.std.proofs.Common.{◌≡◌, ◌∙◌, sym, ap, subst, refl, ℕ, B
 use Rattle.audit_base.specs.declared.orders.Cut.{Cut}
 use Rattle.audit_base.specs.declared.orders.Deal.{Deal}
 use Rattle.audit_base.specs.declared.orders.Order.{Order}
+use Rattle.audit_base.specs.declared.records.OrderRecord.{OrderRecord}
 use Rattle.audit_base.specs.declared.records.TradeRecord.{TradeRecord}
 use Rattle.audit_base.specs.declared.terms.Rule.{Rule}
 use Rattle.audit_base.specs.declared.terms.Rule.TheVariants as rule
@@ -10,11 +11,11 @@ use Rattle.audit_base.specs.Bounds.{IsBound}
 use Rattle.audit_base.specs.CallOffences.{IsGreatestUnder}
 use Rattle.audit_base.specs.Deals.{volume, AreDeals}
 use Rattle.audit_base.specs.Expected.{IsExpected, trades_of_deals}
-use Rattle.audit_base.specs.Histories.{Regular}
+use Rattle.audit_base.specs.Histories.{order_list, Regular, WellFormed}
 use Rattle.audit_base.specs.Orders.{AreOrders, HaveOwnKeys, IsOrderList}
 use Rattle.audit_base.specs.Rules.{Conforms}
-use Rattle.audit_base.specs.Trades.{deals_of}
-use Rattle.audit_base.specs.Verdicts.{call_finding}
+use Rattle.audit_base.specs.Trades.{deals_of, unsound_trade}
+use Rattle.audit_base.specs.Verdicts.{call_finding, log_finding}
 use Rattle.audit_base.proofs.TradeLemmas.{deals-ranges}
 use Rattle.audit_base.proofs.VerdictLemmas.{one-greatest}
 use Rattle.audit_report.specs.declared.verdicts.Accepted.{Accepted}
@@ -25,13 +26,13 @@ use Rattle.call_laws.specs.Optimum.{MaximumTradesAreExpected}
 use Rattle.csv_logs.specs.Written.{trades_text}
 use Rattle.canonical_form.specs.Trades.{ExpectedHavePlaces, TradesAreSound, TradesGiveTheirDeals}
 use Rattle.continuous_laws.specs.Laws.{OnlyPairs}
-use Rattle.audit_run.specs.declared.questions.Question.{Question}
+use Rattle.record_verdict.specs.declared.questions.Question.{Question}
 use Rattle.audit_run.specs.Expecting.{IsConformingLog, IsLogOfOrders}
-use Rattle.audit_run.specs.Judgements.{question, table_lines, AreOnlyQuantities, IsBoundShown}
-use Rattle.audit_run.specs.LogVerdicts.{all_paired}
+use Rattle.record_verdict.specs.Judgements.{question, table_lines, AreOnlyQuantities, IsBoundShown}
+use Rattle.log_verdict.specs.LogVerdicts.{all_paired}
 use Rattle.audit_run.specs.OtherTexts.{IsAcceptedBeside}
-use Rattle.audit_run.specs.Phases.{IsJudgedDeals, IsJudgedTrades}
-use Rattle.audit_run.proofs.JudgeLemmas.{judged_whole, trades_sound}
+use Rattle.record_verdict.specs.Stages.{IsJudgedDeals}
+use Rattle.record_verdict.specs.Laws.{SoundTradesAreJudged}
 
 -- the laws that the answer rests on
 pub record Laws : Type 0 where
@@ -42,6 +43,12 @@ pub record Laws : Type 0 where
   pub maximum : MaximumTradesAreExpected
   pub quantities : OnlyQuantities
   pub pairs : OnlyPairs
+  pub judged : SoundTradesAreJudged
+
+-- well-formed records with sound trades have no finding before a rule that admits their orders
+none-before : (the_rule : Rule) (symbol : List ℕ) (entries : List OrderRecord) (trades : List TradeRecord) → WellFormed symbol entries → call_finding the_rule (order_list symbol entries) ≡ None
+    → unsound_trade (order_list symbol entries) symbol trades ≡ None → log_finding the_rule symbol entries (Ok trades) ≡ None
+none-before the_rule symbol entries trades formed admits sound = rw (formed, admits, sound) refl
 
 module _ (laws : Laws) (orders : List Order) (list : IsOrderList orders) (regular : Regular orders) (numbers : AreOrders orders) where
   -- Expected trades have a bound to show, where their rule shows one
@@ -114,13 +121,14 @@ module _ (laws : Laws) (orders : List Order) (list : IsOrderList orders) (regula
         let shown = bound-shown the_rule is.deals ranges is.expected is.conforms in
         let accepted : (table : Bool) → IsAcceptedBeside (question the_rule symbol table) entries (all_paired (Ok trades)) = λ table.
         let q : Question = question the_rule symbol table in
-        let decided : IsJudgedTrades q orders trades (verdict.Accepted (acceptance_of q is.deals shown.0)) =
-        trades_sound q orders trades is.deals _ sound (sym again) (deals-accepted q is.deals (length trades) shown.0 ranges is.conforms shown.1) in
+        let of_list : IsJudgedDeals q orders is.deals (length trades) (verdict.Accepted (acceptance_of q is.deals shown.0)) = deals-accepted q is.deals (length trades) shown.0 ranges is.conforms shown.1 in
+        let none : log_finding the_rule symbol entries (Ok trades) ≡ None = none-before the_rule symbol entries trades formed (ap (call_finding the_rule) (sym same) ∙ admits) (subst (λ (os : List Order). unsound_trade os symbol trades ≡ None) same sound) in
         record {
           trades = trades;
           says = refl;
           acceptance = acceptance_of q is.deals shown.0;
-          judged = judged_whole q entries trades orders _ formed same admits (λ none. subst AreDeals (sym again) ranges) decided;
+          judged = laws.judged q entries trades is.deals _ none (sym again ∙ ap (λ (os : List Order). deals_of os symbol trades) same) ranges
+              (subst (λ (os : List Order). IsJudgedDeals q os is.deals (length trades) (verdict.Accepted (acceptance_of q is.deals shown.0))) same of_list);
         } in
         record {
           deals = is.deals;

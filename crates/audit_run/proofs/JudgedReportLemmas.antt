@@ -20,17 +20,17 @@ use Rattle.audit_report.specs.declared.verdicts.Accepted.{Accepted}
 use Rattle.audit_report.specs.declared.verdicts.Verdict.{Verdict}
 use Rattle.audit_report.specs.declared.verdicts.Verdict.TheVariants as verdict
 use Rattle.matching_core.specs.declared.deals_draft.ResolvedTrades.{ResolvedTrades}
-use Rattle.audit_run.specs.declared.before_rule.BeforeRule.{BeforeRule}
-use Rattle.audit_run.specs.declared.before_rule.BeforeRule.TheVariants as upto
-use Rattle.audit_run.specs.declared.questions.Question.{Question}
+use Rattle.record_verdict.specs.declared.before_rule.BeforeRule.{BeforeRule}
+use Rattle.record_verdict.specs.declared.before_rule.BeforeRule.TheVariants as upto
+use Rattle.record_verdict.specs.declared.questions.Question.{Question}
 use Rattle.audit_run.specs.declared.reports.Report.{Report}
-use Rattle.audit_run.specs.Auditing.{IsReportOf}
 use Rattle.audit_run.specs.Certificates.{IsCertificateOf, ReportsWith}
-use Rattle.audit_run.specs.Judgements.{IsJudged, IsOutcome}
-use Rattle.audit_run.specs.JudgedReports.{IsCertifiedDeals, IsDealsCertificate, ReportsAudit, ReportsCertify, VerdictIs}
-use Rattle.audit_run.specs.LogVerdicts.{order_log, trade_log, HaveRecords, Log, OfLogs}
-use Rattle.audit_run.specs.Phases.{IsJudgedDeals}
-use Rattle.audit_run.specs.UpToRule.{AreJudgeable, AreSound, IsBeforeRule, LogsComeTo}
+use Rattle.record_verdict.specs.Judgements.{IsJudged, IsOutcome}
+use Rattle.audit_run.specs.JudgedReports.{IsCertifiedDeals, IsDealsCertificate, LogsComeTo, ReportsCertify}
+use Rattle.log_verdict.specs.LogVerdicts.{order_log, trade_log, HaveRecords, Log, OfLogs}
+use Rattle.record_verdict.specs.Stages.{IsJudgedDeals, VerdictIs}
+use Rattle.record_verdict.specs.BeforeRule.{AreJudgeable, AreSound, IsBeforeRule}
+use Rattle.audit_run.specs.Deciding.{IsReportOf}
 
 -- what follows of records and of a bad place follows of two logs
 pub of_logs : (P P' : List OrderRecord → Result (List TradeRecord) Finding → Type 0) (B B' : Which → BadPlace → Type 0)
@@ -44,92 +44,39 @@ of_logs P P' B B' records bads orders trades come = of_said (order_log orders.fo
     of_said (Ok entries) (Err bad) is = bads Trades bad is
     of_said (Err bad) second is = bads Orders bad is
 
--- a bad place is the verdict
-pub malformed_is : (q : Question) (log : Which) (bad : BadPlace) → VerdictIs q (upto.Malformed log bad) (verdict.Malformed log bad)
-malformed_is q log bad orders trades come =
-    of_logs (λ entries paired. IsBeforeRule q entries paired (upto.Malformed log bad)) (λ entries paired. IsJudged q entries paired (verdict.Malformed log bad))
-    (λ other place. upto.Malformed log bad ≡ upto.Malformed other place) (λ other place. verdict.Malformed log bad ≡ verdict.Malformed other place)
-    (λ entries paired is. absurd is) (λ other place e. same other place e) orders trades come
-  where
-    same : (other : Which) (place : BadPlace) → upto.Malformed log bad ≡ upto.Malformed other place → verdict.Malformed log bad ≡ verdict.Malformed other place
-    same other place e = cc
-
-found_judged : (q : Question) (entries : List OrderRecord) (paired : Result (List TradeRecord) Finding) (finding : Finding) → log_finding q.rule q.symbol entries paired ≡ Some finding
-    → IsJudged q entries paired (verdict.Rejected finding)
-found_judged q entries paired finding found = record {
-  found = Some finding;
-  by_the_rules = rw found refl;
-  one = λ other others. rw found at others;
-  outcome = refl;
-}
-
--- a finding is the verdict
-pub found_is : (q : Question) (finding : Finding) → VerdictIs q (upto.Found finding) (verdict.Rejected finding)
-found_is q finding orders trades come =
-    of_logs (λ entries paired. IsBeforeRule q entries paired (upto.Found finding)) (λ entries paired. IsJudged q entries paired (verdict.Rejected finding))
-    (λ other place. upto.Found finding ≡ upto.Malformed other place) (λ other place. verdict.Rejected finding ≡ verdict.Malformed other place)
-    (λ entries paired is. found_judged q entries paired finding is) (λ other place e. absurd (apart other place e)) orders trades come
-  where
-    apart : (other : Which) (place : BadPlace) → upto.Found finding ≡ upto.Malformed other place → ⊥
-    apart other place e = cc
-
-sound_judged : (q : Question) (entries : List OrderRecord) (paired : Result (List TradeRecord) Finding) (resolved : ResolvedTrades) (v : Verdict) → AreDeals resolved.deals.items
-    → IsJudgedDeals q resolved.history resolved.deals.items resolved.count v → AreSound q entries paired resolved → IsJudged q entries paired v
-sound_judged q entries paired resolved v numbers judged sound =
-    let orders : List Order = order_list q.symbol entries in
-    let deals : List Deal = deals_of orders q.symbol (paired_trades paired) in
-    let by_orders : IsRuleVerdict q.rule orders resolved.deals.items resolved.count judged.found =
-    subst (λ (os : List Order). IsRuleVerdict q.rule os resolved.deals.items resolved.count judged.found) sound.orders judged.by_the_rule in
-    let by_deals : IsRuleVerdict q.rule orders deals resolved.count judged.found =
-    subst (λ (ds : List Deal). IsRuleVerdict q.rule orders ds resolved.count judged.found) sound.deals by_orders in
-    let by_count : IsRuleVerdict q.rule orders deals (length (paired_trades paired)) judged.found =
-    subst (λ (n : ℕ). IsRuleVerdict q.rule orders deals n judged.found) sound.count by_deals in
-    let by_rules = subst (λ (o : Option Finding). MatchOption o (IsRuleVerdict q.rule orders deals (length (paired_trades paired)) judged.found) (λ finding. judged.found ≡ Some finding)) (sym sound.none) by_count in
-    record {
-      found = judged.found;
-      by_the_rules = by_rules;
-      one = λ other others. one-verdict-of_deals q.rule q.symbol entries paired other judged.found (λ _. subst AreDeals sound.deals numbers) others by_rules;
-      outcome = subst (λ (ds : List Deal). IsOutcome q orders ds judged.found v) sound.deals
-          (subst (λ (os : List Order). IsOutcome q os resolved.deals.items judged.found v) sound.orders judged.outcome);
-    }
-
--- the verdict on sound trades is that of the logs
-pub sound_is : (q : Question) (resolved : ResolvedTrades) (v : Verdict) → AreJudgeable resolved → IsJudgedDeals q resolved.history resolved.deals.items resolved.count v → VerdictIs q (upto.Sound resolved) v
-sound_is q resolved v judgeable judged orders trades come =
-    of_logs (λ entries paired. IsBeforeRule q entries paired (upto.Sound resolved)) (λ entries paired. IsJudged q entries paired v)
-    (λ other place. upto.Sound resolved ≡ upto.Malformed other place) (λ other place. v ≡ verdict.Malformed other place)
-    (λ entries paired is. sound_judged q entries paired resolved v judgeable.numbers judged is) (λ other place e. absurd (apart other place e)) orders trades come
-  where
-    apart : (other : Which) (place : BadPlace) → upto.Sound resolved ≡ upto.Malformed other place → ⊥
-    apart other place e = cc
-
--- the report of a verdict is that of `audit`
-pub reports_audit : (q : Question) (reached : BeforeRule) (v : Verdict) (report : Report) → VerdictIs q reached v → IsReportOf v report → ReportsAudit q reached report
-reports_audit q reached v report is made orders trades come = record { verdict = v; is = is orders trades come; status_is = made.status_is; text_is = made.text_is }
+-- the verdict on what two logs come to is that of the logs
+pub verdict_of_logs : (q : Question) (reached : BeforeRule) (v : Verdict) (orders trades : Log) → VerdictIs q reached v → LogsComeTo (scope_of q) orders trades reached → IsLogVerdict q orders trades v
+verdict_of_logs q reached v orders trades is come =
+    of_logs (λ entries paired. IsBeforeRule (scope_of q) entries paired reached) (λ entries paired. IsJudged q entries paired v)
+    (λ log bad. reached ≡ upto.Malformed log bad) (λ log bad. v ≡ verdict.Malformed log bad) is.of_records is.of_place orders trades come
 
 -- a report of a bad place or of a finding is that of `certify`
-pub malformed_certifies : (q : Question) (log : Which) (bad : BadPlace) (report : Report) → IsReportOf (verdict.Malformed log bad) report → ReportsCertify q (upto.Malformed log bad) report
-malformed_certifies q log bad report made orders trades come = record {
-  verdict = verdict.Malformed log bad;
-  is = malformed_is q log bad orders trades come;
-  reports = record { status_is = made.status_is; text_is = made.text_is };
+refused_certifies : (q : Question) (reached : BeforeRule) (v other : Verdict) (report : Report) → VerdictIs q reached v → v ≡ other → IsReportOf v report
+    → ((is_text : List ℕ → Type 0) → IsReportOf other report → ReportsWith is_text other report.status report.text.items) → ReportsCertify q reached report
+refused_certifies q reached v other report is same made reports orders trades come = record {
+  verdict = v;
+  is = verdict_of_logs q reached v orders trades is come;
+  reports = rw same (reports (IsCertificateOf q orders trades) (rw same at made));
 }
 
-pub found_certifies : (q : Question) (finding : Finding) (report : Report) → IsReportOf (verdict.Rejected finding) report → ReportsCertify q (upto.Found finding) report
-found_certifies q finding report made orders trades come = record {
-  verdict = verdict.Rejected finding;
-  is = found_is q finding orders trades come;
-  reports = record { status_is = made.status_is; text_is = made.text_is };
-}
+pub malformed_certifies : (q : Question) (log : Which) (bad : BadPlace) (v : Verdict) (report : Report) → VerdictIs q (upto.Malformed log bad) v → IsReportOf v report → ReportsCertify q (upto.Malformed log bad) report
+malformed_certifies q log bad v report is made =
+    refused_certifies q (upto.Malformed log bad) v (verdict.Malformed log bad) report is (is.of_place log bad refl) made
+    (λ is_text other. record { status_is = other.status_is; text_is = other.text_is })
+
+pub found_certifies : (q : Question) (finding : Finding) (v : Verdict) (report : Report) → VerdictIs q (upto.Found finding) v → IsReportOf v report → ReportsCertify q (upto.Found finding) report
+found_certifies q finding v report is made =
+    refused_certifies q (upto.Found finding) v (verdict.Rejected finding) report is (is.of_finding finding refl) made
+    (λ is_text other. record { status_is = other.status_is; text_is = other.text_is })
 
 -- Logs that come to sound trades have records that do.
 pub record HaveSoundRecords (q : Question) (orders trades : Log) (resolved : ResolvedTrades) : Type 0 where
   pub entries : List OrderRecord
   pub paired : Result (List TradeRecord) Finding
   pub logs : HaveRecords orders trades entries paired
-  pub sound : AreSound q entries paired resolved
+  pub sound : AreSound (scope_of q) entries paired resolved
 
-pub sound_records : (q : Question) (orders trades : Log) (resolved : ResolvedTrades) → LogsComeTo q orders trades (upto.Sound resolved) → HaveSoundRecords q orders trades resolved
+pub sound_records : (q : Question) (orders trades : Log) (resolved : ResolvedTrades) → LogsComeTo (scope_of q) orders trades (upto.Sound resolved) → HaveSoundRecords q orders trades resolved
 sound_records q orders trades resolved come = of_said (order_log orders.form orders.bytes) (trade_log trades.form trades.bytes) refl refl come
   where
     apart : (other : Which) (place : BadPlace) → upto.Sound resolved ≡ upto.Malformed other place → ⊥
@@ -137,7 +84,7 @@ sound_records q orders trades resolved come = of_said (order_log orders.form ord
 
     of_said : (first : Result (List OrderRecord) BadPlace) (second : Result (Result (List TradeRecord) Finding) BadPlace)
         → order_log orders.form orders.bytes ≡ first → trade_log trades.form trades.bytes ≡ second
-        → MatchResult first (λ entries. MatchResult second (λ paired. IsBeforeRule q entries paired (upto.Sound resolved)) (λ bad. upto.Sound resolved ≡ upto.Malformed Trades bad))
+        → MatchResult first (λ entries. MatchResult second (λ paired. IsBeforeRule (scope_of q) entries paired (upto.Sound resolved)) (λ bad. upto.Sound resolved ≡ upto.Malformed Trades bad))
         (λ bad. upto.Sound resolved ≡ upto.Malformed Orders bad)
         → HaveSoundRecords q orders trades resolved
     of_said (Ok entries) (Ok paired) e f is = record { entries = entries; paired = paired; logs = record { records = e; trades_are = f }; sound = is }
@@ -159,11 +106,11 @@ certificate_of q orders trades resolved text have is =
     }
 
 -- the report of sound trades is that of `certify`
-pub sound_certifies : (q : Question) (resolved : ResolvedTrades) (report : Report) → AreJudgeable resolved → IsCertifiedDeals q resolved report → ReportsCertify q (upto.Sound resolved) report
-sound_certifies q resolved report judgeable is orders trades come = record {
-  verdict = is.verdict;
-  is = sound_is q resolved is.verdict judgeable is.judged orders trades come;
-  reports = of_verdict is.verdict is.reports;
+pub sound_certifies : (q : Question) (resolved : ResolvedTrades) (v : Verdict) (report : Report) → VerdictIs q (upto.Sound resolved) v → IsCertified q resolved v report → ReportsCertify q (upto.Sound resolved) report
+sound_certifies q resolved v report is made orders trades come = record {
+  verdict = v;
+  is = verdict_of_logs q (upto.Sound resolved) v orders trades is come;
+  reports = of_verdict v made;
 }
   where
     of_verdict : (v : Verdict) → ReportsWith (IsDealsCertificate q resolved) v report.status report.text.items → ReportsWith (IsCertificateOf q orders trades) v report.status report.text.items

@@ -22,10 +22,10 @@ use Rattle.audit_report.specs.declared.verdicts.Accepted.{Accepted}
 use Rattle.audit_report.specs.declared.verdicts.Verdict.{Verdict}
 use Rattle.audit_report.specs.declared.verdicts.Verdict.TheVariants as verdict
 use Rattle.call_auction.specs.Audits.{IsBoundOf}
-use Rattle.audit_run.specs.declared.questions.Question.{Question}
-use Rattle.audit_run.specs.Judgements.{IsAcceptance, IsAcceptedLog, IsBoundShown, IsJudged, IsOutcome}
+use Rattle.record_verdict.specs.declared.questions.Question.{Question}
+use Rattle.record_verdict.specs.Judgements.{IsAcceptance, IsAcceptedLog, IsBoundShown, IsJudged, IsOutcome}
 use Rattle.audit_run.specs.Laws.{FormsAgree, OneVerdict}
-use Rattle.audit_run.specs.LogVerdicts.{order_log, trade_log}
+use Rattle.log_verdict.specs.LogVerdicts.{order_log, trade_log}
 
 -- there is one least number with a property
 pub one-least : (P : ℕ → Type 0) (a b : ℕ) → IsLeast P a → IsLeast P b → a ≡ b

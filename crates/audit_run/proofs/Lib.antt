@@ -1,9 +1,4 @@
-mod TableLemmas
-pub mod PairLineLemmas
-pub mod CollectLemmas
-pub mod JudgeLemmas
-pub mod RuleLemmas
-pub mod AuditLemmas
+mod ResultLemmas
 pub mod ReportLemmas
 pub mod SessionReportLemmas
 pub mod PhaseWordLemmas

@@ -12,7 +12,7 @@ use Rattle.log_source.specs.Sources.{Rose}
 use Rattle.audit_run.specs.declared.requests.Request.{Request}
 use Rattle.audit_run.specs.InMemory.{ReportsInRoom}
 use Rattle.audit_run.specs.Runs.{Runs}
-use Rattle.audit_run.specs.Steps.{Reading}
+use Rattle.log_verdict.specs.Steps.{Reading}
 use Rattle.audit_run.proofs.ReadyLemmas.{report_in_room}
 use Rattle.audit_run.proofs.StepLemmas.{rose-in}
 

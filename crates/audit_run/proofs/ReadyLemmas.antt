@@ -10,7 +10,7 @@ use Rattle.audit_run.specs.declared.requests.Request.{Request}
 use Rattle.audit_run.specs.InMemory.{HasRoomForReport}
 use Rattle.audit_run.specs.Requests.{IsReport}
 use Rattle.audit_run.specs.Runs.{Answers, HoldsLogs, IsReady, IsSomeText, IsText, ReportsLogs, StopsAtLog, WritesPart, WritesReport}
-use Rattle.audit_run.specs.Steps.{Reading, IsReadFault, IsTooLong}
+use Rattle.log_verdict.specs.Steps.{Reading, IsReadFault, IsTooLong}
 use Rattle.audit_run.proofs.RoomLemmas.{never_cut}
 use Rattle.audit_run.proofs.StepLemmas.{held-after, held-next, held-all, rose-in}
 

@@ -13,7 +13,8 @@ use Rattle.audit_base.specs.declared.terms.Which.{Which}
 use Rattle.audit_base.specs.declared.terms.Which.TheVariants.{Orders, Trades}
 use Rattle.audit_base.specs.Histories.{history_finding, order_list, WellFormed}
 use Rattle.audit_base.specs.Trades.{deals_of}
-use Rattle.audit_base.specs.Verdicts.{call_finding, log_finding, paired_trades}
+use Rattle.record_verdict.specs.Scopes.{call_scope, day_scope, early_finding}
+use Rattle.audit_base.specs.Verdicts.{call_finding, paired_trades}
 use Rattle.audit_report.specs.declared.statuses.Status.{Status}
 use Rattle.audit_report.specs.declared.statuses.Status.TheVariants as status
 use Rattle.audit_report.specs.declared.verdicts.Verdict.{Verdict}
@@ -22,25 +23,26 @@ use Rattle.audit_report.specs.Lines.{read_fault_line, too_long_line}
 use Rattle.audit_report.specs.Statuses.{verdict_status}
 use Rattle.audit_report.specs.Texts.{verdict_text}
 use Rattle.log_source.specs.Sources.{longest_log, other_of}
-use Rattle.audit_run.specs.declared.reading.Unread.{Unread}
-use Rattle.audit_run.specs.declared.reading.Unread.TheVariants as unread
+use Rattle.log_verdict.specs.declared.reading.Unread.{Unread}
+use Rattle.log_verdict.specs.declared.reading.Unread.TheVariants as unread
 use Rattle.audit_run.specs.declared.reports.Report.{Report}
 use Rattle.audit_run.specs.declared.requests.Request.{Request}
-use Rattle.audit_run.specs.declared.stops.Stop.{Stop}
-use Rattle.audit_run.specs.declared.stops.Stop.TheVariants as stop
-use Rattle.audit_run.specs.declared.questions.Question.{Question}
+use Rattle.log_verdict.specs.declared.stops.Stop.{Stop}
+use Rattle.log_verdict.specs.declared.stops.Stop.TheVariants as stop
+use Rattle.record_verdict.specs.declared.questions.Question.{Question}
 use Rattle.audit_run.specs.Certificates.{IsCertificateOf, IsCertifyReport, IsVerifyReport, ReportsWith, Verifies, VerifiesRecords}
-use Rattle.audit_run.specs.Auditing.{DecidesReport, IsReportOf, StaysWithin, StaysWithinAt}
-use Rattle.audit_run.specs.Collecting.{step_of, IsUnread, TouchesOnly}
+use Rattle.log_verdict.specs.BothLogs.{StaysWithin, StaysWithinAt}
+use Rattle.log_verdict.specs.Collecting.{step_of, IsUnread, TouchesOnly}
 use Rattle.csv_logs.specs.Written.{orders_text, trades_text}
 use Rattle.session_audit.specs.declared.phases.Phase.{Phase}
 use Rattle.audit_run.specs.Sessions.{IsDayText, IsSessionReport, JudgesDay, JudgesDayOf}
-use Rattle.audit_run.specs.LogVerdicts.{Log, order_log, trade_log}
+use Rattle.log_verdict.specs.LogVerdicts.{Log, order_log, trade_log}
 use Rattle.audit_run.specs.OtherTexts.{orders_finding, ConvertsTrades, ExpectsOf, IsConvertReport, IsDone, IsExpectedLog, IsRefused}
 use Rattle.audit_run.specs.Reporting.{DecidesLog, IsReportStatus, IsWithoutLog, SaysReport}
 use Rattle.audit_run.specs.Requests.{next_log, IsReport, ReportsVerdict}
 use Rattle.audit_run.specs.Runs.{IsText, ReportsLogs, StopsAtLog}
-use Rattle.audit_run.specs.Steps.{Reading, Step, IsReadFault, IsTooLong, BeginsWithin, Lead, NeverFall, with_slot}
+use Rattle.log_verdict.specs.Steps.{Reading, Step, IsReadFault, IsTooLong, BeginsWithin, Lead, NeverFall, with_slot}
+use Rattle.audit_run.specs.Deciding.{DecidesReport, IsReportOf}
 
 -- The statuses that a report may have.
 
@@ -79,7 +81,7 @@ verify-status symbol orders trades certificate s text is = of_said (order_log or
         → MatchResult first (λ entries. MatchResult second (λ paired. VerifiesRecords symbol certificate entries paired s text) (λ bad. IsRefused (verdict.Malformed Trades bad) s text))
         (λ bad. IsRefused (verdict.Malformed Orders bad) s text) → IsReportStatus s
     of_said (Ok entries) (Ok paired) is =
-        verifies-status symbol (order_list symbol entries) (deals_of (order_list symbol entries) symbol (paired_trades paired)) certificate (log_finding rule.Uniform symbol entries paired) s text is
+        verifies-status symbol (order_list symbol entries) (deals_of (order_list symbol entries) symbol (paired_trades paired)) certificate (early_finding (call_scope symbol) entries paired) s text is
     of_said (Ok entries) (Err bad) is = refused-status (verdict.Malformed Trades bad) s text is
     of_said (Err bad) second is = refused-status (verdict.Malformed Orders bad) s text is
 
@@ -97,7 +99,7 @@ session-status symbol phases table orders trades s text is = of_said (order_log 
         (λ bad. IsRefused (verdict.Malformed Orders bad) s text) → IsReportStatus s
     of_said (Ok entries) (Ok paired) is =
         days-status symbol phases table (order_list symbol entries) (deals_of (order_list symbol entries) symbol (paired_trades paired)) (length (paired_trades paired))
-        (log_finding rule.Continuous symbol entries paired) s text is
+        (early_finding (day_scope symbol) entries paired) s text is
     of_said (Ok entries) (Err bad) is = refused-status (verdict.Malformed Trades bad) s text is
     of_said (Err bad) second is = refused-status (verdict.Malformed Orders bad) s text is
 
@@ -145,7 +147,7 @@ module _ {R : Type 0} (meaning : List ℕ → Result R BadPlace) (r : Reading) (
   decides-unread refuses unread.Memory result is made = rw made tt
 
 -- where the log was not read into records, it is too long or stays within the longest log
-pub within-unread : (r : Reading) (log : Which) (why : Unread) (result : Result Report Stop) → IsWithoutLog log why result → ((why ≡ unread.TooLong → ⊥) → (r.after log).taken ≤ longest_log)
+pub within-unread : (r : Reading) (log : Which) (why : Unread) (result : Result Report Stop) → IsWithoutLog log why result → ((why ≡ unread.TooLong → ⊥) → (r.after log).taken ≤ r.limit)
     → StaysWithinAt r log result
 within-unread r log (unread.Bad bad) result is within = inr (within (λ e. cc))
 within-unread r log unread.ReadFault result is within = inr (within (λ e. cc))
@@ -193,10 +195,10 @@ module _ (r : Reading) (request : Request) where
             at_most n = omega arith
         falls Trades own same Trades = own
 
-    pub one-within : (result : Result Report Stop) → ((r.before log).taken ≤ longest_log → StaysWithinAt r log result) → StaysWithin r result
+    pub one-within : (result : Result Report Stop) → ((r.before log).taken ≤ r.limit → StaysWithinAt r log result) → StaysWithin r result
     one-within result within begins = ⊎_elim (λ stop. inl stop) (λ own. inr (ends log own only.other begins)) (within (begins log))
       where
-        ends : (log : Which) → (r.after log).taken ≤ longest_log → r.after (other_of log) ≡ r.before (other_of log) → BeginsWithin r → (which : Which) → (r.after which).taken ≤ longest_log
+        ends : (log : Which) → (r.after log).taken ≤ r.limit → r.after (other_of log) ≡ r.before (other_of log) → BeginsWithin r → (which : Which) → (r.after which).taken ≤ r.limit
         ends Orders own same begins Orders = own
         ends Orders own same begins Trades = rw same (begins Trades)
         ends Trades own same begins Orders = rw same (begins Orders)

@@ -9,7 +9,7 @@ use Rattle.log_source.specs.Sinks.{SinkState, Stays}
 use Rattle.audit_run.specs.declared.requests.Request.{Request}
 use Rattle.audit_run.specs.Corollaries.{HasRoomForText}
 use Rattle.audit_run.specs.Runs.{IsSomeText, Runs, WritesPart}
-use Rattle.audit_run.specs.Steps.{Reading}
+use Rattle.log_verdict.specs.Steps.{Reading}
 
 -- a sink that takes so much for sure doesn't fail at a proper prefix
 never_part : (before : List ℕ) (now : Option (List ℕ)) (text : List ℕ) (count sure room : ℕ) → count < length text → Appends (Some before) now (take count text) → sure ≡ room

@@ -6,12 +6,13 @@ use Rattle.audit_report.specs.Lines.{read_fault_line, too_long_line}
 use Rattle.log_source.specs.Sinks.{SinkState}
 use Rattle.audit_run.specs.declared.reports.Report.{Report}
 use Rattle.audit_run.specs.declared.requests.Request.{Request}
-use Rattle.audit_run.specs.declared.stops.Stop.{Stop}
-use Rattle.audit_run.specs.declared.stops.Stop.TheVariants as stop
-use Rattle.audit_run.specs.Auditing.{IsStop, StaysWithin}
+use Rattle.log_verdict.specs.declared.stops.Stop.{Stop}
+use Rattle.log_verdict.specs.declared.stops.Stop.TheVariants as stop
+use Rattle.log_verdict.specs.BothLogs.{StaysWithin}
 use Rattle.audit_run.specs.Runs.{Answers, AnswersLength, IsText, MayBeTooLong, ReportsHeldLogs, Runs}
-use Rattle.audit_run.specs.Steps.{Reading}
+use Rattle.log_verdict.specs.Steps.{Reading}
 use Rattle.audit_run.specs.Writing.{Writes, WritesStop}
+use Rattle.audit_run.specs.Deciding.{IsStop}
 
 module _ (r : Reading) (request : Request) (old new : SinkState) where
   -- a text that was written, whole or in part, is what the call answers and writes

@@ -6,7 +6,7 @@ use Rattle.log_source.specs.Sources.{Slot, Rose, longest_log}
 use Rattle.audit_run.specs.declared.requests.Request.{Request}
 use Rattle.audit_run.specs.Requests.{next_log}
 use Rattle.audit_run.specs.Runs.{ReadsNext, ReadsOn, Holds, HoldsLogs}
-use Rattle.audit_run.specs.Steps.{Reading, Step, Lead, with_slot}
+use Rattle.log_verdict.specs.Steps.{Reading, Step, Lead, with_slot}
 
 -- what stands in a slot after it was changed
 with_slot-same : (slots : Which → Slot) (log : Which) (slot : Slot) → with_slot slots log slot log ≡ slot

@@ -12,17 +12,17 @@ use Rattle.audit_base.specs.Histories.{order_list}
 use Rattle.audit_report.specs.declared.verdicts.Verdict.{Verdict}
 use Rattle.audit_report.specs.declared.verdicts.Verdict.TheVariants as verdict
 use Rattle.matching_core.specs.declared.deals_draft.ResolvedTrades.{ResolvedTrades}
-use Rattle.audit_run.specs.declared.before_rule.BeforeRule.TheVariants as upto
-use Rattle.audit_run.specs.declared.questions.Question.{Question}
+use Rattle.record_verdict.specs.declared.before_rule.BeforeRule.TheVariants as upto
+use Rattle.record_verdict.specs.declared.questions.Question.{Question}
 use Rattle.audit_run.specs.declared.reports.Report.{Report}
-use Rattle.audit_run.specs.Auditing.{IsReportOf}
 use Rattle.audit_run.specs.Certificates.{Verifies, VerifiesRecords}
-use Rattle.audit_run.specs.Judgements.{question}
+use Rattle.record_verdict.specs.Judgements.{question}
 use Rattle.audit_run.specs.JudgedReports.{VerifiesAs}
 use Rattle.audit_run.specs.OtherTexts.{IsRefused}
 use Rattle.audit_run.specs.Reporting.{SaysReport}
-use Rattle.audit_run.specs.UpToRule.{AreSound, IsBeforeRule}
+use Rattle.record_verdict.specs.BeforeRule.{AreSound, IsBeforeRule}
 use Rattle.audit_run.proofs.JudgedReportLemmas.{of_logs}
+use Rattle.audit_run.specs.Deciding.{IsReportOf}
 
 -- the rule is one of a call: before it is looked at, one is as good as another
 abbrev pub asked : List ℕ → Question

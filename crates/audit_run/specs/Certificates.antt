@@ -11,15 +11,16 @@ use Rattle.audit_base.specs.Deals.{volume}
 use Rattle.audit_base.specs.Histories.{order_list}
 use Rattle.audit_base.specs.Rules.{Conforms}
 use Rattle.audit_base.specs.Trades.{deals_of}
-use Rattle.audit_base.specs.Verdicts.{log_finding, paired_trades}
+use Rattle.record_verdict.specs.Scopes.{early_finding, call_scope}
+use Rattle.audit_base.specs.Verdicts.{paired_trades}
 use Rattle.audit_certificate.specs.Agreement.{Agrees, AgreesUnderNone, IsCertificate, IsFirstRefused}
 use Rattle.audit_report.specs.declared.statuses.Status.{Status}
 use Rattle.audit_report.specs.declared.statuses.Status.TheVariants as status
 use Rattle.audit_report.specs.declared.verdicts.Verdict.{Verdict}
 use Rattle.audit_report.specs.declared.verdicts.Verdict.TheVariants.{Accepted, Rejected, Malformed}
 use Rattle.audit_report.specs.Certificates.{refused_line, verified_line}
-use Rattle.audit_run.specs.declared.questions.Question.{Question}
-use Rattle.audit_run.specs.LogVerdicts.{Log, HaveRecords, IsLogVerdict, OfLogs}
+use Rattle.record_verdict.specs.declared.questions.Question.{Question}
+use Rattle.log_verdict.specs.LogVerdicts.{Log, HaveRecords, IsLogVerdict, OfLogs}
 use Rattle.audit_run.specs.OtherTexts.{IsDone, IsRefused}
 
 -- The logs have orders and deals, and the text is their certificate, which agrees.
@@ -75,7 +76,7 @@ abbrev pub VerifiesRecords : List ℕ → List ℕ → List OrderRecord
     → Result (List TradeRecord) Finding → Status → List ℕ → Type 0
 VerifiesRecords symbol certificate entries paired the_status text =
     let orders = order_list symbol entries in
-    MatchOption (log_finding rule.Uniform symbol entries paired)
+    MatchOption (early_finding (call_scope symbol) entries paired)
     (Verifies symbol orders (deals_of orders symbol (paired_trades paired)) certificate the_status text)
     (λ finding. IsRefused (Rejected finding) the_status text)
 

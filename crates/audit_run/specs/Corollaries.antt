@@ -3,7 +3,7 @@ use Rattle.std.specs.Prelude.{◌≡◌, ◌+◌, ◌≤◌, ℕ, List, length, 
 use Rattle.audit_report.specs.Lines.{usage_line}
 use Rattle.audit_run.specs.declared.requests.Request.{Request}
 use Rattle.audit_run.specs.Runs.{IsSomeText}
-use Rattle.audit_run.specs.Steps.{Reading}
+use Rattle.log_verdict.specs.Steps.{Reading}
 
 -- a text that a call may write: a report on the logs or the line of the log at which reading stopped; on
 -- words that are not well-formed the usage line

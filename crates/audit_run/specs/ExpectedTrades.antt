@@ -9,13 +9,13 @@ use Rattle.audit_report.specs.declared.verdicts.Accepted.{Accepted}
 use Rattle.audit_report.specs.declared.verdicts.Verdict.{Verdict}
 use Rattle.audit_report.specs.declared.verdicts.Verdict.TheVariants as verdict
 use Rattle.log_source.specs.Sinks.{SinkState}
-use Rattle.audit_run.specs.declared.questions.Question.{Question}
+use Rattle.record_verdict.specs.declared.questions.Question.{Question}
 use Rattle.audit_run.specs.declared.requests.Request.{Request}
 use Rattle.audit_run.specs.declared.requests.Request.TheVariants.{Audit, Expect}
-use Rattle.audit_run.specs.Judgements.{question}
-use Rattle.audit_run.specs.LogVerdicts.{Log, log_in, IsLogVerdict}
+use Rattle.record_verdict.specs.Judgements.{question}
+use Rattle.log_verdict.specs.LogVerdicts.{Log, log_in, IsLogVerdict}
 use Rattle.audit_run.specs.Runs.{HoldsLogs, IsReady, ReportsHeldLogs, Runs}
-use Rattle.audit_run.specs.Steps.{Reading}
+use Rattle.log_verdict.specs.Steps.{Reading}
 
 -- A call of `run` on these well-formed words answered this, as its clauses say.
 pub record Answered (request : Request) (r : Reading) (old new : SinkState)

@@ -5,7 +5,7 @@ use Rattle.log_source.specs.Sinks.{SinkState}
 use Rattle.audit_run.specs.declared.requests.Request.{Request}
 use Rattle.audit_run.specs.Requests.{IsReport}
 use Rattle.audit_run.specs.Runs.{HoldsLogs, WritesReport}
-use Rattle.audit_run.specs.Steps.{Reading}
+use Rattle.log_verdict.specs.Steps.{Reading}
 
 -- The shelf holds these logs, which are those of the command, and what was written leaves as many bytes
 -- free as any report on them has.

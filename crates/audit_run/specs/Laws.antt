@@ -8,12 +8,12 @@ use Rattle.audit_report.specs.declared.statuses.Status.{Status}
 use Rattle.audit_report.specs.declared.statuses.Status.TheVariants as status
 use Rattle.audit_report.specs.declared.verdicts.Verdict.{Verdict}
 use Rattle.log_source.specs.Sinks.{SinkState}
-use Rattle.audit_run.specs.declared.questions.Question.{Question}
+use Rattle.record_verdict.specs.declared.questions.Question.{Question}
 use Rattle.audit_run.specs.declared.requests.Request.TheVariants.{Generate}
 use Rattle.audit_run.specs.Certificates.{IsCertifyReport, IsVerifyReport}
-use Rattle.audit_run.specs.LogVerdicts.{Log, HaveRecords, IsLogVerdict}
+use Rattle.log_verdict.specs.LogVerdicts.{Log, HaveRecords, IsLogVerdict}
 use Rattle.audit_run.specs.Runs.{Runs}
-use Rattle.audit_run.specs.Steps.{Reading}
+use Rattle.log_verdict.specs.Steps.{Reading}
 
 -- one verdict: two logs have one verdict on a question
 abbrev pub OneVerdict : Type 0

@@ -29,9 +29,9 @@ use Rattle.audit_report.specs.Statuses.{verdict_status}
 use Rattle.audit_report.specs.Texts.{verdict_text}
 use Rattle.csv_logs.specs.Written.{orders_text, trades_text}
 use Rattle.log_maker.specs.Generator.{generated_orders, generated_records}
-use Rattle.audit_run.specs.declared.questions.Question.{Question}
-use Rattle.audit_run.specs.Judgements.{question, IsJudged}
-use Rattle.audit_run.specs.LogVerdicts.{Log, order_log, trade_log}
+use Rattle.record_verdict.specs.declared.questions.Question.{Question}
+use Rattle.record_verdict.specs.Judgements.{question, IsJudged}
+use Rattle.log_verdict.specs.LogVerdicts.{Log, order_log, trade_log}
 
 -- The command refuses what it read: the report is that of the verdict which says why.
 pub record IsRefused (verdict : Verdict) (status : Status) (text : List ℕ) : Type 0 where

@@ -7,16 +7,17 @@ use Rattle.audit_report.specs.declared.verdicts.Verdict.TheVariants.{Malformed}
 use Rattle.call_laws.specs.Laws.{asks_for_greatest}
 use Rattle.log_maker.specs.Generator.{IsStart, IsCount}
 use Rattle.session_audit.specs.Phases.{ArePhases}
-use Rattle.audit_run.specs.declared.reading.Unread.{Unread}
-use Rattle.audit_run.specs.declared.reading.Unread.TheVariants as unread
+use Rattle.log_verdict.specs.declared.reading.Unread.{Unread}
+use Rattle.log_verdict.specs.declared.reading.Unread.TheVariants as unread
 use Rattle.audit_run.specs.declared.reports.Report.{Report}
 use Rattle.audit_run.specs.declared.requests.Request.{Request}
 use Rattle.audit_run.specs.declared.requests.Request.TheVariants.{Audit, Expect, Convert, Generate, Certify, Verify, Session}
-use Rattle.audit_run.specs.declared.stops.Stop.{Stop}
-use Rattle.audit_run.specs.declared.stops.Stop.TheVariants as stop
-use Rattle.audit_run.specs.Auditing.{IsLogStop, IsReportOf}
-use Rattle.audit_run.specs.Collecting.{IsReadAs}
-use Rattle.audit_run.specs.Steps.{Reading}
+use Rattle.log_verdict.specs.declared.stops.Stop.{Stop}
+use Rattle.log_verdict.specs.declared.stops.Stop.TheVariants as stop
+use Rattle.log_verdict.specs.BothLogs.{IsLogStop}
+use Rattle.audit_run.specs.Deciding.{IsReportOf}
+use Rattle.log_verdict.specs.Collecting.{IsReadAs}
+use Rattle.log_verdict.specs.Steps.{Reading}
 use Rattle.audit_run.specs.Words.{has_table}
 
 -- what words may ask for: Expected trades of a rule that has such, a log of numbers in their limits, a

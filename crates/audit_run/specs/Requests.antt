@@ -11,8 +11,8 @@ use Rattle.audit_report.specs.Texts.{verdict_text}
 use Rattle.audit_run.specs.declared.requests.Request.{Request}
 use Rattle.audit_run.specs.declared.requests.Request.TheVariants.{Audit, Expect, Convert, Generate, Certify, Verify, Session}
 use Rattle.audit_run.specs.Certificates.{IsCertifyReport, IsVerifyReport}
-use Rattle.audit_run.specs.Judgements.{question}
-use Rattle.audit_run.specs.LogVerdicts.{order_log, trade_log, log_in, IsLogVerdict}
+use Rattle.record_verdict.specs.Judgements.{question}
+use Rattle.log_verdict.specs.LogVerdicts.{order_log, trade_log, log_in, IsLogVerdict}
 use Rattle.audit_run.specs.Sessions.{IsSessionReport}
 use Rattle.audit_run.specs.OtherTexts.{IsConvertReport, IsDone, IsExpectReport, IsSummary}
 

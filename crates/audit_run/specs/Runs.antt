@@ -9,7 +9,7 @@ use Rattle.log_source.specs.Sinks.{SinkState, AppendsPart, MayFail}
 use Rattle.log_source.specs.Sources.{Rose, longest_log}
 use Rattle.audit_run.specs.declared.requests.Request.{Request}
 use Rattle.audit_run.specs.Requests.{next_log, IsReport}
-use Rattle.audit_run.specs.Steps.{Reading, Step, IsRead, IsReadFault, IsTooLong, Lead, BeginsWithin, EndsWithin}
+use Rattle.log_verdict.specs.Steps.{Reading, Step, IsRead, IsReadFault, IsTooLong, Lead, BeginsWithin, EndsWithin}
 
 -- The next log that the command needs is this one, which was started, read to its end, and has these bytes.
 pub record ReadsNext (r : Reading) (request : Request) (earlier : List (List ℕ)) (step : Step)

@@ -9,7 +9,8 @@ use Rattle.audit_base.specs.declared.terms.Rule.TheVariants as rule
 use Rattle.audit_base.specs.Deals.{AreDeals}
 use Rattle.audit_base.specs.Histories.{order_list}
 use Rattle.audit_base.specs.Trades.{deals_of}
-use Rattle.audit_base.specs.Verdicts.{log_finding, paired_trades}
+use Rattle.record_verdict.specs.Scopes.{early_finding, day_scope}
+use Rattle.audit_base.specs.Verdicts.{paired_trades}
 use Rattle.audit_report.specs.declared.statuses.Status.{Status}
 use Rattle.audit_report.specs.declared.verdicts.Verdict.TheVariants.{Rejected, Malformed}
 use Rattle.session_audit.specs.declared.phases.Phase.{Phase}
@@ -17,7 +18,7 @@ use Rattle.session_audit.specs.Audits.{IsBrokenDay, IsConformingDay}
 use Rattle.session_audit.specs.Days.{ConformsDay}
 use Rattle.session_audit.specs.PhaseOrders.{traded_in}
 use Rattle.session_audit.specs.Texts.{day_text}
-use Rattle.audit_run.specs.LogVerdicts.{Log, OfLogs}
+use Rattle.log_verdict.specs.LogVerdicts.{Log, OfLogs}
 use Rattle.audit_run.specs.OtherTexts.{IsDone, IsRefused}
 
 -- what each order trades in each phase is the only quantity that it can: all lists of deals under which the
@@ -57,7 +58,7 @@ abbrev pub JudgesDayOf : List ℕ → List Phase → Bool → List OrderRecord
     → Result (List TradeRecord) Finding → Status → List ℕ → Type 0
 JudgesDayOf symbol phases table entries paired status text =
     let orders = order_list symbol entries in
-    MatchOption (log_finding rule.Continuous symbol entries paired)
+    MatchOption (early_finding (day_scope symbol) entries paired)
     (JudgesDay symbol phases table orders (deals_of orders symbol (paired_trades paired))
     (length (paired_trades paired)) status text)
     (λ finding. IsRefused (Rejected finding) status text)

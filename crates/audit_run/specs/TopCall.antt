@@ -5,7 +5,7 @@ use Rattle.log_source.specs.declared.shelf.Shelf.{Ghosts as Shelf}
 use Rattle.log_source.specs.Sinks.{SinkState, Stays}
 use Rattle.audit_run.specs.declared.requests.Request.{Request}
 use Rattle.audit_run.specs.Runs.{AnswersLength, ReportsHeldLogs, Runs}
-use Rattle.audit_run.specs.Steps.{reading, KeepsLogs, NeverFall}
+use Rattle.log_verdict.specs.Steps.{reading, KeepsLogs, NeverFall}
 
 -- A call that was asked for this, where the words are well-formed: the headline; each status with its cause
 -- and with what was written; too long a log is answered as such; the shelf has what it had; no count of

@@ -5,8 +5,8 @@ use Rattle.audit_report.specs.declared.statuses.Status.{Status}
 use Rattle.audit_report.specs.declared.statuses.Status.TheVariants as status
 use Rattle.audit_report.specs.Lines.{read_fault_line, too_long_line}
 use Rattle.log_source.specs.Sinks.{SinkState, AppendsPart, MayFail}
-use Rattle.audit_run.specs.declared.stops.Stop.{Stop}
-use Rattle.audit_run.specs.declared.stops.Stop.TheVariants as stop
+use Rattle.log_verdict.specs.declared.stops.Stop.{Stop}
+use Rattle.log_verdict.specs.declared.stops.Stop.TheVariants as stop
 
 -- The whole text was written, and its status is answered.
 pub record WritesAll (old new : SinkState) (the_status : Status) (text : List ℕ)

@@ -1,25 +1,30 @@
 //! The report of each command. A command is an arm of `report_on`.
 ghost use Rattle.std.specs.Prelude.{◌≡◌, IsTrue};
 ghost use Rattle.call_laws.specs.Laws.{asks_for_greatest};
-ghost use Rattle.audit_run.specs.Auditing.{audit_of, certify_of, DecidesReport, StaysWithin};
+ghost use Rattle.log_source.specs.Sources.{longest_log};
+ghost use Rattle.log_verdict.specs.BothLogs.{HaveOneLimit, StaysWithin};
+ghost use Rattle.audit_run.specs.Deciding.{audit_of, certify_of, DecidesReport};
 ghost use Rattle.audit_run.specs.Reporting.{MayBeAsked};
-ghost use Rattle.audit_run.specs.Steps.{reading, KeepsLogs, NeverFall};
+ghost use Rattle.log_verdict.specs.Steps.{reading, reading_by, KeepsLogs, NeverFall};
 
-use super::auditing::read_both;
+use log_verdict::both_logs::read_both;
 use super::converting::report_convert;
 use super::expecting::report_expect;
 use super::generating::report_generate;
-use super::judged_reports::{audit_report, certify_report};
+use super::judged_reports::certify_report;
 use super::paths::PathText;
-use super::questions::{Question, Source};
-use super::reports::Report;
+use record_verdict::questions::Question;
+use log_verdict::sources::Source;
+use super::reports::{Report, verdict_report};
 use super::requests::Request;
 use super::sessions::report_session;
-use super::stops::Stop;
+use log_verdict::stops::Stop;
 use super::verifying::report_verify;
 use audit_base::names::Name;
+use audit_base::sizes::LONGEST_LOG;
 use audit_base::terms::{Form, Rule};
 use log_source::shelf::Shelf;
+use log_verdict::verdicts::verdict_on;
 use seeded_hash::seed::HashSeed;
 use std::alloc::Global;
 
@@ -31,14 +36,15 @@ fn report_audit<F: Shelf>(
     orders: &Source<'_>,
     trades: &Source<'_>,
 ) -> Result<Report, Stop>
+    requires limit { HaveOneLimit orders.now trades.now }
     ensures logs { KeepsLogs F.Shelf shelf.old shelf.new }
-    ensures later { NeverFall (reading F.Shelf shelf.old shelf.new) }
-    ensures decides { DecidesReport (reading F.Shelf shelf.old shelf.new)
+    ensures later { NeverFall (reading_by orders.now F.Shelf shelf.old shelf.new) }
+    ensures decides { DecidesReport (reading_by orders.now F.Shelf shelf.old shelf.new)
         (audit_of question.now orders.now trades.now) result }
-    ensures within { StaysWithin (reading F.Shelf shelf.old shelf.new) result }
+    ensures within { StaysWithin (reading_by orders.now F.Shelf shelf.old shelf.new) result }
 {
-    match read_both(alloc, shelf, question, orders, trades) {
-        Ok(reached) => Ok(audit_report(alloc, question, &reached)?),
+    match verdict_on(alloc, shelf, question, orders, trades) {
+        Ok(verdict) => Ok(verdict_report(alloc, &verdict)?),
         Err(stop) => Err(stop),
     }
 }
@@ -52,32 +58,35 @@ fn report_certify<F: Shelf>(
     orders: &Source<'_>,
     trades: &Source<'_>,
 ) -> Result<Report, Stop>
-    requires { IsTrue (asks_for_greatest rule) }
+    requires rule { IsTrue (asks_for_greatest rule) }
+    requires limit { HaveOneLimit orders.now trades.now }
     ensures logs { KeepsLogs F.Shelf shelf.old shelf.new }
-    ensures later { NeverFall (reading F.Shelf shelf.old shelf.new) }
-    ensures decides { DecidesReport (reading F.Shelf shelf.old shelf.new)
+    ensures later { NeverFall (reading_by orders.now F.Shelf shelf.old shelf.new) }
+    ensures decides { DecidesReport (reading_by orders.now F.Shelf shelf.old shelf.new)
         (certify_of rule symbol.now orders.now trades.now) result }
-    ensures within { StaysWithin (reading F.Shelf shelf.old shelf.new) result }
+    ensures within { StaysWithin (reading_by orders.now F.Shelf shelf.old shelf.new) result }
 {
     let question = Question {
         rule,
         symbol: *symbol,
         table: false,
     };
-    match read_both(alloc, shelf, &question, orders, trades) {
+    match read_both(alloc, shelf, &question.scope(), orders, trades) {
         Ok(reached) => Ok(certify_report(alloc, &question, &reached)?),
         Err(stop) => Err(stop),
     }
 }
 
-/// The log of this path, in this form, read with hashes of this seed.
+/// The log of this path, in this form, of at most 64 MiB, read with hashes of this seed.
 fn source_of(path: &PathText, form: Form, seed: HashSeed) -> Source<'_>
     ensures name { result.name.now ≡ path.now }
     ensures form { result.form ≡ form }
+    ensures limit { result.limit ≡ longest_log }
 {
     Source {
         name: path.as_str(),
         form,
+        limit: LONGEST_LOG as u64,
         seed,
     }
 }

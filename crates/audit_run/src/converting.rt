@@ -1,18 +1,18 @@
 //! The command `convert`: a log in any form, as a CSV log.
 ghost use Rattle.std.specs.Prelude.{◌≤◌};
 ghost use Rattle.audit_base.specs.declared.terms.Which.{Which};
-ghost use Rattle.log_source.specs.Sources.{longest_log};
-ghost use Rattle.audit_run.specs.Auditing.{StaysWithinAt};
-ghost use Rattle.audit_run.specs.Collecting.{TouchesOnly};
-ghost use Rattle.audit_run.specs.LogVerdicts.{log_in};
+ghost use Rattle.log_source.specs.Sources.{longest_read};
+ghost use Rattle.log_verdict.specs.BothLogs.{StaysWithinAt};
+ghost use Rattle.log_verdict.specs.Collecting.{TouchesOnly};
+ghost use Rattle.log_verdict.specs.LogVerdicts.{log_in};
 ghost use Rattle.audit_run.specs.OtherTexts.{IsConvertReport};
 ghost use Rattle.audit_run.specs.Reporting.{DecidesLog};
-ghost use Rattle.audit_run.specs.Steps.{reading, KeepsLogs};
+ghost use Rattle.log_verdict.specs.Steps.{reading_by, KeepsLogs};
 
-use super::collecting::{Collected, collect_orders, collect_trades};
-use super::questions::Source;
+use log_verdict::reading::{Collected, collect_orders, collect_trades};
+use log_verdict::sources::Source;
 use super::reports::{Report, done_report, finding_report, report_without};
-use super::stops::Stop;
+use log_verdict::stops::Stop;
 use audit_base::records::{OrderRecord, TradeRecord};
 use audit_base::terms::Which;
 use csv_logs::log_text::ConvertedLog;
@@ -25,13 +25,14 @@ fn convert_orders<F: Shelf>(
     shelf: &mut F,
     source: &Source<'_>,
 ) -> Result<Report, Stop>
+    requires limit { source.now.limit ≤ longest_read }
     ensures logs { KeepsLogs F.Shelf shelf.old shelf.new }
-    ensures only { TouchesOnly (reading F.Shelf shelf.old shelf.new) Which.Orders }
-    ensures decides { DecidesLog (reading F.Shelf shelf.old shelf.new) Which.Orders
+    ensures only { TouchesOnly (reading_by source.now F.Shelf shelf.old shelf.new) Which.Orders }
+    ensures decides { DecidesLog (reading_by source.now F.Shelf shelf.old shelf.new) Which.Orders
         source.now.name.now
         (λ bytes. IsConvertReport Which.Orders (log_in source.now.form bytes)) result }
-    ensures within { (F.slot shelf.old Which.Orders).taken ≤ longest_log
-        → StaysWithinAt (reading F.Shelf shelf.old shelf.new) Which.Orders result }
+    ensures within { (F.slot shelf.old Which.Orders).taken ≤ source.now.limit
+        → StaysWithinAt (reading_by source.now F.Shelf shelf.old shelf.new) Which.Orders result }
 {
     let log = ConvertedLog::new(alloc)?;
     match collect_orders::<F, ConvertedLog<OrderRecord>>(alloc, shelf, source, log) {
@@ -46,13 +47,14 @@ fn convert_trades<F: Shelf>(
     shelf: &mut F,
     source: &Source<'_>,
 ) -> Result<Report, Stop>
+    requires limit { source.now.limit ≤ longest_read }
     ensures logs { KeepsLogs F.Shelf shelf.old shelf.new }
-    ensures only { TouchesOnly (reading F.Shelf shelf.old shelf.new) Which.Trades }
-    ensures decides { DecidesLog (reading F.Shelf shelf.old shelf.new) Which.Trades
+    ensures only { TouchesOnly (reading_by source.now F.Shelf shelf.old shelf.new) Which.Trades }
+    ensures decides { DecidesLog (reading_by source.now F.Shelf shelf.old shelf.new) Which.Trades
         source.now.name.now
         (λ bytes. IsConvertReport Which.Trades (log_in source.now.form bytes)) result }
-    ensures within { (F.slot shelf.old Which.Trades).taken ≤ longest_log
-        → StaysWithinAt (reading F.Shelf shelf.old shelf.new) Which.Trades result }
+    ensures within { (F.slot shelf.old Which.Trades).taken ≤ source.now.limit
+        → StaysWithinAt (reading_by source.now F.Shelf shelf.old shelf.new) Which.Trades result }
 {
     let log = ConvertedLog::new(alloc)?;
     match collect_trades::<F, ConvertedLog<TradeRecord>>(alloc, shelf, source, log) {
@@ -70,12 +72,13 @@ pub(crate) fn report_convert<F: Shelf>(
     log: Which,
     source: &Source<'_>,
 ) -> Result<Report, Stop>
+    requires limit { source.now.limit ≤ longest_read }
     ensures logs { KeepsLogs F.Shelf shelf.old shelf.new }
-    ensures only { TouchesOnly (reading F.Shelf shelf.old shelf.new) log }
-    ensures decides { DecidesLog (reading F.Shelf shelf.old shelf.new) log source.now.name.now
+    ensures only { TouchesOnly (reading_by source.now F.Shelf shelf.old shelf.new) log }
+    ensures decides { DecidesLog (reading_by source.now F.Shelf shelf.old shelf.new) log source.now.name.now
         (λ bytes. IsConvertReport log (log_in source.now.form bytes)) result }
-    ensures within { (F.slot shelf.old log).taken ≤ longest_log
-        → StaysWithinAt (reading F.Shelf shelf.old shelf.new) log result }
+    ensures within { (F.slot shelf.old log).taken ≤ source.now.limit
+        → StaysWithinAt (reading_by source.now F.Shelf shelf.old shelf.new) log result }
 {
     match log {
         Which::Orders => convert_orders(alloc, shelf, source),

@@ -8,7 +8,7 @@ ghost use Rattle.log_source.specs.declared.quiet_shelf.QuietShelf.{QuietShelf};
 ghost use Rattle.audit_run.specs.declared.requests.Request.{Request};
 ghost use Rattle.audit_run.specs.Corollaries.{HasRoomForText};
 ghost use Rattle.audit_run.specs.Runs.{Runs};
-ghost use Rattle.audit_run.specs.Steps.{Reading, reading};
+ghost use Rattle.log_verdict.specs.Steps.{Reading, reading};
 
 use log_source::quiet_shelf::QuietShelf;
 use log_source::shelf::Shelf;

@@ -1,5 +1,5 @@
 //! The command `expect`: the Expected trades of an order log, as a trade log.
-ghost use Rattle.std.specs.Prelude.{◌≡◌, List, None, IfOk, IsTrue};
+ghost use Rattle.std.specs.Prelude.{◌≡◌, ◌≤◌, List, None, IfOk, IsTrue};
 ghost use Rattle.audit_base.specs.declared.records.OrderRecord.{OrderRecord};
 ghost use Rattle.audit_base.specs.declared.terms.Which.{Which};
 ghost use Rattle.audit_base.specs.Deals.{IsDealList};
@@ -10,21 +10,23 @@ ghost use Rattle.audit_base.specs.Rules.{Conforms};
 ghost use Rattle.audit_base.specs.Verdicts as spec;
 ghost use Rattle.instruction_history.specs.HistoryDraft.{IsHistoryDraft};
 ghost use Rattle.log_source.specs.Collectors.{HasPlace};
-ghost use Rattle.audit_run.specs.Auditing.{StaysWithinAt};
-ghost use Rattle.audit_run.specs.Collecting.{TouchesOnly};
-ghost use Rattle.audit_run.specs.LogVerdicts.{log_in};
+ghost use Rattle.log_source.specs.Sources.{longest_read};
+ghost use Rattle.log_verdict.specs.BothLogs.{StaysWithinAt};
+ghost use Rattle.log_verdict.specs.Collecting.{TouchesOnly};
+ghost use Rattle.log_verdict.specs.LogVerdicts.{log_in};
 ghost use Rattle.audit_run.specs.Expecting.{IsConformingLog, IsLogOfOrders};
 ghost use Rattle.audit_run.specs.OtherTexts.{ExpectsOf, IsExpectReport};
 ghost use Rattle.audit_run.specs.Reporting.{DecidesLog, SaysReport};
-ghost use Rattle.audit_run.specs.Steps.{reading, KeepsLogs};
+ghost use Rattle.log_verdict.specs.Steps.{reading_by, KeepsLogs};
 ghost use Rattle.audit_run.specs.Words as words;
 
-use super::collecting::collect_orders;
-use super::judging::call_finding;
-use super::questions::Source;
-use super::ranges::each_in_range;
+use log_verdict::reading::collect_orders;
+use record_verdict::judging::call_finding;
+use log_verdict::sources::Source;
+use record_verdict::laws::sound_trades_are_judged;
+use record_verdict::ranges::each_in_range;
 use super::reports::{Report, done_report, finding_report, report_without};
-use super::stops::Stop;
+use log_verdict::stops::Stop;
 use audit_base::faults::NoMemory;
 use audit_base::names::Name;
 use audit_base::orders::{Deal, Order};
@@ -101,6 +103,7 @@ fn expected_log(
     maximum_trades_are_expected();
     only_quantities();
     continuous_uniqueness();
+    sound_trades_are_judged();
     conforming_log(alloc, rule, symbol, orders)
 }
 
@@ -138,13 +141,14 @@ fn report_about<S: AuditedSymbol, F: Shelf>(
     orders: &Source<'_>,
 ) -> Result<Report, Stop>
     requires rule { IsTrue (words.has_table rule) }
+    requires limit { orders.now.limit ≤ longest_read }
     requires symbol { symbol.now ≡ S.symbol }
     ensures logs { KeepsLogs F.Shelf shelf.old shelf.new }
-    ensures only { TouchesOnly (reading F.Shelf shelf.old shelf.new) Which.Orders }
-    ensures decides { DecidesLog (reading F.Shelf shelf.old shelf.new) Which.Orders
+    ensures only { TouchesOnly (reading_by orders.now F.Shelf shelf.old shelf.new) Which.Orders }
+    ensures decides { DecidesLog (reading_by orders.now F.Shelf shelf.old shelf.new) Which.Orders
         orders.now.name.now
         (λ bytes. IsExpectReport rule symbol.now (log_in orders.now.form bytes)) result }
-    ensures within { StaysWithinAt (reading F.Shelf shelf.old shelf.new) Which.Orders result }
+    ensures within { StaysWithinAt (reading_by orders.now F.Shelf shelf.old shelf.new) Which.Orders result }
 {
     let draft = HistoryDraft::<S>::new(alloc, orders.seed, *symbol);
     match collect_orders::<F, HistoryDraft<S>>(alloc, shelf, orders, draft) {
@@ -162,13 +166,14 @@ pub(crate) fn report_expect<F: Shelf>(
     symbol: &Name,
     orders: &Source<'_>,
 ) -> Result<Report, Stop>
-    requires { IsTrue (words.has_table rule) }
+    requires rule { IsTrue (words.has_table rule) }
+    requires limit { orders.now.limit ≤ longest_read }
     ensures logs { KeepsLogs F.Shelf shelf.old shelf.new }
-    ensures only { TouchesOnly (reading F.Shelf shelf.old shelf.new) Which.Orders }
-    ensures decides { DecidesLog (reading F.Shelf shelf.old shelf.new) Which.Orders
+    ensures only { TouchesOnly (reading_by orders.now F.Shelf shelf.old shelf.new) Which.Orders }
+    ensures decides { DecidesLog (reading_by orders.now F.Shelf shelf.old shelf.new) Which.Orders
         orders.now.name.now
         (λ bytes. IsExpectReport rule symbol.now (log_in orders.now.form bytes)) result }
-    ensures within { StaysWithinAt (reading F.Shelf shelf.old shelf.new) Which.Orders result }
+    ensures within { StaysWithinAt (reading_by orders.now F.Shelf shelf.old shelf.new) Which.Orders result }
 {
     report_about::<Brand, F>(alloc, shelf, rule, symbol, orders)
 }

@@ -3,7 +3,7 @@ ghost use Rattle.std.specs.Prelude.{◌≡◌, ◌≢◌, [], map};
 ghost use Rattle.std.specs.String.{string_bytes};
 ghost use Rattle.log_source.specs.MemorySinks.{failing_writes, length_of, memory_state, room_of};
 ghost use Rattle.audit_run.specs.InMemory.{ReportsInRoom};
-ghost use Rattle.audit_run.specs.Steps.{reading};
+ghost use Rattle.log_verdict.specs.Steps.{reading};
 ghost use Rattle.audit_run.specs.Words.{request_of};
 
 use super::running::run;

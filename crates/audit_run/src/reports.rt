@@ -2,11 +2,11 @@
 ghost use Rattle.std.specs.Prelude.{◌≡◌, IfOk};
 ghost use Rattle.audit_report.specs.declared.verdicts.Verdict.TheVariants as verdict;
 ghost use Rattle.audit_report.specs.Texts.{IsVerdictInRange};
-ghost use Rattle.audit_run.specs.Auditing.{IsReportOf};
+ghost use Rattle.audit_run.specs.Deciding.{IsReportOf};
 ghost use Rattle.audit_run.specs.Reporting.{IsWithoutLog};
 
-use super::reading::Unread;
-use super::stops::Stop;
+use log_verdict::reading::Unread;
+use log_verdict::stops::Stop;
 use audit_base::faults::{BadPlace, NoMemory};
 use audit_base::findings::Finding;
 use audit_base::terms::Which;

@@ -4,7 +4,7 @@ ghost use Rattle.std.specs.String.{string_bytes};
 ghost use Rattle.log_source.specs.Sinks.{Stays};
 ghost use Rattle.audit_run.specs.Reporting.{MayBeAsked};
 ghost use Rattle.audit_run.specs.Runs.{Answers, AnswersLength};
-ghost use Rattle.audit_run.specs.Steps.{reading, KeepsLogs, NeverFall};
+ghost use Rattle.log_verdict.specs.Steps.{reading, KeepsLogs, NeverFall};
 ghost use Rattle.audit_run.specs.TopCall.{IsRun};
 ghost use Rattle.audit_run.specs.Words.{request_of};
 

@@ -3,24 +3,25 @@ ghost use Rattle.std.specs.Prelude.{IfOk};
 ghost use Rattle.audit_base.specs.Deals.{AreDeals};
 ghost use Rattle.audit_base.specs.Histories.{Regular};
 ghost use Rattle.audit_base.specs.Orders.{IsOrderList};
-ghost use Rattle.audit_run.specs.Auditing.{session_of, DecidesReport, StaysWithin};
+ghost use Rattle.log_verdict.specs.BothLogs.{HaveOneLimit, StaysWithin};
+ghost use Rattle.audit_run.specs.Deciding.{session_of, DecidesReport};
 ghost use Rattle.audit_run.specs.JudgedReports.{ReportsDay};
 ghost use Rattle.audit_run.specs.Reporting.{SaysReport};
 ghost use Rattle.audit_run.specs.Sessions.{AreOnlyOfDay, JudgesDay};
-ghost use Rattle.audit_run.specs.Steps.{reading, KeepsLogs, NeverFall};
-ghost use Rattle.audit_run.specs.UpToRule.{AreJudgeable, IsJudgeable};
+ghost use Rattle.log_verdict.specs.Steps.{reading_by, KeepsLogs, NeverFall};
+ghost use Rattle.record_verdict.specs.BeforeRule.{AreJudgeable, IsJudgeable};
 ghost use Rattle.session_audit.specs.Days.{ConformsDay};
 ghost use Rattle.session_audit.specs.Phases.{ArePhases};
 
-use super::auditing::read_both;
-use super::before_rule::BeforeRule;
-use super::questions::{Question, Source};
+use log_verdict::both_logs::read_both;
+use record_verdict::before_rule::BeforeRule;
+use record_verdict::scopes::{Admission, Scope};
+use log_verdict::sources::Source;
 use super::reports::{Report, done_report, finding_report, malformed_report};
-use super::stops::Stop;
+use log_verdict::stops::Stop;
 use audit_base::faults::NoMemory;
 use audit_base::names::Name;
 use audit_base::orders::{Deal, Order};
-use audit_base::terms::Rule;
 use log_source::shelf::Shelf;
 use matching_core::deals_draft::ResolvedTrades;
 use session_audit::auditing::audit_session;
@@ -86,8 +87,8 @@ fn session_report(
     }
 }
 
-/// The report of the command `session`. Both logs are read as those of continuous trading, which admits
-/// every order: whether a call admits its own orders is for the day to say.
+/// The report of the command `session`. The reading admits every order: whether a call admits its own
+/// orders is for the day to say.
 pub(crate) fn report_session<F: Shelf>(
     alloc: Global,
     shelf: &mut F,
@@ -97,19 +98,19 @@ pub(crate) fn report_session<F: Shelf>(
     orders: &Source<'_>,
     trades: &Source<'_>,
 ) -> Result<Report, Stop>
-    requires { ArePhases phases.now }
+    requires phases { ArePhases phases.now }
+    requires limit { HaveOneLimit orders.now trades.now }
     ensures logs { KeepsLogs F.Shelf shelf.old shelf.new }
-    ensures later { NeverFall (reading F.Shelf shelf.old shelf.new) }
-    ensures decides { DecidesReport (reading F.Shelf shelf.old shelf.new)
+    ensures later { NeverFall (reading_by orders.now F.Shelf shelf.old shelf.new) }
+    ensures decides { DecidesReport (reading_by orders.now F.Shelf shelf.old shelf.new)
         (session_of symbol.now phases.now table orders.now trades.now) result }
-    ensures within { StaysWithin (reading F.Shelf shelf.old shelf.new) result }
+    ensures within { StaysWithin (reading_by orders.now F.Shelf shelf.old shelf.new) result }
 {
-    let question = Question {
-        rule: Rule::Continuous,
+    let scope = Scope {
         symbol: *symbol,
-        table: false,
+        admission: Admission::All,
     };
-    match read_both(alloc, shelf, &question, orders, trades) {
+    match read_both(alloc, shelf, &scope, orders, trades) {
         Ok(reached) => Ok(session_report(alloc, symbol, phases, table, &reached)?),
         Err(stop) => Err(stop),
     }

@@ -4,21 +4,23 @@ ghost use Rattle.audit_base.specs.declared.terms.Which.{Which};
 ghost use Rattle.audit_report.specs.declared.statuses.Status.TheVariants as status;
 ghost use Rattle.audit_report.specs.Certificates.{refused_line, verified_line};
 ghost use Rattle.log_source.specs.Sources.{longest_log};
-ghost use Rattle.audit_run.specs.Auditing.{verify_of, DecidesReport, StaysWithin, StaysWithinAt};
+ghost use Rattle.log_verdict.specs.BothLogs.{HaveOneLimit, StaysWithin, StaysWithinAt};
 ghost use Rattle.audit_run.specs.Certificates.{Verifies};
-ghost use Rattle.audit_run.specs.Collecting.{TouchesOnly};
+ghost use Rattle.log_verdict.specs.Collecting.{TouchesOnly};
+ghost use Rattle.audit_run.specs.Deciding.{verify_of, DecidesReport};
 ghost use Rattle.audit_run.specs.JudgedReports.{IsLineReport, VerifiesAs};
 ghost use Rattle.audit_run.specs.Reporting.{DecidesLog, SaysReport};
-ghost use Rattle.audit_run.specs.Steps.{reading, KeepsLogs, NeverFall};
-ghost use Rattle.audit_run.specs.UpToRule.{AreJudgeable, IsJudgeable};
+ghost use Rattle.log_verdict.specs.Steps.{reading_by, reading_within, KeepsLogs, NeverFall};
+ghost use Rattle.record_verdict.specs.BeforeRule.{AreJudgeable, IsJudgeable};
 
-use super::auditing::read_both;
-use super::before_rule::BeforeRule;
+use log_verdict::both_logs::read_both;
+use record_verdict::before_rule::BeforeRule;
 use super::generating::volume_of;
-use super::questions::{Question, Source};
-use super::reading::Unread;
+use record_verdict::scopes::{Admission, Scope};
+use log_verdict::sources::Source;
+use log_verdict::reading::Unread;
 use super::reports::{Report, done_report, finding_report, malformed_report, report_without};
-use super::stops::Stop;
+use log_verdict::stops::Stop;
 use audit_base::faults::NoMemory;
 use audit_base::names::Name;
 use audit_base::terms::{Rule, Which};
@@ -104,15 +106,17 @@ fn report_certificate<F: Shelf>(
     symbol: &Name,
     reached: &BeforeRule,
     name: &str,
+    limit: u64,
 ) -> Result<Report, Stop>
+    requires limit { limit ≤ longest_log }
     requires judgeable { IsJudgeable reached.now }
     ensures logs { KeepsLogs F.Shelf shelf.old shelf.new }
-    ensures only { TouchesOnly (reading F.Shelf shelf.old shelf.new) Which.Trades }
-    ensures decides { DecidesLog (reading F.Shelf shelf.old shelf.new) Which.Trades name.now
+    ensures only { TouchesOnly (reading_within limit F.Shelf shelf.old shelf.new) Which.Trades }
+    ensures decides { DecidesLog (reading_within limit F.Shelf shelf.old shelf.new) Which.Trades name.now
         (VerifiesAs symbol.now reached.now) result }
-    ensures within { StaysWithinAt (reading F.Shelf shelf.old shelf.new) Which.Trades result }
+    ensures within { StaysWithinAt (reading_within limit F.Shelf shelf.old shelf.new) Which.Trades result }
 {
-    match take_log(alloc, shelf, Which::Trades, name) {
+    match take_log(alloc, shelf, Which::Trades, name, limit) {
         Ok(certificate) => Ok(verify_report(alloc, symbol, reached, &certificate)?),
         Err(fault) => report_without(alloc, Which::Trades, Unread::from(fault)),
     }
@@ -128,23 +132,24 @@ pub(crate) fn report_verify<F: Shelf>(
     trades: &Source<'_>,
     certificate: &str,
 ) -> Result<Report, Stop>
+    requires limit { HaveOneLimit orders.now trades.now }
+    requires small { orders.now.limit ≤ longest_log }
     ensures logs { KeepsLogs F.Shelf shelf.old shelf.new }
-    ensures later { NeverFall (reading F.Shelf shelf.old shelf.new) }
-    ensures decides { DecidesReport (reading F.Shelf shelf.old shelf.new)
+    ensures later { NeverFall (reading_by orders.now F.Shelf shelf.old shelf.new) }
+    ensures decides { DecidesReport (reading_by orders.now F.Shelf shelf.old shelf.new)
         (verify_of symbol.now orders.now trades.now certificate.now) result }
-    ensures within { StaysWithin (reading F.Shelf shelf.old shelf.new) result }
+    ensures within { StaysWithin (reading_by orders.now F.Shelf shelf.old shelf.new) result }
 {
-    let question = Question {
-        rule: Rule::Uniform,
+    let scope = Scope {
         symbol: *symbol,
-        table: false,
+        admission: Admission::Resting,
     };
-    match read_both(alloc, shelf, &question, orders, trades) {
+    match read_both(alloc, shelf, &scope, orders, trades) {
         Ok(reached) => {
             if reached.is_malformed() {
                 return Ok(verify_report(alloc, symbol, &reached, &[])?);
             }
-            report_certificate(alloc, shelf, symbol, &reached, certificate)
+            report_certificate(alloc, shelf, symbol, &reached, certificate, orders.limit)
         }
         Err(stop) => Err(stop),
     }

@@ -2,7 +2,7 @@
 ghost use Rattle.audit_run.specs.Writing.{Writes, WritesStop};
 ghost use Rattle.log_source.specs.Sinks.{Stays};
 
-use super::stops::Stop;
+use log_verdict::stops::Stop;
 use audit_report::reports::{read_fault_text, too_long_text};
 use audit_report::statuses::Status;
 use log_source::put::put_all;

@@ -3,7 +3,7 @@ use Rattle.std.proofs.Common.{◌≡◌, ◌∙◌, sym, ap, subst, refl, inr, �
 use Rattle.std.specs.Option.{option_map, option_map_or}
 use Rattle.audit_report.specs.declared.verdicts.Verdict.{Verdict}
 use Rattle.audit_report.specs.declared.verdicts.Verdict.TheVariants as verdict
-use Rattle.audit_run.specs.Steps.{Reading}
+use Rattle.log_verdict.specs.Steps.{Reading}
 use Rattle.case_keeper.specs.Cases.{kept}
 use Rattle.case_keeper.specs.Casebooks.{Files, filing, with_filed}
 use Rattle.case_keeper.specs.Keepers.{KeeperState}

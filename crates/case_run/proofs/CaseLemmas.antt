@@ -3,7 +3,7 @@ use Rattle.std.proofs.Common.{◌≡◌, sym, subst, refl, inl, inr, ◌⊎◌, 
 use Rattle.std.proofs.KnownBytes.{Appends-nil}
 use Rattle.std.proofs.lemmas.List.Splits.{length-slice_split}
 use Rattle.std.specs.List.{count_by, slice_split}
-use Rattle.audit_run.specs.Steps.{NeverFall, reading}
+use Rattle.log_verdict.specs.Steps.{NeverFall, reading}
 use Rattle.case_keeper.specs.Keepers.{KeeperState}
 use Rattle.log_source.specs.declared.shelf.Shelf.{Ghosts as Shelf}
 use Rattle.log_source.specs.Sinks.{SinkState, Stays}

@@ -4,9 +4,9 @@ use Rattle.std.specs.Prelude.{IsSomeAnd}
 use Rattle.audit_base.specs.declared.terms.Which.{Which}
 use Rattle.audit_base.specs.declared.terms.Which.TheVariants.{Orders, Trades}
 use Rattle.audit_report.specs.declared.verdicts.Verdict.{Verdict}
-use Rattle.audit_run.specs.Collecting.{step_of, IsReadAs}
-use Rattle.audit_run.specs.LogVerdicts.{order_log}
-use Rattle.audit_run.specs.Steps.{Reading, IsReadFault, IsTooLong}
+use Rattle.log_verdict.specs.Collecting.{step_of, IsReadAs}
+use Rattle.log_verdict.specs.LogVerdicts.{order_log}
+use Rattle.log_verdict.specs.Steps.{Reading, IsReadFault, IsTooLong}
 use Rattle.case_keeper.specs.Keepers.{KeeperState}
 use Rattle.case_keeper.specs.declared.case.Case.{Case}
 use Rattle.log_source.specs.declared.shelf.Shelf.{Ghosts as Shelf}

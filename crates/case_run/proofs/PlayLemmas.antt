@@ -9,8 +9,8 @@ use Rattle.audit_base.specs.declared.terms.Which.{Which}
 use Rattle.audit_base.specs.declared.terms.Which.TheVariants.{Orders, Trades}
 use Rattle.audit_report.specs.declared.verdicts.Verdict.{Verdict}
 use Rattle.audit_report.specs.declared.verdicts.Verdict.TheVariants as verdict
-use Rattle.audit_run.specs.Judgements.{question, IsJudged}
-use Rattle.audit_run.specs.LogVerdicts.{order_log, trade_log}
+use Rattle.record_verdict.specs.Judgements.{question, IsJudged}
+use Rattle.log_verdict.specs.LogVerdicts.{order_log, trade_log}
 use Rattle.case_keeper.specs.declared.case.Case.{Case}
 use Rattle.case_run.specs.Play.{Turn, IsTurn, IsVerdictOn, PlaysOn, verdict_turn}
 use Rattle.case_run.specs.Runs.{IsHeld, HoldsAfter, HoldsFiling, HoldsLogs}

@@ -5,9 +5,9 @@ use Rattle.audit_base.specs.declared.faults.BadPlace.{BadPlace}
 use Rattle.audit_base.specs.declared.records.OrderRecord.{OrderRecord}
 use Rattle.audit_base.specs.declared.terms.Which.{Which}
 use Rattle.audit_base.specs.declared.terms.Which.TheVariants.{Orders, Trades}
-use Rattle.audit_run.specs.Collecting.{step_of}
-use Rattle.audit_run.specs.LogVerdicts.{order_log, trade_log}
-use Rattle.audit_run.specs.Steps.{Reading, IsReadFault, IsTooLong}
+use Rattle.log_verdict.specs.Collecting.{step_of}
+use Rattle.log_verdict.specs.LogVerdicts.{order_log, trade_log}
+use Rattle.log_verdict.specs.Steps.{Reading, IsReadFault, IsTooLong}
 use Rattle.case_keeper.specs.declared.case.Case.{Case}
 use Rattle.log_source.specs.Sources.{Rose, longest_log}
 use Rattle.case_run.specs.Runs.{AnswersPlay, Call, HasCause, Halts, HoldsAfter, HoldsFiling, HoldsLogs, IsHeld, IsReady, IsStarted, OfLog, RunsCommands, name_in}

@@ -5,7 +5,7 @@ use Rattle.std.specs.Io.KnownBytes.{Appends}
 use Rattle.std.proofs.Math.Seq.{drop-cons}
 use Rattle.std.proofs.lemmas.List.{take_more}
 use lib.Seq.{take-append-add}
-use Rattle.audit_run.specs.Steps.{Reading, BeginsWithin, EndsWithin, reading}
+use Rattle.log_verdict.specs.Steps.{Reading, BeginsWithin, EndsWithin, reading}
 use Rattle.case_keeper.specs.Keepers.{KeeperState}
 use Rattle.case_keeper.specs.declared.case.Case.{Case}
 use Rattle.log_source.specs.declared.shelf.Shelf.{Ghosts as Shelf}

@@ -2,7 +2,7 @@
 use Rattle.std.proofs.Common.{◌≡◌, ◌∙◌, sym, subst, refl, inl, inr, ⊎_elim, ℕ, List, Ok, Err}
 use Rattle.std.proofs.KnownBytes.{Appends-nil}
 use Rattle.std.specs.Io.KnownBytes.{Appends}
-use Rattle.audit_run.specs.Steps.{Reading}
+use Rattle.log_verdict.specs.Steps.{Reading}
 use Rattle.case_keeper.specs.Keepers.{KeeperState}
 use Rattle.log_source.specs.Sinks.{SinkState, AppendsPart}
 use Rattle.case_run.specs.Runs.{AnswersLength, Call, ReadsBadLog, call_of, halt_line}

@@ -16,13 +16,13 @@ use Rattle.audit_base.specs.Verdicts.{paired_trades}
 use Rattle.audit_base.specs.declared.terms.Which.TheVariants.{Orders, Trades}
 use Rattle.audit_report.specs.declared.verdicts.Verdict.{Verdict}
 use Rattle.audit_report.specs.declared.verdicts.Verdict.TheVariants as verdict
-use Rattle.audit_run.specs.Collecting.{step_of, of_log, of_take, IsReadAs, IsUnread, TouchesOnly}
-use Rattle.audit_run.specs.Judgements.{question, IsJudged, IsOutcome}
-use Rattle.audit_run.specs.LogVerdicts.{order_log, trade_log, IsDecodeFault}
-use Rattle.audit_run.specs.Steps.{Reading, EndsWithin, IsRead, NeverFall, reading}
-use Rattle.audit_run.specs.declared.questions.Question.{Question}
-use Rattle.audit_run.specs.declared.reading.Unread.{Unread}
-use Rattle.audit_run.specs.declared.reading.Unread.TheVariants as unread
+use Rattle.log_verdict.specs.Collecting.{step_of, of_log, of_take, IsReadAs, IsUnread, TouchesOnly}
+use Rattle.record_verdict.specs.Judgements.{question, IsJudged, IsOutcome}
+use Rattle.log_verdict.specs.LogVerdicts.{order_log, trade_log, IsDecodeFault}
+use Rattle.log_verdict.specs.Steps.{Reading, EndsWithin, IsRead, NeverFall, reading}
+use Rattle.record_verdict.specs.declared.questions.Question.{Question}
+use Rattle.log_verdict.specs.declared.reading.Unread.{Unread}
+use Rattle.log_verdict.specs.declared.reading.Unread.TheVariants as unread
 use Rattle.log_source.specs.declared.shelf.Shelf.{Ghosts as Shelf}
 use Rattle.log_source.specs.declared.take.TakeFault.{TakeFault}
 use Rattle.log_source.specs.declared.take.TakeFault.TheVariants as take

@@ -8,8 +8,8 @@ use Rattle.audit_base.specs.declared.terms.Which.TheVariants.{Orders, Trades}
 use Rattle.audit_report.specs.Lines.{malformed_line}
 use Rattle.audit_report.specs.declared.verdicts.Verdict.{Verdict}
 use Rattle.audit_report.specs.declared.verdicts.Verdict.TheVariants as verdict
-use Rattle.audit_run.specs.Judgements.{question}
-use Rattle.audit_run.specs.LogVerdicts.{order_log, log_in, IsLogVerdict}
+use Rattle.record_verdict.specs.Judgements.{question}
+use Rattle.log_verdict.specs.LogVerdicts.{order_log, log_in, IsLogVerdict}
 use Rattle.case_keeper.specs.Cases.{kept, passing}
 use Rattle.case_keeper.specs.Casebooks.{filing, with_filed}
 use Rattle.case_keeper.specs.declared.case.Case.{Case}

@@ -6,9 +6,9 @@ use Rattle.audit_base.specs.declared.terms.Form.{Form}
 use Rattle.audit_base.specs.declared.terms.Which.{Which}
 use Rattle.audit_base.specs.declared.terms.Which.TheVariants.{Orders, Trades}
 use Rattle.audit_report.specs.Lines.{read_fault_line, too_long_line}
-use Rattle.audit_run.specs.Collecting.{step_of, IsReadAs}
-use Rattle.audit_run.specs.LogVerdicts.{order_log, trade_log}
-use Rattle.audit_run.specs.Steps.{Reading, Step, IsReadFault, IsTooLong, BeginsWithin, EndsWithin, KeepsLogs, NeverFall, reading}
+use Rattle.log_verdict.specs.Collecting.{step_of, IsReadAs}
+use Rattle.log_verdict.specs.LogVerdicts.{order_log, trade_log}
+use Rattle.log_verdict.specs.Steps.{Reading, Step, IsReadFault, IsTooLong, BeginsWithin, EndsWithin, KeepsLogs, NeverFall, reading}
 use Rattle.case_keeper.specs.Keepers.{KeeperState}
 use Rattle.case_keeper.specs.declared.case.Case.{Case}
 use Rattle.log_source.specs.declared.shelf.Shelf.{Ghosts as Shelf}

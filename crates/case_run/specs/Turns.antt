@@ -8,12 +8,12 @@ use Rattle.audit_base.specs.declared.terms.Which.{Which}
 use Rattle.audit_base.specs.declared.terms.Which.TheVariants.{Orders, Trades}
 use Rattle.audit_report.specs.declared.verdicts.Verdict.{Verdict}
 use Rattle.audit_report.specs.declared.verdicts.Verdict.TheVariants as verdict
-use Rattle.audit_run.specs.Collecting.{step_of, IsReadAs, IsUnread}
-use Rattle.audit_run.specs.Judgements.{question, IsJudged}
-use Rattle.audit_run.specs.LogVerdicts.{order_log, trade_log}
-use Rattle.audit_run.specs.Steps.{Reading, BeginsWithin, EndsWithin, KeepsLogs, NeverFall, reading}
-use Rattle.audit_run.specs.declared.reading.Unread.{Unread}
-use Rattle.audit_run.specs.declared.reading.Unread.TheVariants as unread
+use Rattle.log_verdict.specs.Collecting.{step_of, IsReadAs, IsUnread}
+use Rattle.record_verdict.specs.Judgements.{question, IsJudged}
+use Rattle.log_verdict.specs.LogVerdicts.{order_log, trade_log}
+use Rattle.log_verdict.specs.Steps.{Reading, BeginsWithin, EndsWithin, KeepsLogs, NeverFall, reading}
+use Rattle.log_verdict.specs.declared.reading.Unread.{Unread}
+use Rattle.log_verdict.specs.declared.reading.Unread.TheVariants as unread
 use Rattle.case_keeper.specs.Keepers.{KeeperState}
 use Rattle.case_keeper.specs.declared.case.Case.{Case}
 use Rattle.case_keeper.specs.declared.keeper.KeepFault.{KeepFault}
@@ -23,7 +23,7 @@ use Rattle.log_source.specs.Sinks.{SinkState, AppendsPart, MayFail, Stays}
 use Rattle.case_run.specs.Play.{Turn, IsTurn, IsVerdictOn, verdict_turn}
 use Rattle.log_source.specs.Sources.{Rose, longest_log}
 use Rattle.case_run.specs.Runs.{Call, call_of, HasCause, IsBadLog, IsCause, IsPlayed, Leaves, OfLog, ReadsBadLog, Tells, halt_line, name_in}
-use Rattle.audit_run.specs.Steps.{IsReadFault, IsTooLong}
+use Rattle.log_verdict.specs.Steps.{IsReadFault, IsTooLong}
 use Rattle.case_run.specs.Statuses.{ends_run}
 use Rattle.case_run.specs.declared.answers.Answer.{Answer}
 use Rattle.case_run.specs.declared.commands.Command.{Command}

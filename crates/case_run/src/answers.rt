@@ -3,7 +3,7 @@ ghost use Rattle.std.specs.Prelude.{◌≡◌, ◌≤◌, ◌++◌, IfOk};
 ghost use Rattle.std.specs.List.{flat_map};
 ghost use Rattle.audit_report.specs.Lines.{malformed_line};
 ghost use Rattle.audit_report.specs.Texts.{IsVerdictInRange};
-ghost use Rattle.audit_run.specs.Steps.{reading, KeepsLogs, NeverFall};
+ghost use Rattle.log_verdict.specs.Steps.{reading, KeepsLogs, NeverFall};
 ghost use Rattle.case_run.specs.Lines.{case_line, known_line};
 ghost use Rattle.case_run.specs.Play as spec;
 ghost use Rattle.case_run.specs.Runs.{call_of, AnswersLength};

@@ -2,7 +2,7 @@
 ghost use Rattle.std.specs.Prelude.{◌≡◌, map};
 ghost use Rattle.std.specs.Option.{option_map};
 ghost use Rattle.std.specs.String.{string_bytes};
-ghost use Rattle.audit_run.specs.Steps.{KeepsLogs};
+ghost use Rattle.log_verdict.specs.Steps.{KeepsLogs};
 ghost use Rattle.log_source.specs.Sinks.{Stays};
 ghost use Rattle.case_run.specs.Books.{RunsPath, RunsWords};
 ghost use Rattle.case_run.specs.Openers.{KeepsBooks};

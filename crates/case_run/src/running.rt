@@ -1,7 +1,7 @@
 //! A run: the commands that the words ask for, in order, over a casebook.
 ghost use Rattle.std.specs.Prelude.{◌≡◌, ◌≤◌, map};
 ghost use Rattle.std.specs.String.{string_bytes};
-ghost use Rattle.audit_run.specs.Steps.{reading};
+ghost use Rattle.log_verdict.specs.Steps.{reading};
 ghost use Rattle.case_run.specs.Commands.{commands_of};
 ghost use Rattle.case_run.specs.Laws.{OnePlay};
 ghost use Rattle.case_run.specs.Runs.{call_of, AnswersLength, IsCaseRun, RunsCommands};

@@ -1,9 +1,9 @@
 use Rattle.std.proofs.Common.{refl}
-use Rattle.audit_run.specs.Auditing.{audit_of}
-use Rattle.audit_run.specs.Steps.{reading}
+use Rattle.log_verdict.specs.Steps.{reading}
 use Rattle.audit_run.proofs.BothLogsLemmas.{both_stop, both_text}
 use Rattle.audit_run.proofs.ReportLemmas.{verdict-status}
 use Rattle.audit_run.proofs.commands.report_audit.Goals as goal
+use Rattle.audit_run.specs.Deciding.{audit_of}
 
 pub returns-in_ok-audit_report-in-Ok-clause-decides : goal.returns-in_ok-audit_report-in-Ok-clause-decides
 returns-in_ok-audit_report-in-Ok-clause-decides g c =

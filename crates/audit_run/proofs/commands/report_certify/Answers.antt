@@ -1,10 +1,10 @@
 use Rattle.std.proofs.Common.{refl, false}
-use Rattle.audit_run.specs.Auditing.{certify_of}
-use Rattle.audit_run.specs.Judgements.{question}
-use Rattle.audit_run.specs.Steps.{reading}
+use Rattle.record_verdict.specs.Judgements.{question}
+use Rattle.log_verdict.specs.Steps.{reading}
 use Rattle.audit_run.proofs.BothLogsLemmas.{both_stop, both_text}
 use Rattle.audit_run.proofs.ReportLemmas.{certify-status}
 use Rattle.audit_run.proofs.commands.report_certify.Goals as goal
+use Rattle.audit_run.specs.Deciding.{certify_of}
 
 pub returns-in_ok-certify_report-in-Ok-clause-decides : goal.returns-in_ok-certify_report-in-Ok-clause-decides
 returns-in_ok-certify_report-in-Ok-clause-decides g c =

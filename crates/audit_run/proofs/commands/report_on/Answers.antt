@@ -1,7 +1,7 @@
 use Rattle.std.proofs.Common.{refl}
 use Rattle.audit_base.specs.declared.terms.Which.TheVariants.{Orders}
-use Rattle.audit_run.specs.LogVerdicts.{log_in, order_log}
-use Rattle.audit_run.specs.Steps.{reading}
+use Rattle.log_verdict.specs.LogVerdicts.{log_in, order_log}
+use Rattle.log_verdict.specs.Steps.{reading}
 use Rattle.audit_run.proofs.ReportLemmas.{convert-status, decides-one, expect-status}
 use Rattle.audit_run.proofs.commands.report_on.Goals as goal
 

@@ -1,4 +1,4 @@
-use Rattle.audit_run.proofs.JudgeLemmas.{ok-then}
+use Rattle.audit_run.proofs.ResultLemmas.{ok-then}
 use Rattle.audit_run.proofs.JudgedReportLemmas.{found_certifies, malformed_certifies, sound_certifies}
 use Rattle.audit_run.proofs.judged_reports.certify_report.Goals as goal
 

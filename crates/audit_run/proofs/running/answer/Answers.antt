@@ -1,4 +1,4 @@
-use Rattle.audit_run.specs.Steps.{reading}
+use Rattle.log_verdict.specs.Steps.{reading}
 use Rattle.audit_run.proofs.RunLemmas.{answers_stop, answers_text, length_of_report, length_of_stop}
 use Rattle.audit_run.proofs.running.answer.Goals as goal
 

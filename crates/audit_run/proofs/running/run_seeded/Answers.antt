@@ -3,7 +3,7 @@ use Rattle.std.specs.Prelude.{map, IsErrOf}
 use Rattle.std.specs.String.{string_bytes}
 use Rattle.audit_run.specs.declared.requests.WordsFault.TheVariants.{Usage, Memory}
 use Rattle.audit_run.specs.declared.requests.Request.{Request}
-use Rattle.audit_run.specs.Steps.{reading}
+use Rattle.log_verdict.specs.Steps.{reading}
 use Rattle.audit_run.specs.Words.{request_of}
 use Rattle.audit_run.proofs.ReadyLemmas.{report_written}
 use Rattle.audit_run.proofs.RunLemmas.{memory_reports, memory_runs}

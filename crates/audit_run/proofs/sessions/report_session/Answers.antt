@@ -1,11 +1,11 @@
 use Rattle.std.proofs.Common.{refl, false}
 use Rattle.audit_base.specs.declared.terms.Rule.TheVariants as rule
-use Rattle.audit_run.specs.Auditing.{session_of}
-use Rattle.audit_run.specs.Judgements.{question}
-use Rattle.audit_run.specs.Steps.{reading}
+use Rattle.record_verdict.specs.Judgements.{question}
+use Rattle.log_verdict.specs.Steps.{reading}
 use Rattle.audit_run.proofs.BothLogsLemmas.{both_stop, both_text}
 use Rattle.audit_run.proofs.ReportLemmas.{session-status}
 use Rattle.audit_run.proofs.sessions.report_session.Goals as goal
+use Rattle.audit_run.specs.Deciding.{session_of}
 
 pub returns-in_ok-session_report-in-Ok-clause-decides : goal.returns-in_ok-session_report-in-Ok-clause-decides
 returns-in_ok-session_report-in-Ok-clause-decides g c =

@@ -1,4 +1,4 @@
-use Rattle.audit_run.proofs.JudgeLemmas.{ok-then}
+use Rattle.audit_run.proofs.ResultLemmas.{ok-then}
 use Rattle.audit_run.proofs.SessionReportLemmas.{found_day, malformed_day, sound_day}
 use Rattle.audit_run.proofs.sessions.session_report.Goals as goal
 

@@ -1,6 +1,6 @@
 use Rattle.std.proofs.Common.{◌∙◌, ap, inl, inr, Err}
 use Rattle.audit_report.specs.Certificates.{verified_line}
-use Rattle.audit_run.proofs.JudgeLemmas.{ok-then}
+use Rattle.audit_run.proofs.ResultLemmas.{ok-then}
 use Rattle.audit_run.proofs.verifying.report_sound.Goals as goal
 
 pub returns-in-Ok : goal.returns-in-Ok

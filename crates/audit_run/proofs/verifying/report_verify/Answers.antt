@@ -1,15 +1,15 @@
 use Rattle.std.proofs.Common.{refl, sym, subst, ◌∙◌, false, ℕ, List}
 use Rattle.audit_base.specs.declared.terms.Rule.TheVariants as rule
-use Rattle.audit_run.specs.Auditing.{verify_of}
 use Rattle.audit_run.specs.Certificates.{IsVerifyReport}
-use Rattle.audit_run.specs.Judgements.{question}
-use Rattle.audit_run.specs.LogVerdicts.{log_in, trade_log}
+use Rattle.record_verdict.specs.Judgements.{question}
+use Rattle.log_verdict.specs.LogVerdicts.{log_in, trade_log}
 use Rattle.audit_run.specs.Requests.{log_at}
-use Rattle.audit_run.specs.Steps.{reading}
+use Rattle.log_verdict.specs.Steps.{reading}
 use Rattle.audit_run.proofs.BothLogsLemmas.{both_stop, both_text}
 use Rattle.audit_run.proofs.CertificateLemmas.{bad_trades, both_read, decides_certificate, later_certificate, within_certificate}
 use Rattle.audit_run.proofs.ReportLemmas.{verify-status}
 use Rattle.audit_run.proofs.verifying.report_verify.Goals as goal
+use Rattle.audit_run.specs.Deciding.{verify_of}
 
 pub returns-then-is_malformed-clause-decides : goal.returns-then-is_malformed-clause-decides
 returns-then-is_malformed-clause-decides g c =

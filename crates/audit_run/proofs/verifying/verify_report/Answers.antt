@@ -1,4 +1,4 @@
-use Rattle.audit_run.proofs.JudgeLemmas.{ok-then}
+use Rattle.audit_run.proofs.ResultLemmas.{ok-then}
 use Rattle.audit_run.proofs.VerifyReportLemmas.{found_verifies, malformed_verifies, sound_verifies}
 use Rattle.audit_run.proofs.verifying.verify_report.Goals as goal
 

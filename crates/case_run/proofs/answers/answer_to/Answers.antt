@@ -1,4 +1,4 @@
-use Rattle.audit_run.specs.Steps.{reading}
+use Rattle.log_verdict.specs.Steps.{reading}
 use Rattle.case_run.proofs.AnswerLemmas.{answers_list, answers_show}
 use Rattle.case_run.proofs.answers.answer_to.Goals as goal
 

@@ -1,6 +1,0 @@
-use Rattle.audit_run.proofs.TableLemmas.{lines-more}
-use Rattle.audit_run.proofs.tables.order_lines.Goals as goal
-
-pub loop-index-preserved : goal.loop-index-preserved
-loop-index-preserved c =
-    lines-more c.args.orders.now c.args.traded.now c.loop-index.index c.loop-index.lines.items _ c.index-orders-index.result c.loop-index-test.true c.index-orders-index.is c.loop-index.invariant c.in_ok-push_line.ensures

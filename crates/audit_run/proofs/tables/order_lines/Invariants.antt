@@ -1,6 +1,0 @@
-use Rattle.std.proofs.Common.{◌≡◌}
-use Rattle.audit_run.specs.Tables.{lines_below}
-use Rattle.audit_run.proofs.tables.order_lines.Given as goal
-
-abbrev pub invariant-loop-index : goal.invariant-loop-index
-invariant-loop-index l = l.lines.items ≡ lines_below l.orders l.traded l.index

@@ -1,6 +1,0 @@
-use Rattle.std.proofs.Common.{◌≡◌}
-use Rattle.audit_run.specs.Tables as spec
-use Rattle.audit_run.proofs.tables.share_lines.Given as goal
-
-abbrev pub invariant-loop-index : goal.invariant-loop-index
-invariant-loop-index l = l.lines.items ≡ spec.share_lines l.orders l.shares l.index

@@ -1,0 +1,3 @@
+mod CollectLemmas
+pub mod AuditLemmas
+pub mod VerdictLemmas

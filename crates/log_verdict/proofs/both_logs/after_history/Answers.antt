@@ -1,0 +1,29 @@
+use Rattle.std.proofs.Common.{sym, subst, ◌∙◌, List}
+use Rattle.audit_base.specs.declared.orders.Order.{Order}
+use Rattle.matching_core.specs.DealsDraft.{IsDealsDraft}
+use Rattle.log_verdict.specs.BothLogs.{IsAdmitted}
+use Rattle.log_verdict.specs.Steps.{reading_by}
+use Rattle.log_verdict.proofs.AuditLemmas.{after_alone, after_ended, deals_counted, ends_as}
+use Rattle.log_verdict.proofs.both_logs.after_history.Goals as goal
+
+pub returns-in-Ok-Trades-clause-decides : goal.returns-in-Ok-Trades-clause-decides
+returns-in-Ok-Trades-clause-decides g c = λ entries is.
+    let read = rw c.in-Ok-Trades.field-0-is at c.in-Ok-Trades.ensures.read in
+    rw c.of.ensures.found
+    (after_ended (reading_by c.args.trades.now g.F.Shelf c.args.shelf.now c.collect_trades.new.shelf) c.args.scope.now c.args.trades.now entries
+    (IsDealsDraft g.M.AuditedHistory.symbol g.M.AuditedHistory.orders c.in-Ok-Trades.deals) c.end.result
+    (subst (λ (os : List Order). IsAdmitted c.args.scope.now entries os) (c.requires.orders ∙ sym c.end.ensures.history) is) read
+    (λ ts has. ends_as c.args.scope.now g.M.AuditedHistory.symbol g.M.AuditedHistory.orders ts c.end.result c.requires.symbol c.end.ensures.history
+    (c.end.ensures.count ts has) (c.end.ensures.finding ts has) (c.end.ensures.deals ts has)))
+
+pub returns-in-Ok-Alone-clause-decides : goal.returns-in-Ok-Alone-clause-decides
+returns-in-Ok-Alone-clause-decides g c = λ entries is.
+    let read = rw c.in-Ok-Alone.field-0-is at c.in-Ok-Alone.ensures.read in
+    after_alone (reading_by c.args.trades.now g.F.Shelf c.args.shelf.now c.collect_trades.new.shelf) c.args.scope.now c.args.trades.now entries
+    c.in-Ok-Alone.finding c.args.history is read
+
+pub of-requires-clause-counted : goal.of-requires-clause-counted
+of-requires-clause-counted g c = λ none.
+    let place = rw c.in-Ok-Trades.field-0-is at c.in-Ok-Trades.ensures.few in
+    rw (c.end.ensures.deals place.entries place.has none, c.end.ensures.count place.entries place.has)
+    (deals_counted g.M.AuditedHistory.orders g.M.AuditedHistory.symbol place.entries)

@@ -1,0 +1,175 @@
+-- Two logs, read one after the other: what is known of both, or why it is not.
+use Rattle.std.specs.Prelude.{◌≡◌, ◌≤◌, ◌⊎◌, ℕ, Bool, List, [], ◌∷◌, None, Some, Result, Ok, Err, IsOk, is_ok, length, MatchResult}
+use Rattle.audit_base.specs.declared.terms.Rule.{Rule}
+use Rattle.audit_base.specs.declared.terms.Which.{Which}
+use Rattle.audit_base.specs.declared.terms.Which.TheVariants.{Orders, Trades}
+use Rattle.audit_base.specs.declared.faults.BadPlace.{BadPlace}
+use Rattle.audit_base.specs.declared.findings.Finding.{Finding}
+use Rattle.audit_base.specs.declared.records.OrderRecord.{OrderRecord}
+use Rattle.audit_base.specs.declared.records.TradeRecord.{TradeRecord}
+use Rattle.audit_base.specs.declared.orders.Order.{Order}
+use Rattle.audit_base.specs.Histories.{order_list, WellFormed}
+use Rattle.audit_base.specs.Least.{only_if}
+use Rattle.audit_base.specs.Trades.{deals_of, unsound_trade}
+use Rattle.audit_base.specs.Verdicts.{call_finding}
+use Rattle.matching_core.specs.declared.deals_draft.ResolvedTrades.{ResolvedTrades}
+use Rattle.log_verdict.specs.declared.stops.Stop.{Stop}
+use Rattle.log_verdict.specs.declared.stops.Stop.TheVariants as stop
+use Rattle.log_verdict.specs.declared.reading.Unread.{Unread}
+use Rattle.log_verdict.specs.declared.reading.Unread.TheVariants as unread
+use Rattle.record_verdict.specs.declared.before_rule.BeforeRule.{BeforeRule}
+use Rattle.record_verdict.specs.declared.before_rule.BeforeRule.TheVariants as upto
+use Rattle.record_verdict.specs.declared.questions.Question.{Question}
+use Rattle.log_verdict.specs.declared.sources.Source.{Source}
+use Rattle.log_verdict.specs.Collecting.{step_of, IsReadAs}
+use Rattle.log_verdict.specs.LogVerdicts.{order_log, trade_log}
+use Rattle.log_source.specs.Sources.{longest_log}
+use Rattle.record_verdict.specs.BeforeRule.{IsBeforeRule}
+use Rattle.log_verdict.specs.Steps.{Reading, IsReadFault, IsTooLong, BeginsWithin, EndsWithin}
+use Rattle.record_verdict.specs.declared.scopes.Scope.{Scope}
+use Rattle.record_verdict.specs.Judgements.{IsJudged}
+use Rattle.record_verdict.specs.Scopes.{unadmitted_order}
+use Rattle.audit_report.specs.declared.verdicts.Verdict.{Verdict}
+use Rattle.audit_report.specs.declared.verdicts.Verdict.TheVariants.{Malformed}
+use Rattle.log_source.specs.Sources.{longest_read}
+
+-- Two sources have one limit, which is one that reading may be given.
+pub record HaveOneLimit (orders trades : Source) : Type 0 where
+  pub same : orders.limit ≡ trades.limit
+  pub within : orders.limit ≤ longest_read
+
+-- nothing was done to the slot
+abbrev pub IsUntouched : Reading → Which → Type 0
+IsUntouched r log = r.after log ≡ r.before log
+
+-- the trade log was read to its end, and this holds of the records of both logs, or of its first bad place
+abbrev pub ReadsTrades : Reading → Source → (Result (List TradeRecord) Finding → Type 0)
+    → (BadPlace → Type 0) → Type 0
+ReadsTrades r trades of_trades of_bad =
+    IsReadAs r Trades trades.name.now
+    (λ bytes. MatchResult (trade_log trades.form bytes) of_trades of_bad)
+
+-- the order log said this: where it is out of its grammar, the trade log is not started
+abbrev pub ReadsAfterOrders : Reading → Source
+    → (List OrderRecord → Result (List TradeRecord) Finding → Type 0) → (Which → BadPlace → Type 0)
+    → Result (List OrderRecord) BadPlace → Type 0
+ReadsAfterOrders r trades of_records of_bad (Err bad) = of_bad Orders bad × IsUntouched r Trades
+ReadsAfterOrders r trades of_records of_bad (Ok entries) =
+    ReadsTrades r trades (of_records entries) (of_bad Trades)
+
+-- the order log was read to its end, and the trade log where that is in its grammar; this holds of the
+-- records of both, or of the first bad place
+abbrev pub ReadsLogs : Reading → Source → Source
+    → (List OrderRecord → Result (List TradeRecord) Finding → Type 0) → (Which → BadPlace → Type 0)
+    → Type 0
+ReadsLogs r orders trades of_records of_bad =
+    IsReadAs r Orders orders.name.now
+    (λ bytes. ReadsAfterOrders r trades of_records of_bad (order_log orders.form bytes))
+
+-- both logs were read, and come to this before the rule is looked at
+abbrev pub ReadsUpToRule : Reading → Scope → Source → Source → BeforeRule → Type 0
+ReadsUpToRule r scope orders trades reached =
+    ReadsLogs r orders trades (λ entries paired. IsBeforeRule scope entries paired reached)
+    (λ log bad. reached ≡ upto.Malformed log bad)
+
+-- the trade log was read, and comes to this after these records of the order log
+abbrev pub IsAfterOrders : Reading → Scope → Source → List OrderRecord → BeforeRule → Type 0
+IsAfterOrders r scope trades entries reached =
+    ReadsTrades r trades (λ paired. IsBeforeRule scope entries paired reached)
+    (λ bad. reached ≡ upto.Malformed Trades bad)
+
+-- both logs were read, and this is their verdict
+abbrev pub ReadsVerdict : Reading → Question → Source → Source → Verdict → Type 0
+ReadsVerdict r q orders trades verdict =
+    ReadsLogs r orders trades (λ entries paired. IsJudged q entries paired verdict)
+    (λ log bad. verdict ≡ Malformed log bad)
+
+-- the trade log is started only after an order log that was read to its end and is in its grammar
+abbrev pub IsAfterGoodOrders : Reading → Source → Type 0
+IsAfterGoodOrders r orders =
+    IsReadAs r Orders orders.name.now (λ bytes. IsOk (order_log orders.form bytes))
+
+-- the log of these two that a slot is for
+abbrev pub source_of : Source → Source → Which → Source
+source_of orders trades Orders = orders
+source_of orders trades Trades = trades
+
+-- the order log is the first that is started
+abbrev pub IsStarted : Reading → Source → Which → Type 0
+IsStarted r orders Orders = IsUntouched r Trades
+IsStarted r orders Trades = IsAfterGoodOrders r orders
+
+-- A log was started and could not be read.
+pub record StopsAtFault (r : Reading) (orders trades : Source) (log : Which) : Type 0 where
+  pub is_started : IsStarted r orders log
+  pub fault : IsReadFault r (step_of r log (source_of orders trades log).name.now)
+
+-- A log was started and is too long.
+pub record StopsAtLength (r : Reading) (orders trades : Source) (log : Which) : Type 0 where
+  pub is_started : IsStarted r orders log
+  pub long : IsTooLong r (step_of r log (source_of orders trades log).name.now)
+
+-- why it is not known what two logs come to
+abbrev pub IsAuditStop : Reading → Source → Source → Stop → Type 0
+IsAuditStop r orders trades (stop.ReadFault log) = StopsAtFault r orders trades log
+IsAuditStop r orders trades (stop.TooLong log) = StopsAtLength r orders trades log
+IsAuditStop r orders trades stop.Memory = Unit {0}
+
+-- what is answered where a log was not read into records
+abbrev pub without_log : Which → Unread → Result BeforeRule Stop
+without_log log (unread.Bad bad) = Ok (upto.Malformed log bad)
+without_log log unread.ReadFault = Err (stop.ReadFault log)
+without_log log unread.TooLong = Err (stop.TooLong log)
+without_log log unread.Memory = Err stop.Memory
+
+-- reading stopped at a log that is too long
+abbrev pub IsLengthStop : {T : Type 0} → Result T Stop → Type 0
+IsLengthStop (Ok verdict) = ⊥
+IsLengthStop (Err (stop.ReadFault log)) = ⊥
+IsLengthStop (Err (stop.TooLong log)) = Unit {0}
+IsLengthStop (Err stop.Memory) = ⊥
+
+-- why nothing is said of one log
+abbrev pub IsLogStop : Reading → Which → List ℕ → Stop → Type 0
+IsLogStop r log name (stop.ReadFault which) = (which ≡ log) × IsReadFault r (step_of r log name)
+IsLogStop r log name (stop.TooLong which) = (which ≡ log) × IsTooLong r (step_of r log name)
+IsLogStop r log name stop.Memory = Unit {0}
+
+-- what is known after the order log, or why nothing is
+abbrev pub DecidesTrades : Reading → Scope → Source → List OrderRecord
+    → Result BeforeRule Stop → Type 0
+DecidesTrades r scope trades entries result =
+    MatchResult result (IsAfterOrders r scope trades entries)
+    (IsLogStop r Trades trades.name.now)
+
+-- what both logs come to, or why that is not known
+abbrev pub Decides : Reading → Scope → Source → Source → Result BeforeRule Stop → Type 0
+Decides r scope orders trades result =
+    MatchResult result (ReadsUpToRule r scope orders trades) (IsAuditStop r orders trades)
+
+-- the verdict on both logs, or why there is none
+abbrev pub DecidesVerdict : Reading → Question → Source → Source → Result Verdict Stop → Type 0
+DecidesVerdict r q orders trades result =
+    MatchResult result (ReadsVerdict r q orders trades) (IsAuditStop r orders trades)
+
+-- where no log was too long, both slots end within the limit if they began so
+abbrev pub StaysWithin : {T : Type 0} → Reading → Result T Stop → Type 0
+StaysWithin r result = BeginsWithin r → IsLengthStop result ⊎ EndsWithin r
+
+-- the same of the slot of one log
+abbrev pub StaysWithinAt : {T : Type 0} → Reading → Which → Result T Stop → Type 0
+StaysWithinAt r log result = IsLengthStop result ⊎ ((r.after log).taken ≤ r.limit)
+
+-- The history of these records is well-formed and has these orders, which are admitted.
+pub record IsAdmitted (scope : Scope) (entries : List OrderRecord)
+    (history : List Order) : Type 0 where
+  pub formed : WellFormed scope.symbol entries
+  pub orders : history ≡ order_list scope.symbol entries
+  pub admits : unadmitted_order scope.admission history ≡ None
+
+-- What was gathered of these trades came to this end.
+pub record IsEndOf (scope : Scope) (trades : List TradeRecord)
+    (ended : ResolvedTrades) : Type 0 where
+  pub count : ended.count ≡ length trades
+  pub finding : unsound_trade ended.history scope.symbol trades ≡ ended.finding
+  pub deals : ended.finding ≡ None → ended.deals.items ≡ deals_of ended.history scope.symbol trades

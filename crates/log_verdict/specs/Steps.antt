@@ -1,0 +1,100 @@
+-- Which logs a call started, in what order, and what became of each.
+use Rattle.std.specs.Prelude.{◌≡◌, ◌<◌, ◌≤◌, ◌⊎◌, ℕ, Bool, true, List, [], ◌∷◌, length, Option, None, Some, IsSomeAnd}
+use Rattle.std.specs.Io.KnownBytes.{IsAtEnd}
+use Rattle.audit_base.specs.declared.terms.Which.{Which}
+use Rattle.audit_base.specs.declared.terms.Which.TheVariants.{Orders, Trades}
+use Rattle.log_source.specs.declared.shelf.Shelf.{Ghosts as Shelf}
+use Rattle.log_verdict.specs.declared.sources.Source.{Source}
+use Rattle.log_source.specs.Sources.{Slot, Rose, longest_log}
+
+-- What a call knows of a shelf: how many bytes a log may have, whether the shelf tells what it has, what it
+-- has in each slot under a name, and its slots before and after the call.
+pub record Reading : Type 0 where
+  pub limit : ℕ
+  pub tells : Bool
+  pub log_of : Which → List ℕ → Option (List ℕ)
+  pub before : Which → Slot
+  pub after : Which → Slot
+
+-- what a call with this limit knows of a shelf that was `old` and is `new`
+abbrev pub reading_within : {S : Type 0} → ℕ → Shelf S → S → S → Reading
+reading_within limit shelf old new =
+    record {
+      limit = limit;
+      tells = shelf.tells old;
+      log_of = shelf.log_of old;
+      before = shelf.slot old;
+      after = shelf.slot new;
+    }
+
+-- the same of a call that reads a log by what is said of it
+abbrev pub reading_by : {S : Type 0} → Source → Shelf S → S → S → Reading
+reading_by source shelf old new = reading_within source.limit shelf old new
+
+-- the same of a call whose logs have at most 64 MiB
+abbrev pub reading : {S : Type 0} → Shelf S → S → S → Reading
+reading shelf old new = reading_within longest_log shelf old new
+
+-- No call changes whether the shelf tells, or what it has in a slot under a name.
+pub record KeepsLogs {S : Type 0} (shelf : Shelf S) (old new : S) : Type 0 where
+  pub tells : shelf.tells new ≡ shelf.tells old
+  pub logs : (log : Which) (name : List ℕ) → shelf.log_of new log name ≡ shelf.log_of old log name
+
+-- A log that was started: its slot, its name, and what stood in the slot before and after.
+pub record Step : Type 0 where
+  pub log : Which
+  pub name : List ℕ
+  pub before : Slot
+  pub after : Slot
+
+-- The log was read to its end, and these are its bytes, whatever pieces they came in; where the shelf
+-- tells, they are what it has under the name.
+pub record IsRead (r : Reading) (step : Step) (bytes : List ℕ) : Type 0 where
+  pub started : step.after.started ≡ true
+  pub at_end : IsAtEnd step.after.left
+  pub within : length bytes ≤ r.limit
+  pub taken : length bytes ≡ step.after.taken
+  pub known : r.tells ≡ true → r.log_of step.log step.name ≡ Some bytes
+
+-- the log could not be read: its faults rose, or the shelf knows that it lacks the log
+abbrev pub IsReadFault : Reading → Step → Type 0
+IsReadFault r step =
+    Rose step.before.faults step.after.faults
+    ⊎ ((r.tells ≡ true) × (r.log_of step.log step.name ≡ None))
+
+-- The log is too long: more of it was taken than a log may have, and where the shelf tells it has more.
+pub record IsTooLong (r : Reading) (step : Step) : Type 0 where
+  pub taken : r.limit < step.after.taken
+  pub longer : r.tells ≡ true
+      → IsSomeAnd (r.log_of step.log step.name) (λ bytes. r.limit < length bytes)
+
+-- the slots with this in the place of what stands in one of them
+abbrev pub with_slot : (Which → Slot) → Which → Slot → Which → Slot
+with_slot slots Orders slot Orders = slot
+with_slot slots Orders slot Trades = slots Trades
+with_slot slots Trades slot Orders = slots Orders
+with_slot slots Trades slot Trades = slot
+
+-- A step begins at what stands in its slot, and its faults never fall.
+pub record BeginsAt (slots : Which → Slot) (step : Step) : Type 0 where
+  pub at : step.before ≡ slots step.log
+  pub later : step.before.faults ≤ step.after.faults
+
+-- the steps, one after another, lead from what stood in the slots before to what stands there after, and
+-- change nothing else
+abbrev pub Lead : (Which → Slot) → List Step → (Which → Slot) → Type 0
+Lead before [] after = (log : Which) → after log ≡ before log
+Lead before (step ∷ steps) after =
+    BeginsAt before step × Lead (with_slot before step.log step.after) steps after
+
+-- no count of faults fell
+abbrev pub NeverFall : Reading → Type 0
+NeverFall r = (log : Which) → (r.before log).faults ≤ (r.after log).faults
+
+-- both slots were within the limit when the call began, as those of a new shelf are
+abbrev pub BeginsWithin : Reading → Type 0
+BeginsWithin r = (log : Which) → (r.before log).taken ≤ r.limit
+
+-- no more was taken of either log than a log may have
+abbrev pub EndsWithin : Reading → Type 0
+EndsWithin r = (log : Which) → (r.after log).taken ≤ r.limit

@@ -1,0 +1,172 @@
+//! Reading two logs up to the rule: each is handed record by record to what is kept of it, and what they
+//! come to is given, or why that is not known.
+ghost use Rattle.std.specs.Prelude.{◌≡◌, ◌≤◌, List, IfOk, Result, Some};
+ghost use Rattle.audit_base.specs.declared.findings.Finding.{Finding};
+ghost use Rattle.audit_base.specs.declared.records.OrderRecord.{OrderRecord};
+ghost use Rattle.audit_base.specs.declared.records.TradeRecord.{TradeRecord};
+ghost use Rattle.audit_base.specs.declared.terms.Which.{Which};
+ghost use Rattle.instruction_history.specs.HistoryDraft.{IsHistoryDraft};
+ghost use Rattle.log_source.specs.Collectors.{HasPlace};
+ghost use Rattle.log_source.specs.Sources.{longest_read};
+ghost use Rattle.record_verdict.specs.Scopes.{early_finding};
+ghost use Rattle.log_verdict.specs.BothLogs.{Decides, DecidesTrades, HaveOneLimit, IsAdmitted};
+ghost use Rattle.log_verdict.specs.BothLogs.{StaysWithin, StaysWithinAt, without_log};
+ghost use Rattle.log_verdict.specs.Collecting.{TouchesOnly};
+ghost use Rattle.log_verdict.specs.Steps.{reading_by, KeepsLogs, NeverFall};
+ghost use Rattle.record_verdict.specs.BeforeRule.{IsJudgeable};
+
+use record_verdict::before_rule::BeforeRule;
+use crate::reading::{Collected, collect_orders, collect_trades};
+use record_verdict::scopes::Scope;
+use crate::sources::Source;
+use crate::reading::Unread;
+use crate::stops::Stop;
+use audit_base::findings::Finding;
+use audit_base::records::{OrderRecord, TradeRecord};
+use audit_base::terms::Which;
+use instruction_history::history::History;
+use instruction_history::history_draft::{AuditedSymbol, HistoryDraft};
+use log_source::counter::Counter;
+use log_source::shelf::Shelf;
+use matching_core::deals_draft::{AuditedHistory, DealsDraft};
+use std::alloc::Global;
+use std::marker::Brand;
+
+/// What is answered where a log was not read into records.
+fn answer_without(log: Which, unread: Unread) -> Result<BeforeRule, Stop>
+    ensures answer { result ≡ without_log log unread }
+    ensures judgeable { IfOk result IsJudgeable }
+{
+    match unread {
+        Unread::Bad(bad) => Ok(BeforeRule::Malformed { log, bad }),
+        Unread::ReadFault => Err(Stop::ReadFault(log)),
+        Unread::TooLong => Err(Stop::TooLong(log)),
+        Unread::Memory => Err(Stop::Memory),
+    }
+}
+
+/// What is known where a finding about the orders decides: the trade log is only read.
+fn after_finding<F: Shelf>(
+    alloc: Global,
+    shelf: &mut F,
+    scope: &Scope,
+    trades: &Source<'_>,
+    finding: Finding,
+) -> Result<BeforeRule, Stop>
+    requires limit { trades.now.limit ≤ longest_read }
+    ensures logs { KeepsLogs F.Shelf shelf.old shelf.new }
+    ensures only { TouchesOnly (reading_by trades.now F.Shelf shelf.old shelf.new) Which.Trades }
+    ensures decides { (entries : List OrderRecord)
+        → ((paired : Result (List TradeRecord) Finding)
+        → early_finding scope.now entries paired ≡ Some finding)
+        → DecidesTrades (reading_by trades.now F.Shelf shelf.old shelf.new)
+        scope.now trades.now entries result }
+    ensures judgeable { IfOk result IsJudgeable }
+    ensures within { StaysWithinAt (reading_by trades.now F.Shelf shelf.old shelf.new) Which.Trades result }
+{
+    match collect_trades::<F, Counter<TradeRecord>>(alloc, shelf, trades, Counter::new()) {
+        Ok(_) => Ok(BeforeRule::Found(finding)),
+        Err(unread) => answer_without(Which::Trades, unread),
+    }
+}
+
+/// What is known where the history has no finding: its trades decide.
+fn after_history<M: AuditedHistory, F: Shelf>(
+    alloc: Global,
+    shelf: &mut F,
+    scope: &Scope,
+    trades: &Source<'_>,
+    history: History,
+) -> Result<BeforeRule, Stop>
+    requires limit { trades.now.limit ≤ longest_read }
+    requires symbol { scope.now.symbol ≡ M.symbol }
+    requires orders { history ≡ M.orders }
+    ensures logs { KeepsLogs F.Shelf shelf.old shelf.new }
+    ensures only { TouchesOnly (reading_by trades.now F.Shelf shelf.old shelf.new) Which.Trades }
+    ensures decides { (entries : List OrderRecord) → IsAdmitted scope.now entries history
+        → DecidesTrades (reading_by trades.now F.Shelf shelf.old shelf.new)
+        scope.now trades.now entries result }
+    ensures judgeable { IfOk result IsJudgeable }
+    ensures within { (F.slot shelf.old Which.Trades).taken ≤ trades.now.limit
+        → StaysWithinAt (reading_by trades.now F.Shelf shelf.old shelf.new) Which.Trades result }
+{
+    let deals = DealsDraft::<M>::new(alloc, trades.seed, scope.symbol, history);
+    match collect_trades::<F, DealsDraft<M>>(alloc, shelf, trades, deals) {
+        Ok(Collected::Trades(deals)) => Ok(BeforeRule::of(deals.end())),
+        Ok(Collected::Alone(finding)) => Ok(BeforeRule::Found(finding)),
+        Err(unread) => answer_without(Which::Trades, unread),
+    }
+}
+
+/// What is known where the order log has been read: the trade log is read.
+fn after_orders<S: AuditedSymbol, F: Shelf>(
+    alloc: Global,
+    shelf: &mut F,
+    scope: &Scope,
+    trades: &Source<'_>,
+    orders: HistoryDraft<S>,
+) -> Result<BeforeRule, Stop>
+    requires limit { trades.now.limit ≤ longest_read }
+    requires symbol { scope.now.symbol ≡ S.symbol }
+    requires place { HasPlace (IsHistoryDraft S.symbol) orders }
+    ensures logs { KeepsLogs F.Shelf shelf.old shelf.new }
+    ensures only { TouchesOnly (reading_by trades.now F.Shelf shelf.old shelf.new) Which.Trades }
+    ensures decides { (entries : List OrderRecord) → IsHistoryDraft S.symbol orders entries
+        → DecidesTrades (reading_by trades.now F.Shelf shelf.old shelf.new)
+        scope.now trades.now entries result }
+    ensures judgeable { IfOk result IsJudgeable }
+    ensures within { (F.slot shelf.old Which.Trades).taken ≤ trades.now.limit
+        → StaysWithinAt (reading_by trades.now F.Shelf shelf.old shelf.new) Which.Trades result }
+{
+    match orders.end() {
+        Ok(history) => match scope.admission.first_unadmitted(history.orders()) {
+            Some(finding) => after_finding(alloc, shelf, scope, trades, finding),
+            None => after_history::<Brand, F>(alloc, shelf, scope, trades, history),
+        },
+        Err(finding) => after_finding(alloc, shelf, scope, trades, finding),
+    }
+}
+
+/// What two logs come to before the rule is looked at, by the history of the symbol.
+fn read_about<S: AuditedSymbol, F: Shelf>(
+    alloc: Global,
+    shelf: &mut F,
+    scope: &Scope,
+    orders: &Source<'_>,
+    trades: &Source<'_>,
+) -> Result<BeforeRule, Stop>
+    requires symbol { scope.now.symbol ≡ S.symbol }
+    requires limit { HaveOneLimit orders.now trades.now }
+    ensures logs { KeepsLogs F.Shelf shelf.old shelf.new }
+    ensures later { NeverFall (reading_by orders.now F.Shelf shelf.old shelf.new) }
+    ensures decides { Decides (reading_by orders.now F.Shelf shelf.old shelf.new)
+        scope.now orders.now trades.now result }
+    ensures judgeable { IfOk result IsJudgeable }
+    ensures within { StaysWithin (reading_by orders.now F.Shelf shelf.old shelf.new) result }
+{
+    let history = HistoryDraft::<S>::new(alloc, orders.seed, scope.symbol);
+    match collect_orders::<F, HistoryDraft<S>>(alloc, shelf, orders, history) {
+        Ok(history) => after_orders(alloc, shelf, scope, trades, history),
+        Err(unread) => answer_without(Which::Orders, unread),
+    }
+}
+
+/// What two logs come to before the rule is looked at, or why that is not known. The order log is read
+/// first, and the trade log only where that is in its grammar.
+pub fn read_both<F: Shelf>(
+    alloc: Global,
+    shelf: &mut F,
+    scope: &Scope,
+    orders: &Source<'_>,
+    trades: &Source<'_>,
+) -> Result<BeforeRule, Stop>
+    requires limit { HaveOneLimit orders.now trades.now }
+    ensures logs { KeepsLogs F.Shelf shelf.old shelf.new }
+    ensures later { NeverFall (reading_by orders.now F.Shelf shelf.old shelf.new) }
+    ensures decides { Decides (reading_by orders.now F.Shelf shelf.old shelf.new)
+        scope.now orders.now trades.now result }
+    ensures judgeable { IfOk result IsJudgeable }
+    ensures within { StaysWithin (reading_by orders.now F.Shelf shelf.old shelf.new) result }
+{
+    read_about::<Brand, F>(alloc, shelf, scope, orders, trades)
+}

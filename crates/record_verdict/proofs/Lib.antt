@@ -1,0 +1,5 @@
+mod TableLemmas
+pub mod PairLineLemmas
+pub mod JudgeLemmas
+pub mod RuleLemmas
+pub mod VerdictLemmas

@@ -1,0 +1,140 @@
+-- The verdict on two logs by what they come to before the rule is looked at.
+use Rattle.std.proofs.Common.{◌≡◌, ◌∙◌, sym, subst, refl, ℕ, List, length, Option, None, Some, Result, Ok}
+use Rattle.std.specs.Prelude.{MatchOption}
+use Rattle.audit_base.specs.declared.faults.BadPlace.{BadPlace}
+use Rattle.audit_base.specs.declared.findings.Finding.{Finding}
+use Rattle.audit_base.specs.declared.orders.Deal.{Deal}
+use Rattle.audit_base.specs.declared.orders.Order.{Order}
+use Rattle.audit_base.specs.declared.records.OrderRecord.{OrderRecord}
+use Rattle.audit_base.specs.declared.records.TradeRecord.{TradeRecord}
+use Rattle.audit_base.specs.declared.terms.Rule.{Rule}
+use Rattle.audit_base.specs.declared.terms.Rule.TheVariants as rule
+use Rattle.audit_base.specs.declared.terms.Which.{Which}
+use Rattle.audit_base.specs.Deals.{AreDeals}
+use Rattle.audit_base.specs.Histories.{order_list}
+use Rattle.audit_base.specs.Trades.{deals_of}
+use Rattle.audit_base.specs.Verdicts.{call_finding, log_finding, paired_trades, IsRuleVerdict}
+use Rattle.audit_base.proofs.VerdictLemmas.{one-verdict-of_deals}
+use Rattle.audit_report.specs.declared.verdicts.Verdict.{Verdict}
+use Rattle.audit_report.specs.declared.verdicts.Verdict.TheVariants as verdict
+use Rattle.matching_core.specs.declared.deals_draft.ResolvedTrades.{ResolvedTrades}
+use Rattle.record_verdict.specs.declared.before_rule.BeforeRule.{BeforeRule}
+use Rattle.record_verdict.specs.declared.before_rule.BeforeRule.TheVariants as upto
+use Rattle.record_verdict.specs.declared.questions.Question.{Question}
+use Rattle.record_verdict.specs.BeforeRule.{AreJudgeable, AreSound}
+use Rattle.record_verdict.specs.Laws.{SoundTradesAreJudged}
+use Rattle.record_verdict.specs.Judgements.{IsJudged, IsOutcome}
+use Rattle.record_verdict.specs.Scopes.{admission_of, early_finding, scope_of, unadmitted_order}
+use Rattle.record_verdict.specs.Stages.{IsJudgedDeals, VerdictIs}
+
+-- what a rule does not admit is what it finds of the orders before it is looked at
+pub admitted-by : (the_rule : Rule) (orders : List Order) → unadmitted_order (admission_of the_rule) orders ≡ call_finding the_rule orders
+admitted-by rule.Matching orders = refl
+admitted-by rule.Fair orders = refl
+admitted-by rule.Uniform orders = refl
+admitted-by rule.Maximum orders = refl
+admitted-by rule.Continuous orders = refl
+
+-- the findings before those of the rule of a question
+pub early-is : (q : Question) (entries : List OrderRecord) (paired : Result (List TradeRecord) Finding) → early_finding (scope_of q) entries paired ≡ log_finding q.rule q.symbol entries paired
+early-is q entries paired = rw (admitted-by q.rule (order_list q.symbol entries)) refl
+
+-- a bad place is the verdict
+pub malformed_is : (q : Question) (log : Which) (bad : BadPlace) → VerdictIs q (upto.Malformed log bad) (verdict.Malformed log bad)
+malformed_is q log bad = record {
+  of_place = same;
+  of_finding = λ finding e. absurd (no_finding finding e);
+  of_deals = λ sound e. absurd (no_deals sound e);
+  of_records = λ entries paired is. absurd is;
+}
+  where
+    no_finding : (finding : Finding) → upto.Malformed log bad ≡ upto.Found finding → ⊥
+    no_finding finding e = cc
+
+    no_deals : (sound : ResolvedTrades) → upto.Malformed log bad ≡ upto.Sound sound → ⊥
+    no_deals sound e = cc
+
+    same : (other : Which) (place : BadPlace) → upto.Malformed log bad ≡ upto.Malformed other place → verdict.Malformed log bad ≡ verdict.Malformed other place
+    same other place e = cc
+
+found_judged : (q : Question) (entries : List OrderRecord) (paired : Result (List TradeRecord) Finding) (finding : Finding) → log_finding q.rule q.symbol entries paired ≡ Some finding
+    → IsJudged q entries paired (verdict.Rejected finding)
+found_judged q entries paired finding found = record {
+  found = Some finding;
+  by_the_rules = rw found refl;
+  one = λ other others. rw found at others;
+  outcome = refl;
+}
+
+-- a finding is the verdict
+pub found_is : (q : Question) (finding : Finding) → VerdictIs q (upto.Found finding) (verdict.Rejected finding)
+found_is q finding = record {
+  of_place = λ other place e. absurd (apart other place e);
+  of_finding = same;
+  of_deals = λ sound e. absurd (no_deals sound e);
+  of_records = λ entries paired is. found_judged q entries paired finding (sym (early-is q entries paired) ∙ is);
+}
+  where
+    same : (other : Finding) → upto.Found finding ≡ upto.Found other → verdict.Rejected finding ≡ verdict.Rejected other
+    same other e = cc
+
+    no_deals : (sound : ResolvedTrades) → upto.Found finding ≡ upto.Sound sound → ⊥
+    no_deals sound e = cc
+
+    apart : (other : Which) (place : BadPlace) → upto.Found finding ≡ upto.Malformed other place → ⊥
+    apart other place e = cc
+
+sound_judged : (q : Question) (entries : List OrderRecord) (paired : Result (List TradeRecord) Finding) (resolved : ResolvedTrades) (v : Verdict) → AreDeals resolved.deals.items
+    → IsJudgedDeals q resolved.history resolved.deals.items resolved.count v → AreSound (scope_of q) entries paired resolved → IsJudged q entries paired v
+sound_judged q entries paired resolved v numbers judged sound =
+    let orders : List Order = order_list q.symbol entries in
+    let deals : List Deal = deals_of orders q.symbol (paired_trades paired) in
+    let by_orders : IsRuleVerdict q.rule orders resolved.deals.items resolved.count judged.found =
+    subst (λ (os : List Order). IsRuleVerdict q.rule os resolved.deals.items resolved.count judged.found) sound.orders judged.by_the_rule in
+    let by_deals : IsRuleVerdict q.rule orders deals resolved.count judged.found =
+    subst (λ (ds : List Deal). IsRuleVerdict q.rule orders ds resolved.count judged.found) sound.deals by_orders in
+    let by_count : IsRuleVerdict q.rule orders deals (length (paired_trades paired)) judged.found =
+    subst (λ (n : ℕ). IsRuleVerdict q.rule orders deals n judged.found) sound.count by_deals in
+    let by_rules = subst (λ (o : Option Finding). MatchOption o (IsRuleVerdict q.rule orders deals (length (paired_trades paired)) judged.found) (λ finding. judged.found ≡ Some finding)) (sym (sym (early-is q entries paired) ∙ sound.none)) by_count in
+    record {
+      found = judged.found;
+      by_the_rules = by_rules;
+      one = λ other others. one-verdict-of_deals q.rule q.symbol entries paired other judged.found (λ _. subst AreDeals sound.deals numbers) others by_rules;
+      outcome = subst (λ (ds : List Deal). IsOutcome q orders ds judged.found v) sound.deals
+          (subst (λ (os : List Order). IsOutcome q os resolved.deals.items judged.found v) sound.orders judged.outcome);
+    }
+
+-- the verdict on sound trades is that of the logs
+pub sound_is : (q : Question) (resolved : ResolvedTrades) (v : Verdict) → AreJudgeable resolved → IsJudgedDeals q resolved.history resolved.deals.items resolved.count v → VerdictIs q (upto.Sound resolved) v
+sound_is q resolved v judgeable judged = record {
+  of_place = λ other place e. absurd (apart other place e);
+  of_finding = λ finding e. absurd (no_finding finding e);
+  of_deals = same;
+  of_records = λ entries paired is. sound_judged q entries paired resolved v judgeable.numbers judged is;
+}
+  where
+    same : (other : ResolvedTrades) → upto.Sound resolved ≡ upto.Sound other → IsJudgedDeals q other.history other.deals.items other.count v
+    same other e = subst (λ (s : ResolvedTrades). IsJudgedDeals q s.history s.deals.items s.count v) (inner other e) judged
+      where
+        inner : (other : ResolvedTrades) → upto.Sound resolved ≡ upto.Sound other → resolved ≡ other
+        inner other e = cc
+
+    no_finding : (finding : Finding) → upto.Sound resolved ≡ upto.Found finding → ⊥
+    no_finding finding e = cc
+
+    apart : (other : Which) (place : BadPlace) → upto.Sound resolved ≡ upto.Malformed other place → ⊥
+    apart other place e = cc
+
+-- the verdict on the deals of sound trades is that on the records
+pub sound-trades : SoundTradesAreJudged
+sound-trades q entries trades deals v none same numbers judged =
+    let orders : List Order = order_list q.symbol entries in
+    let by_deals : IsRuleVerdict q.rule orders (deals_of orders q.symbol trades) (length trades) judged.found =
+    subst (λ (ds : List Deal). IsRuleVerdict q.rule orders ds (length trades) judged.found) same judged.by_the_rule in
+    let by_rules = subst (λ (o : Option Finding). MatchOption o (IsRuleVerdict q.rule orders (deals_of orders q.symbol trades) (length trades) judged.found) (λ finding. judged.found ≡ Some finding)) (sym none) by_deals in
+    record {
+      found = judged.found;
+      by_the_rules = by_rules;
+      one = λ other others. one-verdict-of_deals q.rule q.symbol entries (Ok trades) other judged.found (λ _. subst AreDeals same numbers) others by_rules;
+      outcome = subst (λ (ds : List Deal). IsOutcome q orders ds judged.found v) same judged.outcome;
+    }

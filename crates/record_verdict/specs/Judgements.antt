@@ -1,0 +1,121 @@
+-- The verdict on the records of two logs: the finding of the rules, or what an accepted log comes to.
+use Rattle.std.specs.Prelude.{◌≡◌, ◌<◌, ℕ, Bool, true, false, nat_lt, List, [], Option, None, Result, length, map, filter_map, flat_map, MatchOption, IsSomeAnd}
+use Rattle.std.specs.List.{range_with_len}
+use Rattle.audit_base.specs.declared.terms.Rule.{Rule}
+use Rattle.audit_base.specs.declared.terms.Rule.TheVariants as rule
+use Rattle.audit_base.specs.declared.records.OrderRecord.{OrderRecord}
+use Rattle.audit_base.specs.declared.records.TradeRecord.{TradeRecord}
+use Rattle.audit_base.specs.declared.orders.Order.{Order}
+use Rattle.audit_base.specs.declared.orders.Deal.{Deal}
+use Rattle.audit_base.specs.declared.orders.Cut.{Cut}
+use Rattle.audit_base.specs.declared.findings.Finding.{Finding}
+use Rattle.audit_base.specs.Orders.{order_at, place_at}
+use Rattle.audit_base.specs.Deals.{traded, pair, volume}
+use Rattle.audit_base.specs.Shows.{with_traded}
+use Rattle.audit_base.specs.Histories.{order_list}
+use Rattle.audit_base.specs.Least.{only_if}
+use Rattle.audit_base.specs.Trades.{deals_of}
+use Rattle.audit_base.specs.Rules.{Only, OnlyPair}
+use Rattle.audit_base.specs.Verdicts.{IsVerdict, paired_trades}
+use Rattle.audit_report.specs.declared.tables.Line.{Line}
+use Rattle.audit_report.specs.declared.tables.Line.TheVariants as line
+use Rattle.audit_report.specs.declared.verdicts.Accepted.{Accepted}
+use Rattle.audit_report.specs.declared.verdicts.Verdict.{Verdict}
+use Rattle.audit_report.specs.declared.verdicts.Verdict.TheVariants as verdict
+use Rattle.call_auction.specs.Audits.{IsBoundOf}
+use Rattle.record_verdict.specs.declared.questions.Question.{Question}
+
+-- what is asked of two logs: the rule, the symbol, and whether a table is wanted
+abbrev pub question : Rule → List ℕ → Bool → Question
+question the_rule symbol table = record { rule = the_rule; symbol = symbol; table = table }
+
+-- the line of an order of a call, with what it trades
+abbrev pub order_line_at : List Order → List Deal → ℕ → Line
+order_line_at orders deals i = line.Order (with_traded (order_at orders i) (traded deals i))
+
+-- the line of a bid and an ask that trade with one another
+abbrev pub pair_line_at : List Order → List Deal → ℕ → ℕ → Option Line
+pair_line_at orders deals bid ask = only_if (nat_lt 0 (pair deals bid ask))
+    (line.Pair (place_at orders bid) (place_at orders ask) (pair deals bid ask))
+
+-- of a call each order of the history, cancelled ones too, in log order
+abbrev pub order_lines : List Order → List Deal → List Line
+order_lines orders deals = map (order_line_at orders deals) (range_with_len 0 (length orders))
+
+-- of continuous trading each pair that trades, in order of the bid and then of the ask
+abbrev pub pair_lines : List Order → List Deal → List Line
+pair_lines orders deals = let indices = range_with_len 0 (length orders) in
+    flat_map (λ bid. filter_map (pair_line_at orders deals bid) indices) indices
+
+-- the lines of a rule: of a call its orders, of continuous trading its pairs
+abbrev pub rule_lines : Rule → List Order → List Deal → List Line
+rule_lines rule.Continuous orders deals = pair_lines orders deals
+rule_lines rule.Matching orders deals = order_lines orders deals
+rule_lines rule.Fair orders deals = order_lines orders deals
+rule_lines rule.Uniform orders deals = order_lines orders deals
+rule_lines rule.Maximum orders deals = order_lines orders deals
+
+-- the table of a log, where one is asked for
+abbrev pub table_lines : Rule → Bool → List Order → List Deal → List Line
+table_lines the_rule false orders deals = []
+table_lines the_rule true orders deals = rule_lines the_rule orders deals
+
+-- the bound that is reported: of `uniform` and `maximum` the least price that shows the volume, of the other rules none
+abbrev pub IsBoundShown : Rule → List Order → ℕ → Option Cut → Type 0
+IsBoundShown rule.Uniform orders reached bound =
+    IsSomeAnd bound (IsBoundOf rule.Uniform orders reached)
+IsBoundShown rule.Maximum orders reached bound =
+    IsSomeAnd bound (IsBoundOf rule.Maximum orders reached)
+IsBoundShown rule.Matching orders reached bound = bound ≡ None
+IsBoundShown rule.Fair orders reached bound = bound ≡ None
+IsBoundShown rule.Continuous orders reached bound = bound ≡ None
+
+-- the quantity of each order is the only conforming one
+abbrev pub EachOnly : Rule → List Order → List Deal → Type 0
+EachOnly the_rule orders deals =
+    (i : ℕ) → i < length orders → Only the_rule orders i (traded deals i)
+
+-- the quantities are the only conforming ones: of `uniform` and `maximum` each order's, of `continuous`
+-- each pair's; the rules `matching` and `fair` claim none
+abbrev pub AreOnlyQuantities : Rule → List Order → List Deal → Type 0
+AreOnlyQuantities rule.Uniform orders deals = EachOnly rule.Uniform orders deals
+AreOnlyQuantities rule.Maximum orders deals = EachOnly rule.Maximum orders deals
+AreOnlyQuantities rule.Continuous orders deals =
+    (bid ask : ℕ) → OnlyPair rule.Continuous orders bid ask (pair deals bid ask)
+AreOnlyQuantities rule.Matching orders deals = Unit {0}
+AreOnlyQuantities rule.Fair orders deals = Unit {0}
+
+-- What is reported of a log that conforms; its quantities are the only conforming ones.
+pub record IsAcceptedLog (q : Question) (orders : List Order) (deals : List Deal)
+    (accepted : Accepted) : Type 0 where
+  pub rule_is : accepted.rule ≡ q.rule
+  pub symbol_is : accepted.symbol ≡ q.symbol
+  pub orders_are : accepted.orders ≡ length orders
+  pub trades_are : accepted.trades ≡ length deals
+  pub volume_is : accepted.volume ≡ volume deals
+  pub bound_is : IsBoundShown q.rule orders (volume deals) accepted.bound
+  pub table_is : accepted.table ≡ table_lines q.rule q.table orders deals
+  pub only : AreOnlyQuantities q.rule orders deals
+
+-- the verdict is that the log is accepted
+abbrev pub IsAcceptance : Question → List Order → List Deal → Verdict → Type 0
+IsAcceptance q orders deals (verdict.Accepted accepted) = IsAcceptedLog q orders deals accepted
+IsAcceptance q orders deals (verdict.Rejected finding) = ⊥
+IsAcceptance q orders deals (verdict.Malformed log bad) = ⊥
+
+-- the verdict is this finding, or, where there is none, that the log is accepted
+abbrev pub IsOutcome : Question → List Order → List Deal → Option Finding → Verdict → Type 0
+IsOutcome q orders deals found the_verdict =
+    MatchOption found (IsAcceptance q orders deals the_verdict)
+    (λ finding. the_verdict ≡ verdict.Rejected finding)
+
+-- The verdict on the records of two logs is that of the rules, which have no other. `trades` are those of
+-- the trade log, or finding 4 in their place.
+pub record IsJudged (q : Question) (entries : List OrderRecord)
+    (trades : Result (List TradeRecord) Finding) (the_verdict : Verdict) : Type 0 where
+  pub found : Option Finding
+  pub by_the_rules : IsVerdict q.rule q.symbol entries trades found
+  pub one : (other : Option Finding) → IsVerdict q.rule q.symbol entries trades other
+      → other ≡ found
+  pub outcome : let orders = order_list q.symbol entries in
+      IsOutcome q orders (deals_of orders q.symbol (paired_trades trades)) found the_verdict

@@ -1,0 +1,22 @@
+-- What follows of the verdict on records, as laws.
+use Rattle.std.specs.Prelude.{◌≡◌, List, None, Ok, length}
+use Rattle.audit_base.specs.declared.orders.Deal.{Deal}
+use Rattle.audit_base.specs.declared.records.OrderRecord.{OrderRecord}
+use Rattle.audit_base.specs.declared.records.TradeRecord.{TradeRecord}
+use Rattle.audit_base.specs.Deals.{AreDeals}
+use Rattle.audit_base.specs.Histories.{order_list}
+use Rattle.audit_base.specs.Trades.{deals_of}
+use Rattle.audit_base.specs.Verdicts.{log_finding}
+use Rattle.audit_report.specs.declared.verdicts.Verdict.{Verdict}
+use Rattle.record_verdict.specs.declared.questions.Question.{Question}
+use Rattle.record_verdict.specs.Judgements.{IsJudged}
+use Rattle.record_verdict.specs.Stages.{IsJudgedDeals}
+
+-- where nothing is found before the rule, the verdict on the deals of the trades is that on the records
+abbrev pub SoundTradesAreJudged : Type 0
+SoundTradesAreJudged = (q : Question) (entries : List OrderRecord) (trades : List TradeRecord)
+    (deals : List Deal) (the_verdict : Verdict)
+    → log_finding q.rule q.symbol entries (Ok trades) ≡ None
+    → deals ≡ deals_of (order_list q.symbol entries) q.symbol trades → AreDeals deals
+    → IsJudgedDeals q (order_list q.symbol entries) deals (length trades) the_verdict
+    → IsJudged q entries (Ok trades) the_verdict

@@ -1,0 +1,49 @@
+-- What a reading of two logs is about, and what it finds before any rule is looked at.
+use Rattle.std.specs.Prelude.{ℕ, List, [], ◌∷◌, Option, None, Result}
+use Rattle.audit_base.specs.declared.findings.Finding.{Finding}
+use Rattle.audit_base.specs.declared.orders.Order.{Order}
+use Rattle.audit_base.specs.declared.records.OrderRecord.{OrderRecord}
+use Rattle.audit_base.specs.declared.records.TradeRecord.{TradeRecord}
+use Rattle.audit_base.specs.declared.terms.Rule.{Rule}
+use Rattle.audit_base.specs.declared.terms.Rule.TheVariants as rule
+use Rattle.audit_base.specs.Histories.{history_finding, instant_order, order_list}
+use Rattle.audit_base.specs.Least.{first_of}
+use Rattle.audit_base.specs.Trades.{unsound_trade}
+use Rattle.audit_base.specs.Verdicts.{pairing_finding, paired_trades}
+use Rattle.record_verdict.specs.declared.questions.Question.{Question}
+use Rattle.record_verdict.specs.declared.scopes.Admission.{Admission}
+use Rattle.record_verdict.specs.declared.scopes.Admission.TheVariants as admission
+use Rattle.record_verdict.specs.declared.scopes.Scope.{Scope}
+
+-- the four rules of a call admit orders that rest, continuous trading admits all
+abbrev pub admission_of : Rule → Admission
+admission_of rule.Continuous = admission.All
+admission_of rule.Matching = admission.Resting
+admission_of rule.Fair = admission.Resting
+admission_of rule.Uniform = admission.Resting
+admission_of rule.Maximum = admission.Resting
+
+-- what of a question a reading needs to know: the symbol, and which orders the rule admits
+abbrev pub scope_of : Question → Scope
+scope_of q = record { symbol = q.symbol; admission = admission_of q.rule }
+
+-- finding 16: the least order that is not admitted
+abbrev pub unadmitted_order : Admission → List Order → Option Finding
+unadmitted_order admission.Resting orders = instant_order orders
+unadmitted_order admission.All orders = None
+
+-- the findings before those of a rule, in the order of the stages: 1 to 3, 16, 4, 5 and 6
+abbrev pub early_finding : Scope → List OrderRecord → Result (List TradeRecord) Finding
+    → Option Finding
+early_finding scope entries trades =
+    let orders = order_list scope.symbol entries in
+    first_of (history_finding scope.symbol entries ∷ unadmitted_order scope.admission orders
+    ∷ pairing_finding trades
+    ∷ unsound_trade orders scope.symbol (paired_trades trades) ∷ [])
+
+-- what a reading needs to know of a question under a rule of a call, and of one that admits all orders
+abbrev pub call_scope : List ℕ → Scope
+call_scope symbol = record { symbol = symbol; admission = admission.Resting }
+
+abbrev pub day_scope : List ℕ → Scope
+day_scope symbol = record { symbol = symbol; admission = admission.All }

@@ -1,0 +1,87 @@
+-- What is reported of deals that conform.
+use Rattle.std.specs.Prelude.{◌≡◌, ◌<◌, ℕ, List, None, Some, length, map, slice_index, take}
+use Rattle.std.specs.List.{range_with_len}
+use Rattle.audit_base.specs.declared.orders.Order.{Order}
+use Rattle.audit_base.specs.declared.orders.Deal.{Deal}
+use Rattle.audit_base.specs.declared.terms.Rule.{Rule}
+use Rattle.audit_base.specs.Deals.{volume}
+use Rattle.audit_base.specs.Verdicts.{IsRuleVerdict}
+use Rattle.short_order.specs.Totals.{AreTotals}
+use Rattle.audit_base.specs.Orders.{order_at, place_at}
+use Rattle.audit_base.specs.Shows.{with_traded}
+use Rattle.audit_report.specs.declared.tables.Line.{Line}
+use Rattle.audit_report.specs.declared.tables.Line.TheVariants as line
+use Rattle.audit_report.specs.declared.verdicts.Verdict.{Verdict}
+use Rattle.audit_report.specs.declared.verdicts.Verdict.TheVariants as verdict
+use Rattle.matching_core.specs.declared.outcomes.Outcome.{Outcome}
+use Rattle.matching_core.specs.declared.outcomes.Outcome.TheVariants as outcome
+use Rattle.matching_core.specs.declared.outcomes.CheckFault.{CheckFault}
+use Rattle.matching_core.specs.declared.outcomes.CheckFault.TheVariants as fault
+use Rattle.matching_core.specs.declared.outcomes.Reached.{Reached}
+use Rattle.record_verdict.specs.declared.questions.Question.{Question}
+use Rattle.canonical_form.specs.declared.shares.Share.{Share}
+use Rattle.record_verdict.specs.Judgements.{AreOnlyQuantities, IsBoundShown, table_lines}
+
+-- the line of an order with what it traded
+abbrev pub line_of : Order → ℕ → Line
+line_of o traded = line.Order (with_traded o traded)
+
+-- one line for each of the first n orders, in log order
+abbrev pub lines_below : List Order → List ℕ → ℕ → List Line
+lines_below orders traded n =
+    map (λ i. line_of (order_at orders i) (slice_index traded i)) (range_with_len 0 n)
+
+-- one line for each order
+abbrev pub lines_of : List Order → List ℕ → List Line
+lines_of orders traded = lines_below orders traded (length orders)
+
+-- the line of a bid and an ask by their share, and one line for each of the first n shares
+abbrev pub line_of_share : List Order → Share → Line
+line_of_share orders s = line.Pair (place_at orders s.bid) (place_at orders s.ask) s.quantity
+
+abbrev pub share_lines : List Order → List Share → ℕ → List Line
+share_lines orders shares n = map (line_of_share orders) (take n shares)
+
+-- a share is of a bid and an ask of the order list
+pub record IsShareOf (orders : List Order) (s : Share) : Type 0 where
+  pub bid_inside : s.bid < length orders
+  pub ask_inside : s.ask < length orders
+
+-- the verdict that deals are accepted, with what they reached
+abbrev pub accepted_verdict : Question → List Order → List Deal → Reached → Verdict
+accepted_verdict q orders deals reached = verdict.Accepted (record {
+  rule = q.rule;
+  symbol = q.symbol;
+  orders = length orders;
+  trades = length deals;
+  volume = reached.volume;
+  bound = reached.bound;
+  table = table_lines q.rule q.table orders deals;
+})
+
+-- The deals conform to the rule, with what each order traded, the volume and the bound; the quantities are
+-- the only ones.
+pub record IsRuleConforming (the_rule : Rule) (orders : List Order) (deals : List Deal)
+    (count : ℕ) (reached : Reached) : Type 0 where
+  pub conforms : IsRuleVerdict the_rule orders deals count None
+  pub totals : AreTotals orders deals reached.traded.0
+  pub volume_is : reached.volume ≡ volume deals
+  pub bound_is : IsBoundShown the_rule orders (volume deals) reached.bound
+  pub only : AreOnlyQuantities the_rule orders deals
+
+-- what the audit of a rule answers: that the deals conform, or their first offence
+abbrev pub IsRuleAudited : Rule → List Order → List Deal → ℕ → Outcome → Type 0
+IsRuleAudited the_rule orders deals count (outcome.Conforms reached) =
+    IsRuleConforming the_rule orders deals count reached
+IsRuleAudited the_rule orders deals count (outcome.Broken finding) =
+    IsRuleVerdict the_rule orders deals count (Some finding)
+
+-- what deals come to that conform to a rule without a bound
+abbrev pub conforming_outcome : List ℕ × ℕ → Outcome
+conforming_outcome totals =
+    outcome.Conforms (record { traded = totals; volume = totals.1; bound = None })
+
+-- what deals come to in which a check found this
+abbrev pub IsOutcomeOfFault : CheckFault → Outcome → Type 0
+IsOutcomeOfFault (fault.Found finding) the_outcome = the_outcome ≡ outcome.Broken finding
+IsOutcomeOfFault fault.Memory the_outcome = ⊥

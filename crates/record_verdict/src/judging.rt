@@ -1,0 +1,127 @@
+//! Judging logs that have been read: the stages of the verdict, each handed to the crate that decides
+//! it.
+ghost use Rattle.std.specs.Prelude.{◌≡◌, ◌<◌, ◌-◌, ◌^◌, length, IfOk};
+ghost use Rattle.audit_base.specs.Verdicts as spec;
+ghost use Rattle.audit_base.specs.Verdicts.{paired_trades};
+ghost use Rattle.audit_report.specs.Texts.{IsVerdictInRange};
+ghost use Rattle.fix_messages.specs.Pairings.{pairing_of};
+ghost use Rattle.record_verdict.specs.Judgements.{question, IsJudged};
+ghost use Rattle.record_verdict.specs.Stages.{IsJudgedRecords, IsJudgedHistory, IsJudgedTrades};
+
+use crate::questions::Question;
+use crate::ranges::trades_in_range;
+use crate::scopes::Admission;
+use crate::rules::judge_deals;
+use audit_base::faults::NoMemory;
+use audit_base::findings::Finding;
+use audit_base::names::Name;
+use audit_base::orders::Order;
+use audit_base::records::{OrderRecord, TradeRecord};
+use audit_base::terms::Rule;
+use audit_report::verdicts::Verdict;
+use fix_messages::pairing::Paired;
+use instruction_history::faults::HistoryFault;
+use instruction_history::history::History;
+use matching_core::outcomes::CheckFault;
+use matching_core::resolving::resolve;
+use std::alloc::Global;
+
+/// What is found where the rule does not admit an order of the history: a call takes only orders that rest.
+pub fn call_finding(rule: Rule, orders: &[Order]) -> Option<Finding>
+    ensures { result ≡ spec.call_finding rule orders.now }
+{
+    Admission::of(rule).first_unadmitted(orders)
+}
+
+/// The verdict where the history is well-formed and has no finding: its trades decide.
+fn judge_trades(
+    alloc: Global,
+    question: &Question,
+    history: &History,
+    trades: &[TradeRecord],
+) -> Result<Verdict, NoMemory>
+    requires few { length trades.now < 2 ^ 32 - 1 }
+    ensures { IfOk result (IsJudgedTrades question.now history.now trades.now) }
+{
+    match resolve(alloc, history, trades, &question.symbol) {
+        Ok(deals) => judge_deals(
+            alloc,
+            question,
+            history.orders(),
+            &deals,
+            trades.len() as u32,
+        ),
+        Err(CheckFault::Found(finding)) => Ok(Verdict::Rejected(finding)),
+        Err(CheckFault::Memory) => Err(NoMemory),
+    }
+}
+
+/// The verdict where the history is well-formed.
+fn judge_history(
+    alloc: Global,
+    question: &Question,
+    history: &History,
+    trades: &Paired,
+) -> Result<Verdict, NoMemory>
+    requires few { length (paired_trades (pairing_of trades.now)) < 2 ^ 32 - 1 }
+    ensures { IfOk result (IsJudgedHistory question.now history.now (pairing_of trades.now)) }
+{
+    if let Some(finding) = call_finding(question.rule, history.orders()) {
+        return Ok(Verdict::Rejected(finding));
+    }
+    match trades {
+        Paired::Trades(list) => judge_trades(alloc, question, history, list.as_slice()),
+        Paired::Alone(finding) => Ok(Verdict::Rejected(*finding)),
+    }
+}
+
+/// The verdict on the records of two logs.
+fn judge_records(
+    alloc: Global,
+    question: &Question,
+    entries: &[OrderRecord],
+    trades: &Paired,
+) -> Result<Verdict, NoMemory>
+    requires few_entries { length entries.now < 2 ^ 32 - 1 }
+    requires few_trades { length (paired_trades (pairing_of trades.now)) < 2 ^ 32 - 1 }
+    ensures judged { IfOk result
+        (IsJudgedRecords question.now entries.now (pairing_of trades.now)) }
+    ensures in_range { IfOk result IsVerdictInRange }
+{
+    match History::build(alloc, entries, &question.symbol) {
+        Ok(history) => judge_history(alloc, question, &history, trades),
+        Err(HistoryFault::Found(finding)) => Ok(Verdict::Rejected(finding)),
+        Err(HistoryFault::Memory) => Err(NoMemory),
+    }
+}
+
+/// The verdict of a rule on the records of two logs: the first stage with a finding decides, and where
+/// there is none the log is accepted, with the bound of `uniform` and `maximum`, and, where a table is
+/// asked for, with the line of each order, or under `continuous` of each pair that trades. The verdict is
+/// never `Malformed`.
+///
+/// The stages are the history (a key twice, a time that goes back, an unknown target; then, under a rule
+/// of a call, an order that does not rest), a report without its partner, the trades (an id twice, an
+/// unknown order), and the rule.
+pub fn judge(
+    alloc: Global,
+    rule: Rule,
+    symbol: &Name,
+    table: bool,
+    entries: &[OrderRecord],
+    trades: &Paired,
+) -> Result<Verdict, NoMemory>
+    requires few_entries { length entries.now < 2 ^ 32 - 1 }
+    requires few_trades { length (paired_trades (pairing_of trades.now)) < 2 ^ 32 - 1 }
+    ensures judged { IfOk result
+        (IsJudged (question rule symbol.now table) entries.now (pairing_of trades.now)) }
+    ensures in_range { IfOk result IsVerdictInRange }
+{
+    trades_in_range(trades);
+    let question = Question {
+        rule,
+        symbol: *symbol,
+        table,
+    };
+    judge_records(alloc, &question, entries, trades)
+}

@@ -1,0 +1,8 @@
+//! What follows of the verdict on records, each as a contract with no body.
+ghost use Rattle.record_verdict.specs.Laws.{SoundTradesAreJudged};
+
+/// Where nothing is found before the rule, the verdict on the deals of the trades is that on the records.
+pub fn sound_trades_are_judged()
+    ensures { SoundTradesAreJudged }
+{
+}

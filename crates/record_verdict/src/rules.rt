@@ -1,0 +1,150 @@
+//! The verdict of each rule where the trades are sound: what the audit of the rule answers, as a
+//! finding or as an accepted log.
+ghost use Rattle.std.specs.Prelude.{◌≡◌, ◌<◌, ◌-◌, ◌^◌, None, IfOk};
+ghost use Rattle.audit_base.specs.declared.terms.Rule.TheVariants as rule;
+ghost use Rattle.audit_base.specs.Histories.{Regular};
+ghost use Rattle.audit_base.specs.Orders.{IsOrderList};
+ghost use Rattle.short_order.specs.Totals.{AreTotals};
+ghost use Rattle.audit_base.specs.Deals.{IsDealList};
+ghost use Rattle.record_verdict.specs.Stages.{IsJudgedDeals};
+ghost use Rattle.record_verdict.specs.Tables.{accepted_verdict, conforming_outcome, IsOutcomeOfFault, IsRuleAudited};
+
+use crate::questions::Question;
+use crate::tables::table_of;
+use audit_base::faults::NoMemory;
+use audit_base::orders::{Deal, Order};
+use audit_base::terms::Rule;
+use audit_report::verdicts::{Accepted, Verdict};
+use call_auction::fair_matchings::fair_matching;
+use continuous_audit::auditing::audit_continuous;
+use matching_core::checking::check_matching;
+use matching_core::outcomes::{CheckFault, Outcome, Reached};
+use matching_core::totals::Totals;
+use maximum_audit::auditing::audit_maximum;
+use std::alloc::Global;
+use uniform_audit::auditing::audit_uniform;
+
+/// The outcome of deals that conform to a rule which asks for no greatest volume.
+fn conforming(totals: Totals) -> Outcome
+    ensures { result ≡ conforming_outcome totals }
+{
+    Outcome::Conforms(Reached {
+        volume: totals.volume(),
+        bound: None,
+        traded: totals,
+    })
+}
+
+/// The outcome of deals that do not.
+fn broken(fault: CheckFault) -> Result<Outcome, NoMemory>
+    ensures { IfOk result (IsOutcomeOfFault fault) }
+{
+    match fault {
+        CheckFault::Found(finding) => Ok(Outcome::Broken(finding)),
+        CheckFault::Memory => Err(NoMemory),
+    }
+}
+
+/// Whether the deals conform to the rule `matching`.
+fn audit_matching(
+    alloc: Global,
+    orders: &[Order],
+    deals: &[Deal],
+    count: u32,
+) -> Result<Outcome, NoMemory>
+    requires deal_list { IsDealList orders.now deals.now }
+    ensures { IfOk result (IsRuleAudited rule.Matching orders.now deals.now count) }
+{
+    match check_matching(alloc, orders, deals, false) {
+        Ok(totals) => Ok(conforming(totals)),
+        Err(fault) => broken(fault),
+    }
+}
+
+/// Whether the deals conform to the rule `fair`.
+fn audit_fair(
+    alloc: Global,
+    orders: &[Order],
+    deals: &[Deal],
+    count: u32,
+) -> Result<Outcome, NoMemory>
+    requires order_list { IsOrderList orders.now }
+    requires deal_list { IsDealList orders.now deals.now }
+    ensures { IfOk result (IsRuleAudited rule.Fair orders.now deals.now count) }
+{
+    match fair_matching(alloc, orders, deals, false) {
+        Ok(fair) => Ok(conforming(fair.totals)),
+        Err(fault) => broken(fault),
+    }
+}
+
+/// Whether the deals conform to the rule.
+fn audit(
+    alloc: Global,
+    rule: Rule,
+    orders: &[Order],
+    deals: &[Deal],
+    count: u32,
+) -> Result<Outcome, NoMemory>
+    requires regular { Regular orders.now }
+    requires order_list { IsOrderList orders.now }
+    requires deal_list { IsDealList orders.now deals.now }
+    requires few { count < 2 ^ 32 - 1 }
+    ensures { IfOk result (IsRuleAudited rule orders.now deals.now count) }
+{
+    match rule {
+        Rule::Matching => audit_matching(alloc, orders, deals, count),
+        Rule::Fair => audit_fair(alloc, orders, deals, count),
+        Rule::Uniform => audit_uniform(alloc, orders, deals, count),
+        Rule::Maximum => audit_maximum(alloc, orders, deals, count),
+        Rule::Continuous => audit_continuous(alloc, orders, deals),
+    }
+}
+
+/// The verdict that the deals conform, with what they reached.
+fn accept(
+    alloc: Global,
+    question: &Question,
+    orders: &[Order],
+    deals: &[Deal],
+    reached: &Reached,
+) -> Result<Verdict, NoMemory>
+    requires order_list { IsOrderList orders.now }
+    requires deal_list { IsDealList orders.now deals.now }
+    requires totals { AreTotals orders.now deals.now reached.now.traded.0 }
+    ensures { IfOk result (λ verdict. verdict
+        ≡ accepted_verdict question.now orders.now deals.now reached.now) }
+{
+    let table = table_of(alloc, question, orders, deals, reached.traded.as_slice())?;
+    Ok(Verdict::Accepted(Accepted {
+        rule: question.rule,
+        symbol: question.symbol,
+        orders: orders.len() as u32,
+        trades: deals.len() as u32,
+        volume: reached.volume,
+        bound: reached.bound,
+        table,
+    }))
+}
+
+/// The verdict of a rule where the trades are sound; `count` is the number of trades of the
+/// whole log.
+pub fn judge_deals(
+    alloc: Global,
+    question: &Question,
+    orders: &[Order],
+    deals: &[Deal],
+    count: u32,
+) -> Result<Verdict, NoMemory>
+    requires regular { Regular orders.now }
+    requires order_list { IsOrderList orders.now }
+    requires deal_list { IsDealList orders.now deals.now }
+    requires few { count < 2 ^ 32 - 1 }
+    ensures { IfOk result (IsJudgedDeals question.now orders.now deals.now count) }
+{
+    let outcome = audit(alloc, question.rule, orders, deals, count)?;
+    match outcome {
+        Outcome::Conforms(reached) => accept(alloc, question, orders, deals, &reached),
+        Outcome::Broken(finding) => Ok(Verdict::Rejected(finding)),
+    }
+}

@@ -1,0 +1,66 @@
+//! What a reading of two logs is about, before any rule is looked at.
+ghost use Rattle.std.specs.Prelude.{◌≡◌};
+ghost use Rattle.audit_base.specs.Histories.{instant_order};
+ghost use Rattle.record_verdict.specs.Scopes.{admission_of, unadmitted_order};
+
+use audit_base::findings::{Finding, Property};
+use audit_base::names::Name;
+use audit_base::orders::Order;
+use audit_base::terms::{Rule, Which};
+
+/// Which orders of a symbol may be in its log.
+#[derive(Clone, Copy, Debug, PartialEq, Eq)]
+pub enum Admission {
+    /// Orders that rest: a call auction takes no order that is done with at once.
+    Resting,
+    /// All orders.
+    All,
+}
+
+/// The symbol whose records are looked at, and which of its orders are admitted.
+#[derive(Clone, Copy, Debug)]
+pub struct Scope {
+    pub symbol: Name,
+    pub admission: Admission,
+}
+
+/// Finding 16: the least order that is not one that rests.
+fn first_instant(orders: &[Order]) -> Option<Finding>
+    ensures { result ≡ instant_order orders.now }
+{
+    for order in orders {
+        if !order.life.rests() {
+            return Some(Finding {
+                property: Property::InstantOrder,
+                log: Which::Orders,
+                place: order.place,
+                first: None,
+                second: None,
+                short: None,
+            });
+        }
+    }
+    None
+}
+
+impl Admission {
+    /// Which orders a rule admits: each of the four rules of a call those that rest, `continuous` all.
+    pub fn of(rule: Rule) -> Admission
+        ensures { result ≡ admission_of rule }
+    {
+        match rule {
+            Rule::Continuous => Admission::All,
+            Rule::Matching | Rule::Fair | Rule::Uniform | Rule::Maximum => Admission::Resting,
+        }
+    }
+
+    /// Finding 16: the least of the orders that is not admitted.
+    pub fn first_unadmitted(self, orders: &[Order]) -> Option<Finding>
+        ensures { result ≡ unadmitted_order self orders.now }
+    {
+        match self {
+            Admission::Resting => first_instant(orders),
+            Admission::All => None,
+        }
+    }
+}
