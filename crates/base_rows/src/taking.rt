@@ -18,6 +18,9 @@ const ORDERS: &[u8] =
 const TRADES: &[u8] =
     b"trade,time,symbol,buy_firm,buy_id,sell_firm,sell_id,quantity,price\nT1,20240102-09:00:01,Z,A,b1,B,s1,100,9.5\n";
 
+/// The number of bytes that a log may have here, 64 MiB.
+const LIMIT: u64 = 67_108_864;
+
 // The logs of one trade in pieces of 30 bytes; the call of this number fails.
 fn failing_shelf(alloc: Global, fails: u32) -> Result<MemoryShelf, Fail> {
     let mut shelf = MemoryShelf::new(alloc, 30, Vec::from_slice(alloc, &[fails])?);
@@ -37,12 +40,12 @@ fn failing_shelf(alloc: Global, fails: u32) -> Result<MemoryShelf, Fail> {
 fn a_failed_call_is_a_fault_of_the_log_that_is_taken(rt: HostRuntime) -> Result<(), Fail> {
     for fails in 1..=14 {
         let mut shelf = failing_shelf(rt.alloc(), fails)?;
-        let orders = take_log(rt.alloc(), &mut shelf, Which::Orders, "orders");
+        let orders = take_log(rt.alloc(), &mut shelf, Which::Orders, "orders", LIMIT);
         if fails <= 7 {
             assert!(rt; orders == Err(TakeFault::Fault), "call {fails}");
         } else {
             assert!(rt; orders?.as_slice() == ORDERS, "call {fails}");
-            let trades = take_log(rt.alloc(), &mut shelf, Which::Trades, "trades");
+            let trades = take_log(rt.alloc(), &mut shelf, Which::Trades, "trades", LIMIT);
             if fails <= 13 {
                 assert!(rt; trades == Err(TakeFault::Fault), "call {fails}");
             } else {
@@ -56,7 +59,7 @@ fn a_failed_call_is_a_fault_of_the_log_that_is_taken(rt: HostRuntime) -> Result<
 #[test]
 fn a_name_that_is_not_there_is_a_fault(rt: HostRuntime) -> Result<(), Fail> {
     let mut shelf = failing_shelf(rt.alloc(), 99)?;
-    let log = take_log(rt.alloc(), &mut shelf, Which::Orders, "order");
+    let log = take_log(rt.alloc(), &mut shelf, Which::Orders, "order", LIMIT);
     assert!(rt; log == Err(TakeFault::Fault));
     Ok(())
 }
@@ -68,7 +71,7 @@ fn a_name_is_given_new_bytes(rt: HostRuntime) -> Result<(), Fail> {
         String::from_str(rt.alloc(), "orders")?,
         Vec::from_slice(rt.alloc(), TRADES)?,
     )?;
-    let log = take_log(rt.alloc(), &mut shelf, Which::Orders, "orders")?;
+    let log = take_log(rt.alloc(), &mut shelf, Which::Orders, "orders", LIMIT)?;
     assert!(rt; log.as_slice() == TRADES);
     Ok(())
 }
@@ -76,7 +79,7 @@ fn a_name_is_given_new_bytes(rt: HostRuntime) -> Result<(), Fail> {
 #[test]
 fn a_log_without_end_is_too_long(rt: HostRuntime) {
     let mut shelf = EndlessShelf::new(b'8');
-    let log = take_log(rt.alloc(), &mut shelf, Which::Trades, "any");
+    let log = take_log(rt.alloc(), &mut shelf, Which::Trades, "any", LIMIT);
     assert!(rt; log == Err(TakeFault::TooLong));
 }
 
@@ -86,7 +89,7 @@ fn a_log_is_taken_whole_at_every_piece(rt: HostRuntime) -> Result<(), Fail> {
         let orders = Vec::from_slice(rt.alloc(), ORDERS)?;
         let trades = Vec::from_slice(rt.alloc(), TRADES)?;
         let mut shelf = QuietShelf::new(orders, trades, piece);
-        let log = take_log(rt.alloc(), &mut shelf, Which::Orders, "any")?;
+        let log = take_log(rt.alloc(), &mut shelf, Which::Orders, "any", LIMIT)?;
         assert!(rt; log.as_slice() == ORDERS, "piece {piece}");
     }
     Ok(())
@@ -119,7 +122,7 @@ fn every_piece_is_handed_on(rt: HostRuntime) -> Result<(), Fail> {
             Vec::from_slice(rt.alloc(), b"seventeen letters")?,
         )?;
         let mut counter = ByteCount { bytes: 0 };
-        let result = pump(&mut shelf, Which::Trades, "log", &mut counter);
+        let result = pump(&mut shelf, Which::Trades, "log", LIMIT, &mut counter);
         let wanted = if fails <= 5 {
             Err(TakeFault::Fault)
         } else {
@@ -131,11 +134,38 @@ fn every_piece_is_handed_on(rt: HostRuntime) -> Result<(), Fail> {
     Ok(())
 }
 
+// The log has seventeen bytes, in pieces of seven.
+#[test]
+fn a_log_is_too_long_where_it_passes_the_limit(rt: HostRuntime) -> Result<(), Fail> {
+    for (limit, handed) in [
+        (0, 0),
+        (6, 0),
+        (7, 7),
+        (13, 7),
+        (14, 14),
+        (16, 14),
+        (17, 17),
+    ] {
+        let orders = Vec::from_slice(rt.alloc(), b"seventeen letters")?;
+        let mut shelf = QuietShelf::new(orders, Vec::new(rt.alloc()), 7);
+        let mut counter = ByteCount { bytes: 0 };
+        let result = pump(&mut shelf, Which::Orders, "any", limit, &mut counter);
+        let wanted = if limit < 17 {
+            Err(TakeFault::TooLong)
+        } else {
+            Ok(())
+        };
+        assert_eq!(rt; result, wanted, "limit {limit}");
+        assert_eq!(rt; counter.bytes, handed, "limit {limit}");
+    }
+    Ok(())
+}
+
 #[test]
 fn the_piece_past_the_limit_is_not_handed_on(rt: HostRuntime) {
     let mut shelf = EndlessShelf::new(b'8');
     let mut counter = ByteCount { bytes: 0 };
-    let result = pump(&mut shelf, Which::Orders, "any", &mut counter);
+    let result = pump(&mut shelf, Which::Orders, "any", LIMIT, &mut counter);
     assert_eq!(rt; result, Err(TakeFault::TooLong));
     assert_eq!(rt; counter.bytes, 67_108_864);
 }
@@ -148,14 +178,20 @@ fn a_file_is_taken_whole_and_what_is_none_is_a_fault(rt: HostRuntime) -> Result<
     let log = vec![in rt.alloc(); b'x'; 200_000]?;
     fs::write(&rt, path.as_str(), log.as_slice())?;
     let mut shelf = FileShelf::new(&rt);
-    let taken = take_log(rt.alloc(), &mut shelf, Which::Orders, path.as_str());
+    let taken = take_log(rt.alloc(), &mut shelf, Which::Orders, path.as_str(), LIMIT);
     fs::remove_file(&rt, path.as_str())?;
     assert!(rt; taken?.as_slice() == log.as_slice());
 
     // The file is gone, and a folder is no file.
-    let gone = take_log(rt.alloc(), &mut shelf, Which::Orders, path.as_str());
+    let gone = take_log(rt.alloc(), &mut shelf, Which::Orders, path.as_str(), LIMIT);
     assert!(rt; gone == Err(TakeFault::Fault));
-    let none = take_log(rt.alloc(), &mut shelf, Which::Trades, folder.as_str());
+    let none = take_log(
+        rt.alloc(),
+        &mut shelf,
+        Which::Trades,
+        folder.as_str(),
+        LIMIT,
+    );
     assert!(rt; none == Err(TakeFault::Fault));
     Ok(())
 }

@@ -2,7 +2,6 @@
 use Rattle.std.specs.Prelude.{◌≡◌, ℕ, ◌≤◌, true, List, length, IfSome}
 use Rattle.std.specs.Io.{StartsWith}
 use Rattle.audit_base.specs.declared.terms.Which.{Which}
-use Rattle.log_source.specs.Sources.{longest_log}
 use Rattle.log_source.specs.Taking.{IsWhole}
 use Rattle.log_source.specs.declared.feed.Feed as feed
 use Rattle.log_source.specs.declared.shelf.Shelf as shelf
@@ -12,28 +11,29 @@ abbrev pub IsFront : {F : Type 0} → shelf.Ghosts F → Which → List ℕ → 
 IsFront shelves which name shelf bytes =
     shelves.tells shelf ≡ true → IfSome (shelves.log_of shelf which name) (λ log. StartsWith log bytes)
 
--- The feed stands for the bytes that were taken, which are the whole log where the shelf tells.
+-- The feed stands for the bytes that were taken, no more than the limit, which are the whole log where
+-- the shelf tells.
 pub record StandsForWhole {F D : Type 0} (shelves : shelf.Ghosts F) (feeds : feed.Ghosts D)
-    (which : Which) (name : List ℕ) (old new : F) (feed : D) : Type 0 where
+    (which : Which) (name : List ℕ) (limit : ℕ) (old new : F) (feed : D) : Type 0 where
   pub bytes : List ℕ
   pub stands : feeds.stands_for feed bytes
-  pub within : length bytes ≤ longest_log
+  pub within : length bytes ≤ limit
   pub count : length bytes ≡ (shelves.slot new which).taken
   pub whole : IsWhole shelves which name old bytes
 
--- The feed stands for exactly the bytes that were taken, a front of the log.
+-- The feed stands for exactly the bytes that were taken, no more than the limit and a front of the log.
 pub record StandsForTaken {F D : Type 0} (shelves : shelf.Ghosts F) (feeds : feed.Ghosts D)
-    (which : Which) (name : List ℕ) (old new : F) (feed : D) : Type 0 where
+    (which : Which) (name : List ℕ) (limit : ℕ) (old new : F) (feed : D) : Type 0 where
   pub bytes : List ℕ
   pub stands : feeds.stands_for feed bytes
-  pub within : length bytes ≤ longest_log
+  pub within : length bytes ≤ limit
   pub count : length bytes ≡ (shelves.slot new which).taken
   pub front : IsFront shelves which name old bytes
 
--- The feed stands for a front of the log, no longer than a log may be.
+-- The feed stands for a front of the log, no longer than the limit.
 pub record StandsForFront {F D : Type 0} (shelves : shelf.Ghosts F) (feeds : feed.Ghosts D)
-    (which : Which) (name : List ℕ) (old new : F) (feed : D) : Type 0 where
+    (which : Which) (name : List ℕ) (limit : ℕ) (old new : F) (feed : D) : Type 0 where
   pub bytes : List ℕ
   pub stands : feeds.stands_for feed bytes
-  pub within : length bytes ≤ longest_log
+  pub within : length bytes ≤ limit
   pub front : IsFront shelves which name old bytes

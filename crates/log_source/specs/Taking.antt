@@ -2,7 +2,7 @@
 use Rattle.std.specs.Prelude.{◌≡◌, ℕ, ◌<◌, ◌≤◌, ◌⊎◌, ◌↔◌, true, List, length, Some, None, IsSomeAnd, Result, OnOk, IsErrOf}
 use Rattle.std.specs.Io.KnownBytes.{IsAtEnd}
 use Rattle.audit_base.specs.declared.terms.Which.{Which}
-use Rattle.log_source.specs.Sources.{Rose, longest_log}
+use Rattle.log_source.specs.Sources.{Rose}
 use Rattle.log_source.specs.declared.shelf.Shelf as shelf
 use Rattle.log_source.specs.declared.take.TakeFault.{TakeFault}
 use Rattle.log_source.specs.declared.take.TakeFault.TheVariants as take
@@ -13,25 +13,25 @@ use Rattle.log_source.specs.declared.shelf.StartFault.TheVariants as start
 abbrev pub LacksLog : {F : Type 0} → shelf.Ghosts F → Which → List ℕ → F → Type 0
 LacksLog shelves which name shelf = (shelves.tells shelf ≡ true) × (shelves.log_of shelf which name ≡ None)
 
--- the shelf, where it tells, has a log of this name that is longer than a log may be
-abbrev pub HasTooLong : {F : Type 0} → shelf.Ghosts F → Which → List ℕ → F → Type 0
-HasTooLong shelves which name shelf =
-    shelves.tells shelf ≡ true → IsSomeAnd (shelves.log_of shelf which name) (λ bytes. longest_log < length bytes)
+-- the shelf, where it tells, has a log of this name that is longer than the limit
+abbrev pub HasTooLong : {F : Type 0} → shelf.Ghosts F → Which → List ℕ → ℕ → F → Type 0
+HasTooLong shelves which name limit shelf =
+    shelves.tells shelf ≡ true → IsSomeAnd (shelves.log_of shelf which name) (λ bytes. limit < length bytes)
 
 -- these are the bytes of the log that the shelf has under the name, where it tells
 abbrev pub IsWhole : {F : Type 0} → shelf.Ghosts F → Which → List ℕ → F → List ℕ → Type 0
 IsWhole shelves which name shelf bytes = shelves.tells shelf ≡ true → shelves.log_of shelf which name ≡ Some bytes
 
 -- What taking a whole log does to its slot. After `Ok` the log was read to its end. It is too long
--- exactly where more was taken than a log may hold. `Fault` comes only where the slot's faults rose, or
+-- exactly where more bytes were taken than the limit. `Fault` comes only where the slot's faults rose, or
 -- where the shelf tells and has no such log.
 pub record Takes {F T : Type 0} (shelves : shelf.Ghosts F) (which : Which) (name : List ℕ)
-    (old new : F) (result : Result T TakeFault) : Type 0 where
+    (limit : ℕ) (old new : F) (result : Result T TakeFault) : Type 0 where
   pub later : (shelves.slot old which).faults ≤ (shelves.slot new which).faults
   pub started : OnOk result ((shelves.slot new which).started ≡ true)
   pub at_end : OnOk result (IsAtEnd (shelves.slot new which).left)
-  pub too_long : IsErrOf result take.TooLong ↔ (longest_log < (shelves.slot new which).taken)
-  pub longer : IsErrOf result take.TooLong → HasTooLong shelves which name old
+  pub too_long : IsErrOf result take.TooLong ↔ (limit < (shelves.slot new which).taken)
+  pub longer : IsErrOf result take.TooLong → HasTooLong shelves which name limit old
   pub fault : IsErrOf result take.Fault
       → Rose (shelves.slot old which).faults (shelves.slot new which).faults ⊎ LacksLog shelves which name old
 

@@ -1,7 +1,7 @@
 //! A shelf whose logs have no end.
 ghost use Rattle.std.specs.Prelude.{◌≡◌, ◌<◌, ◌≤◌, true, false, length, replicate, None, IsOk, Ok};
 ghost use Rattle.audit_base.specs.declared.terms.Which.{Which};
-ghost use Rattle.log_source.specs.Sources.{ChangesOnly, Starts, Reads, fresh_slot, longest_log};
+ghost use Rattle.log_source.specs.Sources.{ChangesOnly, Starts, Reads, fresh_slot, longest_read};
 
 use crate::shelf::{Failed, Shelf, StartFault};
 use audit_base::terms::Which;
@@ -73,7 +73,7 @@ impl Shelf for EndlessShelf {
     fn read(&mut self, which: Which, buf: &mut [u8]) -> Result<usize, Failed>
         requires room { 0 < length buf.old }
         requires started { (endless_slot self.old which).started ≡ true }
-        requires within { (endless_slot self.old which).taken ≤ longest_log }
+        requires within { (endless_slot self.old which).taken ≤ longest_read }
         ensures only { ChangesOnly endless_tells endless_log_of endless_slot
             which self.old self.new }
         ensures slot { Reads (endless_slot self.old which) (endless_slot self.new which)

@@ -11,7 +11,7 @@ pub trait Feed {
     // The feed has been handed these bytes, however they were cut.
     ghost stands_for: { Self → List ℕ → Type 0 };
 
-    /// Hands on the next piece. All pieces together have at most 67,108,864 bytes. A feed that has
+    /// Hands on the next piece. All pieces together have at most `LONGEST_READ` bytes. A feed that has
     /// answered `NoMemory` is given up: nothing is known of it afterwards.
     fn feed(&mut self, piece: &[u8]) -> Result<(), NoMemory>
         requires { HasRoom stands_for self.old piece.now }

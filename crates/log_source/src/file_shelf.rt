@@ -1,7 +1,7 @@
 //! The shelf of the program: files, each opened under its path.
 ghost use Rattle.std.specs.Prelude.{◌≡◌, ◌<◌, ◌≤◌, true, false, length, None, IsErrOf};
 ghost use Rattle.audit_base.specs.declared.terms.Which.{Which};
-ghost use Rattle.log_source.specs.Sources.{ChangesOnly, Starts, Reads, fresh_slot, longest_log};
+ghost use Rattle.log_source.specs.Sources.{ChangesOnly, Starts, Reads, fresh_slot, longest_read};
 ghost use Rattle.log_source.specs.FileShelves.{file_state, file_slot};
 
 use crate::shelf::{Failed, Shelf, StartFault};
@@ -52,7 +52,7 @@ impl<X: Read + Drop> FileSlot<X> {
     fn read(&mut self, buf: &mut [u8]) -> Result<usize, Failed>
         requires room { 0 < length buf.old }
         requires started { (file_state X.remaining self.old).started ≡ true }
-        requires within { self.old.taken ≤ longest_log }
+        requires within { self.old.taken ≤ longest_read }
         ensures { let state = file_state X.remaining in
             Reads (state self.old) (state self.new) result buf.new }
     {

@@ -11,6 +11,7 @@ pub mod endless_shelf;
 pub mod feed;
 pub mod file_shelf;
 mod in_memory;
+pub mod limits;
 pub mod memory_shelf;
 pub mod memory_sink;
 pub mod pump;

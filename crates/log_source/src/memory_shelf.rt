@@ -2,7 +2,7 @@
 ghost use Rattle.std.specs.Prelude.{◌≡◌, ◌≢◌, ℕ, ◌<◌, ◌≤◌, true, List, [], length, Some, None, IfOk, IfErr, OnOk, OnErr, is_err, is_none, ◌||◌, string_bytes};
 ghost use Rattle.audit_base.specs.declared.terms.Which.{Which};
 ghost use Rattle.log_source.specs.Cursors.{IsCursorInside};
-ghost use Rattle.log_source.specs.Sources.{ChangesOnly, Starts, Reads, fresh_slot, longest_log};
+ghost use Rattle.log_source.specs.Sources.{ChangesOnly, Starts, Reads, fresh_slot, longest_read};
 
 use crate::cursors::{Cursor, Log, read_cursor, start_cursor};
 use crate::in_memory::is_listed;
@@ -102,7 +102,7 @@ impl Shelf for MemoryShelf {
     fn read(&mut self, which: Which, buf: &mut [u8]) -> Result<usize, Failed>
         requires room { 0 < length buf.old }
         requires started { (memory_slot self.old which).started ≡ true }
-        requires within { (memory_slot self.old which).taken ≤ longest_log }
+        requires within { (memory_slot self.old which).taken ≤ longest_read }
         ensures only { ChangesOnly memory_tells memory_log_of memory_slot which self.old self.new }
         ensures slot { Reads (memory_slot self.old which) (memory_slot self.new which)
             result buf.new }

@@ -1,7 +1,7 @@
 //! A shelf in memory that never fails.
 ghost use Rattle.std.specs.Prelude.{◌≡◌, ◌<◌, ◌≤◌, true, [], length, Some, IsOk, IsOkAnd, Ok, false};
 ghost use Rattle.audit_base.specs.declared.terms.Which.{Which};
-ghost use Rattle.log_source.specs.Sources.{ChangesOnly, Starts, Reads, fresh_slot, longest_log};
+ghost use Rattle.log_source.specs.Sources.{ChangesOnly, Starts, Reads, fresh_slot, longest_read};
 
 use crate::in_memory::copy_piece;
 use crate::shelf::{Failed, Shelf, StartFault};
@@ -107,7 +107,7 @@ impl Shelf for QuietShelf {
     fn read(&mut self, which: Which, buf: &mut [u8]) -> Result<usize, Failed>
         requires room { 0 < length buf.old }
         requires started { (quiet_slot self.old which).started ≡ true }
-        requires within { (quiet_slot self.old which).taken ≤ longest_log }
+        requires within { (quiet_slot self.old which).taken ≤ longest_read }
         ensures only { ChangesOnly quiet_tells quiet_log_of quiet_slot which self.old self.new }
         ensures logs { (w : Which) → quiet_log self.new w ≡ quiet_log self.old w }
         ensures slot { Reads (quiet_slot self.old which) (quiet_slot self.new which)

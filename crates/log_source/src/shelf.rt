@@ -1,7 +1,7 @@
 //! A shelf: two slots, one for each log, that give their bytes piece by piece.
 ghost use Rattle.std.specs.Prelude.{◌≡◌, ℕ, ◌<◌, ◌≤◌, Bool, true, List, length, Option};
 ghost use Rattle.audit_base.specs.declared.terms.Which.{Which};
-ghost use Rattle.log_source.specs.Sources.{ChangesOnly, Slot, Starts, Reads, longest_log};
+ghost use Rattle.log_source.specs.Sources.{ChangesOnly, Slot, Starts, Reads, longest_read};
 
 use audit_base::terms::Which;
 use thiserror::Error;
@@ -48,7 +48,7 @@ pub trait Shelf {
     fn read(&mut self, which: Which, buf: &mut [u8]) -> Result<usize, Failed>
         requires room { 0 < length buf.old }
         requires started { (slot self.old which).started ≡ true }
-        requires within { (slot self.old which).taken ≤ longest_log }
+        requires within { (slot self.old which).taken ≤ longest_read }
         ensures only { ChangesOnly tells log_of slot which self.old self.new }
         ensures slot { Reads (slot self.old which) (slot self.new which) result buf.new };
 }

@@ -1,6 +1,6 @@
 //! Taking a whole log into memory.
 ghost use Rattle.std.specs.Prelude.{◌≡◌, ◌≤◌, IfOk, vec_len};
-ghost use Rattle.log_source.specs.Sources.{ChangesOnly, longest_log};
+ghost use Rattle.log_source.specs.Sources.{ChangesOnly, longest_read};
 ghost use Rattle.log_source.specs.Taking.{IsWhole, Takes};
 
 use crate::feed::Feed;
@@ -17,7 +17,7 @@ pub enum TakeFault {
     /// A start or a read failed, or the shelf knows that it has no log of this name.
     #[error("the log could not be read")]
     Fault,
-    /// The log has more than 67,108,864 bytes.
+    /// The log has more bytes than the limit that was given.
     #[error("the log is too long")]
     TooLong,
     #[error("out of memory")]
@@ -72,25 +72,27 @@ impl Feed for WholeLog {
     }
 }
 
-/// Takes the log of this name whole. `Fault` comes only where the slot's faults rose in this call,
-/// or where the shelf tells and has no such log. `TooLong` comes exactly where more than
-/// 67,108,864 bytes were taken. Whatever the answer, the slot may be started anew, and the other slot
-/// is as it was.
+/// Takes the log of this name whole. `limit` is the greatest number of bytes that it may have,
+/// `LONGEST_READ` at most. `Fault` comes only where the slot's faults rose in this call, or where the
+/// shelf tells and has no such log. `TooLong` comes exactly where more than `limit` bytes were taken.
+/// Whatever the answer, the slot may be started anew, and the other slot is as it was.
 pub fn take_log<F: Shelf>(
     alloc: Global,
     shelf: &mut F,
     which: Which,
     name: &str,
+    limit: u64,
 ) -> Result<Vec<u8>, TakeFault>
+    requires { limit ≤ longest_read }
     ensures only { ChangesOnly F.tells F.log_of F.slot which shelf.old shelf.new }
-    ensures slot { Takes F.Shelf which name.now shelf.old shelf.new result }
+    ensures slot { Takes F.Shelf which name.now limit shelf.old shelf.new result }
     ensures taken { IfOk result (λ log. (F.slot shelf.new which).taken ≡ vec_len log) }
-    ensures within { IfOk result (λ log. vec_len log ≤ longest_log) }
+    ensures within { IfOk result (λ log. vec_len log ≤ limit) }
     ensures whole { IfOk result (λ log. IsWhole F.Shelf which name.now shelf.old log.items) }
 {
     let mut log = WholeLog {
         bytes: Vec::new(alloc),
     };
-    pump(shelf, which, name, &mut log)?;
+    pump(shelf, which, name, limit, &mut log)?;
     Ok(log.bytes)
 }
