@@ -24,7 +24,7 @@ use Rattle.audit_run.specs.Laws.{GenerateWrites}
 use Rattle.log_verdict.specs.LogVerdicts.{Log, log_in, order_log, trade_log}
 use Rattle.audit_run.specs.OtherTexts.{orders_finding, ExpectsOf, IsAcceptedBeside, IsDone, IsExpectedLog, IsExpectReport, IsRefused}
 use Rattle.audit_run.specs.Requests.{IsReport}
-use Rattle.audit_run.proofs.LawLemmas.{one-verdict}
+use Rattle.log_verdict.specs.Laws.{OneVerdict}
 use Rattle.audit_run.proofs.StepLemmas.{held-all}
 
 not_true : false ≡ true → ⊥
@@ -79,18 +79,18 @@ module _ (the_rule : Rule) (symbol : List ℕ) (table : Bool) (text : List ℕ) 
       accepted-by entries (trade_log Csv text) (log.accepted table)
   accepted-of (Err bad) is = absurd (not_malformed is.status_is)
 
-pub expected-accepted : ExpectedTradesAreAccepted
-expected-accepted the_rule symbol table orders text w =
+pub expected-accepted : OneVerdict → ExpectedTradesAreAccepted
+expected-accepted one the_rule symbol table orders text w =
     let known = accepted-of the_rule symbol table text (order_log orders.form orders.bytes) (reported the_rule symbol orders text w) in
     record {
       accepted = known.0;
       is = known.1;
-      only = λ other is. one-verdict (question the_rule symbol table) orders (log_in Csv text) other (verdict.Accepted known.0) is known.1;
+      only = λ other is. one (question the_rule symbol table) orders (log_in Csv text) other (verdict.Accepted known.0) is known.1;
     }
 
-pub audit-accepts : AuditAcceptsExpectedTrades
-audit-accepts the_rule symbol table orders text answer w audited =
-    let known = expected-accepted the_rule symbol table orders text w in
+pub audit-accepts : OneVerdict → AuditAcceptsExpectedTrades
+audit-accepts one the_rule symbol table orders text answer w audited =
+    let known = expected-accepted one the_rule symbol table orders text w in
     ⊎_elim (λ written. inl (written.is.status_is ∙ ap verdict_status (known.only written.is.verdict written.is.is))) (λ none. inr none.0)
     (audited.answered.headline (orders.bytes ∷ text ∷ []) audited.ready)
 

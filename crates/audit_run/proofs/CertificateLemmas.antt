@@ -28,9 +28,12 @@ use Rattle.audit_run.specs.Requests.{next_log}
 use Rattle.audit_run.specs.Runs.{IsText, ReadsOn, StopsAtLog}
 use Rattle.log_verdict.specs.Steps.{Reading, Step, IsRead, IsReadFault, IsTooLong, Lead, NeverFall, with_slot}
 use Rattle.record_verdict.specs.BeforeRule.{is_malformed, IsBeforeRule}
-use Rattle.log_verdict.proofs.AuditLemmas.{joined}
 use Rattle.audit_run.proofs.ReportLemmas.{text-of, verify-status}
 use Rattle.audit_run.specs.Deciding.{verify_of, DecidesReport, IsStop}
+
+-- a reading of the whole, from the reading of a part before and one after
+abbrev joined : Reading → Reading → Reading
+joined first second = record { limit = first.limit; tells = first.tells; log_of = first.log_of; before = first.before; after = second.after }
 
 not_both : true ≡ false → ⊥
 not_both e = cc

@@ -1,5 +1,5 @@
 -- What the lines of a summary say of the Expected trades of a call.
-use Rattle.std.proofs.Common.{◌≡◌, ◌∙◌, sym, ap, subst, ℕ, List, ◌++◌, length, Result, Ok, Err, arith}
+use Rattle.std.proofs.Common.{◌<◌, ◌≡◌, ◌∙◌, sym, ap, subst, ℕ, List, ◌++◌, length, Result, Ok, Err, arith}
 use Rattle.std.specs.Prelude.{OnOk}
 use Rattle.audit_base.specs.declared.orders.Order.{Order}
 use Rattle.audit_base.specs.declared.orders.Deal.{Deal}
@@ -8,13 +8,20 @@ use Rattle.audit_base.specs.declared.terms.Rule.TheVariants as rule
 use Rattle.audit_base.specs.Bounds.{IsBestUniform, IsBound}
 use Rattle.audit_base.specs.Calls.{IsGreatestUniformVolume}
 use Rattle.audit_base.specs.Deals.{volume}
+use Rattle.audit_base.specs.Least.{IsLeast}
 use Rattle.audit_base.specs.Orders.{AreOrders, IsOrderList}
 use Rattle.audit_base.specs.Expected.{uniform_deals, IsExpectedUniform}
 use Rattle.call_laws.specs.Optimum.{UniformOptimum, UniformTradesAreExpected}
 use Rattle.audit_report.specs.Summaries.{call_line}
 use Rattle.audit_run.specs.OtherTexts.{IsCallLine}
 use Rattle.audit_run.specs.Reporting.{AddsLine}
-use Rattle.audit_run.proofs.LawLemmas.{one-least}
+
+-- there is one least number with a property
+one-least : (P : ℕ → Type 0) (a b : ℕ) → IsLeast P a → IsLeast P b → a ≡ b
+one-least P a b x y =
+    let at_least : a < b → ⊥ = λ lt. y.none_below a lt x.holds in
+    let at_most : b < a → ⊥ = λ lt. x.none_below b lt y.holds in
+    omega arith
 
 one-uniform : (orders : List Order) (v w : ℕ) → IsGreatestUniformVolume orders v → IsGreatestUniformVolume orders w → v ≡ w
 one-uniform orders v w x y =

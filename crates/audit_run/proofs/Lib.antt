@@ -11,7 +11,6 @@ pub mod StepLemmas
 pub mod RunLemmas
 pub mod RoomLemmas
 pub mod ReadyLemmas
-pub mod LawLemmas
 pub mod ExpectLemmas
 pub mod AcceptLemmas
 pub mod GenerateLemmas

@@ -8,7 +8,7 @@ use Rattle.log_source.specs.declared.quiet_shelf.QuietShelf.{QuietShelf}
 use Rattle.log_source.specs.MemorySinks.{sure_room}
 use Rattle.log_source.specs.QuietShelves.{quiet_log, quiet_slot}
 use Rattle.log_source.specs.Sinks.{SinkState, Stays}
-use Rattle.log_source.specs.Sources.{Rose}
+use Rattle.log_source.specs.Sources.{Rose, longest_log}
 use Rattle.audit_run.specs.declared.requests.Request.{Request}
 use Rattle.audit_run.specs.InMemory.{ReportsInRoom}
 use Rattle.audit_run.specs.Runs.{Runs}
@@ -23,7 +23,7 @@ no_rise (inr top) = omega arith
 -- what is known of a call over a shelf in memory
 abbrev pub quiet_reading : QuietShelf → QuietShelf → Reading
 quiet_reading old new =
-    record { tells = true; log_of = λ log _. Some (quiet_log old log); before = quiet_slot old; after = quiet_slot new }
+    record { limit = longest_log; tells = true; log_of = λ log _. Some (quiet_log old log); before = quiet_slot old; after = quiet_slot new }
 
 quiet : (old new : QuietShelf) (log : Which) → ¬ Rose (quiet_slot old log).faults (quiet_slot new log).faults
 quiet old new Orders rose = no_rise rose

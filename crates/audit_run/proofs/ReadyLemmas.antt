@@ -5,7 +5,7 @@ use Rattle.audit_base.specs.declared.terms.Which.{Which}
 use Rattle.audit_report.specs.declared.statuses.Status.{Status}
 use Rattle.audit_report.specs.declared.statuses.Status.TheVariants as status
 use Rattle.log_source.specs.Sinks.{SinkState, Stays}
-use Rattle.log_source.specs.Sources.{Rose, longest_log}
+use Rattle.log_source.specs.Sources.{Rose}
 use Rattle.audit_run.specs.declared.requests.Request.{Request}
 use Rattle.audit_run.specs.InMemory.{HasRoomForReport}
 use Rattle.audit_run.specs.Requests.{IsReport}
@@ -19,9 +19,9 @@ held_there : (log : Option (List ℕ)) (bytes : List ℕ) → log ≡ Some bytes
 held_there log bytes held none = cc
 
 -- a held log isn't too long
-held_within : (log : Option (List ℕ)) (bytes : List ℕ) → log ≡ Some bytes → length bytes ≤ longest_log → IsSomeAnd log (λ b. longest_log < length b) → ⊥
-held_within log bytes held within long =
-    let longer : longest_log < length bytes = rw held at long in omega arith
+held_within : (limit : ℕ) (log : Option (List ℕ)) (bytes : List ℕ) → log ≡ Some bytes → length bytes ≤ limit → IsSomeAnd log (λ b. limit < length b) → ⊥
+held_within limit log bytes held within long =
+    let longer : limit < length bytes = rw held at long in omega arith
 
 -- the shelf tells, it holds these logs, and none of its faults rose
 module _ (r : Reading) (request : Request) (logs : List (List ℕ)) (tells : r.tells ≡ true) (held : HoldsLogs r request [] logs) (quiet : (log : Which) → ¬ Rose (r.before log).faults (r.after log).faults) where
@@ -36,7 +36,7 @@ module _ (r : Reading) (request : Request) (logs : List (List ℕ)) (tells : r.t
   no_length line text stops =
       let left = held-after r request [] stops.steps stops.logs logs tells stops.read held (stops.last.log, stops.last.name) stops.next in
       let next = held-next r request stops.logs left.0 (stops.last.log, stops.last.name) stops.next left.1 in
-      held_within (r.log_of stops.last.log stops.last.name) next.0 next.1 next.2 (stops.cause.longer tells)
+      held_within r.limit (r.log_of stops.last.log stops.last.name) next.0 next.1 next.2 (stops.cause.longer tells)
 
   -- what is reported of the logs that were read is reported of those that are held
   pub of_held : (the_status : Status) (text : List ℕ) → ReportsLogs r request the_status text → IsReport request logs the_status text

@@ -2,7 +2,7 @@
 use Rattle.std.proofs.Common.{◌≡◌, ◌∙◌, sym, ap, subst, refl, inl, inr, ℕ, ◌≤◌, List, [], ◌∷◌, ◌++◌, length, Option, None, Some, true, append_assoc, append-nil, arith}
 use Rattle.audit_base.specs.declared.terms.Which.{Which}
 use Rattle.audit_base.specs.declared.terms.Which.TheVariants.{Orders, Trades}
-use Rattle.log_source.specs.Sources.{Slot, Rose, longest_log}
+use Rattle.log_source.specs.Sources.{Slot, Rose}
 use Rattle.audit_run.specs.declared.requests.Request.{Request}
 use Rattle.audit_run.specs.Requests.{next_log}
 use Rattle.audit_run.specs.Runs.{ReadsNext, ReadsOn, Holds, HoldsLogs}
@@ -66,7 +66,7 @@ held-after r request read (step ∷ steps) logs (bytes ∷ held) tells reads hol
 
 -- the next log is held
 pub held-next : (r : Reading) (request : Request) (logs rest : List (List ℕ)) (next : Which × List ℕ) → next_log request logs ≡ Some next → HoldsLogs r request logs rest
-    → (bytes : List ℕ) × (r.log_of next.0 next.1 ≡ Some bytes) × (length bytes ≤ longest_log)
+    → (bytes : List ℕ) × (r.log_of next.0 next.1 ≡ Some bytes) × (length bytes ≤ r.limit)
 held-next r request logs [] next is holds = absurd (some-none (next_log request logs) next holds is)
 held-next r request logs (bytes ∷ rest) next is holds =
     let there = subst (λ (o : Option (Which × List ℕ)). Holds r o bytes) is holds.0 in (bytes, there.0, there.1)

@@ -1,31 +1,14 @@
--- That two logs have one verdict, whatever forms they are in, what `generate` answers, and that a certificate that was
--- written is verified.
-use Rattle.std.specs.Prelude.{◌≡◌, ◌⊎◌, ℕ, List, Some, Result}
-use Rattle.audit_base.specs.declared.findings.Finding.{Finding}
-use Rattle.audit_base.specs.declared.records.OrderRecord.{OrderRecord}
-use Rattle.audit_base.specs.declared.records.TradeRecord.{TradeRecord}
+-- What `generate` answers, and that a certificate that was written is verified.
+use Rattle.std.specs.Prelude.{◌≡◌, ◌⊎◌, ℕ, List, Some}
 use Rattle.audit_report.specs.declared.statuses.Status.{Status}
 use Rattle.audit_report.specs.declared.statuses.Status.TheVariants as status
-use Rattle.audit_report.specs.declared.verdicts.Verdict.{Verdict}
 use Rattle.log_source.specs.Sinks.{SinkState}
 use Rattle.record_verdict.specs.declared.questions.Question.{Question}
 use Rattle.audit_run.specs.declared.requests.Request.TheVariants.{Generate}
 use Rattle.audit_run.specs.Certificates.{IsCertifyReport, IsVerifyReport}
-use Rattle.log_verdict.specs.LogVerdicts.{Log, HaveRecords, IsLogVerdict}
+use Rattle.log_verdict.specs.LogVerdicts.{Log}
 use Rattle.audit_run.specs.Runs.{Runs}
 use Rattle.log_verdict.specs.Steps.{Reading}
-
--- one verdict: two logs have one verdict on a question
-abbrev pub OneVerdict : Type 0
-OneVerdict = (q : Question) (orders trades : Log) (a b : Verdict)
-    → IsLogVerdict q orders trades a → IsLogVerdict q orders trades b → a ≡ b
-
--- forms agree: two pairs of logs of the same records and trades have the same verdict on a question
-abbrev pub FormsAgree : Type 0
-FormsAgree = (q : Question) (orders trades orders' trades' : Log) (entries : List OrderRecord)
-    (paired : Result (List TradeRecord) Finding) (a b : Verdict)
-    → HaveRecords orders trades entries paired → HaveRecords orders' trades' entries paired
-    → IsLogVerdict q orders trades a → IsLogVerdict q orders' trades' b → a ≡ b
 
 -- `generate` reads no log and always writes a summary: it answers 0, 5 (the sink failed) or 7 (memory ran out)
 abbrev pub GenerateWrites : Type 0

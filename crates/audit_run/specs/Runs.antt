@@ -6,7 +6,7 @@ use Rattle.audit_report.specs.declared.statuses.Status.{Status}
 use Rattle.audit_report.specs.declared.statuses.Status.TheVariants.{Accepted, Rejected, Usage, Malformed, ReadFault, WriteFault, TooLong, Memory}
 use Rattle.audit_report.specs.Lines.{usage_line, read_fault_line, too_long_line}
 use Rattle.log_source.specs.Sinks.{SinkState, AppendsPart, MayFail}
-use Rattle.log_source.specs.Sources.{Rose, longest_log}
+use Rattle.log_source.specs.Sources.{Rose}
 use Rattle.audit_run.specs.declared.requests.Request.{Request}
 use Rattle.audit_run.specs.Requests.{next_log, IsReport}
 use Rattle.log_verdict.specs.Steps.{Reading, Step, IsRead, IsReadFault, IsTooLong, Lead, BeginsWithin, EndsWithin}
@@ -106,7 +106,7 @@ Runs None r old new status =
 -- the shelf holds this log, which is no longer than a log may be
 abbrev pub Holds : Reading → Option (Which × List ℕ) → List ℕ → Type 0
 Holds r None bytes = ⊥
-Holds r (Some log) bytes = (r.log_of log.0 log.1 ≡ Some bytes) × (length bytes ≤ longest_log)
+Holds r (Some log) bytes = (r.log_of log.0 log.1 ≡ Some bytes) × (length bytes ≤ r.limit)
 
 -- these are, one after another, the logs that the command needs after those read, and the shelf holds each
 abbrev pub HoldsLogs : Reading → Request → List (List ℕ) → List (List ℕ) → Type 0

@@ -1,7 +1,6 @@
 //! The report of each command. A command is an arm of `report_on`.
-ghost use Rattle.std.specs.Prelude.{◌≡◌, IsTrue};
+ghost use Rattle.std.specs.Prelude.{IsTrue};
 ghost use Rattle.call_laws.specs.Laws.{asks_for_greatest};
-ghost use Rattle.log_source.specs.Sources.{longest_log};
 ghost use Rattle.log_verdict.specs.BothLogs.{HaveOneLimit, StaysWithin};
 ghost use Rattle.audit_run.specs.Deciding.{audit_of, certify_of, DecidesReport};
 ghost use Rattle.audit_run.specs.Reporting.{MayBeAsked};
@@ -12,7 +11,6 @@ use super::converting::report_convert;
 use super::expecting::report_expect;
 use super::generating::report_generate;
 use super::judged_reports::certify_report;
-use super::paths::PathText;
 use record_verdict::questions::Question;
 use log_verdict::sources::Source;
 use super::reports::{Report, verdict_report};
@@ -21,8 +19,7 @@ use super::sessions::report_session;
 use log_verdict::stops::Stop;
 use super::verifying::report_verify;
 use audit_base::names::Name;
-use audit_base::sizes::LONGEST_LOG;
-use audit_base::terms::{Form, Rule};
+use audit_base::terms::Rule;
 use log_source::shelf::Shelf;
 use log_verdict::verdicts::verdict_on;
 use seeded_hash::seed::HashSeed;
@@ -77,20 +74,6 @@ fn report_certify<F: Shelf>(
     }
 }
 
-/// The log of this path, in this form, of at most 64 MiB, read with hashes of this seed.
-fn source_of(path: &PathText, form: Form, seed: HashSeed) -> Source<'_>
-    ensures name { result.name.now ≡ path.now }
-    ensures form { result.form ≡ form }
-    ensures limit { result.limit ≡ longest_log }
-{
-    Source {
-        name: path.as_str(),
-        form,
-        limit: LONGEST_LOG as u64,
-        seed,
-    }
-}
-
 /// The report of the command that the request is.
 pub(crate) fn report_on<F: Shelf>(
     alloc: Global,
@@ -119,8 +102,8 @@ pub(crate) fn report_on<F: Shelf>(
                 symbol: *symbol,
                 table: *table,
             };
-            let orders = source_of(orders, *orders_form, seed);
-            let trades = source_of(trades, *trades_form, seed);
+            let orders = Source::of(orders.as_str(), *orders_form, seed);
+            let trades = Source::of(trades.as_str(), *trades_form, seed);
             report_audit(alloc, shelf, &question, &orders, &trades)
         }
         Request::Expect {
@@ -129,11 +112,11 @@ pub(crate) fn report_on<F: Shelf>(
             orders,
             orders_form,
         } => {
-            let orders = source_of(orders, *orders_form, seed);
+            let orders = Source::of(orders.as_str(), *orders_form, seed);
             report_expect(alloc, shelf, *rule, symbol, &orders)
         }
         Request::Convert { log, form, path } => {
-            report_convert(alloc, shelf, *log, &source_of(path, *form, seed))
+            report_convert(alloc, shelf, *log, &Source::of(path.as_str(), *form, seed))
         }
         Request::Generate { start, count } => Ok(report_generate(alloc, *start, *count)?),
         Request::Certify {
@@ -144,8 +127,8 @@ pub(crate) fn report_on<F: Shelf>(
             orders_form,
             trades_form,
         } => {
-            let orders = source_of(orders, *orders_form, seed);
-            let trades = source_of(trades, *trades_form, seed);
+            let orders = Source::of(orders.as_str(), *orders_form, seed);
+            let trades = Source::of(trades.as_str(), *trades_form, seed);
             report_certify(alloc, shelf, *rule, symbol, &orders, &trades)
         }
         Request::Verify {
@@ -156,8 +139,8 @@ pub(crate) fn report_on<F: Shelf>(
             orders_form,
             trades_form,
         } => {
-            let orders = source_of(orders, *orders_form, seed);
-            let trades = source_of(trades, *trades_form, seed);
+            let orders = Source::of(orders.as_str(), *orders_form, seed);
+            let trades = Source::of(trades.as_str(), *trades_form, seed);
             report_verify(alloc, shelf, symbol, &orders, &trades, certificate.as_str())
         }
         Request::Session {
@@ -169,8 +152,8 @@ pub(crate) fn report_on<F: Shelf>(
             trades_form,
             table,
         } => {
-            let orders = source_of(orders, *orders_form, seed);
-            let trades = source_of(trades, *trades_form, seed);
+            let orders = Source::of(orders.as_str(), *orders_form, seed);
+            let trades = Source::of(trades.as_str(), *trades_form, seed);
             report_session(
                 alloc,
                 shelf,

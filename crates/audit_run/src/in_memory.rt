@@ -4,6 +4,7 @@ ghost use Rattle.std.specs.String.{string_bytes};
 ghost use Rattle.log_source.specs.MemorySinks.{failing_writes, length_of, memory_state, room_of};
 ghost use Rattle.audit_run.specs.InMemory.{ReportsInRoom};
 ghost use Rattle.log_verdict.specs.Steps.{reading};
+ghost use Rattle.audit_run.specs.TopCall.{IsRun};
 ghost use Rattle.audit_run.specs.Words.{request_of};
 
 use super::running::run;
@@ -13,7 +14,8 @@ use log_source::quiet_shelf::QuietShelf;
 use log_source::shelf::Shelf;
 use std::alloc::Global;
 
-/// Runs a command over two logs in memory, into a sink in memory: the clauses of `run` without a fault.
+/// Runs a command over two logs in memory, into a sink in memory: all that `run` says, and no fault of the
+/// shelf.
 /// `ReadFault` never comes. Where no write of the sink is to fail, the logs are no longer than a log may
 /// be and the sink has room for the report, the answer is the report's status, with the report written,
 /// or `Memory`.
@@ -23,6 +25,9 @@ pub fn run_in_memory(
     shelf: &mut QuietShelf,
     out: &mut MemorySink,
 ) -> Status
+    ensures run { let asked = request_of (map string_bytes words.now) in
+        IsRun ⟦<QuietShelf as Shelf>⟧ asked shelf.old shelf.new
+        (memory_state out.old) (memory_state out.new) result }
     ensures read { result ≢ Status.ReadFault }
     ensures report { failing_writes out.old ≡ []
         → ReportsInRoom (request_of (map string_bytes words.now))

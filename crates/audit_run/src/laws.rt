@@ -1,19 +1,11 @@
-//! That two logs have one verdict, whatever forms they are in; that an audit accepts the trades that
-//! `expect` writes; what `generate` answers; and that a certificate that was written is verified.
+//! That an audit accepts the trades that `expect` writes, what `generate` answers, and that a certificate
+//! that was written is verified. That two logs have one verdict stands in `log_verdict`.
 ghost use Rattle.audit_run.specs.ExpectedTrades.{AuditAcceptsExpectedTrades, ExpectedTradesAreAccepted};
-ghost use Rattle.audit_run.specs.Laws.{CertifiedIsVerified, FormsAgree, GenerateWrites, OneVerdict};
+ghost use Rattle.audit_run.specs.Laws.{CertifiedIsVerified, GenerateWrites};
 
-/// Two verdicts on one question about one pair of logs are the same verdict, so that its status and its
-/// text are.
-pub fn one_verdict()
-    ensures { OneVerdict }
-{}
+use log_verdict::laws::one_verdict;
 
-/// Two pairs of logs, in whatever forms, whose order logs have the same records and whose trade logs have
-/// the same trades, have the same verdict.
-pub fn forms_agree()
-    ensures { FormsAgree }
-{}
+pub use log_verdict::laws::{forms_agree, one_verdict};
 
 /// Where a call of `run` on the words of `expect` answers 0, over a shelf and a sink that tell, the text that
 /// it wrote is accepted as a CSV trade log beside the same order log, under the same rule, with a table or
@@ -22,7 +14,9 @@ pub fn forms_agree()
 pub fn expected_trades_are_accepted()
     ensures verdict { ExpectedTradesAreAccepted }
     ensures audit { AuditAcceptsExpectedTrades }
-{}
+{
+    one_verdict();
+}
 
 /// A call of `run` on the words of `generate` answers 0, that the sink failed, or that memory ran out.
 pub fn generate_writes()

@@ -42,7 +42,7 @@ module _ {S : Type 0} (shelf : Shelf S) (asked : Option (List Command)) where
   case_run commands old new sink_old sink_new book_old book_new answer is keeps runs long =
       let call : Call = call_of (reading shelf old new) sink_old sink_new book_old book_new in
       record {
-        headline = subst (λ (o : Option (List Command)). AnswersReady call o answer) (sym is) (λ cases ready. ready_answers call commands cases answer ready runs);
+        headline = subst (λ (o : Option (List Command)). AnswersReady call o answer) (sym is) (λ cases ready. ready_answers call refl commands cases answer ready runs);
         runs = subst (λ (o : Option (List Command)). Runs call o answer) (sym is) runs;
         length = long;
         logs = keeps.logs;

@@ -6,11 +6,11 @@ use Rattle.audit_base.specs.declared.terms.Which.TheVariants.{Orders, Trades}
 use Rattle.audit_report.specs.declared.verdicts.Verdict.{Verdict}
 use Rattle.log_verdict.specs.Collecting.{step_of, IsReadAs}
 use Rattle.log_verdict.specs.LogVerdicts.{order_log}
-use Rattle.log_verdict.specs.Steps.{Reading, IsReadFault, IsTooLong}
+use Rattle.log_verdict.specs.Steps.{Reading, IsReadFault, IsTooLong, reading}
 use Rattle.case_keeper.specs.Keepers.{KeeperState}
 use Rattle.case_keeper.specs.declared.case.Case.{Case}
 use Rattle.log_source.specs.declared.shelf.Shelf.{Ghosts as Shelf}
-use Rattle.log_source.specs.Sources.{Slot, Rose, longest_log}
+use Rattle.log_source.specs.Sources.{Slot, Rose}
 use Rattle.log_source.specs.Sinks.{SinkState, Stays}
 use Rattle.case_run.specs.Play.{Turn, IsTurn, IsVerdictOn}
 use Rattle.case_run.specs.Runs.{IsBadLog, IsCause, IsStarted, ReadsBadLog, name_in}
@@ -27,10 +27,11 @@ rose_earlier a b c le (inr top) = inr top
 
 -- the reading of the whole
 abbrev pub joined : Reading → Reading → Reading
-joined first second = record { tells = first.tells; log_of = first.log_of; before = first.before; after = second.after }
+joined first second = record { limit = first.limit; tells = first.tells; log_of = first.log_of; before = first.before; after = second.after }
 
 -- What one reading knows of the other: the same shelf, where the first ended.
 pub record Follows (first second : Reading) : Type 0 where
+  pub limit : second.limit ≡ first.limit
   pub tells : second.tells ≡ first.tells
   pub logs : (log : Which) (name : List ℕ) → second.log_of log name ≡ first.log_of log name
   pub slots : (log : Which) → second.before log ≡ first.after log
@@ -43,7 +44,7 @@ module _ (first second : Reading) (after : Follows first second) where
     read = record {
       started = is.read.started;
       at_end = is.read.at_end;
-      within = is.read.within;
+      within = subst (λ (n : ℕ). length is.bytes ≤ n) after.limit is.read.within;
       taken = is.read.taken;
       known = λ t. sym (after.logs log name) ∙ is.read.known (after.tells ∙ t);
     };
@@ -58,8 +59,9 @@ module _ (first second : Reading) (after : Follows first second) where
 
   pub long_later : (log : Which) (name : List ℕ) → IsTooLong second (step_of second log name) → IsTooLong (joined first second) (step_of (joined first second) log name)
   long_later log name is = record {
-    taken = is.taken;
-    longer = λ t. subst (λ (o : Option (List ℕ)). IsSomeAnd o (λ bytes. longest_log < length bytes)) (after.logs log name) (is.longer (after.tells ∙ t));
+    taken = subst (λ (n : ℕ). n < (second.after log).taken) after.limit is.taken;
+    longer = λ t. subst (λ (n : ℕ). IsSomeAnd (first.log_of log name) (λ bytes. n < length bytes)) after.limit
+        (subst (λ (o : Option (List ℕ)). IsSomeAnd o (λ bytes. second.limit < length bytes)) (after.logs log name) (is.longer (after.tells ∙ t)));
   }
 
   started_later : (wanted : Filing) (log : Which) → IsStarted second wanted log → IsStarted (joined first second) wanted log
@@ -113,5 +115,5 @@ keeps_both shelf a b c sink_a sink_b sink_c book_a book_b book_c x y = record {
 -- the second part follows the first
 pub follows : {S : Type 0} (shelf : Shelf S) (a b c : S) (sink_a sink_b : SinkState) (book_a book_b : KeeperState)
     → KeepsAll shelf a b sink_a sink_b book_a book_b
-    → Follows (record { tells = shelf.tells a; log_of = shelf.log_of a; before = shelf.slot a; after = shelf.slot b }) (record { tells = shelf.tells b; log_of = shelf.log_of b; before = shelf.slot b; after = shelf.slot c })
-follows shelf a b c sink_a sink_b book_a book_b x = record { tells = x.logs.tells; logs = x.logs.logs; slots = λ log. refl; later = x.later }
+    → Follows (reading shelf a b) (reading shelf b c)
+follows shelf a b c sink_a sink_b book_a book_b x = record { limit = refl; tells = x.logs.tells; logs = x.logs.logs; slots = λ log. refl; later = x.later }

@@ -10,7 +10,7 @@ use Rattle.case_keeper.specs.Keepers.{KeeperState}
 use Rattle.case_keeper.specs.declared.case.Case.{Case}
 use Rattle.log_source.specs.declared.shelf.Shelf.{Ghosts as Shelf}
 use Rattle.log_source.specs.Sinks.{SinkState, AppendsPart}
-use Rattle.log_source.specs.Sources.{Slot, longest_log}
+use Rattle.log_source.specs.Sources.{Slot}
 use Rattle.case_run.specs.Play.{Turn, IsTurn, GoesOn, after}
 use Rattle.case_run.specs.Runs.{AnswersLength, AnswersPlay, Call, CutsHalt, CutsPlay, CutsShort, Halts, IsPlayed, RunsCommands, Tells, call_of, halt_line}
 use Rattle.case_run.specs.Statuses.{ends_run}
@@ -189,10 +189,11 @@ module _ (first second : Reading) (sink_a sink_b sink_c : SinkState) (book_a boo
     goes_here status.WriteFault unended turn = absurd (cc)
     goes_here status.Usage unended turn = absurd (cc)
 
-  -- both slots stay within the longest log, or the length is answered
+  -- both slots stay within the limit, or the length is answered
   pub length_later : (answer : CaseStatus) → (BeginsWithin first → EndsWithin first) → AnswersLength second answer → AnswersLength (joined first second) answer
   length_later answer within ends begins =
-      ends (λ log. subst (λ (s : Slot). s.taken ≤ longest_log) (sym (follow.slots log)) (within begins log))
+      ⊎_elim (λ inside. inl (λ log. subst (λ (n : ℕ). (second.after log).taken ≤ n) follow.limit (inside log))) (λ other. inr other)
+      (ends (λ log. subst (λ (n : ℕ). (second.before log).taken ≤ n) (sym follow.limit) (subst (λ (s : Slot). s.taken ≤ first.limit) (sym (follow.slots log)) (within begins log))))
 
 -- after a command that does not end the run
 pub length_goes : (r : Reading) (answer : CaseStatus) → ends_run answer ≡ false → AnswersLength r answer → BeginsWithin r → EndsWithin r

@@ -1,74 +1,36 @@
--- The verdict on the two logs of a filing, from what is known of each.
-use Rattle.std.proofs.Common.{◌≡◌, ◌∙◌, sym, ap, subst, refl, inl, inr, ◌⊎◌, ℕ, ◌≤◌, false, List, [], Option, None, Some, Result, Ok, Err, IsOk, arith}
+-- The verdict on the two logs of a filing, from what was read of both.
+use Rattle.std.proofs.Common.{◌≡◌, ◌∙◌, sym, ap, subst, refl, inl, inr, ◌⊎◌, ⊎_elim, ℕ, false, List, [], Option, None, Some, Result, Ok, Err, IsOk}
 use Rattle.std.specs.Prelude.{MatchResult, is_ok}
 use Rattle.audit_base.specs.declared.faults.BadPlace.{BadPlace}
-use Rattle.audit_base.specs.declared.faults.LogFault.{LogFault}
-use Rattle.audit_base.specs.declared.faults.LogFault.TheVariants as fault
 use Rattle.audit_base.specs.declared.findings.Finding.{Finding}
 use Rattle.audit_base.specs.declared.orders.Deal.{Deal}
 use Rattle.audit_base.specs.declared.orders.Order.{Order}
 use Rattle.audit_base.specs.declared.records.OrderRecord.{OrderRecord}
 use Rattle.audit_base.specs.declared.records.TradeRecord.{TradeRecord}
+use Rattle.audit_base.specs.declared.terms.Form.{Form}
 use Rattle.audit_base.specs.declared.terms.Which.{Which}
+use Rattle.audit_base.specs.declared.terms.Which.TheVariants.{Orders, Trades}
 use Rattle.audit_base.specs.Histories.{order_list}
 use Rattle.audit_base.specs.Trades.{deals_of}
 use Rattle.audit_base.specs.Verdicts.{paired_trades}
-use Rattle.audit_base.specs.declared.terms.Which.TheVariants.{Orders, Trades}
 use Rattle.audit_report.specs.declared.verdicts.Verdict.{Verdict}
 use Rattle.audit_report.specs.declared.verdicts.Verdict.TheVariants as verdict
-use Rattle.log_verdict.specs.Collecting.{step_of, of_log, of_take, IsReadAs, IsUnread, TouchesOnly}
-use Rattle.record_verdict.specs.Judgements.{question, IsJudged, IsOutcome}
-use Rattle.log_verdict.specs.LogVerdicts.{order_log, trade_log, IsDecodeFault}
-use Rattle.log_verdict.specs.Steps.{Reading, EndsWithin, IsRead, NeverFall, reading}
+use Rattle.log_verdict.specs.declared.sources.Source.{Source}
+use Rattle.log_verdict.specs.declared.stops.Stop.{Stop}
+use Rattle.log_verdict.specs.declared.stops.Stop.TheVariants as stop
+use Rattle.log_verdict.specs.BothLogs.{IsAfterGoodOrders, IsAuditStop, ReadsAfterOrders, ReadsVerdict} 
+use Rattle.log_verdict.specs.BothLogs as both
+use Rattle.log_verdict.specs.Collecting.{step_of, IsReadAs}
+use Rattle.log_verdict.specs.LogVerdicts.{log_in, order_log, trade_log, IsLogVerdict}
+use Rattle.log_verdict.specs.Steps.{Reading, Step, IsRead}
 use Rattle.record_verdict.specs.declared.questions.Question.{Question}
-use Rattle.log_verdict.specs.declared.reading.Unread.{Unread}
-use Rattle.log_verdict.specs.declared.reading.Unread.TheVariants as unread
-use Rattle.log_source.specs.declared.shelf.Shelf.{Ghosts as Shelf}
-use Rattle.log_source.specs.declared.take.TakeFault.{TakeFault}
-use Rattle.log_source.specs.declared.take.TakeFault.TheVariants as take
-use Rattle.log_source.specs.Sources.{Slot, longest_log}
-use Rattle.log_source.specs.Taking.{Takes}
-use Rattle.case_run.specs.Runs.{IsBadLog, name_in}
-use Rattle.case_run.specs.Turns.{AfterOrders, IsLengthHalt, JudgesTrades, OnLogs, ReadsMalformed, StaysWithin, StaysWithinTrades, without_log}
+use Rattle.record_verdict.specs.Judgements.{question, IsJudged, IsOutcome}
+use Rattle.case_run.specs.Play.{IsVerdictOn}
+use Rattle.case_run.specs.Runs.{IsBadLog, IsStarted, OfLog, name_in}
+use Rattle.case_run.specs.Turns.{halt_of_stop, IsLengthHalt, IsLogHalt, JudgesLogs, ReadsMalformed, StaysWithin}
 use Rattle.case_run.specs.declared.commands.Filing.{Filing}
 use Rattle.case_run.specs.declared.halts.Halt.{Halt}
 use Rattle.case_run.specs.declared.halts.Halt.TheVariants as halt
-use Rattle.case_run.proofs.JoinLemmas.{Follows, fault_later, joined, long_later, read_later}
-
--- One log that was not read into what it says.
-
--- a log that was not taken
-pub untaken : {R S T : Type 0} (meaning : List ℕ → Result R BadPlace) (shelf : Shelf S) (which : Which) (name : List ℕ) (old new : S) (why : TakeFault) → Takes {T = T} shelf which name old new (Err why)
-    → IsUnread meaning (reading shelf old new) which name (of_take why)
-untaken meaning shelf which name old new take.Fault takes = takes.fault refl
-untaken meaning shelf which name old new take.TooLong takes = record { taken = takes.too_long.0 refl; longer = takes.longer refl }
-untaken meaning shelf which name old new take.Memory takes = tt
-
--- a log that was taken and is not in its grammar
-pub undecoded : {R : Type 0} (meaning : List ℕ → Result R BadPlace) (r : Reading) (log : Which) (name bytes : List ℕ) (why : LogFault) → IsRead r (step_of r log name) bytes → IsDecodeFault (meaning bytes) why
-    → IsUnread meaning r log name (of_log why)
-undecoded meaning r log name bytes (fault.Bad bad) read is = record { bytes = bytes; read = read; holds = is }
-undecoded meaning r log name bytes fault.Memory read is = tt
-
--- The trade log, after the records of an order log.
-
-module _ (r : Reading) (wanted : Filing) (entries : List OrderRecord) where
-  pub judged_trades : (paired : Result (List TradeRecord) Finding) (v : Verdict) → IsReadAs r Trades wanted.trades (λ bytes. trade_log wanted.form bytes ≡ Ok paired)
-      → IsJudged (question wanted.rule wanted.symbol false) entries paired v → JudgesTrades r wanted entries v
-  judged_trades paired v is judged = record { bytes = is.bytes; read = is.read; holds = rw is.holds judged }
-
-  pub unread_trades : (why : Unread) → IsUnread (trade_log wanted.form) r Trades wanted.trades why → AfterOrders r wanted entries (without_log Trades why)
-  unread_trades (unread.Bad bad) is = record { bytes = is.bytes; read = is.read; holds = rw is.holds refl }
-  unread_trades unread.ReadFault is = (refl, is)
-  unread_trades unread.TooLong is = (refl, is)
-  unread_trades unread.Memory is = tt
-
--- where the trade log was not read into what it says
-pub within_trades : (r : Reading) (why : Unread) → ((why ≡ unread.TooLong → ⊥) → (r.after Trades).taken ≤ longest_log) → StaysWithinTrades r (without_log Trades why)
-within_trades r (unread.Bad bad) within = inr (within (λ e. cc))
-within_trades r unread.ReadFault within = inr (within (λ e. cc))
-within_trades r unread.TooLong within = inl tt
-within_trades r unread.Memory within = inr (within (λ e. cc))
 
 -- a verdict on records is no bad place
 judged_sound : (q : Question) (entries : List OrderRecord) (paired : Result (List TradeRecord) Finding) (log : Which) (bad : BadPlace) → IsJudged q entries paired (verdict.Malformed log bad) → ⊥
@@ -79,104 +41,102 @@ judged_sound q entries paired log bad is =
     by_found orders deals None is = absurd is
     by_found orders deals (Some finding) is = cc
 
--- Both logs.
+-- The log of a slot has the name and the form that the filing names.
+pub record Names (wanted : Filing) (log : Which) (source : Source) : Type 0 where
+  pub name : source.name.now ≡ name_in wanted log
+  pub form : source.form ≡ wanted.form
 
-module _ (first second : Reading) (after : Follows first second) (orders_stay : second.after Orders ≡ first.after Orders) (wanted : Filing) (entries : List OrderRecord) (is : IsReadAs first Orders wanted.orders (λ bytes. order_log wanted.form bytes ≡ Ok entries)) where
-  orders_read : (says : List ℕ → Type 0) → ((bytes : List ℕ) → order_log wanted.form bytes ≡ Ok entries → says bytes) → IsReadAs (joined first second) Orders wanted.orders says
-  orders_read says so = record {
-    bytes = is.bytes;
-    read = record {
-      started = rw orders_stay is.read.started;
-      at_end = rw orders_stay is.read.at_end;
-      within = is.read.within;
-      taken = rw orders_stay is.read.taken;
-      known = is.read.known;
+module _ (r : Reading) (wanted : Filing) (orders trades : Source) (first : Names wanted Orders orders) (second : Names wanted Trades trades) where
+  abbrev asked : Question
+  asked = question wanted.rule wanted.symbol false
+
+  abbrev after : Verdict → Result (List OrderRecord) BadPlace → Type 0
+  after v said = ReadsAfterOrders r trades (λ entries paired. IsJudged asked entries paired v) (λ log bad. v ≡ verdict.Malformed log bad) said
+
+  read_orders : (bytes : List ℕ) → IsRead r (step_of r Orders orders.name.now) bytes → IsRead r (step_of r Orders wanted.orders) bytes
+  read_orders bytes read = subst (λ (n : List ℕ). IsRead r (step_of r Orders n) bytes) first.name read
+
+  read_trades : (bytes : List ℕ) → IsRead r (step_of r Trades trades.name.now) bytes → IsRead r (step_of r Trades wanted.trades) bytes
+  read_trades bytes read = subst (λ (n : List ℕ). IsRead r (step_of r Trades n) bytes) second.name read
+
+  orders_say : (bytes : List ℕ) (said : Result (List OrderRecord) BadPlace) → order_log orders.form bytes ≡ said → order_log wanted.form bytes ≡ said
+  orders_say bytes said says = subst (λ (f : Form). order_log f bytes ≡ said) first.form says
+
+  trades_say : (bytes : List ℕ) (said : Result (Result (List TradeRecord) Finding) BadPlace) → trade_log trades.form bytes ≡ said → trade_log wanted.form bytes ≡ said
+  trades_say bytes said says = subst (λ (f : Form). trade_log f bytes ≡ said) second.form says
+
+  no_good : (said : Result (List OrderRecord) BadPlace) (bad : BadPlace) → said ≡ Err bad → IsOk said → ⊥
+  no_good (Ok entries) bad e good = cc
+  no_good (Err other) bad e good = cc
+
+  -- what is said of both logs where the order log is out of its grammar
+  of_bad_orders : (v : Verdict) (bytes : List ℕ) (bad : BadPlace) → IsRead r (step_of r Orders orders.name.now) bytes → order_log orders.form bytes ≡ Err bad → v ≡ verdict.Malformed Orders bad → JudgesLogs r wanted v
+  of_bad_orders v bytes bad read says is = record {
+    on = λ tells. record {
+      orders = bytes;
+      trades = [];
+      has_orders = (read_orders bytes read).known tells;
+      has_trades = λ good. absurd (no_good (order_log wanted.form bytes) bad (orders_say bytes (Err bad) says) good);
+      is = rw (orders_say bytes (Err bad) says) is;
     };
-    holds = so is.bytes is.holds;
+    bad = subst (ReadsMalformed r wanted) (sym is) (record { bytes = bytes; read = read_orders bytes read; holds = ap is_ok (orders_say bytes (Err bad) says) });
   }
 
-  good_orders : IsReadAs (joined first second) Orders wanted.orders (λ bytes. IsOk (order_log wanted.form bytes))
-  good_orders = orders_read (λ bytes. IsOk (order_log wanted.form bytes)) (λ bytes e. rw e refl)
+  -- and where it is in its grammar
+  module _ (v : Verdict) (one two : List ℕ) (entries : List OrderRecord) (read_one : IsRead r (step_of r Orders orders.name.now) one) (read_two : IsRead r (step_of r Trades trades.name.now) two)
+      (says : order_log orders.form one ≡ Ok entries) where
+    judges : ReadsMalformed r wanted v → IsLogVerdict asked (log_in wanted.form one) (log_in wanted.form two) v → JudgesLogs r wanted v
+    judges bad is = record {
+      on = λ tells. record {
+        orders = one;
+        trades = two;
+        has_orders = (read_orders one read_one).known tells;
+        has_trades = λ good. (read_trades two read_two).known tells;
+        is = is;
+      };
+      bad = bad;
+    }
 
-  bad_trades : (v : Verdict) → JudgesTrades second wanted entries v → ReadsMalformed (joined first second) wanted v
-  bad_trades (verdict.Accepted accepted) judges = tt
-  bad_trades (verdict.Rejected finding) judges = tt
-  bad_trades (verdict.Malformed log bad) judges = by_said (trade_log wanted.form judges.bytes) refl judges.holds
+    not_bad : (v : Verdict) (paired : Result (List TradeRecord) Finding) → IsJudged asked entries paired v → ReadsMalformed r wanted v
+    not_bad (verdict.Accepted accepted) paired is = tt
+    not_bad (verdict.Rejected finding) paired is = tt
+    not_bad (verdict.Malformed log bad) paired is = absurd (judged_sound asked entries paired log bad is)
+
+    of_trades : (said : Result (Result (List TradeRecord) Finding) BadPlace) → trade_log trades.form two ≡ said
+        → MatchResult said (λ paired. IsJudged asked entries paired v) (λ bad. v ≡ verdict.Malformed Trades bad) → JudgesLogs r wanted v
+    of_trades (Ok paired) said is = judges (not_bad v paired is) (rw (orders_say one (Ok entries) says, trades_say two (Ok paired) said) is)
+    of_trades (Err bad) said is =
+        judges (subst (ReadsMalformed r wanted) (sym is) (record { bytes = two; read = read_trades two read_two; holds = ap is_ok (trades_say two (Err bad) said) }))
+        (rw (orders_say one (Ok entries) says, trades_say two (Err bad) said) is)
+
+  -- the verdict on both logs is that on the logs of the filing
+  pub judges_logs : (v : Verdict) → ReadsVerdict r asked orders trades v → JudgesLogs r wanted v
+  judges_logs v is = of_orders (order_log orders.form is.bytes) refl is.holds
     where
-      by_said : (said : Result (Result (List TradeRecord) Finding) BadPlace) → trade_log wanted.form judges.bytes ≡ said
-          → MatchResult said (λ paired. IsJudged (question wanted.rule wanted.symbol false) entries paired (verdict.Malformed log bad)) (λ other. verdict.Malformed log bad ≡ verdict.Malformed Trades other)
-          → IsReadAs (joined first second) log (name_in wanted log) (IsBadLog log wanted.form)
-      by_said (Ok paired) says holds = absurd (judged_sound _ entries paired log bad holds)
-      by_said (Err other) says holds =
-          let same : log ≡ Trades = log_is holds in
-          rw same (read_later first second after Trades wanted.trades (IsBadLog Trades wanted.form) (record { bytes = judges.bytes; read = judges.read; holds = ap is_ok says }))
-        where
-          log_is : verdict.Malformed log bad ≡ verdict.Malformed Trades other → log ≡ Trades
-          log_is e = cc
+      of_orders : (said : Result (List OrderRecord) BadPlace) → order_log orders.form is.bytes ≡ said → after v said → JudgesLogs r wanted v
+      of_orders (Ok entries) says holds =
+          of_trades v is.bytes holds.bytes entries is.read holds.read says (trade_log trades.form holds.bytes) refl holds.holds
+      of_orders (Err bad) says holds = of_bad_orders v is.bytes bad is.read says holds.0
 
-  pub judged_both : (result : Result Verdict Halt) → AfterOrders second wanted entries result → OnLogs (joined first second) wanted result
-  judged_both (Ok v) judges = record {
-    on = λ tells.
-        record {
-          orders = is.bytes;
-          trades = judges.bytes;
-          has_orders = is.read.known tells;
-          has_trades = λ good. sym (after.logs Trades wanted.trades) ∙ judges.read.known (after.tells ∙ tells);
-          is = rw is.holds judges.holds;
-        };
-    bad = bad_trades v judges;
-  }
-  judged_both (Err (halt.ReadFault log)) (same, fault) =
-      rw same (record { is_started = good_orders; holds = fault_later first second after Trades wanted.trades fault })
-  judged_both (Err (halt.TooLong log)) (same, long) =
-      rw same (record { is_started = good_orders; holds = long_later first second after Trades wanted.trades long })
-  judged_both (Err halt.Memory) judges = tt
-  judged_both (Err halt.KeeperFault) judges = absurd judges
+  started : (log : Which) → both.IsStarted r orders log → IsStarted r wanted log
+  started Orders is = tt
+  started Trades is = record { bytes = is.bytes; read = read_orders is.bytes is.read; holds = subst (λ (f : Form). IsOk (order_log f is.bytes)) first.form is.holds }
 
--- where the order log was not read into records
-pub unread_orders : (r : Reading) (wanted : Filing) (why : Unread) → IsUnread (order_log wanted.form) r Orders wanted.orders why → OnLogs r wanted (without_log Orders why)
-unread_orders r wanted (unread.Bad bad) is = record {
-  on = λ tells. record {
-    orders = is.bytes;
-    trades = [];
-    has_orders = is.read.known tells;
-    has_trades = λ good. absurd (no_good (order_log wanted.form is.bytes) is.holds good);
-    is = rw is.holds refl;
-  };
-  bad = record { bytes = is.bytes; read = is.read; holds = ap is_ok is.holds };
-}
-  where
-    no_good : (said : Result (List OrderRecord) BadPlace) → said ≡ Err bad → IsOk said → ⊥
-    no_good (Ok entries) e good = cc
-    no_good (Err other) e good = cc
-unread_orders r wanted unread.ReadFault is = record { is_started = tt; holds = is }
-unread_orders r wanted unread.TooLong is = record { is_started = tt; holds = is }
-unread_orders r wanted unread.Memory is = tt
+  of_slot : (holds : Reading → Step → Type 0) (log : Which) → both.IsStarted r orders log → holds r (step_of r log (both.source_of orders trades log).name.now) → OfLog holds r wanted log
+  of_slot holds Orders is cause = record { is_started = started Orders is; holds = subst (λ (n : List ℕ). holds r (step_of r Orders n)) first.name cause }
+  of_slot holds Trades is cause = record { is_started = started Trades is; holds = subst (λ (n : List ℕ). holds r (step_of r Trades n)) second.name cause }
 
-ends_within : (r : Reading) → (r.after Orders).taken ≤ longest_log → (r.after Trades).taken ≤ longest_log → EndsWithin r
-ends_within r orders trades Orders = orders
-ends_within r orders trades Trades = trades
+  -- why nothing is known of both logs is why the command halts
+  pub halts_logs : (why : Stop) → IsAuditStop r orders trades why → IsLogHalt r wanted (halt_of_stop why)
+  halts_logs (stop.ReadFault log) is = of_slot _ log is.is_started is.fault
+  halts_logs (stop.TooLong log) is = of_slot _ log is.is_started is.long
+  halts_logs stop.Memory is = tt
 
-pub within_orders : (r : Reading) (why : Unread) → ((why ≡ unread.TooLong → ⊥) → (r.after Orders).taken ≤ longest_log) → r.after Trades ≡ r.before Trades → StaysWithin r (without_log Orders why)
-within_orders r why within same begins = by_cause why within
-  where
-    trades : (r.after Trades).taken ≤ longest_log
-    trades = subst (λ (s : Slot). s.taken ≤ longest_log) (sym same) (begins Trades)
+-- the length is what halts the command where it is why nothing is known
+pub within_logs : (r : Reading) (why : Stop) → both.StaysWithin {T = Verdict} r (Err why) → StaysWithin {T = Verdict} r (Err (halt_of_stop why))
+within_logs r (stop.ReadFault log) within begins = ⊎_elim (λ none. absurd none) (λ ends. inr ends) (within begins)
+within_logs r (stop.TooLong log) within begins = inl tt
+within_logs r stop.Memory within begins = ⊎_elim (λ none. absurd none) (λ ends. inr ends) (within begins)
 
-    by_cause : (why : Unread) → ((why ≡ unread.TooLong → ⊥) → (r.after Orders).taken ≤ longest_log) → IsLengthHalt (without_log Orders why) ⊎ EndsWithin r
-    by_cause (unread.Bad bad) within = inr (ends_within r (within (λ e. cc)) trades)
-    by_cause unread.ReadFault within = inr (ends_within r (within (λ e. cc)) trades)
-    by_cause unread.TooLong within = inl tt
-    by_cause unread.Memory within = inr (ends_within r (within (λ e. cc)) trades)
-
-pub within_both : (first second : Reading) (result : Result Verdict Halt) → second.after Orders ≡ first.after Orders → (first.after Orders).taken ≤ longest_log → StaysWithinTrades second result → StaysWithin (joined first second) result
-within_both first second result stay orders (inl long) begins = inl long
-within_both first second result stay orders (inr trades) begins =
-    inr (ends_within (joined first second) (subst (λ (s : Slot). s.taken ≤ longest_log) (sym stay) orders) trades)
-
--- no count of faults fell in one log, and the other stayed
-pub later_one : (r : Reading) (log : Which) → TouchesOnly r log → NeverFall r
-later_one r Orders only Orders = only.later
-later_one r Orders only Trades = rw only.other (omega arith)
-later_one r Trades only Orders = rw only.other (omega arith)
-later_one r Trades only Trades = only.later
+pub within_verdict : (r : Reading) (v : Verdict) → both.StaysWithin {T = Verdict} r (Ok v) → StaysWithin {T = Verdict} r (Ok v)
+within_verdict r v within begins = ⊎_elim (λ none. absurd none) (λ ends. inr ends) (within begins)

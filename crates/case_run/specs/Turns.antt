@@ -1,19 +1,13 @@
 -- One command of a run, as the functions that do it pass it on.
 use Rattle.std.specs.Prelude.{◌≡◌, ◌≢◌, ◌≤◌, ◌⊎◌, ℕ, true, false, Option, Some, Result, Ok, Err, List, MatchResult}
-use Rattle.audit_base.specs.declared.findings.Finding.{Finding}
-use Rattle.audit_base.specs.declared.faults.BadPlace.{BadPlace}
-use Rattle.audit_base.specs.declared.records.OrderRecord.{OrderRecord}
-use Rattle.audit_base.specs.declared.records.TradeRecord.{TradeRecord}
 use Rattle.audit_base.specs.declared.terms.Which.{Which}
 use Rattle.audit_base.specs.declared.terms.Which.TheVariants.{Orders, Trades}
 use Rattle.audit_report.specs.declared.verdicts.Verdict.{Verdict}
 use Rattle.audit_report.specs.declared.verdicts.Verdict.TheVariants as verdict
-use Rattle.log_verdict.specs.Collecting.{step_of, IsReadAs, IsUnread}
-use Rattle.record_verdict.specs.Judgements.{question, IsJudged}
-use Rattle.log_verdict.specs.LogVerdicts.{order_log, trade_log}
+use Rattle.log_verdict.specs.Collecting.{IsReadAs}
 use Rattle.log_verdict.specs.Steps.{Reading, BeginsWithin, EndsWithin, KeepsLogs, NeverFall, reading}
-use Rattle.log_verdict.specs.declared.reading.Unread.{Unread}
-use Rattle.log_verdict.specs.declared.reading.Unread.TheVariants as unread
+use Rattle.log_verdict.specs.declared.stops.Stop.{Stop}
+use Rattle.log_verdict.specs.declared.stops.Stop.TheVariants as stop
 use Rattle.case_keeper.specs.Keepers.{KeeperState}
 use Rattle.case_keeper.specs.declared.case.Case.{Case}
 use Rattle.case_keeper.specs.declared.keeper.KeepFault.{KeepFault}
@@ -21,7 +15,7 @@ use Rattle.case_keeper.specs.declared.keeper.KeepFault.TheVariants as keeping
 use Rattle.log_source.specs.declared.shelf.Shelf.{Ghosts as Shelf}
 use Rattle.log_source.specs.Sinks.{SinkState, AppendsPart, MayFail, Stays}
 use Rattle.case_run.specs.Play.{Turn, IsTurn, IsVerdictOn, verdict_turn}
-use Rattle.log_source.specs.Sources.{Rose, longest_log}
+use Rattle.log_source.specs.Sources.{Rose}
 use Rattle.case_run.specs.Runs.{Call, call_of, HasCause, IsBadLog, IsCause, IsPlayed, Leaves, OfLog, ReadsBadLog, Tells, halt_line, name_in}
 use Rattle.log_verdict.specs.Steps.{IsReadFault, IsTooLong}
 use Rattle.case_run.specs.Statuses.{ends_run}
@@ -38,17 +32,11 @@ abbrev pub halt_of_keeper : KeepFault → Halt
 halt_of_keeper keeping.Failed = halt.KeeperFault
 halt_of_keeper keeping.Memory = halt.Memory
 
--- what is answered where a log was not read into records
-abbrev pub without_log : Which → Unread → Result Verdict Halt
-without_log log (unread.Bad bad) = Ok (verdict.Malformed log bad)
-without_log log unread.ReadFault = Err (halt.ReadFault log)
-without_log log unread.TooLong = Err (halt.TooLong log)
-without_log log unread.Memory = Err halt.Memory
-
--- a log was read to its end, and this is what it says
-abbrev pub SaysRead : {R : Type 0} → (List ℕ → Result R BadPlace) → Reading → Which → List ℕ → R
-    → Type 0
-SaysRead meaning r log name said = IsReadAs r log name (λ bytes. meaning bytes ≡ Ok said)
+-- why a command halts where nothing is known of its logs
+abbrev pub halt_of_stop : Stop → Halt
+halt_of_stop (stop.ReadFault log) = halt.ReadFault log
+halt_of_stop (stop.TooLong log) = halt.TooLong log
+halt_of_stop stop.Memory = halt.Memory
 
 -- a log of the filing was read to its end and is not in its grammar, where the verdict says so
 abbrev pub ReadsMalformed : Reading → Filing → Verdict → Type 0
@@ -69,22 +57,6 @@ IsLogHalt r wanted (halt.TooLong log) = OfLog IsTooLong r wanted log
 IsLogHalt r wanted halt.Memory = Unit {0}
 IsLogHalt r wanted halt.KeeperFault = ⊥
 
--- the trade log was read to its end after an order log with these records, and this is the verdict
-abbrev pub JudgesTrades : Reading → Filing → List OrderRecord → Verdict → Type 0
-JudgesTrades r wanted entries the_verdict = IsReadAs r Trades wanted.trades
-    (λ bytes. MatchResult (trade_log wanted.form bytes)
-    (λ paired. IsJudged (question wanted.rule wanted.symbol false) entries paired the_verdict)
-    (λ bad. the_verdict ≡ verdict.Malformed Trades bad))
-
--- why there is no verdict after an order log
-abbrev pub IsTradesHalt : Reading → Filing → Halt → Type 0
-IsTradesHalt r wanted (halt.ReadFault log) =
-    (log ≡ Trades) × IsReadFault r (step_of r Trades wanted.trades)
-IsTradesHalt r wanted (halt.TooLong log) =
-    (log ≡ Trades) × IsTooLong r (step_of r Trades wanted.trades)
-IsTradesHalt r wanted halt.Memory = Unit {0}
-IsTradesHalt r wanted halt.KeeperFault = ⊥
-
 -- the answer is that a log is too long
 abbrev pub IsLengthHalt : {T : Type 0} → Result T Halt → Type 0
 IsLengthHalt (Ok x) = ⊥
@@ -93,32 +65,9 @@ IsLengthHalt (Err (halt.TooLong log)) = Unit {0}
 IsLengthHalt (Err halt.Memory) = ⊥
 IsLengthHalt (Err halt.KeeperFault) = ⊥
 
--- where no log was too long, both slots end within the longest log if they began so
+-- where no log was too long, both slots end within the limit if they began so
 abbrev pub StaysWithin : {T : Type 0} → Reading → Result T Halt → Type 0
 StaysWithin r result = BeginsWithin r → IsLengthHalt result ⊎ EndsWithin r
-
--- the same of the slot of the trade log
-abbrev pub StaysWithinTrades : {T : Type 0} → Reading → Result T Halt → Type 0
-StaysWithinTrades r result = IsLengthHalt result ⊎ ((r.after Trades).taken ≤ longest_log)
-
--- what the orders and the trades of a filing are
-abbrev pub HasOrders : Reading → Filing → List OrderRecord → Type 0
-HasOrders r wanted entries = SaysRead (order_log wanted.form) r Orders wanted.orders entries
-
-abbrev pub HasTrades : Reading → Filing → Result (List TradeRecord) Finding → Type 0
-HasTrades r wanted paired = SaysRead (trade_log wanted.form) r Trades wanted.trades paired
-
--- why they were not read
-abbrev pub LacksOrders : Reading → Filing → Unread → Type 0
-LacksOrders r wanted why = IsUnread (order_log wanted.form) r Orders wanted.orders why
-
-abbrev pub LacksTrades : Reading → Filing → Unread → Type 0
-LacksTrades r wanted why = IsUnread (trade_log wanted.form) r Trades wanted.trades why
-
--- the verdict after the records of an order log, or why there is none
-abbrev pub AfterOrders : Reading → Filing → List OrderRecord → Result Verdict Halt → Type 0
-AfterOrders r wanted entries result =
-    MatchResult result (JudgesTrades r wanted entries) (IsTradesHalt r wanted)
 
 -- the verdict on two logs, or why there is none
 abbrev pub OnLogs : Reading → Filing → Result Verdict Halt → Type 0

@@ -13,7 +13,7 @@ use super::commands::{Command, Filing};
 use super::halts::Halt;
 use super::lines::{append_case_line, append_known_line, append_no_case_line};
 use super::statuses::CaseStatus;
-use super::verdicts::verdict_on;
+use super::verdicts::verdict_of;
 use super::writing::{write_halt, write_text};
 use audit_base::faults::{BadPlace, NoMemory};
 use audit_base::findings::Finding;
@@ -26,6 +26,7 @@ use case_keeper::casebook::{Casebook, Filed};
 use case_keeper::keeper::Keeper;
 use log_source::shelf::Shelf;
 use log_source::sink::Sink;
+use seeded_hash::seed::HashSeed;
 use std::alloc::Global;
 
 /// What a command answers and writes.
@@ -164,6 +165,7 @@ fn malformed_text(alloc: Global, log: Which, bad: &BadPlace) -> Result<Vec<u8>, 
 /// Audits two logs and files the verdict.
 fn file<F: Shelf, B: Keeper>(
     alloc: Global,
+    seed: HashSeed,
     filing: &Filing,
     shelf: &mut F,
     book: &mut Casebook<B>,
@@ -175,7 +177,7 @@ fn file<F: Shelf, B: Keeper>(
         (B.state book.old) (B.state book.new) (Command.File filing.now) result }
     ensures within { StaysWithin (reading F.Shelf shelf.old shelf.new) result }
 {
-    match verdict_on(alloc, filing, shelf) {
+    match verdict_of(alloc, seed, filing, shelf) {
         Ok(verdict) => file_verdict(alloc, filing, &verdict, book),
         Err(halt) => Err(halt),
     }
@@ -210,6 +212,7 @@ fn show<B: Keeper>(alloc: Global, label: &Name, book: &mut Casebook<B>) -> Resul
 /// The answer to a command, or why there is none.
 fn answer_to<F: Shelf, B: Keeper>(
     alloc: Global,
+    seed: HashSeed,
     command: &Command,
     shelf: &mut F,
     book: &mut Casebook<B>,
@@ -222,7 +225,7 @@ fn answer_to<F: Shelf, B: Keeper>(
     ensures within { StaysWithin (reading F.Shelf shelf.old shelf.new) result }
 {
     match command {
-        Command::File(filing) => file(alloc, filing, shelf, book),
+        Command::File(filing) => file(alloc, seed, filing, shelf, book),
         Command::List(filter) => list(alloc, filter, book),
         Command::Show(label) => show(alloc, label, book),
     }
@@ -231,6 +234,7 @@ fn answer_to<F: Shelf, B: Keeper>(
 /// Does one command: its whole text is made, and then written.
 pub(crate) fn take_turn<F: Shelf, K: Sink, B: Keeper>(
     alloc: Global,
+    seed: HashSeed,
     command: &Command,
     shelf: &mut F,
     out: &mut K,
@@ -242,7 +246,7 @@ pub(crate) fn take_turn<F: Shelf, K: Sink, B: Keeper>(
         (K.state out.new) (B.state book.old) (B.state book.new)) command.now result }
     ensures length { AnswersLength (reading F.Shelf shelf.old shelf.new) result }
 {
-    match answer_to(alloc, command, shelf, book) {
+    match answer_to(alloc, seed, command, shelf, book) {
         Ok(answer) => write_text(out, &answer.text, answer.status),
         Err(halt) => write_halt(out, halt),
     }

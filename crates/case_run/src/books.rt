@@ -10,12 +10,13 @@ ghost use Rattle.case_run.specs.Openers.{KeepsBooks};
 use super::halts::Halt;
 use super::lines::usage_text;
 use super::opener::Opener;
-use super::running::run_case;
+use super::running::run_case_seeded;
 use super::statuses::CaseStatus;
 use super::writing::{write_halt, write_text};
 use case_keeper::casebook::Casebook;
 use log_source::shelf::Shelf;
 use log_source::sink::Sink;
+use seeded_hash::seed::HashSeed;
 use std::alloc::Global;
 
 /// How a run ended: its status, and the casebook, where it was opened.
@@ -28,6 +29,7 @@ pub struct Ended<B> {
 /// Opens the path and runs the other words over its casebook.
 fn run_path<F: Shelf, K: Sink, O: Opener>(
     alloc: Global,
+    seed: HashSeed,
     path: &str,
     words: &[String],
     shelf: &mut F,
@@ -44,7 +46,7 @@ fn run_path<F: Shelf, K: Sink, O: Opener>(
     match opener.open_book(path) {
         Ok(keeper) => {
             let mut book = Casebook::new(keeper);
-            let status = run_case(alloc, words, shelf, out, &mut book);
+            let status = run_case_seeded(alloc, seed, words, shelf, out, &mut book);
             Ended {
                 status,
                 book: Some(book),
@@ -58,7 +60,7 @@ fn run_path<F: Shelf, K: Sink, O: Opener>(
 }
 
 /// Opens the casebook that the first word names, and runs the commands that the other words ask for over
-/// it, as `run_case` does. The casebook is handed back.
+/// it, as `run_case` does, with the fixed seed. The casebook is handed back.
 ///
 /// With no word nothing is opened, and the answer is `Usage`. The path is opened before the other words are
 /// looked at. Where it is not opened the answer is `Memory`, with nothing written, or `KeeperFault`, which
@@ -78,8 +80,27 @@ pub fn run_book<F: Shelf, K: Sink, O: Opener>(
         (map string_bytes words.now) (K.state out.old) (K.state out.new)
         (option_map O.Book.state result.book) result.status }
 {
+    run_book_seeded(alloc, HashSeed::fixed(), words, shelf, out, opener)
+}
+
+/// The same as `run_book`, with hashes of this seed. No answer depends on the seed.
+pub fn run_book_seeded<F: Shelf, K: Sink, O: Opener>(
+    alloc: Global,
+    seed: HashSeed,
+    words: &[String],
+    shelf: &mut F,
+    out: &mut K,
+    opener: &mut O,
+) -> Ended<O::Book>
+    ensures logs { KeepsLogs F.Shelf shelf.old shelf.new }
+    ensures sink { Stays (K.state out.old) (K.state out.new) }
+    ensures books { KeepsBooks (O.state opener.old) (O.state opener.new) }
+    ensures runs { RunsWords F.Shelf shelf.old shelf.new (O.state opener.old) (O.state opener.new)
+        (map string_bytes words.now) (K.state out.old) (K.state out.new)
+        (option_map O.Book.state result.book) result.status }
+{
     match words.split_first() {
-        Some((path, rest)) => run_path(alloc, path.as_str(), rest, shelf, out, opener),
+        Some((path, rest)) => run_path(alloc, seed, path.as_str(), rest, shelf, out, opener),
         None => Ended {
             status: write_text(out, usage_text(), CaseStatus::Usage),
             book: None,

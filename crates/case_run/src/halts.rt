@@ -2,6 +2,7 @@
 use audit_base::faults::NoMemory;
 use audit_base::terms::Which;
 use case_keeper::keeper::KeepFault;
+use log_verdict::stops::Stop;
 
 /// Why a command has no answer. No case was changed.
 #[derive(Clone, Copy, Debug, PartialEq, Eq)]
@@ -36,6 +37,21 @@ impl From<KeepFault> for Halt {
         match fault {
             KeepFault::Failed => Halt::KeeperFault,
             KeepFault::Memory => Halt::Memory,
+        }
+    }
+}
+
+impl From<Stop> for Halt {
+    ghost use Rattle.std.specs.Prelude.{◌≡◌};
+    ghost use Rattle.case_run.specs.Turns.{halt_of_stop};
+
+    ghost from_gives = { λ stop made. made ≡ halt_of_stop stop };
+
+    fn from(stop: Stop) -> Halt {
+        match stop {
+            Stop::ReadFault(log) => Halt::ReadFault(log),
+            Stop::TooLong(log) => Halt::TooLong(log),
+            Stop::Memory => Halt::Memory,
         }
     }
 }

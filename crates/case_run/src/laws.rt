@@ -1,7 +1,7 @@
 //! That Play is one.
 ghost use Rattle.case_run.specs.Laws.{OnePlay};
 
-use audit_run::laws::one_verdict;
+use log_verdict::laws::one_verdict;
 
 /// Over the same logs and from the same cases, the same commands leave one list of cases, one text and one
 /// status: so what the contract of a run says of Play is one answer.

@@ -19,11 +19,13 @@ use case_keeper::casebook::Casebook;
 use case_keeper::keeper::Keeper;
 use log_source::shelf::Shelf;
 use log_source::sink::Sink;
+use seeded_hash::seed::HashSeed;
 use std::alloc::Global;
 
 /// Does the commands in order. The first that has a status above 1 is the last.
 fn run_commands<F: Shelf, K: Sink, B: Keeper>(
     alloc: Global,
+    seed: HashSeed,
     commands: &[Command],
     shelf: &mut F,
     out: &mut K,
@@ -37,7 +39,7 @@ fn run_commands<F: Shelf, K: Sink, B: Keeper>(
 {
     let mut status = CaseStatus::Done;
     for command in commands {
-        status = take_turn(alloc, command, shelf, out, book);
+        status = take_turn(alloc, seed, command, shelf, out, book);
         if status.ends_run() {
             return status;
         }
@@ -56,6 +58,9 @@ fn run_commands<F: Shelf, K: Sink, B: Keeper>(
 /// book's faults rose, `WriteFault` only where the sink's did, and `Memory` where memory ran out. A
 /// command's text is made before the book is changed, and written after: where writing fails, the case stays
 /// filed; after `Memory` and `KeeperFault` the last command has filed none. What commands leave is one (`one_play`).
+///
+/// The hashes by which names are found begin with the fixed seed: see `run_case_seeded` for logs whose names
+/// may have been chosen to make this slow.
 pub fn run_case<F: Shelf, K: Sink, B: Keeper>(
     alloc: Global,
     words: &[String],
@@ -67,9 +72,26 @@ pub fn run_case<F: Shelf, K: Sink, B: Keeper>(
         (K.state out.old) (K.state out.new) (B.state book.old) (B.state book.new) result }
     ensures one { OnePlay }
 {
+    run_case_seeded(alloc, HashSeed::fixed(), words, shelf, out, book)
+}
+
+/// The same as `run_case`, with hashes of this seed. No answer depends on the seed. One that nobody knows
+/// beforehand keeps who writes the logs from choosing names that hash alike.
+pub fn run_case_seeded<F: Shelf, K: Sink, B: Keeper>(
+    alloc: Global,
+    seed: HashSeed,
+    words: &[String],
+    shelf: &mut F,
+    out: &mut K,
+    book: &mut Casebook<B>,
+) -> CaseStatus
+    ensures run { IsCaseRun F.Shelf (commands_of (map string_bytes words.now)) shelf.old shelf.new
+        (K.state out.old) (K.state out.new) (B.state book.old) (B.state book.new) result }
+    ensures one { OnePlay }
+{
     one_play();
     match read_commands(alloc, words) {
-        Ok(commands) => run_commands(alloc, &commands, shelf, out, book),
+        Ok(commands) => run_commands(alloc, seed, &commands, shelf, out, book),
         Err(WordsFault::Usage) => write_text(out, usage_text(), CaseStatus::Usage),
         Err(WordsFault::Memory) => CaseStatus::Memory,
     }

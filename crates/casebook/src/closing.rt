@@ -1,11 +1,12 @@
 //! The run of the commands, and the close of the database behind it.
 use case_keeper::keeper::Keeper;
-use case_run::books::{Ended, run_book};
+use case_run::books::{Ended, run_book_seeded};
 use case_run::opener::Opener;
 use case_run::statuses::CaseStatus;
 use case_sqlite::sql_keeper::SqlKeeper;
 use log_source::shelf::Shelf;
 use log_source::sink::Sink;
+use seeded_hash::seed::HashSeed;
 use sqlite::{File, FileStore};
 use std::alloc::Global;
 
@@ -25,9 +26,10 @@ impl Closing for SqlKeeper<FileStore<File>> {
     }
 }
 
-/// Runs the commands over the casebook that the first word names, as `run_book` does, and closes it.
+/// Runs the commands over the casebook that the first word names, as `run_book_seeded` does, and closes it.
 pub(crate) fn run_and_close<F: Shelf, K: Sink, O: Opener>(
     alloc: Global,
+    seed: HashSeed,
     words: &[String],
     shelf: &mut F,
     out: &mut K,
@@ -36,7 +38,7 @@ pub(crate) fn run_and_close<F: Shelf, K: Sink, O: Opener>(
 where
     O::Book: Closing,
 {
-    let Ended { status, book } = run_book(alloc, words, shelf, out, opener);
+    let Ended { status, book } = run_book_seeded(alloc, seed, words, shelf, out, opener);
     if let Some(book) = book {
         book.into_keeper().close();
     }

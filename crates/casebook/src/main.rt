@@ -64,5 +64,5 @@ fn keep_cases(rt: HostRuntime) -> CaseStatus {
     let mut out = StdSink::new(io::writer(&rt));
     let mut shelf = FileShelf::new(files);
     let mut opener = FileOpener::new(databases);
-    run_and_close(rt.alloc(), &words, &mut shelf, &mut out, &mut opener)
+    run_and_close(rt.alloc(), seed_of(&rt), &words, &mut shelf, &mut out, &mut opener)
 }

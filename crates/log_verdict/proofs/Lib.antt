@@ -1,3 +1,4 @@
 mod CollectLemmas
 pub mod AuditLemmas
 pub mod VerdictLemmas
+mod LawLemmas

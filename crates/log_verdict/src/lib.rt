@@ -10,6 +10,7 @@
 
 pub mod both_logs;
 pub mod decoding;
+pub mod laws;
 pub mod reading;
 pub mod sources;
 pub mod stops;

@@ -3,3 +3,4 @@ pub mod PairLineLemmas
 pub mod JudgeLemmas
 pub mod RuleLemmas
 pub mod VerdictLemmas
+mod LawLemmas

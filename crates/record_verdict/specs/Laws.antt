@@ -1,5 +1,6 @@
 -- What follows of the verdict on records, as laws.
-use Rattle.std.specs.Prelude.{◌≡◌, List, None, Ok, length}
+use Rattle.std.specs.Prelude.{◌≡◌, List, None, Result, Ok, length}
+use Rattle.audit_base.specs.declared.findings.Finding.{Finding}
 use Rattle.audit_base.specs.declared.orders.Deal.{Deal}
 use Rattle.audit_base.specs.declared.records.OrderRecord.{OrderRecord}
 use Rattle.audit_base.specs.declared.records.TradeRecord.{TradeRecord}
@@ -11,6 +12,12 @@ use Rattle.audit_report.specs.declared.verdicts.Verdict.{Verdict}
 use Rattle.record_verdict.specs.declared.questions.Question.{Question}
 use Rattle.record_verdict.specs.Judgements.{IsJudged}
 use Rattle.record_verdict.specs.Stages.{IsJudgedDeals}
+
+-- the records of two logs have one verdict on a question
+abbrev pub OneJudgement : Type 0
+OneJudgement = (q : Question) (entries : List OrderRecord)
+    (paired : Result (List TradeRecord) Finding) (a b : Verdict)
+    → IsJudged q entries paired a → IsJudged q entries paired b → a ≡ b
 
 -- where nothing is found before the rule, the verdict on the deals of the trades is that on the records
 abbrev pub SoundTradesAreJudged : Type 0

@@ -1,7 +1,5 @@
-use Rattle.std.proofs.Common.{refl, false}
-use Rattle.audit_base.specs.declared.terms.Rule.TheVariants as rule
-use Rattle.record_verdict.specs.Judgements.{question}
-use Rattle.log_verdict.specs.Steps.{reading}
+use Rattle.std.proofs.Common.{refl}
+use Rattle.log_verdict.specs.Steps.{reading_by}
 use Rattle.audit_run.proofs.BothLogsLemmas.{both_stop, both_text}
 use Rattle.audit_run.proofs.ReportLemmas.{session-status}
 use Rattle.audit_run.proofs.sessions.report_session.Goals as goal
@@ -9,12 +7,12 @@ use Rattle.audit_run.specs.Deciding.{session_of}
 
 pub returns-in_ok-session_report-in-Ok-clause-decides : goal.returns-in_ok-session_report-in-Ok-clause-decides
 returns-in_ok-session_report-in-Ok-clause-decides g c =
-    both_text (reading g.F.Shelf c.args.shelf.now c.read_both.new.shelf) c.in-Ok.ensures.later (question rule.Continuous c.args.symbol.now false) c.args.orders.now c.args.trades.now
-    (session_of c.args.symbol.now c.args.phases.now c.args.table c.args.orders.now c.args.trades.now) (record { first = refl; second = λ bytes. refl }) c.in-Ok.reached
+    both_text (reading_by c.args.orders.now g.F.Shelf c.args.shelf.now c.read_both.new.shelf) c.in-Ok.ensures.later c.args.orders.now c.args.trades.now
+    (session_of c.args.symbol.now c.args.phases.now c.args.table c.args.orders.now c.args.trades.now) (record { first = refl; second = λ bytes. refl }) _ _
     _ _ (λ logs short come. c.in_ok-session_report-in-Ok.ensures _ _ come) (λ first second entries e come. refl)
     (λ logs is. session-status _ _ _ _ _ _ _ is) c.in-Ok.ensures.decides
 
 pub returns-in-Err-clause-decides : goal.returns-in-Err-clause-decides
 returns-in-Err-clause-decides g c =
-    both_stop (reading g.F.Shelf c.args.shelf.now c.read_both.new.shelf) c.in-Err.ensures.later (question rule.Continuous c.args.symbol.now false) c.args.orders.now c.args.trades.now
+    both_stop (reading_by c.args.orders.now g.F.Shelf c.args.shelf.now c.read_both.new.shelf) c.in-Err.ensures.later c.args.orders.now c.args.trades.now
     (session_of c.args.symbol.now c.args.phases.now c.args.table c.args.orders.now c.args.trades.now) (record { first = refl; second = λ bytes. refl }) c.in-Err.stop c.in-Err.ensures.decides

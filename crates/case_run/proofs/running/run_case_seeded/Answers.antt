@@ -3,7 +3,7 @@ use Rattle.std.specs.Prelude.{map}
 use Rattle.std.specs.String.{string_bytes}
 use Rattle.case_run.specs.Commands.{commands_of}
 use Rattle.case_run.proofs.CaseLemmas.{case_memory, case_run, case_usage, some_command}
-use Rattle.case_run.proofs.running.run_case.Goals as goal
+use Rattle.case_run.proofs.running.run_case_seeded.Goals as goal
 
 pub returns-in-Ok-clause-run : goal.returns-in-Ok-clause-run
 returns-in-Ok-clause-run g c =

@@ -1,4 +1,4 @@
--- Two logs have one verdict, and logs of the same records have the same.
+-- The records of two logs have one verdict.
 use Rattle.std.proofs.Common.{◌≡◌, ◌∙◌, sym, ap, subst, ℕ, ◌<◌, List, Option, None, Some, Result, Ok, Err, arith}
 use Rattle.std.specs.Prelude.{MatchResult, IsSomeAnd}
 use Rattle.audit_base.specs.declared.faults.BadPlace.{BadPlace}
@@ -24,11 +24,9 @@ use Rattle.audit_report.specs.declared.verdicts.Verdict.TheVariants as verdict
 use Rattle.call_auction.specs.Audits.{IsBoundOf}
 use Rattle.record_verdict.specs.declared.questions.Question.{Question}
 use Rattle.record_verdict.specs.Judgements.{IsAcceptance, IsAcceptedLog, IsBoundShown, IsJudged, IsOutcome}
-use Rattle.audit_run.specs.Laws.{FormsAgree, OneVerdict}
-use Rattle.log_verdict.specs.LogVerdicts.{order_log, trade_log}
 
 -- there is one least number with a property
-pub one-least : (P : ℕ → Type 0) (a b : ℕ) → IsLeast P a → IsLeast P b → a ≡ b
+one-least : (P : ℕ → Type 0) (a b : ℕ) → IsLeast P a → IsLeast P b → a ≡ b
 one-least P a b x y =
     let at_least : a < b → ⊥ = λ lt. y.none_below a lt x.holds in
     let at_most : b < a → ⊥ = λ lt. x.none_below b lt y.holds in
@@ -85,27 +83,10 @@ module _ (q : Question) (orders : List Order) (deals : List Deal) where
   one-outcome None a b x y = one-acceptance a b x y
   one-outcome (Some f) a b x y = x ∙ sym y
 
--- two records of logs have one verdict
-one-judged : (q : Question) (entries : List OrderRecord) (paired : Result (List TradeRecord) Finding) (a b : Verdict) → IsJudged q entries paired a → IsJudged q entries paired b → a ≡ b
+-- the records of two logs have one verdict
+pub one-judged : (q : Question) (entries : List OrderRecord) (paired : Result (List TradeRecord) Finding) (a b : Verdict) → IsJudged q entries paired a → IsJudged q entries paired b → a ≡ b
 one-judged q entries paired a b x y =
     let orders : List Order = order_list q.symbol entries in
     let deals : List Deal = deals_of orders q.symbol (paired_trades paired) in
     one-outcome q orders deals x.found a b x.outcome
     (subst (λ (f : Option Finding). IsOutcome q orders deals f b) (x.one y.found y.by_the_rules) y.outcome)
-
-one-said : (q : Question) (orders : Result (List OrderRecord) BadPlace) (trades : Result (Result (List TradeRecord) Finding) BadPlace) (a b : Verdict)
-    → MatchResult orders (λ entries. MatchResult trades (λ paired. IsJudged q entries paired a) (λ bad. a ≡ verdict.Malformed Trades bad)) (λ bad. a ≡ verdict.Malformed Orders bad)
-    → MatchResult orders (λ entries. MatchResult trades (λ paired. IsJudged q entries paired b) (λ bad. b ≡ verdict.Malformed Trades bad)) (λ bad. b ≡ verdict.Malformed Orders bad)
-    → a ≡ b
-one-said q (Ok entries) (Ok paired) a b x y = one-judged q entries paired a b x y
-one-said q (Ok entries) (Err bad) a b x y = x ∙ sym y
-one-said q (Err bad) trades a b x y = x ∙ sym y
-
-pub one-verdict : OneVerdict
-one-verdict q orders trades a b x y = one-said q (order_log orders.form orders.bytes) (trade_log trades.form trades.bytes) a b x y
-
-pub forms-agree : FormsAgree
-forms-agree q orders trades orders' trades' entries paired a b have have' x y =
-    let here : IsJudged q entries paired a = rw (have.records, have.trades_are) at x in
-    let there : IsJudged q entries paired b = rw (have'.records, have'.trades_are) at y in
-    one-judged q entries paired a b here there

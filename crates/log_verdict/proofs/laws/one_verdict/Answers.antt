@@ -1,0 +1,5 @@
+use Rattle.log_verdict.proofs.LawLemmas.{one-verdict}
+use Rattle.log_verdict.proofs.laws.one_verdict.Goals as goal
+
+pub returns : goal.returns
+returns c = one-verdict c.one_judgement.ensures
