@@ -18,15 +18,15 @@ one-said : OneJudgement → (q : Question) (orders : Result (List OrderRecord) B
     → MatchResult orders (λ entries. MatchResult trades (λ paired. IsJudged q entries paired a) (λ bad. a ≡ verdict.Malformed Trades bad)) (λ bad. a ≡ verdict.Malformed Orders bad)
     → MatchResult orders (λ entries. MatchResult trades (λ paired. IsJudged q entries paired b) (λ bad. b ≡ verdict.Malformed Trades bad)) (λ bad. b ≡ verdict.Malformed Orders bad)
     → a ≡ b
-one-said one q (Ok entries) (Ok paired) a b x y = one q entries paired a b x y
-one-said one q (Ok entries) (Err bad) a b x y = x ∙ sym y
-one-said one q (Err bad) trades a b x y = x ∙ sym y
+one-said only_one q (Ok entries) (Ok paired) a b x y = only_one q entries paired a b x y
+one-said only_one q (Ok entries) (Err bad) a b x y = x ∙ sym y
+one-said only_one q (Err bad) trades a b x y = x ∙ sym y
 
 pub one-verdict : OneVerdict
-one-verdict q orders trades a b x y = one-said one q (order_log orders.form orders.bytes) (trade_log trades.form trades.bytes) a b x y
+one-verdict only_one q orders trades a b x y = one-said only_one q (order_log orders.form orders.bytes) (trade_log trades.form trades.bytes) a b x y
 
 pub forms-agree : OneJudgement → FormsAgree
-forms-agree one q orders trades orders' trades' entries paired a b have have' x y =
+forms-agree only_one q orders trades orders' trades' entries paired a b have have' x y =
     let here : IsJudged q entries paired a = rw (have.records, have.trades_are) at x in
     let there : IsJudged q entries paired b = rw (have'.records, have'.trades_are) at y in
-    one q entries paired a b here there
+    only_one q entries paired a b here there

@@ -15,11 +15,8 @@ ghost use Rattle.log_verdict.specs.Collecting.{TouchesOnly};
 ghost use Rattle.log_verdict.specs.Steps.{reading_by, KeepsLogs, NeverFall};
 ghost use Rattle.record_verdict.specs.BeforeRule.{IsJudgeable};
 
-use record_verdict::before_rule::BeforeRule;
-use crate::reading::{Collected, collect_orders, collect_trades};
-use record_verdict::scopes::Scope;
+use crate::reading::{Collected, Unread, collect_orders, collect_trades};
 use crate::sources::Source;
-use crate::reading::Unread;
 use crate::stops::Stop;
 use audit_base::findings::Finding;
 use audit_base::records::{OrderRecord, TradeRecord};
@@ -29,6 +26,8 @@ use instruction_history::history_draft::{AuditedSymbol, HistoryDraft};
 use log_source::counter::Counter;
 use log_source::shelf::Shelf;
 use matching_core::deals_draft::{AuditedHistory, DealsDraft};
+use record_verdict::before_rule::BeforeRule;
+use record_verdict::scopes::Scope;
 use std::alloc::Global;
 use std::marker::Brand;
 

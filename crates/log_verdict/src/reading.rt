@@ -173,7 +173,7 @@ fn collect_pairs<F: Shelf, K: Collector<Entry = TradeRecord>>(
     requires fresh { K.has_taken collector [] }
     ensures logs { KeepsLogs F.Shelf shelf.old shelf.new }
     ensures only { TouchesOnly (reading_by source.now F.Shelf shelf.old shelf.new) Which.Trades }
-    ensures read { CollectsTrades K.has_taken (λ bytes. paired_reports (report_log bytes))
+    ensures read { CollectsTrades K.has_taken (λ bytes. paired_reports (fix.report_log bytes))
         (reading_by source.now F.Shelf shelf.old shelf.new) Which.Trades source.now.name.now result }
     ensures within { result ≢ Err Unread.TooLong
         → (F.slot shelf.new Which.Trades).taken ≤ source.now.limit }

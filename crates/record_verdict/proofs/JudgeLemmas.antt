@@ -14,10 +14,10 @@ use Rattle.audit_base.specs.declared.orders.Cut.{Cut}
 use Rattle.audit_base.specs.declared.findings.Finding.{Finding}
 use Rattle.audit_base.specs.Shows.{found}
 use Rattle.audit_base.specs.Orders.{is_rests, order_at}
-use Rattle.audit_base.specs.Deals.{volume, AreDeals}
+use Rattle.audit_base.specs.Deals.{volume}
 use Rattle.audit_base.specs.Histories.{history_finding, order_list, instant_order, WellFormed}
 use Rattle.audit_base.specs.Least.{first_of, least_with}
-use Rattle.audit_base.proofs.VerdictLemmas.{one-verdict, one-verdict-of_deals}
+use Rattle.audit_base.proofs.VerdictLemmas.{one-verdict}
 use Rattle.audit_base.specs.Trades.{AreTrades, deals_of, unsound_trade, Sound}
 use Rattle.audit_base.specs.Verdicts.{IsRuleVerdict, call_finding, pairing_finding, paired_trades}
 use Rattle.audit_base.proofs.LeastLemmas.{with-at, none-with}

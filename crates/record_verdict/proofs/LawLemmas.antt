@@ -1,7 +1,6 @@
 -- The records of two logs have one verdict.
-use Rattle.std.proofs.Common.{◌≡◌, ◌∙◌, sym, ap, subst, ℕ, ◌<◌, List, Option, None, Some, Result, Ok, Err, arith}
-use Rattle.std.specs.Prelude.{MatchResult, IsSomeAnd}
-use Rattle.audit_base.specs.declared.faults.BadPlace.{BadPlace}
+use Rattle.std.proofs.Common.{◌≡◌, ◌∙◌, sym, ap, subst, ℕ, ◌<◌, List, Option, None, Some, Result, arith}
+use Rattle.std.specs.Prelude.{IsSomeAnd}
 use Rattle.audit_base.specs.declared.findings.Finding.{Finding}
 use Rattle.audit_base.specs.declared.orders.Cut.{Cut}
 use Rattle.audit_base.specs.declared.orders.Deal.{Deal}
@@ -10,7 +9,6 @@ use Rattle.audit_base.specs.declared.records.OrderRecord.{OrderRecord}
 use Rattle.audit_base.specs.declared.records.TradeRecord.{TradeRecord}
 use Rattle.audit_base.specs.declared.terms.Rule.{Rule}
 use Rattle.audit_base.specs.declared.terms.Rule.TheVariants as rule
-use Rattle.audit_base.specs.declared.terms.Which.TheVariants.{Orders, Trades}
 use Rattle.audit_base.specs.Bounds.{IsBound}
 use Rattle.audit_base.specs.Deals.{volume}
 use Rattle.audit_base.specs.Histories.{order_list}

@@ -10,8 +10,8 @@ ghost use Rattle.record_verdict.specs.Stages.{IsJudgedRecords, IsJudgedHistory, 
 
 use crate::questions::Question;
 use crate::ranges::trades_in_range;
-use crate::scopes::Admission;
 use crate::rules::judge_deals;
+use crate::scopes::Admission;
 use audit_base::faults::NoMemory;
 use audit_base::findings::Finding;
 use audit_base::names::Name;

@@ -1,4 +1,4 @@
-use Rattle.std.proofs.Common.{ap, sym, subst, ◌∙◌}
+use Rattle.std.proofs.Common.{ap, sym, ◌∙◌}
 use Rattle.record_verdict.specs.Scopes.{unadmitted_order}
 use Rattle.log_verdict.proofs.AuditLemmas.{admitted, history_found, order_found}
 use Rattle.log_verdict.proofs.both_logs.after_orders.Goals as goal
