@@ -15,14 +15,16 @@ no_options = record { orders_form = None; trades_form = None; table = false }
 abbrev pub or_csv : Option Form → Form
 or_csv form = unwrap_or form Csv
 
--- what is said with one option more, which was not said before
+-- what is said with `--table` too, which was not said before
 abbrev pub with_table : Options → Option Options
 with_table said = only_if (not said.table) (record said { table = true })
 
+-- what is said with the form of the order log too, where none was given before
 abbrev pub with_orders_form : Options → Form → Option Options
 with_orders_form said form =
     only_if (is_none said.orders_form) (record said { orders_form = Some form })
 
+-- what is said with the form of the trade log too, where none was given before
 abbrev pub with_trades_form : Options → Form → Option Options
 with_trades_form said form =
     only_if (is_none said.trades_form) (record said { trades_form = Some form })

@@ -9,10 +9,11 @@ use Rattle.session_audit.specs.declared.phases.PhaseKind.TheVariants as kind
 use Rattle.session_audit.specs.declared.phases.Phase.{Phase}
 use Rattle.command_words.specs.WordForms.{is_word, number_upto}
 
--- the byte that joins parts, and the one between KIND and FIRST
+-- the byte that joins parts
 abbrev pub is_comma : ℕ → Bool
 is_comma byte = byte == 44
 
+-- the byte between KIND and FIRST
 abbrev pub is_at : ℕ → Bool
 is_at byte = byte == 64
 
@@ -68,7 +69,7 @@ abbrev pub phases_within : ℕ → ℕ → List (List ℕ) → Option (List Phas
 phases_within most before parts =
     if nat_le (length parts) most then phases_after before parts else None
 
--- PHASES
+-- PHASES is 1 to 64 parts
 abbrev pub phases_named : List ℕ → Option (List Phase)
 phases_named word = phases_within 64 0 (parts_of word)
 

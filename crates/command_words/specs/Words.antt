@@ -16,6 +16,7 @@ use Rattle.command_words.specs.WordForms.{form_named, has_table, is_path, is_wor
 abbrev pub given : {A B : Type 0} → Option A → (A → Option B) → Option B
 given answer make = option_and_then make answer
 
+-- the same of two answers that come together
 abbrev pub given_both : {A B C : Type 0} → Option (A × B) → (A → B → Option C) → Option C
 given_both answers make = option_and_then (λ both. make both.0 both.1) answers
 

@@ -1,11 +1,12 @@
 //! The words that a program is started with.
+use audit_base::faults::NoMemory;
+use std::env;
 use std::io::ErrorKind;
 use std::rt::Env;
-use std::{env, io};
 
 /// The words of the command line without the program's name. A command line that is not text is a faulty
-/// one: it gives no words, which are not well-formed in any program. The only error is that memory ran out.
-pub fn words_of<R: Env + AllocGlobal>(rt: &R) -> io::Result<Vec<String>> {
+/// one, and gives no words, which no program takes. `NoMemory` comes only where memory ran out.
+pub fn words_of<R: Env + AllocGlobal>(rt: &R) -> Result<Vec<String>, NoMemory> {
     let mut words = Vec::new(rt.alloc());
     match env::args(rt) {
         Ok(args) => {
@@ -13,7 +14,7 @@ pub fn words_of<R: Env + AllocGlobal>(rt: &R) -> io::Result<Vec<String>> {
                 words.push(word)?;
             }
         }
-        Err(error) if error.kind() == ErrorKind::OutOfMemory => return Err(error),
+        Err(error) if error.kind() == ErrorKind::OutOfMemory => return Err(NoMemory),
         Err(_) => {}
     }
     Ok(words)

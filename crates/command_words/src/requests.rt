@@ -15,10 +15,11 @@ use session_audit::phases::PhaseList;
 use std::alloc::Global;
 use thiserror::Error;
 
-/// What the words ask for.
+/// What well-formed words ask for. A symbol is a name that does not begin with `-`, and a path a word of one
+/// byte or more that does not begin with it.
 #[derive(Debug, Drop)]
 pub enum Request {
-    /// To judge the trades of a symbol by a rule.
+    /// To judge the trades of a symbol by a rule. A table is asked for only where the rule has one.
     Audit {
         rule: Rule,
         symbol: Name,
@@ -28,7 +29,8 @@ pub enum Request {
         trades_form: Form,
         table: bool,
     },
-    /// To write the Expected trades of a symbol under a rule.
+    /// To write the Expected trades of a symbol under a rule that has such: `uniform`, `maximum` or
+    /// `continuous`.
     Expect {
         rule: Rule,
         symbol: Name,
@@ -43,10 +45,13 @@ pub enum Request {
     },
     /// To generate a log and say what its Expected trades come to.
     Generate {
+        /// From 1 to 2,147,483,646.
         start: u32,
+        /// From 1 to 1,000,000.
         count: u32,
     },
-    /// To judge the trades of a symbol by a rule and, where they conform, to write their certificate.
+    /// To judge the trades of a symbol by `uniform` or `maximum` and, where they conform, to write their
+    /// certificate.
     Certify {
         rule: Rule,
         symbol: Name,
@@ -64,7 +69,7 @@ pub enum Request {
         orders_form: Form,
         trades_form: Form,
     },
-    /// To judge the trades of a symbol on a day of phases.
+    /// To judge the trades of a symbol on a day of 1 to 64 phases.
     Session {
         symbol: Name,
         phases: PhaseList,
@@ -79,8 +84,10 @@ pub enum Request {
 /// Why words are not read.
 #[derive(Clone, Copy, Debug, PartialEq, Eq, Error)]
 pub enum WordsFault {
+    /// They are those of no command.
     #[error("the words are not well-formed")]
     Usage,
+    /// They are well-formed, and there was not enough memory for what they ask.
     #[error("out of memory")]
     Memory,
 }
@@ -113,7 +120,7 @@ impl From<NoMemory> for WordsFault {
 ///   each is above the one before it.
 ///
 /// RULE is the word of a rule, and FORM is `csv` or `fix`. `Usage` comes exactly where they are not
-/// well-formed, and takes no memory.
+/// well-formed, and takes no memory. `Memory` comes only where they are, and there was not enough.
 pub fn read_words(alloc: Global, words: &[String]) -> Result<Request, WordsFault>
     ensures request { IfOk result
         (λ request. spec.request_of (map string_bytes words.now) ≡ Some request) }
