@@ -1,0 +1,2 @@
+pub mod PhaseWordLemmas
+pub mod WordLemmas
