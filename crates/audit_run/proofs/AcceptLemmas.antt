@@ -16,8 +16,8 @@ use Rattle.audit_report.specs.declared.verdicts.Verdict.{Verdict}
 use Rattle.audit_report.specs.declared.verdicts.Verdict.TheVariants as verdict
 use Rattle.audit_report.specs.Statuses.{verdict_status}
 use Rattle.record_verdict.specs.declared.questions.Question.{Question}
-use Rattle.audit_run.specs.declared.requests.Request.{Request}
-use Rattle.audit_run.specs.declared.requests.Request.TheVariants.{Expect}
+use Rattle.command_words.specs.declared.requests.Request.{Request}
+use Rattle.command_words.specs.declared.requests.Request.TheVariants.{Expect}
 use Rattle.audit_run.specs.ExpectedTrades.{AuditAcceptsExpectedTrades, ExpectedTradesAreAccepted, WroteExpected}
 use Rattle.record_verdict.specs.Judgements.{question, IsJudged}
 use Rattle.audit_run.specs.Laws.{GenerateWrites}

@@ -9,7 +9,7 @@ use Rattle.audit_report.specs.Lines.{read_fault_line, too_long_line}
 use Rattle.record_verdict.specs.declared.before_rule.BeforeRule.{BeforeRule}
 use Rattle.record_verdict.specs.declared.questions.Question.{Question}
 use Rattle.log_verdict.specs.declared.sources.Source.{Source}
-use Rattle.audit_run.specs.declared.requests.Request.{Request}
+use Rattle.command_words.specs.declared.requests.Request.{Request}
 use Rattle.log_verdict.specs.declared.stops.Stop.{Stop}
 use Rattle.log_verdict.specs.declared.stops.Stop.TheVariants as stop
 use Rattle.log_verdict.specs.BothLogs.{source_of, IsAuditStop, IsStarted, ReadsAfterOrders, ReadsLogs}

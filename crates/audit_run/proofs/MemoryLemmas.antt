@@ -9,7 +9,7 @@ use Rattle.log_source.specs.MemorySinks.{sure_room}
 use Rattle.log_source.specs.QuietShelves.{quiet_log, quiet_slot}
 use Rattle.log_source.specs.Sinks.{SinkState, Stays}
 use Rattle.log_source.specs.Sources.{Rose, longest_log}
-use Rattle.audit_run.specs.declared.requests.Request.{Request}
+use Rattle.command_words.specs.declared.requests.Request.{Request}
 use Rattle.audit_run.specs.InMemory.{ReportsInRoom}
 use Rattle.audit_run.specs.Runs.{Runs}
 use Rattle.log_verdict.specs.Steps.{Reading}

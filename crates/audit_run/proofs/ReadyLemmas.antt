@@ -6,7 +6,7 @@ use Rattle.audit_report.specs.declared.statuses.Status.{Status}
 use Rattle.audit_report.specs.declared.statuses.Status.TheVariants as status
 use Rattle.log_source.specs.Sinks.{SinkState, Stays}
 use Rattle.log_source.specs.Sources.{Rose}
-use Rattle.audit_run.specs.declared.requests.Request.{Request}
+use Rattle.command_words.specs.declared.requests.Request.{Request}
 use Rattle.audit_run.specs.InMemory.{HasRoomForReport}
 use Rattle.audit_run.specs.Requests.{IsReport}
 use Rattle.audit_run.specs.Runs.{Answers, HoldsLogs, IsReady, IsSomeText, IsText, ReportsLogs, StopsAtLog, WritesPart, WritesReport}

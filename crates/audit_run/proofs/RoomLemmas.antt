@@ -6,7 +6,7 @@ use Rattle.audit_report.specs.declared.statuses.Status.{Status}
 use Rattle.audit_report.specs.declared.statuses.Status.TheVariants as status
 use Rattle.audit_report.specs.Lines.{usage_line}
 use Rattle.log_source.specs.Sinks.{SinkState, Stays}
-use Rattle.audit_run.specs.declared.requests.Request.{Request}
+use Rattle.command_words.specs.declared.requests.Request.{Request}
 use Rattle.audit_run.specs.Corollaries.{HasRoomForText}
 use Rattle.audit_run.specs.Runs.{IsSomeText, Runs, WritesPart}
 use Rattle.log_verdict.specs.Steps.{Reading}

@@ -5,7 +5,7 @@ use Rattle.audit_report.specs.declared.statuses.Status.TheVariants as status
 use Rattle.audit_report.specs.Lines.{read_fault_line, too_long_line}
 use Rattle.log_source.specs.Sinks.{SinkState}
 use Rattle.audit_run.specs.declared.reports.Report.{Report}
-use Rattle.audit_run.specs.declared.requests.Request.{Request}
+use Rattle.command_words.specs.declared.requests.Request.{Request}
 use Rattle.log_verdict.specs.declared.stops.Stop.{Stop}
 use Rattle.log_verdict.specs.declared.stops.Stop.TheVariants as stop
 use Rattle.log_verdict.specs.BothLogs.{StaysWithin}

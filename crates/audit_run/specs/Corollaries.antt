@@ -1,7 +1,7 @@
 -- What follows from the contract of `run` where the shelf or the sink is one in memory.
 use Rattle.std.specs.Prelude.{◌≡◌, ◌+◌, ◌≤◌, ℕ, List, length, Option, None, Some}
 use Rattle.audit_report.specs.Lines.{usage_line}
-use Rattle.audit_run.specs.declared.requests.Request.{Request}
+use Rattle.command_words.specs.declared.requests.Request.{Request}
 use Rattle.audit_run.specs.Runs.{IsSomeText}
 use Rattle.log_verdict.specs.Steps.{Reading}
 

@@ -27,8 +27,8 @@ use Rattle.record_verdict.specs.declared.before_rule.BeforeRule.TheVariants as u
 use Rattle.record_verdict.specs.declared.questions.Question.{Question}
 use Rattle.log_verdict.specs.declared.sources.Source.{Source}
 use Rattle.audit_run.specs.declared.reports.Report.{Report}
-use Rattle.audit_run.specs.declared.requests.Request.{Request}
-use Rattle.audit_run.specs.declared.requests.Request.TheVariants.{Audit, Certify, Verify, Session}
+use Rattle.command_words.specs.declared.requests.Request.{Request}
+use Rattle.command_words.specs.declared.requests.Request.TheVariants.{Audit, Certify, Verify, Session}
 use Rattle.log_verdict.specs.Collecting.{step_of, IsReadAs}
 use Rattle.log_verdict.specs.LogVerdicts.{order_log, trade_log}
 use Rattle.audit_run.specs.Requests.{next_log}

@@ -10,8 +10,8 @@ use Rattle.audit_report.specs.declared.verdicts.Verdict.{Verdict}
 use Rattle.audit_report.specs.declared.verdicts.Verdict.TheVariants as verdict
 use Rattle.log_source.specs.Sinks.{SinkState}
 use Rattle.record_verdict.specs.declared.questions.Question.{Question}
-use Rattle.audit_run.specs.declared.requests.Request.{Request}
-use Rattle.audit_run.specs.declared.requests.Request.TheVariants.{Audit, Expect}
+use Rattle.command_words.specs.declared.requests.Request.{Request}
+use Rattle.command_words.specs.declared.requests.Request.TheVariants.{Audit, Expect}
 use Rattle.record_verdict.specs.Judgements.{question}
 use Rattle.log_verdict.specs.LogVerdicts.{Log, log_in, IsLogVerdict}
 use Rattle.audit_run.specs.Runs.{HoldsLogs, IsReady, ReportsHeldLogs, Runs}

@@ -2,7 +2,7 @@
 use Rattle.std.specs.Prelude.{◌+◌, ◌≤◌, ℕ, List, [], length, Option, None, Some}
 use Rattle.audit_report.specs.declared.statuses.Status.{Status}
 use Rattle.log_source.specs.Sinks.{SinkState}
-use Rattle.audit_run.specs.declared.requests.Request.{Request}
+use Rattle.command_words.specs.declared.requests.Request.{Request}
 use Rattle.audit_run.specs.Requests.{IsReport}
 use Rattle.audit_run.specs.Runs.{HoldsLogs, WritesReport}
 use Rattle.log_verdict.specs.Steps.{Reading}

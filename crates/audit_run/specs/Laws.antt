@@ -4,7 +4,7 @@ use Rattle.audit_report.specs.declared.statuses.Status.{Status}
 use Rattle.audit_report.specs.declared.statuses.Status.TheVariants as status
 use Rattle.log_source.specs.Sinks.{SinkState}
 use Rattle.record_verdict.specs.declared.questions.Question.{Question}
-use Rattle.audit_run.specs.declared.requests.Request.TheVariants.{Generate}
+use Rattle.command_words.specs.declared.requests.Request.TheVariants.{Generate}
 use Rattle.audit_run.specs.Certificates.{IsCertifyReport, IsVerifyReport}
 use Rattle.log_verdict.specs.LogVerdicts.{Log}
 use Rattle.audit_run.specs.Runs.{Runs}

@@ -10,28 +10,15 @@ use Rattle.session_audit.specs.Phases.{ArePhases}
 use Rattle.log_verdict.specs.declared.reading.Unread.{Unread}
 use Rattle.log_verdict.specs.declared.reading.Unread.TheVariants as unread
 use Rattle.audit_run.specs.declared.reports.Report.{Report}
-use Rattle.audit_run.specs.declared.requests.Request.{Request}
-use Rattle.audit_run.specs.declared.requests.Request.TheVariants.{Audit, Expect, Convert, Generate, Certify, Verify, Session}
+use Rattle.command_words.specs.declared.requests.Request.{Request}
+use Rattle.command_words.specs.declared.requests.Request.TheVariants.{Audit, Expect, Convert, Generate, Certify, Verify, Session}
 use Rattle.log_verdict.specs.declared.stops.Stop.{Stop}
 use Rattle.log_verdict.specs.declared.stops.Stop.TheVariants as stop
 use Rattle.log_verdict.specs.BothLogs.{IsLogStop}
 use Rattle.audit_run.specs.Deciding.{IsReportOf}
 use Rattle.log_verdict.specs.Collecting.{IsReadAs}
 use Rattle.log_verdict.specs.Steps.{Reading}
-use Rattle.audit_run.specs.Words.{has_table}
-
--- what words may ask for: Expected trades of a rule that has such, a log of numbers in their limits, a
--- certificate of a rule that asks for a greatest volume, and the phases of a day
-abbrev pub MayBeAsked : Request → Type 0
-MayBeAsked (Audit rule symbol orders trades orders_form trades_form table) = Unit {0}
-MayBeAsked (Expect rule symbol orders orders_form) = IsTrue (has_table rule)
-MayBeAsked (Convert log form path) = Unit {0}
-MayBeAsked (Generate start count) = IsStart start × IsCount count
-MayBeAsked (Certify rule symbol orders trades orders_form trades_form) =
-    IsTrue (asks_for_greatest rule)
-MayBeAsked (Verify symbol orders trades certificate orders_form trades_form) = Unit {0}
-MayBeAsked (Session symbol phases orders trades orders_form trades_form table) =
-    ArePhases phases
+use Rattle.command_words.specs.WordForms.{has_table}
 
 -- a report is reported of a log with this status and text
 abbrev pub SaysReport : (Status → List ℕ → Type 0) → Report → Type 0

@@ -8,8 +8,8 @@ use Rattle.audit_report.specs.declared.statuses.Status.{Status}
 use Rattle.audit_report.specs.declared.verdicts.Verdict.{Verdict}
 use Rattle.audit_report.specs.Statuses.{verdict_status}
 use Rattle.audit_report.specs.Texts.{verdict_text}
-use Rattle.audit_run.specs.declared.requests.Request.{Request}
-use Rattle.audit_run.specs.declared.requests.Request.TheVariants.{Audit, Expect, Convert, Generate, Certify, Verify, Session}
+use Rattle.command_words.specs.declared.requests.Request.{Request}
+use Rattle.command_words.specs.declared.requests.Request.TheVariants.{Audit, Expect, Convert, Generate, Certify, Verify, Session}
 use Rattle.audit_run.specs.Certificates.{IsCertifyReport, IsVerifyReport}
 use Rattle.record_verdict.specs.Judgements.{question}
 use Rattle.log_verdict.specs.LogVerdicts.{order_log, trade_log, log_in, IsLogVerdict}

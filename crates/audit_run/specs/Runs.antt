@@ -7,7 +7,7 @@ use Rattle.audit_report.specs.declared.statuses.Status.TheVariants.{Accepted, Re
 use Rattle.audit_report.specs.Lines.{usage_line, read_fault_line, too_long_line}
 use Rattle.log_source.specs.Sinks.{SinkState, AppendsPart, MayFail}
 use Rattle.log_source.specs.Sources.{Rose}
-use Rattle.audit_run.specs.declared.requests.Request.{Request}
+use Rattle.command_words.specs.declared.requests.Request.{Request}
 use Rattle.audit_run.specs.Requests.{next_log, IsReport}
 use Rattle.log_verdict.specs.Steps.{Reading, Step, IsRead, IsReadFault, IsTooLong, Lead, BeginsWithin, EndsWithin}
 

@@ -3,7 +3,7 @@ use Rattle.std.specs.Prelude.{Option}
 use Rattle.audit_report.specs.declared.statuses.Status.{Status}
 use Rattle.log_source.specs.declared.shelf.Shelf.{Ghosts as Shelf}
 use Rattle.log_source.specs.Sinks.{SinkState, Stays}
-use Rattle.audit_run.specs.declared.requests.Request.{Request}
+use Rattle.command_words.specs.declared.requests.Request.{Request}
 use Rattle.audit_run.specs.Runs.{AnswersLength, ReportsHeldLogs, Runs}
 use Rattle.log_verdict.specs.Steps.{reading, KeepsLogs, NeverFall}
 

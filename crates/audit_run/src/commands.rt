@@ -3,7 +3,7 @@ ghost use Rattle.std.specs.Prelude.{IsTrue};
 ghost use Rattle.call_laws.specs.Laws.{asks_for_greatest};
 ghost use Rattle.log_verdict.specs.BothLogs.{HaveOneLimit, StaysWithin};
 ghost use Rattle.audit_run.specs.Deciding.{audit_of, certify_of, DecidesReport};
-ghost use Rattle.audit_run.specs.Reporting.{MayBeAsked};
+ghost use Rattle.command_words.specs.Words.{MayBeAsked};
 ghost use Rattle.log_verdict.specs.Steps.{reading, reading_by, KeepsLogs, NeverFall};
 
 use log_verdict::both_logs::read_both;
@@ -14,7 +14,7 @@ use super::judged_reports::certify_report;
 use record_verdict::questions::Question;
 use log_verdict::sources::Source;
 use super::reports::{Report, verdict_report};
-use super::requests::Request;
+use command_words::requests::Request;
 use super::sessions::report_session;
 use log_verdict::stops::Stop;
 use super::verifying::report_verify;

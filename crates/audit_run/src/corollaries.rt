@@ -5,7 +5,7 @@ ghost use Rattle.log_source.specs.MemorySinks.{failing_writes, length_of, memory
 ghost use Rattle.log_source.specs.Sinks.{SinkState, Stays};
 ghost use Rattle.log_source.specs.declared.memory_sink.MemorySink.{MemorySink};
 ghost use Rattle.log_source.specs.declared.quiet_shelf.QuietShelf.{QuietShelf};
-ghost use Rattle.audit_run.specs.declared.requests.Request.{Request};
+ghost use Rattle.command_words.specs.declared.requests.Request.{Request};
 ghost use Rattle.audit_run.specs.Corollaries.{HasRoomForText};
 ghost use Rattle.audit_run.specs.Runs.{Runs};
 ghost use Rattle.log_verdict.specs.Steps.{Reading, reading};

@@ -18,7 +18,7 @@ ghost use Rattle.audit_run.specs.Expecting.{IsConformingLog, IsLogOfOrders};
 ghost use Rattle.audit_run.specs.OtherTexts.{ExpectsOf, IsExpectReport};
 ghost use Rattle.audit_run.specs.Reporting.{DecidesLog, SaysReport};
 ghost use Rattle.log_verdict.specs.Steps.{reading_by, KeepsLogs};
-ghost use Rattle.audit_run.specs.Words as words;
+ghost use Rattle.command_words.specs.WordForms as words;
 
 use log_verdict::reading::collect_orders;
 use record_verdict::judging::call_finding;

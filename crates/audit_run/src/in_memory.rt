@@ -5,7 +5,7 @@ ghost use Rattle.log_source.specs.MemorySinks.{failing_writes, length_of, memory
 ghost use Rattle.audit_run.specs.InMemory.{ReportsInRoom};
 ghost use Rattle.log_verdict.specs.Steps.{reading};
 ghost use Rattle.audit_run.specs.TopCall.{IsRun};
-ghost use Rattle.audit_run.specs.Words.{request_of};
+ghost use Rattle.command_words.specs.Words.{request_of};
 
 use super::running::run;
 use audit_report::statuses::Status;

@@ -2,14 +2,14 @@
 ghost use Rattle.std.specs.Prelude.{map};
 ghost use Rattle.std.specs.String.{string_bytes};
 ghost use Rattle.log_source.specs.Sinks.{Stays};
-ghost use Rattle.audit_run.specs.Reporting.{MayBeAsked};
+ghost use Rattle.command_words.specs.Words.{MayBeAsked};
 ghost use Rattle.audit_run.specs.Runs.{Answers, AnswersLength};
 ghost use Rattle.log_verdict.specs.Steps.{reading, KeepsLogs, NeverFall};
 ghost use Rattle.audit_run.specs.TopCall.{IsRun};
-ghost use Rattle.audit_run.specs.Words.{request_of};
+ghost use Rattle.command_words.specs.Words.{request_of};
 
 use super::commands::report_on;
-use super::requests::{Request, WordsFault, read_words};
+use command_words::requests::{Request, WordsFault, read_words};
 use super::writing::{write_stop, write_text};
 use audit_report::reports::usage_text;
 use audit_report::statuses::Status;

@@ -22,7 +22,7 @@ one-said only_one q (Ok entries) (Ok paired) a b x y = only_one q entries paired
 one-said only_one q (Ok entries) (Err bad) a b x y = x ∙ sym y
 one-said only_one q (Err bad) trades a b x y = x ∙ sym y
 
-pub one-verdict : OneVerdict
+pub one-verdict : OneJudgement → OneVerdict
 one-verdict only_one q orders trades a b x y = one-said only_one q (order_log orders.form orders.bytes) (trade_log trades.form trades.bytes) a b x y
 
 pub forms-agree : OneJudgement → FormsAgree

@@ -1,10 +1,10 @@
 use Rattle.std.proofs.Common.{◌∙◌, ap, Err, rules}
 use Rattle.std.specs.Prelude.{map, IsErrOf}
 use Rattle.std.specs.String.{string_bytes}
-use Rattle.audit_run.specs.declared.requests.WordsFault.TheVariants.{Usage, Memory}
-use Rattle.audit_run.specs.declared.requests.Request.{Request}
+use Rattle.command_words.specs.declared.requests.WordsFault.TheVariants.{Usage, Memory}
+use Rattle.command_words.specs.declared.requests.Request.{Request}
 use Rattle.log_verdict.specs.Steps.{reading}
-use Rattle.audit_run.specs.Words.{request_of}
+use Rattle.command_words.specs.Words.{request_of}
 use Rattle.audit_run.proofs.ReadyLemmas.{report_written}
 use Rattle.audit_run.proofs.RunLemmas.{memory_reports, memory_runs}
 use Rattle.audit_run.proofs.running.run_seeded.Goals as goal
