@@ -1,17 +1,16 @@
 mod ResultLemmas
-pub mod ReportLemmas
-pub mod SessionReportLemmas
-pub mod PhaseWordLemmas
-pub mod BothLogsLemmas
-pub mod JudgedReportLemmas
-pub mod VerifyReportLemmas
-pub mod CertificateLemmas
-pub mod CertificateLawLemmas
-pub mod StepLemmas
-pub mod RunLemmas
-pub mod RoomLemmas
-pub mod ReadyLemmas
-pub mod ExpectLemmas
-pub mod AcceptLemmas
-pub mod GenerateLemmas
-pub mod MemoryLemmas
+mod ReportLemmas
+mod SessionReportLemmas
+mod BothLogsLemmas
+mod JudgedReportLemmas
+mod VerifyReportLemmas
+mod CertificateLemmas
+mod CertificateLawLemmas
+mod StepLemmas
+mod RunLemmas
+mod RoomLemmas
+mod ReadyLemmas
+mod ExpectLemmas
+mod AcceptLemmas
+mod GenerateLemmas
+mod MemoryLemmas

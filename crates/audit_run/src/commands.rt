@@ -6,22 +6,22 @@ ghost use Rattle.audit_run.specs.Deciding.{audit_of, certify_of, DecidesReport};
 ghost use Rattle.command_words.specs.Words.{MayBeAsked};
 ghost use Rattle.log_verdict.specs.Steps.{reading, reading_by, KeepsLogs, NeverFall};
 
-use log_verdict::both_logs::read_both;
 use super::converting::report_convert;
 use super::expecting::report_expect;
 use super::generating::report_generate;
 use super::judged_reports::certify_report;
-use record_verdict::questions::Question;
-use log_verdict::sources::Source;
 use super::reports::{Report, verdict_report};
-use command_words::requests::Request;
 use super::sessions::report_session;
-use log_verdict::stops::Stop;
 use super::verifying::report_verify;
 use audit_base::names::Name;
 use audit_base::terms::Rule;
+use command_words::requests::Request;
 use log_source::shelf::Shelf;
+use log_verdict::both_logs::read_both;
+use log_verdict::sources::Source;
+use log_verdict::stops::Stop;
 use log_verdict::verdicts::verdict_on;
+use record_verdict::questions::Question;
 use seeded_hash::seed::HashSeed;
 use std::alloc::Global;
 

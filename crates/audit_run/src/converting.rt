@@ -9,14 +9,14 @@ ghost use Rattle.audit_run.specs.OtherTexts.{IsConvertReport};
 ghost use Rattle.audit_run.specs.Reporting.{DecidesLog};
 ghost use Rattle.log_verdict.specs.Steps.{reading_by, KeepsLogs};
 
-use log_verdict::reading::{Collected, collect_orders, collect_trades};
-use log_verdict::sources::Source;
 use super::reports::{Report, done_report, finding_report, report_without};
-use log_verdict::stops::Stop;
 use audit_base::records::{OrderRecord, TradeRecord};
 use audit_base::terms::Which;
 use csv_logs::log_text::ConvertedLog;
 use log_source::shelf::Shelf;
+use log_verdict::reading::{Collected, collect_orders, collect_trades};
+use log_verdict::sources::Source;
+use log_verdict::stops::Stop;
 use std::alloc::Global;
 
 /// The report on an order log: its records, of all symbols, as they come.

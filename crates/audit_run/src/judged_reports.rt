@@ -6,14 +6,14 @@ ghost use Rattle.audit_report.specs.Texts.{IsVerdictInRange};
 ghost use Rattle.record_verdict.specs.Stages.{IsJudgedDeals};
 ghost use Rattle.record_verdict.specs.BeforeRule.{AreJudgeable, IsJudgeable};
 
-use record_verdict::before_rule::BeforeRule;
-use record_verdict::questions::Question;
 use super::reports::{Report, done_report, verdict_report};
-use record_verdict::verdicts::verdict_after;
 use audit_base::faults::NoMemory;
 use audit_certificate::certifying::certify;
 use audit_report::verdicts::Verdict;
 use matching_core::deals_draft::ResolvedTrades;
+use record_verdict::before_rule::BeforeRule;
+use record_verdict::questions::Question;
+use record_verdict::verdicts::verdict_after;
 use std::alloc::Global;
 
 /// The certificate of sound trades that conform, or what `audit` reports where they do not.

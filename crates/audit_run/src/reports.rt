@@ -5,14 +5,14 @@ ghost use Rattle.audit_report.specs.Texts.{IsVerdictInRange};
 ghost use Rattle.audit_run.specs.Deciding.{IsReportOf};
 ghost use Rattle.audit_run.specs.Reporting.{IsWithoutLog};
 
-use log_verdict::reading::Unread;
-use log_verdict::stops::Stop;
 use audit_base::faults::{BadPlace, NoMemory};
 use audit_base::findings::Finding;
 use audit_base::terms::Which;
 use audit_report::reports::report_text;
 use audit_report::statuses::Status;
 use audit_report::verdicts::{Verdict, status_of};
+use log_verdict::reading::Unread;
+use log_verdict::stops::Stop;
 use std::alloc::Global;
 
 /// What a command answers and writes.

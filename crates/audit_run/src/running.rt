@@ -9,10 +9,10 @@ ghost use Rattle.audit_run.specs.TopCall.{IsRun};
 ghost use Rattle.command_words.specs.Words.{request_of};
 
 use super::commands::report_on;
-use command_words::requests::{Request, WordsFault, read_words};
 use super::writing::{write_stop, write_text};
 use audit_report::reports::usage_text;
 use audit_report::statuses::Status;
+use command_words::requests::{Request, WordsFault, read_words};
 use log_source::shelf::Shelf;
 use log_source::sink::Sink;
 use seeded_hash::seed::HashSeed;

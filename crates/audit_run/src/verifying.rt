@@ -13,14 +13,8 @@ ghost use Rattle.audit_run.specs.Reporting.{DecidesLog, SaysReport};
 ghost use Rattle.log_verdict.specs.Steps.{reading_by, reading_within, KeepsLogs, NeverFall};
 ghost use Rattle.record_verdict.specs.BeforeRule.{AreJudgeable, IsJudgeable};
 
-use log_verdict::both_logs::read_both;
-use record_verdict::before_rule::BeforeRule;
 use super::generating::volume_of;
-use record_verdict::scopes::{Admission, Scope};
-use log_verdict::sources::Source;
-use log_verdict::reading::Unread;
 use super::reports::{Report, done_report, finding_report, malformed_report, report_without};
-use log_verdict::stops::Stop;
 use audit_base::faults::NoMemory;
 use audit_base::names::Name;
 use audit_base::terms::{Rule, Which};
@@ -30,7 +24,13 @@ use audit_report::certificates::{append_refused_line, append_verified_line};
 use audit_report::statuses::Status;
 use log_source::shelf::Shelf;
 use log_source::take::take_log;
+use log_verdict::both_logs::read_both;
+use log_verdict::reading::Unread;
+use log_verdict::sources::Source;
+use log_verdict::stops::Stop;
 use matching_core::deals_draft::ResolvedTrades;
+use record_verdict::before_rule::BeforeRule;
+use record_verdict::scopes::{Admission, Scope};
 use std::alloc::Global;
 
 /// The report of a certificate that agrees under a rule.

@@ -2,11 +2,11 @@
 ghost use Rattle.audit_run.specs.Writing.{Writes, WritesStop};
 ghost use Rattle.log_source.specs.Sinks.{Stays};
 
-use log_verdict::stops::Stop;
 use audit_report::reports::{read_fault_text, too_long_text};
 use audit_report::statuses::Status;
 use log_source::put::put_all;
 use log_source::sink::Sink;
+use log_verdict::stops::Stop;
 
 /// Writes the text and answers the status, or `WriteFault` where the sink fails.
 pub(crate) fn write_text<K: Sink>(out: &mut K, text: &[u8], status: Status) -> Status

@@ -8,7 +8,7 @@ use Rattle.audit_base.specs.declared.terms.Which.TheVariants.{Orders, Trades}
 use Rattle.audit_report.specs.declared.verdicts.Verdict.{Verdict}
 use Rattle.audit_report.specs.declared.verdicts.Verdict.TheVariants as verdict
 use Rattle.record_verdict.specs.Judgements.{question, IsJudged}
-use Rattle.audit_run.specs.Laws.{OneVerdict}
+use Rattle.log_verdict.specs.Laws.{OneVerdict}
 use Rattle.log_verdict.specs.LogVerdicts.{order_log, trade_log, log_in, IsLogVerdict}
 use Rattle.case_keeper.specs.declared.case.Case.{Case}
 use Rattle.case_run.specs.Laws.{OnePlay}

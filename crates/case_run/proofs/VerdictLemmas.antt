@@ -18,7 +18,7 @@ use Rattle.audit_report.specs.declared.verdicts.Verdict.TheVariants as verdict
 use Rattle.log_verdict.specs.declared.sources.Source.{Source}
 use Rattle.log_verdict.specs.declared.stops.Stop.{Stop}
 use Rattle.log_verdict.specs.declared.stops.Stop.TheVariants as stop
-use Rattle.log_verdict.specs.BothLogs.{IsAfterGoodOrders, IsAuditStop, ReadsAfterOrders, ReadsVerdict} 
+use Rattle.log_verdict.specs.BothLogs.{IsAfterGoodOrders, IsAuditStop, ReadsAfterOrders, ReadsVerdict}
 use Rattle.log_verdict.specs.BothLogs as both
 use Rattle.log_verdict.specs.Collecting.{step_of, IsReadAs}
 use Rattle.log_verdict.specs.LogVerdicts.{log_in, order_log, trade_log, IsLogVerdict}

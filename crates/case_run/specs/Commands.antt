@@ -6,10 +6,8 @@ use Rattle.audit_base.specs.Least.{first_of, only_if}
 use Rattle.audit_base.specs.Words.{property_word}
 use Rattle.audit_base.specs.declared.findings.Property.{Property}
 use Rattle.audit_base.specs.declared.findings.Property.TheVariants as property
-use Rattle.audit_base.specs.declared.terms.Form.{Form}
-use Rattle.audit_base.specs.declared.terms.Rule.{Rule}
-use Rattle.audit_run.specs.Options.{form_named, is_word}
-use Rattle.audit_run.specs.Words.{is_path, is_symbol, rule_named, word_at}
+use Rattle.command_words.specs.WordForms.{form_named, is_path, is_word, rule_named, symbol_named, word_at}
+use Rattle.command_words.specs.Words.{given}
 use Rattle.case_keeper.specs.declared.case.Filter.{Filter}
 use Rattle.case_keeper.specs.declared.case.Mark.{Mark}
 use Rattle.case_keeper.specs.declared.case.Mark.TheVariants.{Accepted, Broken}
@@ -17,40 +15,24 @@ use Rattle.case_run.specs.declared.commands.Command.{Command}
 use Rattle.case_run.specs.declared.commands.Command.TheVariants as command
 use Rattle.case_run.specs.declared.commands.Filing.{Filing}
 
--- LABEL is a name that does not begin with `-`, as SYMBOL is
-abbrev pub is_label : List ℕ → Bool
-is_label word = is_symbol word
-
--- seven words: `file`, LABEL, any word, SYMBOL
-abbrev pub names_case : List (List ℕ) → Bool
-names_case words = length words == 7 && is_word (word_at words 0) (codes "file")
-    && is_label (word_at words 1) && is_symbol (word_at words 3)
-
--- `file LABEL RULE SYMBOL FORM ORDERS TRADES`, but that RULE and FORM may be any words
-abbrev pub is_file : List (List ℕ) → Bool
-is_file words = names_case words && is_path (word_at words 5) && is_path (word_at words 6)
-
--- the rule and the form that the third and the fifth word name
-abbrev pub file_choice : List (List ℕ) → Option (Rule × Form)
-file_choice words =
-    if is_file words
-    then option_and_then (λ rule. option_map (λ form. (rule, form)) (form_named (word_at words 4)))
-    (rule_named (word_at words 2))
-    else None
-
-abbrev pub filing_with : List (List ℕ) → Rule × Form → Filing
-filing_with words choice =
-    record {
-      label = word_at words 1;
-      rule = choice.0;
-      symbol = word_at words 3;
-      form = choice.1;
+-- `file LABEL RULE SYMBOL FORM ORDERS TRADES`; LABEL is a name that does not begin with `-`, as SYMBOL is
+abbrev pub file_command : List (List ℕ) → Option Command
+file_command words =
+    if length words == 7 && is_word (word_at words 0) (codes "file")
+    && is_path (word_at words 5) && is_path (word_at words 6) then
+    given (symbol_named (word_at words 1)) (λ label.
+    given (rule_named (word_at words 2)) (λ the_rule.
+    given (symbol_named (word_at words 3)) (λ symbol.
+    given (form_named (word_at words 4)) (λ form.
+    Some (command.File (record {
+      label = label;
+      rule = the_rule;
+      symbol = symbol;
+      form = form;
       orders = word_at words 5;
       trades = word_at words 6;
-    }
-
-abbrev pub file_command : List (List ℕ) → Option Command
-file_command words = option_map (λ choice. command.File (filing_with words choice)) (file_choice words)
+    }))))))
+    else None
 
 -- the property of a history or of trades, looked at before any rule, that a word names
 abbrev pub log_property : List ℕ → Option Property
@@ -84,10 +66,6 @@ mark_named word =
     if is_word word (codes "accepted") then Some Accepted
     else option_map Broken (property_named word)
 
--- the name that a word is, where it may stand for a symbol
-abbrev pub symbol_named : List ℕ → Option (List ℕ)
-symbol_named word = only_if (is_symbol word) word
-
 -- the filter of a symbol, which must be one, and of a mark
 abbrev pub filter_of : List ℕ → Option Mark → Option Filter
 filter_of word mark =
@@ -111,12 +89,11 @@ abbrev pub list_command : List (List ℕ) → Option Command
 list_command words = option_map command.List (list_filter words)
 
 -- `show LABEL`
-abbrev pub is_show : List (List ℕ) → Bool
-is_show words =
-    length words == 2 && is_word (word_at words 0) (codes "show") && is_label (word_at words 1)
-
 abbrev pub show_command : List (List ℕ) → Option Command
-show_command words = only_if (is_show words) (command.Show (word_at words 1))
+show_command words =
+    if length words == 2 && is_word (word_at words 0) (codes "show") then
+    given (symbol_named (word_at words 1)) (λ label. Some (command.Show label))
+    else None
 
 -- the command that words ask for; nothing where they are not well-formed
 abbrev pub command_of : List (List ℕ) → Option Command

@@ -1,8 +1,8 @@
 //! The commands of a casebook.
 use audit_base::names::Name;
 use audit_base::terms::{Form, Rule};
-use audit_run::paths::PathText;
 use case_keeper::case::Filter;
+use command_words::paths::PathText;
 
 /// What is to be filed: the verdict of a rule on two logs about a symbol, under a label. Both logs are in
 /// the same form.

@@ -1,18 +1,15 @@
 //! The words of a casebook, read by hand: exactly the well-formed words are taken.
-ghost use Rattle.std.specs.Prelude.{◌≡◌, ◌<◌, ◌≤◌, None, Some, length, map, IfOk, IfSome, IsErrOf, IsTrue};
+ghost use Rattle.std.specs.Prelude.{◌≡◌, ◌≤◌, None, Some, length, map, IfOk, IsErrOf};
 ghost use Rattle.std.specs.String.{string_bytes};
 ghost use Rattle.case_run.specs.Commands as spec;
 
 use super::commands::{Command, Filing};
 use audit_base::faults::NoMemory;
 use audit_base::findings::Property;
-use audit_base::names::{Name, read_name};
-use audit_base::terms::{Form, Rule};
-use audit_run::choices::word_at;
-use audit_run::options::form_named;
-use audit_run::requests::{WordsFault, path_of, symbol_at};
-use audit_run::word_forms::{is_path, is_symbol, is_word, rule_named};
 use case_keeper::case::{Filter, Mark};
+use command_words::paths::path_of;
+use command_words::requests::WordsFault;
+use command_words::word_forms::{form_named, is_path, is_word, rule_named, symbol_named, word_at};
 use std::alloc::Global;
 
 /// The property of a history or of trades, looked at before any rule, that the word names.
@@ -100,16 +97,6 @@ fn mark_named(word: &str) -> Option<Mark>
     }
 }
 
-/// The symbol that the word is.
-fn symbol_named(word: &str) -> Option<Name>
-    ensures { result ≡ spec.symbol_named word.now }
-{
-    if !is_symbol(word) {
-        return None;
-    }
-    read_name(word.as_bytes())
-}
-
 /// The filter of the symbol that the word is, and of a mark.
 fn filter_of(word: &str, mark: Option<Mark>) -> Option<Filter>
     ensures { result ≡ spec.filter_of word.now mark }
@@ -152,61 +139,47 @@ fn list_filter(words: &[String]) -> Option<Filter>
     filter_named(rest)
 }
 
-/// Whether there are seven words: `file`, LABEL, any word, SYMBOL.
-fn names_case(words: &[String]) -> bool
-    ensures { result ≡ spec.names_case (map string_bytes words.now) }
+/// `file LABEL RULE SYMBOL FORM ORDERS TRADES`.
+fn file_command(alloc: Global, words: &[String]) -> Result<Option<Command>, NoMemory>
+    ensures { IfOk result (λ made. made ≡ spec.file_command (map string_bytes words.now)) }
 {
-    words.len() == 7
-        && is_word(word_at(words, 0), b"file")
-        && is_symbol(word_at(words, 1))
-        && is_symbol(word_at(words, 3))
-}
-
-/// Whether the words are `file`, LABEL, a word for the rule, SYMBOL, a word for the form, ORDERS and TRADES.
-fn is_file(words: &[String]) -> bool
-    ensures { result ≡ spec.is_file (map string_bytes words.now) }
-{
-    names_case(words) && is_path(word_at(words, 5)) && is_path(word_at(words, 6))
-}
-
-/// The rule and the form, where the words ask to file a verdict.
-fn file_choice(words: &[String]) -> Option<(Rule, Form)>
-    ensures choice { result ≡ spec.file_choice (map string_bytes words.now) }
-    ensures words { IfSome result (λ _. IsTrue (spec.is_file (map string_bytes words.now))) }
-{
-    if !is_file(words) {
-        return None;
+    if words.len() != 7 || !is_word(word_at(words, 0), b"file") {
+        return Ok(None);
     }
-    let rule = rule_named(word_at(words, 2))?;
-    let form = form_named(word_at(words, 4))?;
-    Some((rule, form))
-}
-
-/// What is to be filed, of words that ask for it.
-fn filing_with(alloc: Global, words: &[String], rule: Rule, form: Form) -> Result<Filing, NoMemory>
-    requires { IsTrue (spec.is_file (map string_bytes words.now)) }
-    ensures { IfOk result (λ wanted.
-        wanted ≡ spec.filing_with (map string_bytes words.now) (rule, form)) }
-{
-    let label = symbol_at(words, 1);
-    let symbol = symbol_at(words, 3);
-    let orders = path_of(alloc, word_at(words, 5))?;
-    let trades = path_of(alloc, word_at(words, 6))?;
-    Ok(Filing {
+    if !is_path(word_at(words, 5)) || !is_path(word_at(words, 6)) {
+        return Ok(None);
+    }
+    let Some(label) = symbol_named(word_at(words, 1)) else {
+        return Ok(None);
+    };
+    let Some(rule) = rule_named(word_at(words, 2)) else {
+        return Ok(None);
+    };
+    let Some(symbol) = symbol_named(word_at(words, 3)) else {
+        return Ok(None);
+    };
+    let Some(form) = form_named(word_at(words, 4)) else {
+        return Ok(None);
+    };
+    Ok(Some(Command::File(Filing {
         label,
         rule,
         symbol,
         form,
-        orders,
-        trades,
-    })
+        orders: path_of(alloc, word_at(words, 5))?,
+        trades: path_of(alloc, word_at(words, 6))?,
+    })))
 }
 
-/// Whether the words are `show` and LABEL.
-fn is_show(words: &[String]) -> bool
-    ensures { result ≡ spec.is_show (map string_bytes words.now) }
+/// `show LABEL`.
+fn show_command(words: &[String]) -> Option<Command>
+    ensures { result ≡ spec.show_command (map string_bytes words.now) }
 {
-    words.len() == 2 && is_word(word_at(words, 0), b"show") && is_symbol(word_at(words, 1))
+    if words.len() != 2 || !is_word(word_at(words, 0), b"show") {
+        return None;
+    }
+    let label = symbol_named(word_at(words, 1))?;
+    Some(Command::Show(label))
 }
 
 /// The command that the words ask for: `file LABEL RULE SYMBOL FORM ORDERS TRADES`, `list`, `list SYMBOL`,
@@ -218,16 +191,16 @@ fn read_command(alloc: Global, words: &[String]) -> Result<Command, WordsFault>
     ensures usage { IsErrOf result WordsFault.Usage
         → spec.command_of (map string_bytes words.now) ≡ None }
 {
-    if let Some((rule, form)) = file_choice(words) {
-        return Ok(Command::File(filing_with(alloc, words, rule, form)?));
+    if let Some(command) = file_command(alloc, words)? {
+        return Ok(command);
     }
     if let Some(filter) = list_filter(words) {
         return Ok(Command::List(filter));
     }
-    if is_show(words) {
-        return Ok(Command::Show(symbol_at(words, 1)));
+    match show_command(words) {
+        Some(command) => Ok(command),
+        None => Err(WordsFault::Usage),
     }
-    Err(WordsFault::Usage)
 }
 
 /// Whether the word stands between two commands.

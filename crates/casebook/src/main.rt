@@ -22,32 +22,16 @@ mod stopped_tests;
 
 use case_run::statuses::CaseStatus;
 use closing::run_and_close;
+use command_words::arguments::{seed_of, words_of};
 use file_opener::FileOpener;
 use log_source::file_shelf::FileShelf;
 use log_source::std_sink::StdSink;
-use std::io::ErrorKind;
+use std::io;
 use std::process::ExitCode;
-use std::{env, io};
 
 /// Ends with the number of the status.
 fn main(rt: HostRuntime) -> ExitCode {
     ExitCode::from(keep_cases(rt).number())
-}
-
-/// The words of the command line without the program's name. A command line that is not text is a
-/// faulty one, and is answered as no words are.
-fn words_of(rt: &HostRuntime) -> io::Result<Vec<String>> {
-    let mut words = Vec::new(rt.alloc());
-    match env::args(rt) {
-        Ok(args) => {
-            for word in args.skip(1) {
-                words.push(word)?;
-            }
-        }
-        Err(error) if error.kind() == ErrorKind::OutOfMemory => return Err(error),
-        Err(_) => {}
-    }
-    Ok(words)
 }
 
 /// Runs the commands over the database that the first word names, and closes it.
@@ -64,5 +48,12 @@ fn keep_cases(rt: HostRuntime) -> CaseStatus {
     let mut out = StdSink::new(io::writer(&rt));
     let mut shelf = FileShelf::new(files);
     let mut opener = FileOpener::new(databases);
-    run_and_close(rt.alloc(), seed_of(&rt), &words, &mut shelf, &mut out, &mut opener)
+    run_and_close(
+        rt.alloc(),
+        seed_of(&rt),
+        &words,
+        &mut shelf,
+        &mut out,
+        &mut opener,
+    )
 }

@@ -4,8 +4,8 @@ use super::closing::run_and_close;
 use super::file_opener::FileOpener;
 use case_run::statuses::CaseStatus;
 use log_source::memory_sink::MemorySink;
-use std::fs;
 use seeded_hash::seed::HashSeed;
+use std::fs;
 use std::test::Fail;
 
 /// Removes the files of the database of the test, which lie in the folder that it runs in, if they are there.
@@ -20,7 +20,14 @@ fn run_words(rt: &HostRuntime, line: &str) -> Result<(CaseStatus, MemorySink), F
     let mut shelf = shelf_of(rt.alloc(), 0)?;
     let mut out = MemorySink::new(rt.alloc(), 4096, 4096, Vec::new(rt.alloc()))?;
     let mut opener = FileOpener::new(rt.clone()?);
-    let status = run_and_close(rt.alloc(), HashSeed::fixed(), &words, &mut shelf, &mut out, &mut opener);
+    let status = run_and_close(
+        rt.alloc(),
+        HashSeed::fixed(),
+        &words,
+        &mut shelf,
+        &mut out,
+        &mut opener,
+    );
     Ok((status, out))
 }
 

@@ -1,7 +1,9 @@
-//! The words that a program is started with.
+//! What a program is started with: the words of its command line, and a seed for its hashes.
 use audit_base::faults::NoMemory;
+use seeded_hash::seed::HashSeed;
 use std::env;
 use std::io::ErrorKind;
+use std::random::RandomSource;
 use std::rt::Env;
 
 /// The words of the command line without the program's name. A command line that is not text is a faulty
@@ -18,4 +20,10 @@ pub fn words_of<R: Env + AllocGlobal>(rt: &R) -> Result<Vec<String>, NoMemory> {
         Err(_) => {}
     }
     Ok(words)
+}
+
+/// A seed that whoever made the logs did not know. Where the system gives no random bytes it is the fixed
+/// one: the answer is the same, and only logs that were made for that seed are slow.
+pub fn seed_of(source: &impl RandomSource) -> HashSeed {
+    HashSeed::random(source).unwrap_or(HashSeed::fixed())
 }

@@ -1,4 +1,4 @@
 mod CollectLemmas
-pub mod AuditLemmas
-pub mod VerdictLemmas
+mod AuditLemmas
+mod VerdictLemmas
 mod LawLemmas

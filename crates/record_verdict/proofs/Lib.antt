@@ -1,6 +1,6 @@
 mod TableLemmas
-pub mod PairLineLemmas
-pub mod JudgeLemmas
-pub mod RuleLemmas
-pub mod VerdictLemmas
+mod PairLineLemmas
+mod JudgeLemmas
+mod RuleLemmas
+mod VerdictLemmas
 mod LawLemmas
