@@ -42,7 +42,8 @@ with_valued word value said =
     then option_and_then (with_trades_form said) (form_named value)
     else None)
 
--- what these words say as options, or nothing where a word is no option, a value is missing, or an option stands twice
+-- what these words say as options, or nothing where a word is no option, a value is missing, or an option
+-- stands twice
 abbrev pub options_in : List (List ℕ) → Option Options
 options_in [] = Some no_options
 options_in (word ∷ []) = if is_flag word then with_table no_options else None

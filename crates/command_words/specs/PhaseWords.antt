@@ -36,7 +36,8 @@ abbrev pub phase_with : Option PhaseKind → Option ℕ → Option Phase
 phase_with the_kind the_first =
     option_and_then (λ k. option_map (λ f. record { kind = k; first = f }) the_first) the_kind
 
--- a text cut at its first such byte, into what stands before it and what behind it; nothing where there is no such byte
+-- a text cut at its first such byte, into what stands before it and what behind it; nothing where there is
+-- no such byte
 abbrev pub cut_at : (ℕ → Bool) → List ℕ → Option (List ℕ × List ℕ)
 cut_at is_mark text =
     if nat_lt (position_or_len is_mark text) (length text)

@@ -59,7 +59,8 @@ abbrev pub number_upto : ℕ → List ℕ → Option ℕ
 number_upto most word =
     option_and_then (λ n. only_if (nat_le 1 n && nat_le n most) n) (digits_form 10 word)
 
--- the rules whose quantities are determined: a table of them may be asked for, and they have Expected trades
+-- the rules whose quantities are determined: a table of them may be asked for, and they have Expected
+-- trades
 abbrev pub has_table : Rule → Bool
 has_table rule.Matching = false
 has_table rule.Fair = false

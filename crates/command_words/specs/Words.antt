@@ -58,7 +58,8 @@ expect_asked words =
 -- `convert LOG FORM PATH`
 abbrev pub convert_asked : List (List ℕ) → Option Request
 convert_asked words =
-    if length words == 4 && is_word (word_at words 0) (codes "convert") && is_path (word_at words 3) then
+    if length words == 4 && is_word (word_at words 0) (codes "convert") && is_path (word_at words 3)
+    then
     given (log_named (word_at words 1)) (λ log.
     given (form_named (word_at words 2)) (λ form.
     Some (Convert log form (word_at words 3))))

@@ -21,15 +21,6 @@ impl Model for PathText {
 }
 
 impl PathText {
-    ghost use Rattle.std.specs.String.{string_bytes};
-
-    /// The path of this text.
-    pub fn of(text: String) -> PathText
-        ensures { result ≡ string_bytes text }
-    {
-        PathText { text }
-    }
-
     /// The text of the word.
     pub fn as_str(&self) -> &str
         ensures { result.now ≡ self.now }
@@ -38,10 +29,10 @@ impl PathText {
     }
 }
 
-/// The path that a word names.
+/// The path that a word names. Asks for memory for its text.
 pub fn path_of(alloc: Global, word: &str) -> Result<PathText, NoMemory>
     ensures { IfOk result (λ path. path ≡ word.now) }
 {
     let text = String::from_str(alloc, word)?;
-    Ok(PathText::of(text))
+    Ok(PathText { text })
 }

@@ -15,8 +15,8 @@ use session_audit::phases::PhaseList;
 use std::alloc::Global;
 use thiserror::Error;
 
-/// What well-formed words ask for. A symbol is a name that does not begin with `-`, and a path a word of one
-/// byte or more that does not begin with it.
+/// What well-formed words ask for. A symbol is a name that does not begin with `-`, and a path a word of
+/// one byte or more that does not begin with it.
 #[derive(Debug, Drop)]
 pub enum Request {
     /// To judge the trades of a symbol by a rule. A table is asked for only where the rule has one.
