@@ -14,7 +14,6 @@ ghost use Rattle.audit_run.specs.UpToRule.{AreJudgeable, IsJudgeable};
 
 use super::auditing::read_both;
 use super::before_rule::BeforeRule;
-use super::generating::volume_of;
 use super::questions::{Question, Source};
 use super::reading::Unread;
 use super::reports::{Report, done_report, finding_report, malformed_report, report_without};
@@ -29,6 +28,7 @@ use audit_report::statuses::Status;
 use log_source::shelf::Shelf;
 use log_source::take::take_log;
 use matching_core::deals_draft::ResolvedTrades;
+use matching_core::totals::volume_of;
 use std::alloc::Global;
 
 /// The report of a certificate that agrees under a rule.
