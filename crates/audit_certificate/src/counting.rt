@@ -1,5 +1,5 @@
 //! What each order trades, and the volume, in one pass over the deals.
-ghost use Rattle.std.specs.Prelude.{◌≡◌, ◌<◌, ◌+◌, ◌^◌, IfOk, OnOk, replicate, slice_index, slice_set, vec_len};
+ghost use Rattle.std.specs.Prelude.{◌≡◌, ◌<◌, ◌+◌, ◌^◌, IfOk, OnOk, slice_index, slice_set, vec_len};
 ghost use Rattle.audit_base.specs.Deals.{IsDeal, IsDealList, AreDeals};
 ghost use Rattle.audit_certificate.specs.Counting.{AreCounts};
 
@@ -14,13 +14,6 @@ pub struct Counts {
     pub traded: Vec<u128>,
     /// The quantities of all deals, added.
     pub volume: u128,
-}
-
-/// A zero for each order.
-fn zeros(alloc: Global, count: usize) -> Result<Vec<u128>, NoMemory>
-    ensures { IfOk result (λ traded. traded.items ≡ replicate count 0) }
-{
-    Ok(vec![in alloc; 0u128; count]?)
 }
 
 /// Adds a quantity to what an order trades.
@@ -48,7 +41,7 @@ pub fn count(alloc: Global, orders: &[Order], deals: &[Deal]) -> Result<Counts, 
     ensures counts { IfOk result (AreCounts orders.now deals.now) }
     ensures numbers { OnOk result (AreDeals deals.now) }
 {
-    let mut traded = zeros(alloc, orders.len())?;
+    let mut traded = vec![in alloc; 0u128; orders.len()]?;
     let mut volume: u128 = 0;
     'deals: for deal in deals {
         let quantity = quantity_of(deal);

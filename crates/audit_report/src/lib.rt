@@ -4,7 +4,7 @@
 
 pub mod certificates;
 pub mod line_parts;
-mod lines;
+pub mod lines;
 mod reasons;
 pub mod reports;
 pub mod statuses;

@@ -36,7 +36,7 @@ pub fn append_accepted_line(
 /// `totals,ORDERS,TRADES,VOLUME`.
 pub fn append_totals_line(
     alloc: Global,
-    orders: u32,
+    orders: usize,
     trades: u32,
     volume: u128,
     out: &mut Vec<u8>,
@@ -45,7 +45,7 @@ pub fn append_totals_line(
         OnOk result (out.new.items ≡ out.old.items ++ line) }
 {
     let parts = [
-        Part::Number(u128::from(orders)),
+        Part::Number(orders as u128),
         Part::Number(u128::from(trades)),
         Part::Number(volume),
     ];

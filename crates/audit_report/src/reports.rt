@@ -47,13 +47,8 @@ fn append_accepted(alloc: Global, accepted: &Accepted, out: &mut Vec<u8>) -> Res
     ensures { OnOk result (out.new.items ≡ out.old.items ++ accepted_text accepted.now) }
 {
     append_accepted_line(alloc, accepted.rule, &accepted.symbol, out)?;
-    append_totals_line(
-        alloc,
-        accepted.orders,
-        accepted.trades,
-        accepted.volume,
-        out,
-    )?;
+    let orders = accepted.orders as usize;
+    append_totals_line(alloc, orders, accepted.trades, accepted.volume, out)?;
     append_bound(alloc, &accepted.bound, out)?;
     append_table(alloc, accepted.table.as_slice(), out)
 }

@@ -33,7 +33,7 @@ AreOnlyOfDay phases orders deals =
 -- These quantities are the only conforming ones.
 pub record IsDayText (symbol : List ℕ) (phases : List Phase) (table : Bool) (orders : List Order)
     (deals : List Deal) (text : List ℕ) : Type 0 where
-  pub totals : List ℕ
+  pub totals : List ℕ × ℕ
   pub conforms : IsConformingDay phases orders deals totals
   pub only : AreOnlyOfDay phases orders deals
   pub text_is : text ≡ day_text symbol phases orders totals (length deals) table

@@ -2,7 +2,6 @@
 //! come to.
 ghost use Rattle.std.specs.Prelude.{◌≡◌, ◌<◌, ◌^◌, IfOk, OnOk, length};
 ghost use Rattle.audit_base.specs.declared.terms.Rule.TheVariants as rule;
-ghost use Rattle.audit_base.specs.Deals.{volume};
 ghost use Rattle.audit_base.specs.Histories.{Regular};
 ghost use Rattle.audit_base.specs.Orders.{IsOrderList};
 ghost use Rattle.log_maker.specs.Generator.{IsCount, IsStart, generated_orders, generated_records};
@@ -22,6 +21,7 @@ use continuous_audit::expecting::continuous_matching;
 use instruction_history::faults::HistoryFault;
 use instruction_history::history::History;
 use log_maker::generator::{generated_symbol, make_orders};
+use matching_core::totals::volume_of;
 use maximum_audit::expecting::greatest_matching;
 use std::alloc::Global;
 use uniform_audit::expecting::expected_uniform;
@@ -76,17 +76,6 @@ fn append_maximum(alloc: Global, orders: &[Order], out: &mut Vec<u8>) -> Result<
     let most = least_cut(alloc, orders)?;
     let deals = greatest_matching(alloc, orders)?;
     append_call_line(alloc, Rule::Maximum, count_of(&deals), &most, out)
-}
-
-/// The quantities of the deals, added.
-pub(crate) fn volume_of(deals: &[Deal]) -> u128
-    requires { length deals.now < 2 ^ 32 }
-    ensures { result ≡ volume deals.now }
-{
-    deals
-        .iter()
-        .map(|deal| u128::from(deal.quantity.value()))
-        .sum()
 }
 
 /// Adds the line of the Expected trades of `continuous`.

@@ -13,7 +13,6 @@ ghost use Rattle.audit_run.specs.Reporting.{DecidesLog, SaysReport};
 ghost use Rattle.log_verdict.specs.Steps.{reading_by, reading_within, KeepsLogs, NeverFall};
 ghost use Rattle.record_verdict.specs.BeforeRule.{AreJudgeable, IsJudgeable};
 
-use super::generating::volume_of;
 use super::reports::{Report, done_report, finding_report, malformed_report, report_without};
 use audit_base::faults::NoMemory;
 use audit_base::names::Name;
@@ -29,6 +28,7 @@ use log_verdict::reading::Unread;
 use log_verdict::sources::Source;
 use log_verdict::stops::Stop;
 use matching_core::deals_draft::ResolvedTrades;
+use matching_core::totals::volume_of;
 use record_verdict::before_rule::BeforeRule;
 use record_verdict::scopes::{Admission, Scope};
 use std::alloc::Global;

@@ -191,7 +191,6 @@ module _ (only_quantities : OnlyQuantities) (due : DueByRank) (leaves : LesserVo
       rw is (record {
         conforms = c.conforms;
         totals = f.totals;
-        total_is = f.volume_is;
         volume_is = f.volume_is;
         bound_is = record { volume_is = c.same; shows = subst (λ v. IsBound the_rule orders v most.price) c.same g.bound };
         only = λ i lt. only_quantities the_rule orders deals a.asks list ranges c.conforms i;

@@ -35,8 +35,7 @@ pub record IsConforming (the_rule : Rule) (orders : List Order) (deals : List De
     (reached : Reached) : Type 0 where
   pub conforms : Conforms the_rule orders deals
   pub totals : AreTotals orders deals reached.traded.0
-  pub total_is : reached.traded.1 ≡ volume deals
-  pub volume_is : reached.volume ≡ volume deals
+  pub volume_is : reached.traded.1 ≡ volume deals
   pub bound_is : IsSomeAnd reached.bound (IsBoundOf the_rule orders (volume deals))
   pub only : (i : ℕ) → i < length orders → Only the_rule orders i (traded deals i)
 

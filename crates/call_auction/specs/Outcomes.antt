@@ -43,4 +43,4 @@ IsOutcome orders known count most (outcome.Broken finding) =
     (known.totals.1 < most.volume) × ShowsVolume orders known count most.volume finding
 IsOutcome orders known count most (outcome.Conforms reached) =
     (most.volume ≤ known.totals.1)
-    × (reached ≡ record { traded = known.totals; volume = known.totals.1; bound = Some most })
+    × (reached ≡ record { traded = known.totals; bound = Some most })

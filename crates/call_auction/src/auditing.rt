@@ -87,13 +87,11 @@ fn outcome_of(orders: &[Order], fair: FairMatching, count: u32, most: Cut) -> Ou
     requires count { count < 2 ^ 32 - 1 }
     ensures { IsOutcome orders.now fair count most result }
 {
-    let volume = fair.totals.volume();
-    if volume < most.volume {
+    if fair.totals.volume() < most.volume {
         return Outcome::Broken(volume_finding(orders, &fair, count, most.volume));
     }
     Outcome::Conforms(Reached {
         traded: fair.totals,
-        volume,
         bound: Some(most),
     })
 }

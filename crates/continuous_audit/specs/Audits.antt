@@ -19,8 +19,7 @@ pub record IsConforming (orders : List Order) (deals : List Deal) (reached : Rea
   pub conforms : ConformsContinuous orders deals
   pub count : length reached.traded.0 ≡ length orders
   pub totals : (i : ℕ) → i < length orders → slice_index_or reached.traded.0 i 0 ≡ traded deals i
-  pub total_is : reached.traded.1 ≡ volume deals
-  pub volume_is : reached.volume ≡ volume deals
+  pub volume_is : reached.traded.1 ≡ volume deals
   pub no_bound : reached.bound ≡ None
   pub only : Regular orders → (bid ask : ℕ)
       → OnlyPair rule.Continuous orders bid ask (pair deals bid ask)

@@ -153,7 +153,6 @@ pub fn audit_continuous(
     }
     Ok(Outcome::Conforms(Reached {
         traded: Totals::of(numbers.traded, volume),
-        volume,
         bound: None,
     }))
 }

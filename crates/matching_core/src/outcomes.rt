@@ -38,7 +38,6 @@ impl From<NoMemory> for CheckFault {
 #[derive(Debug, Drop)]
 pub struct Reached {
     pub traded: Totals,
-    pub volume: u128,
     /// The price that shows that the volume is the greatest, for the rules that ask for that.
     pub bound: Option<Cut>,
 }

@@ -1,7 +1,27 @@
-//! What each order of an order list has traded, and the volume.
-ghost use Rattle.std.specs.Prelude.{◌≡◌};
+//! What each order of an order list has traded, what that leaves of it, and the volume.
+ghost use Rattle.std.specs.Prelude.{◌≡◌, ◌<◌, ◌-◌, ◌^◌, length};
+ghost use Rattle.audit_base.specs.Deals.{volume};
 
+use audit_base::orders::Deal;
 use std::marker::Model;
+
+/// The volume of the deals: their quantities, added.
+pub fn volume_of(deals: &[Deal]) -> u128
+    requires { length deals.now < 2 ^ 32 }
+    ensures { result ≡ volume deals.now }
+{
+    deals
+        .iter()
+        .map(|deal| u128::from(deal.quantity.value()))
+        .sum()
+}
+
+/// What is left of a size of which so much has traded.
+pub fn left_of(size: u64, traded: u128) -> u64
+    ensures { result ≡ size - traded }
+{
+    u128::from(size).saturating_sub(traded) as u64
+}
 
 /// What each order has traded, by its index in the order list, and the volume, the quantities of all
 /// deals added. Contracts see the pair of the two.

@@ -54,7 +54,7 @@ accepted_verdict q orders deals reached = verdict.Accepted (record {
   symbol = q.symbol;
   orders = length orders;
   trades = length deals;
-  volume = reached.volume;
+  volume = reached.traded.1;
   bound = reached.bound;
   table = table_lines q.rule q.table orders deals;
 })
@@ -65,7 +65,7 @@ pub record IsRuleConforming (the_rule : Rule) (orders : List Order) (deals : Lis
     (count : ℕ) (reached : Reached) : Type 0 where
   pub conforms : IsRuleVerdict the_rule orders deals count None
   pub totals : AreTotals orders deals reached.traded.0
-  pub volume_is : reached.volume ≡ volume deals
+  pub volume_is : reached.traded.1 ≡ volume deals
   pub bound_is : IsBoundShown the_rule orders (volume deals) reached.bound
   pub only : AreOnlyQuantities the_rule orders deals
 
@@ -79,7 +79,7 @@ IsRuleAudited the_rule orders deals count (outcome.Broken finding) =
 -- what deals come to that conform to a rule without a bound
 abbrev pub conforming_outcome : List ℕ × ℕ → Outcome
 conforming_outcome totals =
-    outcome.Conforms (record { traded = totals; volume = totals.1; bound = None })
+    outcome.Conforms (record { traded = totals; bound = None })
 
 -- what deals come to in which a check found this
 abbrev pub IsOutcomeOfFault : CheckFault → Outcome → Type 0

@@ -29,9 +29,8 @@ fn conforming(totals: Totals) -> Outcome
     ensures { result ≡ conforming_outcome totals }
 {
     Outcome::Conforms(Reached {
-        volume: totals.volume(),
-        bound: None,
         traded: totals,
+        bound: None,
     })
 }
 
@@ -121,7 +120,7 @@ fn accept(
         symbol: question.symbol,
         orders: orders.len() as u32,
         trades: deals.len() as u32,
-        volume: reached.volume,
+        volume: reached.traded.volume(),
         bound: reached.bound,
         table,
     }))

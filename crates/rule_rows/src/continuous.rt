@@ -130,7 +130,7 @@ fn shown(show: Option<Shown>) -> Option<(u32, u128)> {
 /// An outcome in the words of a row.
 fn in_short(outcome: &Outcome) -> Answer {
     match outcome {
-        Outcome::Conforms(reached) => Volume(reached.volume),
+        Outcome::Conforms(reached) => Volume(reached.traded.volume()),
         Outcome::Broken(finding) => Found(
             finding.property,
             finding.place,

@@ -100,7 +100,7 @@ fn bound_of_expected<R: AllocGlobal + Abort>(
     let Some(bound) = reached.bound else {
         panic!(rt; "no bound");
     };
-    assert_eq!(rt; bound.volume, reached.volume);
+    assert_eq!(rt; bound.volume, reached.traded.volume());
     (bound.volume, bound.price)
 }
 

@@ -1,22 +1,18 @@
 -- The phases of a day joined by commas, and the lines of its orders.
 use Rattle.std.proofs.Common.{◌≡◌, ◌+◌, ◌-◌, ℕ, List, [], ◌∷◌, ◌++◌, length, get_or, take, drop, map, refl, ap, sym, ◌∙◌, arith, append_assoc, add-one, false}
 use Rattle.std.specs.Prelude.{◌==◌}
-use Rattle.std.specs.List.{flat_map, join_with_byte}
-use Rattle.std.proofs.lemmas.List.{append-nil, take_all}
+use Rattle.std.proofs.lemmas.List.{take_all}
 use Rattle.audit_base.specs.declared.orders.Order.{Order}
 use Rattle.audit_base.specs.Orders.{place_at}
+use Rattle.audit_report.specs.LineParts.{rest_text}
+use Rattle.audit_report.proofs.LineLemmas.{joined_parts}
 use Rattle.session_audit.specs.declared.phases.Phase.{Phase}
 use Rattle.session_audit.specs.Texts.{phase_text, phases_text, total_line, total_lines}
-use Rattle.session_audit.specs.TextParts.{after_comma}
 
 -- joined phases are the first one and the others with commas before them
-joined : (p : Phase) (ps : List Phase) → join_with_byte 44 (map phase_text (p ∷ ps)) ≡ phase_text p ++ flat_map after_comma ps
-joined p [] = sym (append-nil (phase_text p))
-joined p (q ∷ qs) = ap (λ (rest : List ℕ). phase_text p ++ 44 ∷ rest) (joined q qs)
-
-pub phases-joined : (phases : List Phase) (d : Phase) → (length phases == 0) ≡ false → phases_text phases ≡ phase_text (get_or phases 0 d) ++ flat_map after_comma (take (length phases - 1) (drop 1 phases))
+pub phases-joined : (phases : List Phase) (d : Phase) → (length phases == 0) ≡ false → phases_text phases ≡ phase_text (get_or phases 0 d) ++ rest_text (map phase_text (take (length phases - 1) (drop 1 phases)))
 phases-joined [] d e = absurd (cc)
-phases-joined (p ∷ ps) d e = joined p ps ∙ ap (λ (qs : List Phase). phase_text p ++ flat_map after_comma qs) (sym (take_all (length (p ∷ ps) - 1) ps (omega arith)))
+phases-joined (p ∷ ps) d e = joined_parts (phase_text p) (map phase_text ps) ∙ ap (λ (qs : List Phase). phase_text p ++ rest_text (map phase_text qs)) (sym (take_all (length (p ∷ ps) - 1) ps (omega arith)))
 
 pub lines-more : (orders : List Order) (totals : List ℕ) (n : ℕ) → total_lines orders totals (n + 1) ≡ total_lines orders totals n ++ total_line (place_at orders n) (get_or totals n 0)
 unfolding total_lines

@@ -1,25 +1,21 @@
 -- What the audit of a day answers.
-use Rattle.std.specs.Prelude.{◌≡◌, ◌<◌, ℕ, ◌%◌, ◌^◌, List, sum}
+use Rattle.std.specs.Prelude.{◌≡◌, ℕ, List}
 use Rattle.audit_base.specs.declared.orders.Order.{Order}
 use Rattle.audit_base.specs.declared.orders.Deal.{Deal}
 use Rattle.audit_base.specs.declared.findings.Finding.{Finding}
+use Rattle.audit_base.specs.Deals.{volume}
 use Rattle.short_order.specs.Totals.{AreTotals}
 use Rattle.session_audit.specs.declared.days.Day.{Day}
 use Rattle.session_audit.specs.declared.days.Day.TheVariants as day
 use Rattle.session_audit.specs.declared.phases.Phase.{Phase}
 use Rattle.session_audit.specs.Days.{ConformsDay, IsDayOffence}
 
--- totals of which the volume is half the sum: this is even, and fits a number of 128 bits
-pub record CanHalve (totals : List ℕ) : Type 0 where
-  pub even : sum totals % 2 ≡ 0
-  pub small : sum totals < 2 ^ 128
-
--- the day conforms, with what each order traded over the whole day
+-- the day conforms, with what each order traded over the whole day, and the volume
 pub record IsConformingDay (phases : List Phase) (orders : List Order) (deals : List Deal)
-    (totals : List ℕ) : Type 0 where
+    (totals : List ℕ × ℕ) : Type 0 where
   pub conforms : ConformsDay phases orders deals
-  pub totals_are : AreTotals orders deals totals
-  pub halves : CanHalve totals
+  pub totals_are : AreTotals orders deals totals.0
+  pub volume_is : totals.1 ≡ volume deals
 
 -- the day doesn't conform, and this is its first offence
 pub record IsBrokenDay (phases : List Phase) (orders : List Order) (deals : List Deal) (count : ℕ)

@@ -14,4 +14,3 @@ pub mod Judging
 pub mod Leaving
 pub mod Progress
 pub mod Instants
-pub mod TextParts

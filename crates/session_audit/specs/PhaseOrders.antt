@@ -3,7 +3,7 @@
 -- In the first part `first` and `last` are the first and the last place of the phase, rest o is what the
 -- phases before left of the order at o, and spent o what its chain traded in them. The second part says
 -- the same words of a day.
-use Rattle.std.specs.Prelude.{◌≡◌, ◌<◌, ℕ, zero, suc, ◌-◌, Bool, true, ◌&&◌, nat_lt, nat_le, List, [], ◌∷◌, ◌++◌, Option, None, Some, length, sum_by, if◌then◌else◌}
+use Rattle.std.specs.Prelude.{ℕ, zero, suc, ◌-◌, Bool, true, ◌&&◌, nat_lt, nat_le, List, [], ◌∷◌, ◌++◌, Option, None, Some, sum_by, if◌then◌else◌}
 use Rattle.std.specs.List.{prefix_len}
 use Rattle.audit_base.specs.declared.orders.Order.{Order}
 use Rattle.audit_base.specs.declared.orders.Deal.{Deal}

@@ -1,10 +1,10 @@
--- The text of a day that conforms. The parts of a line are joined by commas, and a line ends with LF.
--- The codes of `,`, `@` and LF are 44, 64 and 10.
-use Rattle.std.specs.Prelude.{ℕ, zero, suc, ◌/◌, Bool, List, [], ◌∷◌, ◌++◌, codes, decimal, length, map, slice_index, sum, if◌then◌else◌}
+-- The text of a day that conforms. The codes of `,` and `@` are 44 and 64.
+use Rattle.std.specs.Prelude.{ℕ, zero, suc, Bool, List, [], ◌∷◌, ◌++◌, codes, decimal, length, map, slice_index, if◌then◌else◌}
 use Rattle.std.specs.List.{join_with_byte}
 use Rattle.audit_base.specs.Words.{rule_word}
 use Rattle.audit_base.specs.declared.orders.Order.{Order}
 use Rattle.audit_base.specs.Orders.{place_at}
+use Rattle.audit_report.specs.Lines.{line_text, totals_line}
 use Rattle.session_audit.specs.declared.phases.Phase.{Phase}
 use Rattle.session_audit.specs.Phases.{rule_of}
 
@@ -18,21 +18,11 @@ phases_text phases = join_with_byte 44 (map phase_text phases)
 
 -- `session,SYMBOL,PHASES`
 abbrev pub session_line : List ℕ → List Phase → List ℕ
-session_line symbol phases = codes "session," ++ symbol ++ 44 ∷ phases_text phases ++ 10 ∷ []
-
--- a part of a line behind its first: a comma and a number
-abbrev pub number_part : ℕ → List ℕ
-number_part number = 44 ∷ decimal number
-
--- `totals,ORDERS,TRADES,VOLUME`
-abbrev pub totals_line : ℕ → ℕ → ℕ → List ℕ
-totals_line orders trades volume =
-    codes "totals" ++ number_part orders ++ number_part trades ++ number_part volume ++ 10 ∷ []
+session_line symbol phases = line_text (codes "session" ∷ symbol ∷ phases_text phases ∷ [])
 
 -- `order,PLACE,TRADED`
 abbrev pub total_line : ℕ → ℕ → List ℕ
-total_line place traded =
-    codes "order" ++ number_part place ++ number_part traded ++ 10 ∷ []
+total_line place traded = line_text (codes "order" ∷ decimal place ∷ decimal traded ∷ [])
 
 -- the lines of what the first n orders traded over the day
 unfoldable pub total_lines : List Order → List ℕ → ℕ → List ℕ
@@ -45,7 +35,7 @@ abbrev pub table_text : Bool → List Order → List ℕ → List ℕ
 table_text table orders totals =
     if table then total_lines orders totals (length orders) else []
 
--- the accepted text of a day, from what each order traded over it. The volume is half the sum of these
-abbrev pub day_text : List ℕ → List Phase → List Order → List ℕ → ℕ → Bool → List ℕ
+-- the accepted text of a day, from what each order traded over it, and the volume
+abbrev pub day_text : List ℕ → List Phase → List Order → List ℕ × ℕ → ℕ → Bool → List ℕ
 day_text symbol phases orders totals trades table = session_line symbol phases
-    ++ totals_line (length orders) trades (sum totals / 2) ++ table_text table orders totals
+    ++ totals_line (length orders) trades totals.1 ++ table_text table orders totals.0

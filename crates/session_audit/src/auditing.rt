@@ -7,13 +7,14 @@ ghost use Rattle.session_audit.specs.Phases.{ArePhases};
 ghost use Rattle.session_audit.specs.Days.{instant_finding};
 ghost use Rattle.session_audit.specs.Audits.{IsAuditedDay};
 
-use super::days::{Day, DayTotals};
+use super::days::Day;
 use super::dealing::{causes_of, deals_between};
 use super::instants::first_instant;
 use super::phases::Phase;
 use super::progress::{first_place, judge_phase, kind_at, last_place, list_phase, start};
 use audit_base::faults::NoMemory;
 use audit_base::orders::{Deal, Order};
+use matching_core::totals::{Totals, volume_of};
 use std::alloc::Global;
 
 /// Tells the proof the ranges of the numbers of an order, which its type keeps.
@@ -59,13 +60,13 @@ fn audit_phases(
             return Ok(Day::Broken(finding));
         }
     }
-    Ok(Day::Conforms(DayTotals::of(so_far.traded)))
+    Ok(Day::Conforms(Totals::of(so_far.traded, volume_of(deals))))
 }
 
 /// The audit of a day over the deals of a log of `count` trades. Conforms exactly where no call phase has
 /// an own order whose life isn't Rests and each phase conforms, out of memory aside: with what each order
-/// traded over the day. Else Broken has the first offence: the least such order, or the first offence
-/// of the least phase that fails.
+/// traded over the day, and the volume. Else Broken has the first offence: the least such order, or the first
+/// offence of the least phase that fails.
 ///
 /// For p phases, n orders and m deals, beside the audits of the phases: p passes over the orders up to the
 /// phase's end and over the causes of all deals.

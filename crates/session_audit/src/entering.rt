@@ -9,6 +9,7 @@ ghost use Rattle.session_audit.specs.PhaseOrders as spec;
 use audit_base::faults::NoMemory;
 use audit_base::numbers::Quantity;
 use audit_base::orders::Order;
+use matching_core::totals::left_of;
 use std::alloc::Global;
 
 /// Whether the order was placed: it isn't cancelled at its own place.
@@ -39,17 +40,6 @@ fn own_amount(order: &Order, there: bool, spent: u128) -> u64
 {
     if was_placed(order) && there {
         left_of(order.quantity.value(), spent)
-    } else {
-        0
-    }
-}
-
-/// A size less what has traded of it, or 0.
-pub fn left_of(size: u64, traded: u128) -> u64
-    ensures { result ≡ size - traded }
-{
-    if traded < u128::from(size) {
-        size - traded as u64
     } else {
         0
     }

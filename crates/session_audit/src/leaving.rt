@@ -9,9 +9,10 @@ ghost use Rattle.session_audit.specs.Numbers.{AreSmall, chain_total};
 ghost use Rattle.session_audit.specs.PhaseOrders.{listed};
 
 use super::chains::chain_totals;
-use super::entering::{left_of, was_placed};
+use super::entering::was_placed;
 use audit_base::faults::NoMemory;
 use audit_base::orders::Order;
+use matching_core::totals::left_of;
 use std::alloc::Global;
 
 /// What a call leaves of an order that has traded this much: nothing if a record cancels it.

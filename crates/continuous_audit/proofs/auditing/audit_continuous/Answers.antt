@@ -39,8 +39,7 @@ returns c =
       conforms = conforms;
       count = ap (λ (t : List ℕ × ℕ). length t.0) c.of.ensures ∙ last-count c.args.orders.now c.requires.order_list c.args.deals.now c.requires.deal_list c.deref.result.now are c.deref-2.result.now c.first_offence.new.numbers c.first_offence.new.standing ready;
       totals = λ i lt. ap (λ (t : List ℕ × ℕ). number_in t.0 i) c.of.ensures ∙ last-traded c.args.orders.now c.requires.order_list c.args.deals.now c.requires.deal_list c.deref.result.now are c.deref-2.result.now c.first_offence.new.numbers c.first_offence.new.standing ready i lt;
-      total_is = ap (λ (t : List ℕ × ℕ). t.1) c.of.ensures ∙ c.volume_of-volume.ensures.total;
-      volume_is = c.volume_of-volume.ensures.total;
+      volume_is = ap (λ (t : List ℕ × ℕ). t.1) c.of.ensures ∙ c.volume_of-volume.ensures.total;
       no_bound = refl;
       only = λ regular bid ask. c.continuous_uniqueness.ensures.only c.args.orders.now c.args.deals.now c.requires.order_list regular c.volume_of-volume.ensures.numbers conforms bid ask;
     }

@@ -1,4 +1,4 @@
-use Rattle.std.proofs.Common.{◌≡◌, ◌∙◌, None, Ok, length, ap, arith}
+use Rattle.std.proofs.Common.{◌≡◌, ◌∙◌, ℕ, None, Ok, length, ap, arith}
 use Rattle.audit_base.specs.Deals.{deal_at}
 use Rattle.audit_base.specs.Continuous.{cause}
 use Rattle.session_audit.specs.Phases.{phase_deals}
@@ -77,5 +77,5 @@ loop-index-preserved c =
 
 pub returns : goal.returns
 returns c =
-    day-conforms c.args.phases.now c.requires.phases c.args.orders.now c.requires.order_list c.args.deals.now c.requires.deal_list c.in_ok-causes.ensures.numbers c.in_ok-causes.ensures.fits c.requires.admitted
-    c.loop-index.index (let out = c.loop-index-test.false in let end = c.loop-index.auto.index-end in omega arith) c.loop-index.so_far.traded.items c.loop-index.so_far.rest.items c.of.result c.of.ensures c.loop-index.invariant
+    day-conforms c.args.phases.now c.requires.phases c.args.orders.now c.requires.order_list c.args.deals.now c.requires.deal_list c.in_ok-causes.ensures.fits c.requires.admitted
+    c.loop-index.index (let out = c.loop-index-test.false in let end = c.loop-index.auto.index-end in omega arith) c.loop-index.so_far.traded.items c.loop-index.so_far.rest.items c.of.result (c.of.ensures ∙ ap (λ (v : ℕ). (c.loop-index.so_far.traded.items, v)) c.volume_of.ensures) c.loop-index.invariant
