@@ -3,7 +3,6 @@ use Rattle.std.proofs.Common.{◌≡◌, ◌<◌, ◌+◌, ◌^◌, ℕ, List, l
 use Rattle.std.specs.Prelude.{Contains}
 use Rattle.std.proofs.lemmas.List.{get_or_default, get_or-map, length-map}
 use Rattle.std.proofs.lemmas.List.Sorted.{All-permutation, Contains-permutation, IsPermutation-map, length_permutation}
-use Rattle.audit_base.specs.declared.terms.Side.TheVariants.{Buy, Sell}
 use Rattle.audit_base.specs.declared.orders.Order.{Order}
 use Rattle.audit_base.specs.declared.orders.Deal.{Deal}
 use Rattle.audit_base.specs.Orders.{place_at, IsOrderList}
@@ -20,7 +19,7 @@ use Rattle.continuous_audit.specs.Holding.{resting_left}
 use Rattle.continuous_audit.specs.Matching.{AreAtFirst, AreExpected, IsMatched}
 use Rattle.continuous_audit.specs.Pairs.{AreNumbered, AreSharedPairs, IsDealt, IsSharedPair, PairBefore, deal_of, ends_of, missing_pair, pair_at, pair_cmp}
 use Rattle.continuous_audit.specs.Scans.{number_in}
-use Rattle.continuous_audit.proofs.AuditLemmas.{first-place, nothing-held, zero-in}
+use Rattle.continuous_audit.proofs.AuditLemmas.{empty-hold, first-place, zero-in}
 use Rattle.continuous_audit.proofs.MatchLemmas.{some-expected}
 use Rattle.continuous_laws.proofs.PlaceLemmas.{traded-none}
 
@@ -30,12 +29,7 @@ matched-first orders list t bare deals = record {
   traded_is = λ x lt. ap (λ (xs : List ℕ). number_in xs x) bare.traded ∙ zero-in (length orders) x ∙ sym (traded-none orders deals (place_at orders 0) x (first-place orders list deals x lt));
   before_is = λ x lt. absurd (omega arith);
   left_is = λ x lt. absurd (omega arith);
-  books = record {
-    bid_side = bare.standing.bid_side;
-    ask_side = bare.standing.ask_side;
-    bids = nothing-held orders list deals Buy t.standing.books.bids.resting bare.standing.bids;
-    asks = nothing-held orders list deals Sell t.standing.books.asks.resting bare.standing.asks;
-  };
+  books = empty-hold orders list deals t.standing bare.standing;
   pairs = subst (AreSharedPairs orders deals 0) (sym bare.pairs) (record {
     each = λ k d lt. absurd (omega arith);
     complete = λ bid ask b a some. absurd (omega arith);

@@ -3,13 +3,11 @@ use Rattle.std.proofs.lemmas.Result.{IfOk-weaker}
 use Rattle.continuous_audit.specs.declared.pairs.Pair.{Pair}
 use Rattle.continuous_audit.specs.Endings.{AreEndings}
 use Rattle.continuous_audit.specs.Pairs.{AreNumbered, IsDealt, pair_cmp}
-use Rattle.continuous_audit.proofs.EndingLemmas.{are-endings}
 use Rattle.continuous_audit.proofs.ExpectingLemmas.{matched-first, sorted-dealt, sorted-length, made-expected, made-conforms, made-listed}
 use Rattle.continuous_audit.proofs.expecting.continuous_matching.Goals as goal
 
 pub match_records-requires-clause-endings : goal.match_records-requires-clause-endings
-match_records-requires-clause-endings c = subst (AreEndings c.args.orders.now) (sym c.deref.ensures.value)
-    (are-endings c.args.orders.now c.in_ok-endings.endings.items c.in_ok-endings.ensures.moved c.in_ok-endings.ensures.sorted)
+match_records-requires-clause-endings c = subst (AreEndings c.args.orders.now) (sym c.deref.ensures.value) c.in_ok-endings.ensures
 
 pub match_records-requires-clause-matched : goal.match_records-requires-clause-matched
 match_records-requires-clause-matched c = λ deals is. matched-first c.args.orders.now c.requires.order_list c.in_ok-so_far.so_far c.in_ok-so_far.ensures deals
