@@ -1,5 +1,5 @@
 -- Before the first order nothing has traded; after the last the pairs in order are the Expected trades.
-use Rattle.std.proofs.Common.{◌≡◌, ◌<◌, ◌+◌, ◌^◌, ℕ, List, length, map, get_or, false, refl, sym, ap, ◌∙◌, arith, subst, All, AllPairs, IsPermutation, is_lt}
+use Rattle.std.proofs.Common.{◌≡◌, ◌<◌, ◌+◌, ◌^◌, ℕ, List, length, map, get_or, refl, sym, ap, ◌∙◌, arith, subst, All, AllPairs, IsPermutation, IsSorted}
 use Rattle.std.specs.Prelude.{Contains}
 use Rattle.std.proofs.lemmas.List.{get_or_default, get_or-map, length-map}
 use Rattle.std.proofs.lemmas.List.Sorted.{All-permutation, Contains-permutation, IsPermutation-map, length_permutation}
@@ -38,7 +38,7 @@ matched-first orders list t bare deals = record {
 }
 
 module _ (orders : List Order) (list : IsOrderList orders) (regular : Regular orders) (pairs sorted : List Pair) (moved : IsPermutation pairs sorted)
-    (in_order : (k : ℕ) (d : Pair) → k + 1 < length sorted → is_lt (pair_cmp (get_or sorted (k + 1) d) (get_or sorted k d)) ≡ false)
+    (in_order : IsSorted pair_cmp sorted)
     (matched : (deals : List Deal) → AreExpected orders deals → AreSharedPairs orders deals (length orders) pairs) (dealt : All (IsDealt (length orders)) pairs) where
   pub sorted-dealt : All (IsDealt (length orders)) sorted
   sorted-dealt = All-permutation (IsDealt (length orders)) pairs sorted moved dealt
@@ -67,7 +67,7 @@ module _ (orders : List Order) (list : IsOrderList orders) (regular : Regular or
     made-are =
         let count : length made ≡ length sorted = numbers.count in
         let each : All (IsSharedPair orders deals (length orders)) sorted = All-permutation (IsSharedPair orders deals (length orders)) pairs sorted moved shared.each in
-        let rising : AllPairs PairBefore sorted = sorted-in_order (λ (p : Pair). p.bid) (λ (p : Pair). p.ask) (λ (p : Pair). p.quantity) pairs sorted moved shared.apart in_order in
+        let rising : AllPairs PairBefore sorted = sorted-in_order (λ (p : Pair). p.bid) (λ (p : Pair). p.ask) (λ (p : Pair). p.quantity) pairs sorted moved shared.apart (λ k d lt. in_order k d (omega arith) lt) in
         record {
           each = λ k d lt.
               let s = each k missing_pair (omega arith) in

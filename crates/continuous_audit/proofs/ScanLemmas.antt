@@ -10,7 +10,7 @@ use Rattle.audit_base.specs.declared.orders.Deal.{Deal}
 use Rattle.audit_base.specs.declared.findings.Finding.{Finding}
 use Rattle.audit_base.specs.declared.terms.Side.TheVariants.{Buy, Sell}
 use Rattle.audit_base.specs.Least.{least_answer, first_of, only_if}
-use Rattle.audit_base.specs.Orders.{order_at, place_at, side_at, is_rests, IsOrderList}
+use Rattle.audit_base.specs.Orders.{missing_order, order_at, place_at, side_at, is_rests, IsOrderList}
 use Rattle.audit_base.specs.Deals.{names, deal_at, missing_deal, part_of, NamesOrders, IsDealList}
 use Rattle.audit_base.specs.Continuous.{cause, resting, incoming, traded_before, traded_at, entered_of, size_of, rests, size, uncancelled_before}
 use Rattle.audit_base.specs.CallOffences.{keeps_limits}
@@ -125,7 +125,7 @@ module _ (orders : List Order) (list : IsOrderList orders) (deals : List Deal) (
               cond-false _ _ _ f ∙ waits-is orders past p d.ask (number_in sheet.left.items d.ask) earlier (known.left_is d.ask (below-n d.ask named_here.ask_inside earlier)) ∙ ap (rests orders past p) r_is
         ]
 
-    pub checked : (bt at' : ℕ) → bt ≡ running_total deals causes (at + 1) d.bid → at' ≡ running_total deals causes (at + 1) d.ask
+    checked : (bt at' : ℕ) → bt ≡ running_total deals causes (at + 1) d.bid → at' ≡ running_total deals causes (at + 1) d.ask
         → conservation_finding orders deals p k ≡ option_map (rule_finding orders (shown_upto orders deals p k) d)
         (by_deal.broken_rule d (order_at orders d.bid) (order_at orders d.ask) (record { place = p; entered = entered }) (accounts bt at'))
     checked bt at' bt_is at_is =
@@ -238,13 +238,13 @@ module _ (orders : List Order) (deals : List Deal) (causes : List Cause) (at : �
   more : (x : ℕ) → running_total deals causes (at + 1) x ≡ running_total deals causes at x + part_of x d
   more x = sum_by_more (λ (c : Cause). part_of x (deal_at deals c.deal)) causes at missing_cause lt ∙ ap (λ (e : Deal). running_total deals causes at x + part_of x e) (sym d_is)
 
-  pub bid-now : get_or xs d.bid 0 + q ≡ running_total deals causes (at + 1) d.bid
+  bid-now : get_or xs d.bid 0 + q ≡ running_total deals causes (at + 1) d.bid
   bid-now = sym at_bid ∙ (added-at d.bid).0 ∙ ap (λ (m : ℕ). m + part_of d.bid d) (is.sums d.bid named.bid_inside) ∙ sym (more d.bid)
 
-  pub ask-now : get_or xs d.ask 0 + q ≡ running_total deals causes (at + 1) d.ask
+  ask-now : get_or xs d.ask 0 + q ≡ running_total deals causes (at + 1) d.ask
   ask-now = sym at_ask ∙ (added-at d.ask).0 ∙ ap (λ (m : ℕ). m + part_of d.ask d) (is.sums d.ask named.ask_inside) ∙ sym (more d.ask)
 
-  pub running-after : (zs : List ℕ) → zs ≡ ys → AreRunningTotals orders deals causes (at + 1) zs
+  running-after : (zs : List ℕ) → zs ≡ ys → AreRunningTotals orders deals causes (at + 1) zs
   running-after zs same = subst (AreRunningTotals orders deals causes (at + 1)) (sym same) (record {
     inside = omega arith;
     count = length-set {A = ℕ} (slice_set xs d.bid (get_or xs d.bid 0 + q)) d.ask (get_or xs d.ask 0 + q) ∙ length-set {A = ℕ} xs d.bid (get_or xs d.bid 0 + q) ∙ is.count;
@@ -252,8 +252,8 @@ module _ (orders : List Order) (deals : List Deal) (causes : List Cause) (at : �
     fits = λ x inside. let a = added-at x in let f = is.fits x inside in omega (arith, a.0, a.1);
   })
 
--- the same, in the words of the code: the deal, the two orders that it reads and what is known of them
-pub checked-read : (orders : List Order) (list : IsOrderList orders) (deals : List Deal) (deal_list : IsDealList orders deals) (causes : List Cause) (are : AreCauses orders deals causes) (n : ℕ) (n_inside : n < length orders)
+-- the same of a deal, its two orders and what is known of them, which equal those of the lists
+checked-read : (orders : List Order) (list : IsOrderList orders) (deals : List Deal) (deal_list : IsDealList orders deals) (causes : List Cause) (are : AreCauses orders deals causes) (n : ℕ) (n_inside : n < length orders)
     (coming : Coming) (sheet : Sheet) (known : IsKnown orders deals n coming.entered sheet) (at : ℕ) (lt : at < length causes) (of : order_in causes at ≡ n)
     (d : Deal) (d_is : d ≡ deal_at deals (deal_in causes at)) (bid ask : Order) (b_is : bid ≡ order_at orders d.bid) (a_is : ask ≡ order_at orders d.ask) (p_is : coming.place ≡ place_at orders n)
     (accounts : Accounts) (bt at' : ℕ) → accounts.bid ≡ by_deal.account_of sheet d.bid bt → accounts.ask ≡ by_deal.account_of sheet d.ask at' → bt ≡ running_total deals causes (at + 1) d.bid → at' ≡ running_total deals causes (at + 1) d.ask
@@ -267,6 +267,31 @@ checked-read orders list deals deal_list causes are n n_inside coming sheet know
     let ka : accounts.ask ≡ by_deal.account_of sheet e.ask at' = ask_is ∙ ap (λ (x : Deal). by_deal.account_of sheet x.ask at') d_is in
     checked orders list deals deal_list causes are n n_inside coming.entered sheet known at lt of bt at' (bt_is ∙ ap (λ (x : Deal). running_total deals causes (at + 1) x.bid) d_is) (at_is ∙ ap (λ (x : Deal). running_total deals causes (at + 1) x.ask) d_is)
     ∙ sym (λ i. option_map (rule_finding orders (shown_upto orders deals (place_at orders n) (deal_in causes at)) e) (by_deal.broken_rule (d_is i) (b i) (a i) (record { place = p_is i; entered = coming.entered }) (record { bid = kb i; ask = ka i })))
+
+-- the same, in the words of the code: the deal and the orders that it reads, and what it adds
+module _ (orders : List Order) (list : IsOrderList orders) (deals : List Deal) (deal_list : IsDealList orders deals) (causes : List Cause) (are : AreCauses orders deals causes) (n : ℕ) (n_inside : n < length orders)
+    (at : ℕ) (lt : at < length causes) (xs : List ℕ) (run : AreRunningTotals orders deals causes at xs)
+    (d : Deal) (d_read : d ≡ get_or deals (deal_in causes at) d) (q : ℕ) (q_is : q ≡ d.quantity) (q_most : d.quantity ≤ 10 ^ 12) where
+  k_in : deal_in causes at < length deals
+  k_in = (are.only at missing_cause lt).0
+
+  d_is : d ≡ deal_at deals (deal_in causes at)
+  d_is = d_read ∙ get_or-default deals (deal_in causes at) d missing_deal k_in
+
+  named : NamesOrders orders d
+  named = subst (NamesOrders orders) (sym d_is) (deal_list.named (deal_in causes at) missing_deal k_in)
+
+  pub running-read : (zs : List ℕ) → zs ≡ slice_set (slice_set xs d.bid (get_or xs d.bid 0 + q)) d.ask (get_or xs d.ask 0 + q) → AreRunningTotals orders deals causes (at + 1) zs
+  running-read zs made = running-after orders deals causes at lt xs run d d_is named q q_is (omega arith) zs made
+
+  pub finding-read : (of : order_in causes at ≡ n) (coming : Coming) (sheet : Sheet) (known : IsKnown orders deals n coming.entered sheet) (own bid ask : Order) → own ≡ get_or orders n own → bid ≡ get_or orders d.bid bid → ask ≡ get_or orders d.ask ask → coming.place ≡ own.place
+      → (accounts : Accounts) (bt at' : ℕ) → accounts.bid ≡ by_deal.account_of sheet d.bid bt → accounts.ask ≡ by_deal.account_of sheet d.ask at' → bt ≡ get_or xs d.bid 0 + q → at' ≡ get_or xs d.ask 0 + q
+      → conservation_finding orders deals (place_at orders n) (deal_in causes at) ≡ option_map (rule_finding orders (shown_upto orders deals (place_at orders n) (deal_in causes at)) (deal_at deals (deal_in causes at)))
+      (by_deal.broken_rule d bid ask coming accounts)
+  finding-read of coming sheet known own bid ask own_read bid_read ask_read p_is accounts bt at' b_is a_is bt_is at_is =
+      checked-read orders list deals deal_list causes are n n_inside coming sheet known at lt of d d_is bid ask (bid_read ∙ get_or-default orders d.bid bid missing_order named.bid_inside) (ask_read ∙ get_or-default orders d.ask ask missing_order named.ask_inside)
+      (p_is ∙ ap (λ (o : Order). o.place) (own_read ∙ get_or-default orders n own missing_order n_inside)) accounts bt at' b_is a_is
+      (bt_is ∙ bid-now orders deals causes at lt xs run d d_is named q q_is (omega arith)) (at_is ∙ ask-now orders deals causes at lt xs run d d_is named q q_is (omega arith))
 
 -- the breach at the cause that the code has come to, after its deal is added
 pub breach-read : (orders : List Order) (list : IsOrderList orders) (deals : List Deal) (deal_list : IsDealList orders deals) (causes : List Cause) (are : AreCauses orders deals causes) (n : ℕ) (n_inside : n < length orders)

@@ -28,8 +28,10 @@ books_without side index limit b = with_list side (without_order index limit (li
 
 -- the books with one order more
 abbrev pub books_with : Side → Resting → Books → Books
-books_with Buy r b = record b { bids = record b.bids { resting = with_order b.bids.side r b.bids.resting } }
-books_with Sell r b = record b { asks = record b.asks { resting = with_order b.asks.side r b.asks.resting } }
+books_with Buy r b =
+    record b { bids = record b.bids { resting = with_order b.bids.side r b.bids.resting } }
+books_with Sell r b =
+    record b { asks = record b.asks { resting = with_order b.asks.side r b.asks.resting } }
 
 -- the books with what is left now of the best orders of a side
 abbrev pub with_fills : Side → List ℕ → Books → Books

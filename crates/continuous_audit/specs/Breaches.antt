@@ -35,8 +35,10 @@ pub record AreShown (orders : List Order) (numbers : Numbers) : Type 0 where
 
 -- the finding at a deal whose order of a side trades more than its Size
 abbrev pub over_size_finding : List Order → (ℕ → ℕ) → Deal → Side → Finding
-over_size_finding orders shown d Buy = at_deal property.BuyQuantity d (show_order orders shown d.bid) None
-over_size_finding orders shown d Sell = at_deal property.SellQuantity d (show_order orders shown d.ask) None
+over_size_finding orders shown d Buy =
+    at_deal property.BuyQuantity d (show_order orders shown d.bid) None
+over_size_finding orders shown d Sell =
+    at_deal property.SellQuantity d (show_order orders shown d.ask) None
 
 -- the finding at a deal that breaks this rule first, with these numbers shown
 abbrev pub rule_finding : List Order → (ℕ → ℕ) → Deal → DealRule → Finding

@@ -55,4 +55,5 @@ pub record IsKept (orders : List Order) (deals : List Deal) (n : ℕ)
 pub record IsOpening (orders : List Order) (deals : List Deal) (n : ℕ)
     (traded : List ℕ) (sheet : Sheet) : Type 0 where
   pub kept : IsKept orders deals n traded sheet
-  pub left_is : (x : ℕ) → x < n → number_in sheet.left.items x ≡ left_before orders deals (place_at orders n) x
+  pub left_is : (x : ℕ) → x < n
+      → number_in sheet.left.items x ≡ left_before orders deals (place_at orders n) x

@@ -10,7 +10,7 @@ use Rattle.continuous_audit.specs.Causes.{AreCauses}
 use Rattle.continuous_audit.specs.Endings.{AreEndings}
 use Rattle.continuous_audit.specs.Holding.{IsFilledInFront, resting_left, resting_left_after}
 use Rattle.continuous_audit.specs.Records.{ConformsBelow, conservation_at}
-use Rattle.continuous_audit.specs.Scans.{AreRunningTotals, IsSplitAt, deal_in}
+use Rattle.continuous_audit.specs.Scans.{AreRunningTotals, IsRefreshed, IsSplitAt, deal_in}
 
 -- the deals are over the order list, and each deal and each order that is ended belongs to its record
 pub record IsMarket (m : Market) : Type 0 where
@@ -32,6 +32,12 @@ pub record HaveTraded (m : Market) (n : ℕ) (running : RunningTotals) : Type 0 
   pub totals : AreRunningTotals m.orders.now m.deals.now m.causes.now running.at
       running.traded.items
   pub split : IsSplitAt m.causes.now n running.at
+
+-- what is left of the orders of the deals from a cause on, as far as these are added, is their size less
+-- what they have traded, and of the others what it was
+abbrev pub AreRefreshed : Market → ℕ → RunningTotals → List ℕ → List ℕ → List ℕ → Type 0
+AreRefreshed m start running sizes old new = IsRefreshed m.deals.now m.causes.now start running.at
+    sizes running.traded.items old new
 
 -- the resting order of the deal of the cause at an index
 abbrev pub resting_at : Market → ℕ → ℕ

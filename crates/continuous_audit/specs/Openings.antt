@@ -7,7 +7,8 @@ use Rattle.continuous_audit.specs.declared.opening.Opening.{Opening}
 use Rattle.continuous_audit.specs.Chains.{IsClosed}
 
 -- whether the order at n entered, with its Before and its Size
-pub record IsOpened (orders : List Order) (deals : List Deal) (n : ℕ) (opening : Opening) : Type 0 where
+pub record IsOpened (orders : List Order) (deals : List Deal) (n : ℕ)
+    (opening : Opening) : Type 0 where
   pub entered_is : opening.entered ≡ entered_of orders deals n
   pub before_is : opening.before ≡ before_of orders deals n
   pub size_is : opening.size ≡ size_of orders deals n

@@ -162,7 +162,8 @@ impl Standing {
         requires order { order < length orders.now }
         requires endings { AreEndings orders.now endings.now }
         requires dropped { AreDropped endings.now self.old.start (suc (place_at orders.now order)) }
-        ensures dropped { AreDropped endings.now self.new.start (ready_place orders.now (suc order)) }
+        ensures dropped { AreDropped endings.now self.new.start
+            (ready_place orders.now (suc order)) }
         ensures holds { (deals : List ADeal) → All (NamesOrders orders.now) deals
             → HoldAfter orders.now deals order self.old.books
             → HoldNext orders.now deals (suc order) self.new.books }
