@@ -15,15 +15,20 @@ use Rattle.audit_base.proofs.OrderLemmas.{place-rises}
 use Rattle.audit_base.proofs.SumLemmas.{sum_by-same}
 use Rattle.audit_base.proofs.ContinuousOffenceLemmas.{late-conforms}
 use Rattle.order_book.specs.declared.books.Resting.{Resting}
+use Rattle.continuous_audit.specs.declared.books.Standing.{Standing}
 use Rattle.continuous_audit.specs.declared.causes.Cause.{Cause}
 use Rattle.continuous_audit.specs.declared.endings.Ending.{Ending}
-use Rattle.continuous_audit.specs.declared.record_audit.Numbers.{Numbers}
-use Rattle.continuous_audit.specs.declared.record_audit.Standing.{Standing}
+use Rattle.continuous_audit.specs.declared.market.Market.{Market}
+use Rattle.continuous_audit.specs.declared.state.State.{State}
+use Rattle.continuous_audit.specs.Markets.{IsMarket}
+use Rattle.continuous_audit.specs.Books.{AreEmptyBooks, HoldAt, ready_place}
 use Rattle.continuous_audit.specs.Causes.{AreCauses}
 use Rattle.continuous_audit.specs.Chains.{AreClosed}
+use Rattle.continuous_audit.specs.Endings.{AreEndings}
 use Rattle.continuous_audit.specs.Holding.{Holds, resting_left}
-use Rattle.continuous_audit.specs.Scans.{number_in, AreRunningTotals, IsSplitAt}
-use Rattle.continuous_audit.specs.Progress.{AreAtStart, AreEmptyBooks, AreBefore, AreSizes, AreLeft, IsCalm, IsReady, ready_place}
+use Rattle.continuous_audit.specs.Progress.{IsFirstState, IsReady}
+use Rattle.continuous_audit.specs.Records.{AreBefore, AreLeft, AreSizes, IsCalm}
+use Rattle.continuous_audit.specs.Scans.{AreRunningTotals, IsSplitAt, number_in}
 use Rattle.continuous_audit.proofs.NumberLemmas.{traded-at}
 use Rattle.continuous_audit.proofs.RestLemmas.{resting_left-future}
 use Rattle.continuous_audit.proofs.VerdictLemmas.{calm-first}
@@ -42,56 +47,77 @@ module _ (orders : List Order) (list : IsOrderList orders) (deals : List Deal) w
     | inr ne ↦ let up = place-rises orders list 0 k (omega (arith, ne)) lt in omega arith
   ]
 
-  pub nothing-held : (side : Side) (xs : List Resting) → xs ≡ [] → Holds orders side (resting_left orders (traded_before orders deals) (place_at orders 0)) xs
+  nothing-held : (side : Side) (xs : List Resting) → xs ≡ [] → Holds orders side (resting_left orders (traded_before orders deals) (place_at orders 0)) xs
   nothing-held side xs e = subst (Holds orders side (resting_left orders (traded_before orders deals) (place_at orders 0))) (sym e) (record {
     only = λ i d lt. absurd (omega arith);
     each = λ i lt of some. let z = resting_left-future orders (traded_before orders deals) (place_at orders 0) i (first-place i lt) in absurd (omega arith);
     ranked = λ i j d lt below. absurd (omega arith);
   })
 
-module _ (orders : List Order) (list : IsOrderList orders) (deals : List Deal) (deal_list : IsDealList orders deals) (causes : List Cause) (are : AreCauses orders deals causes) (endings : List Ending) where
-  pub ready-first : (numbers : Numbers) (standing : Standing) → AreAtStart (length orders) numbers → AreEmptyBooks standing → IsReady orders deals causes endings 0 (ready_place orders 0) numbers standing
-  ready-first numbers standing blank bare = record {
-    calm = calm-first orders deals (place_at orders 0) deal_list.named (first-place orders list deals);
+  pub empty-hold : (standing : Standing) → AreEmptyBooks standing → HoldAt orders deals (place_at orders 0) standing.books
+  empty-hold standing bare = record { bid_side = bare.bid_side; ask_side = bare.ask_side; bids = nothing-held Buy standing.books.bids.resting bare.bids; asks = nothing-held Sell standing.books.asks.resting bare.asks }
+
+-- a market, of the lists that the code has made
+pub market-read : (m : Market) (causes : List Cause) (endings : List Ending) → IsOrderList m.orders.now → IsDealList m.orders.now m.deals.now → m.causes.now ≡ causes → m.endings.now ≡ endings
+    → AreCauses m.orders.now m.deals.now causes → AreEndings m.orders.now endings → IsMarket m
+market-read m causes endings list deal_list causes_are endings_are made ends = record {
+  list = list;
+  deal_list = deal_list;
+  causes = subst (AreCauses m.orders.now m.deals.now) (sym causes_are) made;
+  endings = subst (AreEndings m.orders.now) (sym endings_are) ends;
+}
+
+module _ (m : Market) (is : IsMarket m) where
+  abbrev orders : List Order
+  orders = m.orders.now
+
+  abbrev deals : List Deal
+  deals = m.deals.now
+
+  pub ready-first : (state : State) → IsFirstState (length orders) state → IsReady m 0 (ready_place orders 0) state
+  ready-first state bare = record {
+    calm = calm-first orders deals (place_at orders 0) is.deal_list.named (first-place orders is.list deals);
     known = record {
-      before = subst (AreBefore orders deals 0) (sym blank.before) (record {
+      before = subst (AreBefore orders deals 0) (sym bare.numbers.sheet.before) (record {
         count = length-replicate {A = ℕ} (length orders) 0;
         is = λ x lt. absurd (omega arith);
         fits = λ x. let z = zero-in (length orders) x in omega arith;
         bounded = λ x. let z = zero-in (length orders) x in omega arith;
       });
-      closed = subst (AreClosed orders 0) (sym blank.closed) (record { count = length-replicate {A = Bool} (length orders) false; is = λ x lt. absurd (omega arith) });
-      sizes = subst (AreSizes orders deals 0) (sym blank.sizes) (record { count = length-replicate {A = ℕ} (length orders) 0; is = λ x lt. absurd (omega arith) });
-      left = subst (AreLeft orders deals 0 (place_at orders 0)) (sym blank.left) (record { count = length-replicate {A = ℕ} (length orders) 0; is = λ x lt. absurd (omega arith) });
-      running_total = subst (λ (at : ℕ). AreRunningTotals orders deals causes at numbers.traded.items) (sym blank.at) (subst (AreRunningTotals orders deals causes 0) (sym blank.traded) (record {
-        inside = omega arith;
-        count = length-replicate {A = ℕ} (length orders) 0;
-        sums = λ x lt. zero-in (length orders) x;
-        fits = λ x lt. let z = zero-in (length orders) x in omega arith;
-      }));
-      split = subst (IsSplitAt causes 0) (sym blank.at) (record { early = λ i lt below. absurd (omega arith); late = λ i le below. omega arith });
+      closed = subst (AreClosed orders 0) (sym bare.numbers.sheet.closed) (record { count = length-replicate {A = Bool} (length orders) false; is = λ x lt. absurd (omega arith) });
+      sizes = subst (AreSizes orders deals 0) (sym bare.numbers.sheet.sizes) (record { count = length-replicate {A = ℕ} (length orders) 0; is = λ x lt. absurd (omega arith) });
+      left = subst (AreLeft orders deals 0 (place_at orders 0)) (sym bare.numbers.sheet.left) (record { count = length-replicate {A = ℕ} (length orders) 0; is = λ x lt. absurd (omega arith) });
+      running = record {
+        totals = subst (λ (at : ℕ). AreRunningTotals orders deals m.causes.now at state.numbers.running.traded.items) (sym bare.numbers.at) (subst (AreRunningTotals orders deals m.causes.now 0) (sym bare.numbers.traded) (record {
+          inside = omega arith;
+          count = length-replicate {A = ℕ} (length orders) 0;
+          sums = λ x lt. zero-in (length orders) x;
+          fits = λ x lt. let z = zero-in (length orders) x in omega arith;
+        }));
+        split = subst (IsSplitAt m.causes.now 0) (sym bare.numbers.at) (record { early = λ i lt below. absurd (omega arith); late = λ i le below. omega arith });
+      };
     };
-    books = record { bid_side = bare.bid_side; ask_side = bare.ask_side; bids = nothing-held orders list deals Buy standing.books.bids.resting bare.bids; asks = nothing-held orders list deals Sell standing.books.asks.resting bare.asks };
-    dropped = record { inside = let e = bare.start in omega arith; early = λ i lt below. let e = bare.start in absurd (omega arith) };
+    books = empty-hold orders is.list deals state.standing bare.standing;
+    dropped = record { inside = let e = bare.standing.start in omega arith; early = λ i lt below. let e = bare.standing.start in absurd (omega arith) };
   }
 
   -- all places are below that which follows the last order
-  below-ready : (m : ℕ) → m ≡ length orders → (k : ℕ) → k < length orders → place_at orders k < ready_place orders m
+  below-ready : (last : ℕ) → last ≡ length orders → (k : ℕ) → k < length orders → place_at orders k < ready_place orders last
   below-ready zero e k lt = absurd (omega arith)
-  below-ready (suc m) e k lt =
-      let is : ready_place orders (suc m) ≡ suc (place_at orders m) = cond-false (nat_lt (suc m) (length orders)) (place_at orders (suc m)) (suc (place_at orders m)) (le-ltb _ _ (omega arith)) in
-      elim (cases_eq k m) [
-        | inl same ↦ let f : place_at orders k ≡ place_at orders m = ap (place_at orders) same in omega arith
-        | inr ne ↦ let up = place-rises orders list k m (omega (arith, ne)) (omega arith) in omega arith
+  below-ready (suc last) e k lt =
+      let here : ready_place orders (suc last) ≡ suc (place_at orders last) = cond-false (nat_lt (suc last) (length orders)) (place_at orders (suc last)) (suc (place_at orders last)) (le-ltb _ _ (omega arith)) in
+      elim (cases_eq k last) [
+        | inl same ↦ let f : place_at orders k ≡ place_at orders last = ap (place_at orders) same in omega arith
+        | inr ne ↦ let up = place-rises orders is.list k last (omega (arith, ne)) (omega arith) in omega arith
       ]
 
   pub end-conforms : (q : ℕ) → ((k : ℕ) → k < length orders → place_at orders k < q) → IsCalm orders deals q → ConformsContinuous orders deals
-  end-conforms zero top calm = record { named = deal_list.named; each = λ i. (calm-first orders deals (suc i) deal_list.named (λ x lt. let t = top x lt in absurd (omega arith))).conforms i (omega arith) }
+  end-conforms zero top calm = record { named = is.deal_list.named; each = λ i. (calm-first orders deals (suc i) is.deal_list.named (λ x lt. let t = top x lt in absurd (omega arith))).conforms i (omega arith) }
   end-conforms (suc last) top calm = record {
-    named = deal_list.named;
+    named = is.deal_list.named;
     each = λ i. elim (cases_lt i (suc last)) [
       | inl lt ↦ calm.conforms i lt
-      | inr le ↦ subst (λ j. ConformsAt orders deals j) (omega arith) (late-conforms orders deals last deal_list.named (λ x lt. let t = top x lt in omega arith) calm.conforms (i - last))
+      | inr le ↦ subst (λ j. ConformsAt orders deals j) (omega arith) (late-conforms orders deals last is.deal_list.named (λ x lt. let t = top x lt in omega arith) calm.conforms (i - last))
     ];
   }
 
@@ -100,9 +126,9 @@ module _ (orders : List Order) (list : IsOrderList orders) (deals : List Deal) (
   unfolding traded_before
   all-traded q top x = sum_by-same (λ d. cond (names x d && nat_lt (cause orders d) q) d.quantity 0) (part_of x) deals (λ k e lt.
       let d = get_or deals k e in
-      let is = deal_list.named k e lt in
-      let b = top d.bid is.bid_inside in
-      let a = top d.ask is.ask_inside in
+      let ends = is.deal_list.named k e lt in
+      let b = top d.bid ends.bid_inside in
+      let a = top d.ask ends.ask_inside in
       let t : nat_lt (cause orders d) q ≡ true = lt-ltb _ _ (omega arith) in
       ap (λ (c : Bool). cond c d.quantity 0) (ap (λ (c : Bool). names x d && c) t ∙ and-always (names x d)))
     where
@@ -110,17 +136,17 @@ module _ (orders : List Order) (list : IsOrderList orders) (deals : List Deal) (
       and-always true = refl
       and-always false = refl
 
-  module _ (numbers : Numbers) (standing : Standing) (ready : IsReady orders deals causes endings (length orders) (ready_place orders (length orders)) numbers standing) where
+  module _ (state : State) (ready : IsReady m (length orders) (ready_place orders (length orders)) state) where
     abbrev q : ℕ
     q = ready_place orders (length orders)
 
     pub last-conforms : ConformsContinuous orders deals
     last-conforms = end-conforms q (below-ready (length orders) refl) ready.calm
 
-    pub last-count : length numbers.traded.items ≡ length orders
-    last-count = ready.known.running_total.count
+    pub last-count : length state.numbers.running.traded.items ≡ length orders
+    last-count = ready.known.running.totals.count
 
-    pub last-traded : (x : ℕ) → x < length orders → number_in numbers.traded.items x ≡ traded deals x
+    pub last-traded : (x : ℕ) → x < length orders → number_in state.numbers.running.traded.items x ≡ traded deals x
     last-traded x lt =
-        let t = traded-at orders list deals deal_list causes are q (length orders) numbers.at numbers.traded.items ready.known.split ready.known.running_total (λ k inside below. below-ready (length orders) refl k inside) (λ k inside le. absurd (omega arith)) in
+        let t = traded-at orders is.list deals is.deal_list m.causes.now is.causes q (length orders) state.numbers.running.at state.numbers.running.traded.items ready.known.running.split ready.known.running.totals (λ k inside below. below-ready (length orders) refl k inside) (λ k inside le. absurd (omega arith)) in
         t.is x lt ∙ all-traded q (below-ready (length orders) refl) x

@@ -14,9 +14,10 @@ use Rattle.audit_base.proofs.OrderLemmas.{not_both_sides, place-rises}
 use Rattle.order_book.specs.declared.books.Resting.{Resting}
 use Rattle.order_book.specs.Books.{with_order}
 use Rattle.continuous_audit.specs.declared.endings.Ending.{Ending}
-use Rattle.continuous_audit.specs.declared.endings.Books.{Books}
-use Rattle.continuous_audit.specs.Holding.{resting_with, Holds, IsPart, IsFilledInFront, resting_left, resting_left_after}
-use Rattle.continuous_audit.specs.Endings.{AreEndings, place_in, books_with, with_list, list_of, BooksHold, amount_without}
+use Rattle.continuous_audit.specs.declared.books.Books.{Books}
+use Rattle.continuous_audit.specs.Books.{BooksHold, HoldBelow, books_with, list_of, with_list}
+use Rattle.continuous_audit.specs.Endings.{AreEndings, amount_without, place_in}
+use Rattle.continuous_audit.specs.Holding.{Holds, IsFilledInFront, IsPart, resting_left, resting_left_after, resting_with}
 use Rattle.continuous_audit.proofs.HoldLemmas.{hold-same, hold-entered}
 use Rattle.continuous_laws.proofs.StepLemmas.{rests-parts}
 use Rattle.continuous_audit.proofs.RestLemmas.{resting_left-future, resting_left-parts}
@@ -117,11 +118,8 @@ module _ (orders : List Order) (list : IsOrderList orders) (deals : List Deal) (
   after-entry b hold some = joined-holds orders others (resting_left orders past (suc p)) n n_inside some (λ k ne. sym (cond-false (k == n) 0 (resting_left orders past (suc p) k) (ne_eqb k n ne))) s refl b hold
       (all-earlier Buy b.bids.resting hold.bids) (all-earlier Sell b.asks.resting hold.asks)
 
-  pub earlier-bids : (b : Books) → BooksHold orders others b → All (λ r. r.index < n) b.bids.resting
-  earlier-bids b hold = all-earlier Buy b.bids.resting hold.bids
-
-  pub earlier-asks : (b : Books) → BooksHold orders others b → All (λ r. r.index < n) b.asks.resting
-  earlier-asks b hold = all-earlier Sell b.asks.resting hold.asks
+  pub hold-below : (b : Books) → BooksHold orders others b → HoldBelow n b
+  hold-below b hold = record { bids = all-earlier Buy b.bids.resting hold.bids; asks = all-earlier Sell b.asks.resting hold.asks }
 
   pub no-entry : (b : Books) → BooksHold orders others b → resting_left orders past (suc p) n ≡ 0 → BooksHold orders (resting_left orders past (suc p)) b
   no-entry b hold none = hold-amounts orders others (resting_left orders past (suc p)) b (λ k lt. elim (cases_eq k n) [

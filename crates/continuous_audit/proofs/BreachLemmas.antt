@@ -17,8 +17,10 @@ use Rattle.continuous_audit.specs.declared.breaches.DealRule.TheVariants.{Restin
 use Rattle.continuous_audit.specs.declared.breaches.DealBreach.{DealBreach}
 use Rattle.continuous_audit.specs.declared.breaches.Breach.{Breach}
 use Rattle.continuous_audit.specs.declared.breaches.Breach.TheVariants as breach
+use Rattle.continuous_audit.specs.declared.numbers.Numbers.{Numbers}
 use Rattle.continuous_audit.specs.Breaches.{IsBreach, IsBreachUpto, IsDealBreach, IsDealUpto, breach_after, breach_finding, rule_finding, shown_in}
-use Rattle.continuous_audit.specs.Progress.{AreBefore, AreTraded, conservation_at, spread_by}
+use Rattle.continuous_audit.specs.Records.{AreBefore, AreTraded, conservation_at}
+use Rattle.continuous_audit.specs.Spreads.{spread_by}
 use Rattle.continuous_audit.proofs.RecordLemmas.{conservation-shown}
 
 module _ (orders : List Order) (f g : ℕ → ℕ) (d : Deal) (bid : f d.bid ≡ g d.bid) (ask : f d.ask ≡ g d.ask) where
@@ -66,34 +68,34 @@ breach-same orders deals n f g same (breach.Outranked k over) upto =
 breach-same orders deals n f g same (breach.Crossed other) upto = λ i. spread_by (side_at orders n) (order_at orders n) (order_at orders other) (same n (omega arith) i) (same other upto i)
 
 -- what a deal breaks, with the numbers of the audit
-module _ (orders : List Order) (deals : List Deal) (deal_list : IsDealList orders deals) (n : ℕ) (traded before : List ℕ) (at : DealBreach)
-    (is : IsDealBreach orders deals n traded at) (known : AreBefore orders deals (suc n) before) where
+module _ (orders : List Order) (deals : List Deal) (deal_list : IsDealList orders deals) (n : ℕ) (numbers : Numbers) (at : DealBreach)
+    (is : IsDealBreach orders deals n numbers.running.traded.items at) (known : AreBefore orders deals (suc n) numbers.sheet.before.items) where
   abbrev d : Deal
   d = deal_at deals at.deal
 
-  deal-found : conservation_at orders deals n ≡ Some (rule_finding orders (shown_in traded before) d at.rule)
+  deal-found : conservation_at orders deals n ≡ Some (rule_finding orders (shown_in numbers) d at.rule)
   deal-found =
       let named = deal_list.named at.deal missing_deal is.upto.inside in
       let bid_upto = is.upto.bid_upto in
       let ask_upto = is.upto.ask_upto in
-      let bid : shown_upto orders deals (place_at orders n) at.deal d.bid ≡ shown_in traded before d.bid = sym (λ i. is.traded_is d.bid named.bid_inside i + known.is d.bid (omega arith) i) in
-      let ask : shown_upto orders deals (place_at orders n) at.deal d.ask ≡ shown_in traded before d.ask = sym (λ i. is.traded_is d.ask named.ask_inside i + known.is d.ask (omega arith) i) in
-      is.shown ∙ ap Some (rule-same orders (shown_upto orders deals (place_at orders n) at.deal) (shown_in traded before) d bid ask at.rule)
+      let bid : shown_upto orders deals (place_at orders n) at.deal d.bid ≡ shown_in numbers d.bid = sym (λ i. is.traded_is d.bid named.bid_inside i + known.is d.bid (omega arith) i) in
+      let ask : shown_upto orders deals (place_at orders n) at.deal d.ask ≡ shown_in numbers d.ask = sym (λ i. is.traded_is d.ask named.ask_inside i + known.is d.ask (omega arith) i) in
+      is.shown ∙ ap Some (rule-same orders (shown_upto orders deals (place_at orders n) at.deal) (shown_in numbers) d bid ask at.rule)
 
-  pub deal-breach : IsBreach orders deals n traded before (breach.Deal at)
+  pub deal-breach : IsBreach orders deals n numbers (breach.Deal at)
   deal-breach = record {
     upto = is.upto;
-    numbers = record { traded_count = is.traded_count; before_count = known.count; traded_fits = is.traded_fits; before_fits = known.fits };
+    numbers_are = record { traded = is.small; before_count = known.count; before_fits = known.fits };
     shown = conservation-shown orders deals (place_at orders n) _ deal-found;
   }
 
 -- what breaks a rule after the deals of a record
-pub after-breach : (orders : List Order) (deals : List Deal) (n : ℕ) → n < length orders → (traded before : List ℕ) → AreTraded orders deals (suc (place_at orders n)) traded → AreBefore orders deals (suc n) before
-    → (b : Breach) → IsBreachUpto deals n b → finding_at_place orders deals (place_at orders n) ≡ Some (breach_after orders deals n b) → IsBreach orders deals n traded before b
-after-breach orders deals n n_inside traded before t known b upto found =
-    let same : (x : ℕ) → x ≤ n → shown_after orders deals (place_at orders n) x ≡ shown_in traded before x = λ x le. sym (λ i. t.is x (omega arith) i + known.is x (omega arith) i) in
+pub after-breach : (orders : List Order) (deals : List Deal) (n : ℕ) → n < length orders → (numbers : Numbers) → AreTraded orders deals (suc (place_at orders n)) numbers.running.traded.items → AreBefore orders deals (suc n) numbers.sheet.before.items
+    → (b : Breach) → IsBreachUpto deals n b → finding_at_place orders deals (place_at orders n) ≡ Some (breach_after orders deals n b) → IsBreach orders deals n numbers b
+after-breach orders deals n n_inside numbers t known b upto found =
+    let same : (x : ℕ) → x ≤ n → shown_after orders deals (place_at orders n) x ≡ shown_in numbers x = λ x le. sym (λ i. t.is x (omega arith) i + known.is x (omega arith) i) in
     record {
       upto = upto;
-      numbers = record { traded_count = t.count; before_count = known.count; traded_fits = t.fits; before_fits = known.fits };
-      shown = found ∙ ap Some (breach-same orders deals n (shown_after orders deals (place_at orders n)) (shown_in traded before) same b upto);
+      numbers_are = record { traded = t.small; before_count = known.count; before_fits = known.fits };
+      shown = found ∙ ap Some (breach-same orders deals n (shown_after orders deals (place_at orders n)) (shown_in numbers) same b upto);
     }

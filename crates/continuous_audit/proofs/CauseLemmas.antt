@@ -20,7 +20,7 @@ use Rattle.audit_base.proofs.OffenceLemmas.{get_or-default}
 use Rattle.audit_base.proofs.OrderLemmas.{place-rises}
 use Rattle.audit_base.proofs.SumLemmas.{below-same, below-list, below-add, sum_by-same, AllPairs-head, AllPairs-tail, AllPairs-cons}
 use Rattle.continuous_audit.specs.declared.causes.Cause.{Cause}
-use Rattle.continuous_audit.specs.Causes.{cause_cmp, cause_of, causes_upto, IsSooner, AreCauses, running_total}
+use Rattle.continuous_audit.specs.Causes.{AreCauses, IsSooner, cause_cmp, cause_of, causes_upto, running_total}
 
 module _ (orders : List Order) (deals : List Deal) where
   upto-only : (n : ℕ) → All (λ c. (c.deal < n) × (c ≡ cause_of orders deals c.deal)) (causes_upto orders deals n)

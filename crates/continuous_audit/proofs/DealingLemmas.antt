@@ -15,9 +15,9 @@ use Rattle.audit_base.specs.ContinuousOffences.{priority_finding}
 use Rattle.audit_base.proofs.LeastLemmas.{least-none, none-below, none_some}
 use Rattle.order_book.specs.declared.books.Resting.{Resting}
 use Rattle.order_book.specs.Books.{first}
-use Rattle.continuous_audit.specs.declared.endings.Books.{Books}
-use Rattle.continuous_audit.specs.Holding.{IsPart, IsFilledInFront, IsWithin, resting_left, resting_left_after, after_fills, left_in}
-use Rattle.continuous_audit.specs.Endings.{BooksHold, with_list, list_of}
+use Rattle.continuous_audit.specs.declared.books.Books.{Books}
+use Rattle.continuous_audit.specs.Books.{BooksHold, list_of, with_list}
+use Rattle.continuous_audit.specs.Holding.{IsFilledInFront, IsPart, IsWithin, after_fills, left_in, resting_left, resting_left_after}
 use Rattle.continuous_audit.specs.Scans.{number_in}
 use Rattle.continuous_audit.proofs.RecordLemmas.{priority-away, priority-none, priority-found}
 use Rattle.continuous_audit.proofs.LeftLemmas.{within-left, after_fills-left, older}
@@ -53,7 +53,7 @@ module _ (orders : List Order) (list : IsOrderList orders) (deals : List Deal) (
     after_fills-new = subst (λ (t : Side). IsFilledInFront orders t now (resting_left_after orders deals p) ys) side_is
         (subst (IsFilledInFront orders side now (resting_left_after orders deals p)) (sym ys-is) (after_fills-left orders list deals n n_inside left count is side (list_of side b) (side-holds orders now side b hold)))
 
-    inside-of : (xs : List Resting) (best : Resting) → first xs ≡ Some best → IsFilledInFront orders (other_side (side_at orders n)) now (resting_left_after orders deals p) xs → best.index < n
+    inside-of : (xs : List Resting) (best : Resting) → first xs ≡ Some best → IsFilledInFront orders (other_side (side_at orders n)) now (resting_left_after orders deals p) xs → (best.index < n) × (side_at orders best.index ≡ other_side (side_at orders n))
     inside-of [] best e s = absurd (cc)
     inside-of (h ∷ zs) best e s =
         let part : IsPart orders (other_side (side_at orders n)) s.amount h = All-head (IsPart orders (other_side (side_at orders n)) s.amount) h zs s.holds.only in
@@ -61,9 +61,9 @@ module _ (orders : List Order) (list : IsOrderList orders) (deals : List Deal) (
         let some : 0 < s.amount h.index = part.some in
         let less : resting_left_after orders deals p h.index ≤ now h.index = omega arith in
         let was : 0 < now h.index = elim (s.either h.index) [ inl e ↦ omega arith | inr e ↦ omega arith ] in
-        subst (λ (x : Resting). x.index < n) same (older orders list deals n n_inside left count is h.index part.inside was).0
+        subst (λ (x : Resting). (x.index < n) × (side_at orders x.index ≡ other_side (side_at orders n))) same ((older orders list deals n n_inside left count is h.index part.inside was).0, part.of_side)
 
-    pub best-inside : (best : Resting) → first ys ≡ Some best → best.index < n
+    pub best-inside : (best : Resting) → first ys ≡ Some best → (best.index < n) × (side_at orders best.index ≡ other_side (side_at orders n))
     best-inside best e = inside-of ys best e after_fills-new
 
     none-of : (xs : List Resting) → first xs ≡ None → IsFilledInFront orders (other_side (side_at orders n)) now (resting_left_after orders deals p) xs → least_answer (priority_finding orders deals p) (length deals) ≡ None

@@ -20,8 +20,9 @@ use Rattle.audit_base.specs.Priority.{better_limit}
 use Rattle.order_book.specs.declared.books.Resting.{Resting}
 use Rattle.order_book.specs.Books.{BookSide, is_pair, with_added, with_order, without_order}
 use Rattle.continuous_audit.specs.declared.endings.Ending.{Ending}
-use Rattle.continuous_audit.specs.declared.endings.Books.{Books}
-use Rattle.continuous_audit.specs.Endings.{ending_at, endings_of, endings_upto, ending_cmp, IsEnding, AreEndings, missing_ending, place_in, index_in, books_without, BooksHold, is_gone, amount_without, resting_count}
+use Rattle.continuous_audit.specs.declared.books.Books.{Books}
+use Rattle.continuous_audit.specs.Books.{BooksHold, books_without, resting_count}
+use Rattle.continuous_audit.specs.Endings.{AreEndings, IsEnding, amount_without, ending_at, ending_cmp, endings_of, endings_upto, index_in, is_gone, missing_ending, place_in}
 use Rattle.continuous_audit.proofs.HoldLemmas.{hold-same, hold-without}
 
 -- the books without one order

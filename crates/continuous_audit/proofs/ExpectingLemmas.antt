@@ -1,9 +1,8 @@
 -- Before the first order nothing has traded; after the last the pairs in order are the Expected trades.
-use Rattle.std.proofs.Common.{◌≡◌, ◌<◌, ◌+◌, ◌^◌, ℕ, List, length, map, get_or, false, refl, sym, ap, ◌∙◌, arith, subst, All, AllPairs, IsPermutation, is_lt}
+use Rattle.std.proofs.Common.{◌≡◌, ◌<◌, ◌+◌, ◌^◌, ℕ, List, length, map, get_or, refl, sym, ap, ◌∙◌, arith, subst, All, AllPairs, IsPermutation, IsSorted}
 use Rattle.std.specs.Prelude.{Contains}
 use Rattle.std.proofs.lemmas.List.{get_or_default, get_or-map, length-map}
 use Rattle.std.proofs.lemmas.List.Sorted.{All-permutation, Contains-permutation, IsPermutation-map, length_permutation}
-use Rattle.audit_base.specs.declared.terms.Side.TheVariants.{Buy, Sell}
 use Rattle.audit_base.specs.declared.orders.Order.{Order}
 use Rattle.audit_base.specs.declared.orders.Deal.{Deal}
 use Rattle.audit_base.specs.Orders.{place_at, IsOrderList}
@@ -20,7 +19,7 @@ use Rattle.continuous_audit.specs.Holding.{resting_left}
 use Rattle.continuous_audit.specs.Matching.{AreAtFirst, AreExpected, IsMatched}
 use Rattle.continuous_audit.specs.Pairs.{AreNumbered, AreSharedPairs, IsDealt, IsSharedPair, PairBefore, deal_of, ends_of, missing_pair, pair_at, pair_cmp}
 use Rattle.continuous_audit.specs.Scans.{number_in}
-use Rattle.continuous_audit.proofs.AuditLemmas.{first-place, nothing-held, zero-in}
+use Rattle.continuous_audit.proofs.AuditLemmas.{empty-hold, first-place, zero-in}
 use Rattle.continuous_audit.proofs.MatchLemmas.{some-expected}
 use Rattle.continuous_laws.proofs.PlaceLemmas.{traded-none}
 
@@ -30,12 +29,7 @@ matched-first orders list t bare deals = record {
   traded_is = λ x lt. ap (λ (xs : List ℕ). number_in xs x) bare.traded ∙ zero-in (length orders) x ∙ sym (traded-none orders deals (place_at orders 0) x (first-place orders list deals x lt));
   before_is = λ x lt. absurd (omega arith);
   left_is = λ x lt. absurd (omega arith);
-  books = record {
-    bid_side = bare.standing.bid_side;
-    ask_side = bare.standing.ask_side;
-    bids = nothing-held orders list deals Buy t.standing.books.bids.resting bare.standing.bids;
-    asks = nothing-held orders list deals Sell t.standing.books.asks.resting bare.standing.asks;
-  };
+  books = empty-hold orders list deals t.standing bare.standing;
   pairs = subst (AreSharedPairs orders deals 0) (sym bare.pairs) (record {
     each = λ k d lt. absurd (omega arith);
     complete = λ bid ask b a some. absurd (omega arith);
@@ -44,7 +38,7 @@ matched-first orders list t bare deals = record {
 }
 
 module _ (orders : List Order) (list : IsOrderList orders) (regular : Regular orders) (pairs sorted : List Pair) (moved : IsPermutation pairs sorted)
-    (in_order : (k : ℕ) (d : Pair) → k + 1 < length sorted → is_lt (pair_cmp (get_or sorted (k + 1) d) (get_or sorted k d)) ≡ false)
+    (in_order : IsSorted pair_cmp sorted)
     (matched : (deals : List Deal) → AreExpected orders deals → AreSharedPairs orders deals (length orders) pairs) (dealt : All (IsDealt (length orders)) pairs) where
   pub sorted-dealt : All (IsDealt (length orders)) sorted
   sorted-dealt = All-permutation (IsDealt (length orders)) pairs sorted moved dealt
@@ -73,7 +67,7 @@ module _ (orders : List Order) (list : IsOrderList orders) (regular : Regular or
     made-are =
         let count : length made ≡ length sorted = numbers.count in
         let each : All (IsSharedPair orders deals (length orders)) sorted = All-permutation (IsSharedPair orders deals (length orders)) pairs sorted moved shared.each in
-        let rising : AllPairs PairBefore sorted = sorted-in_order (λ (p : Pair). p.bid) (λ (p : Pair). p.ask) (λ (p : Pair). p.quantity) pairs sorted moved shared.apart in_order in
+        let rising : AllPairs PairBefore sorted = sorted-in_order (λ (p : Pair). p.bid) (λ (p : Pair). p.ask) (λ (p : Pair). p.quantity) pairs sorted moved shared.apart (λ k d lt. in_order k d (omega arith) lt) in
         record {
           each = λ k d lt.
               let s = each k missing_pair (omega arith) in

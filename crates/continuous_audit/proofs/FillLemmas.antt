@@ -5,7 +5,7 @@ use Rattle.std.proofs.lemmas.Bool.{lt-ltb, le-ltb, cond-true, cond-false}
 use Rattle.order_book.specs.declared.books.Resting.{Resting}
 use Rattle.std.proofs.lemmas.List.Elements.{All-tail}
 use Rattle.order_book.specs.Books.{first}
-use Rattle.continuous_audit.specs.Holding.{with_best_left, after_fills, left_in, IsWithin}
+use Rattle.continuous_audit.specs.Holding.{IsWithin, after_fills, left_in, with_best_left}
 
 pub same-lessened : (xs : List Resting) (left now : ℕ) → IfSome (first xs) (λ r. r.left ≡ left) → 0 < left → now ≤ left → left ≤ now → xs ≡ with_best_left now xs
 same-lessened [] left now h some le ge = refl

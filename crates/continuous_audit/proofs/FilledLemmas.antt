@@ -11,8 +11,8 @@ use Rattle.audit_base.proofs.SumLemmas.{AllPairs-head, AllPairs-tail, AllPairs-c
 use Rattle.order_book.specs.declared.books.Resting.{Resting}
 use Rattle.order_book.specs.Books.{IsAhead}
 use Rattle.continuous_audit.specs.declared.fills.Fill.{Fill}
+use Rattle.continuous_audit.specs.Fills.{fill_of, filled, fills_of, rest_of, total_filled, trades_with}
 use Rattle.continuous_audit.specs.Holding.{IsPart}
-use Rattle.continuous_audit.specs.Fills.{trades_with, fill_of, fills_of, rest_of, filled, total_filled}
 use Rattle.continuous_audit.proofs.HoldLemmas.{parts-apart}
 use Rattle.continuous_audit.proofs.WalkLemmas.{none-left, filled-cons}
 

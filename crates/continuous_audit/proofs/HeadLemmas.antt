@@ -18,7 +18,7 @@ use Rattle.audit_base.proofs.PriorityLemmas.{better-side, outranks-better, Bette
 use Rattle.audit_base.proofs.ContinuousOffenceLemmas.{traded-more}
 use Rattle.order_book.specs.declared.books.Resting.{Resting}
 use Rattle.order_book.specs.Books.{IsAhead, first, after_take}
-use Rattle.continuous_audit.specs.Holding.{resting_with, resting_of, IsPart, Holds, resting_left, after_fills, IsFilledInFront}
+use Rattle.continuous_audit.specs.Holding.{Holds, IsFilledInFront, IsPart, after_fills, resting_left, resting_of, resting_with}
 use Rattle.continuous_audit.proofs.HoldLemmas.{hold-taken, hold-same}
 use Rattle.continuous_audit.proofs.RestLemmas.{resting_left-parts, resting_left-is}
 

@@ -11,7 +11,7 @@ use Rattle.audit_base.specs.Priority.{better_limit}
 use Rattle.audit_base.proofs.SumLemmas.{AllPairs-head, AllPairs-tail, AllPairs-cons, Contains-cases, Contains-front, Contains-behind}
 use Rattle.order_book.specs.declared.books.Resting.{Resting}
 use Rattle.order_book.specs.Books.{IsAhead, with_order, is_pair, without_order, after_take}
-use Rattle.continuous_audit.specs.Holding.{resting_with, resting_of, IsPart, Holds}
+use Rattle.continuous_audit.specs.Holding.{Holds, IsPart, resting_of, resting_with}
 
 -- no order stands ahead of one with its own index and limit
 not-ahead : (side : Side) (r s : Resting) → r.index ≡ s.index → r.limit ≡ s.limit → IsAhead side r s → ⊥

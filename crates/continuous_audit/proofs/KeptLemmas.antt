@@ -15,7 +15,7 @@ use Rattle.audit_base.proofs.SumLemmas.{sum_by-same}
 use Rattle.audit_base.proofs.OrderLemmas.{place-rises}
 use Rattle.audit_base.proofs.OffenceLemmas.{get_or-default}
 use Rattle.audit_base.proofs.ContinuousLemmas.{target-below, chain-none, chain-some, before-is, before-some}
-use Rattle.continuous_audit.specs.Chains.{ends_by, IsClosed}
+use Rattle.continuous_audit.specs.Chains.{IsClosed, ends_by}
 use Rattle.continuous_audit.specs.Scans.{number_in}
 use Rattle.continuous_laws.proofs.StepLemmas.{rests-parts}
 use Rattle.continuous_audit.proofs.RecordLemmas.{ends}

@@ -13,8 +13,8 @@ use Rattle.audit_base.proofs.OrderLemmas.{place-rises}
 use Rattle.audit_base.proofs.ContinuousOffenceLemmas.{traded-more}
 use Rattle.order_book.specs.declared.books.Resting.{Resting}
 use Rattle.continuous_audit.specs.declared.causes.Cause.{Cause}
-use Rattle.continuous_audit.specs.Holding.{Holds, IsPart, IsFilledInFront, resting_left, resting_left_after, left_in, IsWithin, after_fills}
-use Rattle.continuous_audit.specs.Scans.{number_in, deal_in, IsRefreshed}
+use Rattle.continuous_audit.specs.Holding.{Holds, IsFilledInFront, IsPart, IsWithin, after_fills, left_in, resting_left, resting_left_after}
+use Rattle.continuous_audit.specs.Scans.{IsRefreshed, deal_in, number_in}
 use Rattle.continuous_laws.proofs.StepLemmas.{rests-parts}
 use Rattle.continuous_audit.proofs.RestLemmas.{resting_left-parts}
 use Rattle.continuous_audit.proofs.HeadLemmas.{after_fills-holds}

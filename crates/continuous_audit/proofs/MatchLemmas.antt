@@ -19,12 +19,13 @@ use Rattle.audit_base.proofs.ContinuousOffenceLemmas.{traded-more}
 use Rattle.continuous_laws.proofs.ExpectedLemmas.{shared, expected-exist, expected-traded, expected-all}
 use Rattle.continuous_laws.proofs.LawLemmas.{expected_conform}
 use Rattle.order_book.specs.declared.books.Resting.{Resting}
-use Rattle.continuous_audit.specs.declared.endings.Books.{Books}
+use Rattle.continuous_audit.specs.declared.sheet.Sheet.{Sheet}
+use Rattle.continuous_audit.specs.declared.books.Books.{Books}
 use Rattle.continuous_audit.specs.declared.fills.Fill.{Fill}
 use Rattle.continuous_audit.specs.declared.pairs.Pair.{Pair}
+use Rattle.continuous_audit.specs.Books.{BooksHold, list_of, with_list}
 use Rattle.continuous_audit.specs.Chains.{IsOpening}
-use Rattle.continuous_audit.specs.Endings.{BooksHold, list_of, with_list}
-use Rattle.continuous_audit.specs.Fills.{fills_of, rest_of, filled, total_filled}
+use Rattle.continuous_audit.specs.Fills.{filled, fills_of, rest_of, total_filled}
 use Rattle.continuous_audit.specs.Holding.{Holds, resting_left, resting_left_after}
 use Rattle.continuous_audit.specs.Matching.{AreExpected}
 use Rattle.continuous_audit.specs.Pairs.{AreSharedPairs, IsSharedPair, PairsDiffer, ends_of, pair_of}
@@ -106,9 +107,9 @@ module _ (orders : List Order) (list : IsOrderList orders) (n : ℕ) (n_inside :
   available-is k = nested (meets (order_at orders n) (order_at orders k)) (rests orders past p k) (left orders past p k)
 
   -- what is known of the orders when the order at n comes
-  pub opening-is : (traded left before : List ℕ) → ((x : ℕ) → x < length orders → number_in traded x ≡ past p x) → ((x : ℕ) → x < n → number_in before x ≡ before_of orders deals x)
-      → ((x : ℕ) → x < n → number_in left x ≡ left_before orders deals p x) → IsOpening orders deals n traded left before
-  opening-is traded left before traded_is before_is left_is = record {
+  pub opening-is : (traded : List ℕ) (sheet : Sheet) → ((x : ℕ) → x < length orders → number_in traded x ≡ past p x) → ((x : ℕ) → x < n → number_in sheet.before.items x ≡ before_of orders deals x)
+      → ((x : ℕ) → x < n → number_in sheet.left.items x ≡ left_before orders deals p x) → IsOpening orders deals n traded sheet
+  opening-is traded sheet traded_is before_is left_is = record {
     kept = record { conforms = λ i lt. is.conforms.each i; named = is.conforms.named; traded_is = traded_is; before_is = before_is };
     left_is = left_is;
   }

@@ -1,5 +1,5 @@
 -- The numbers of the audit from one order to the next.
-use Rattle.std.proofs.Common.{◌≡◌, ◌<◌, ◌≤◌, ◌+◌, ◌-◌, ◌*◌, ◌^◌, ℕ, zero, suc, List, [], ◌∷◌, length, Bool, true, false, refl, sym, ap, ◌∙◌, arith, inl, inr, subst, sum_by}
+use Rattle.std.proofs.Common.{◌≡◌, ◌<◌, ◌≤◌, ◌-◌, ◌*◌, ◌^◌, ℕ, zero, suc, List, [], ◌∷◌, length, Bool, true, false, refl, sym, ap, ◌∙◌, arith, inl, inr, subst, sum_by}
 use Rattle.std.specs.Prelude.{slice_set}
 use Rattle.std.proofs.lemmas.Bool.{cases_eq}
 use Rattle.std.proofs.lemmas.List.{length-set, get_or-set_same, get_or-set_other}
@@ -12,10 +12,14 @@ use Rattle.audit_base.specs.Continuous.{traded_before, before_of, entered_of, si
 use Rattle.audit_base.proofs.OrderLemmas.{place-rises}
 use Rattle.audit_base.proofs.OffenceLemmas.{get_or-default}
 use Rattle.continuous_audit.specs.declared.causes.Cause.{Cause}
-use Rattle.continuous_audit.specs.Causes.{AreCauses, causes_upto, cause_of, running_total}
-use Rattle.continuous_audit.specs.Chains.{flag_in, AreClosed, IsClosed, IsOpening}
-use Rattle.continuous_audit.specs.Scans.{number_in, order_in, missing_cause, IsKnown, AreRunningTotals, IsSplitAt, IsRefreshed}
-use Rattle.continuous_audit.specs.Progress.{AreBefore, AreSizes, AreLeft, AreTraded, ConformsBelow}
+use Rattle.continuous_audit.specs.declared.market.Market.{Market}
+use Rattle.continuous_audit.specs.declared.numbers.Numbers.{Numbers}
+use Rattle.continuous_audit.specs.declared.sheet.Sheet.{Sheet}
+use Rattle.continuous_audit.specs.Progress.{AreNumbers}
+use Rattle.continuous_audit.specs.Causes.{AreCauses, cause_of, causes_upto, running_total}
+use Rattle.continuous_audit.specs.Chains.{AreClosed, IsClosed, IsOpenSheet, IsOpening, flag_in}
+use Rattle.continuous_audit.specs.Records.{AreBefore, AreLeft, AreSizes, AreTraded, ConformsBelow}
+use Rattle.continuous_audit.specs.Scans.{AreSmall, AreRunningTotals, IsKnown, IsRefreshed, IsSplitAt, missing_cause, number_in, order_in}
 use Rattle.continuous_audit.proofs.CauseLemmas.{cause-inside, running-before}
 use Rattle.continuous_audit.proofs.RefreshLemmas.{refreshed-after}
 
@@ -64,8 +68,8 @@ module _ (orders : List Order) (deals : List Deal) (n : ℕ) (n_inside : n < len
     ];
   })
 
-  pub known : (entered : Bool) (sizes left : List ℕ) → entered ≡ entered_of orders deals n → AreSizes orders deals (suc n) sizes → AreLeft orders deals n (place_at orders n) left → IsKnown orders deals n entered sizes left
-  known entered sizes left arrived z l = record {
+  pub known : (entered : Bool) (sheet : Sheet) → entered ≡ entered_of orders deals n → AreSizes orders deals (suc n) sheet.sizes.items → AreLeft orders deals n (place_at orders n) sheet.left.items → IsKnown orders deals n entered sheet
+  known entered sheet arrived z l = record {
     sizes_count = z.count;
     left_count = l.count;
     arrived = arrived;
@@ -77,12 +81,15 @@ module _ (orders : List Order) (list : IsOrderList orders) (deals : List Deal) (
   few-causes : length causes ≤ length deals
   few-causes = omega (arith, are.sums (λ c. 1), ones causes, ones-upto orders deals (length deals))
 
-  pub running-fits : (at : ℕ) (traded : List ℕ) → AreRunningTotals orders deals causes at traded → (x : ℕ) → x < length orders → number_in traded x ≤ 2 ^ 72
-  running-fits at traded run x lt =
-      let f = run.fits x lt in
-      let i = run.inside in
-      let few = deal_list.few in
-      omega (arith, few-causes)
+  pub running-small : (at : ℕ) (traded : List ℕ) → AreRunningTotals orders deals causes at traded → AreSmall orders traded
+  running-small at traded run = record {
+    count = run.count;
+    most = λ x lt.
+        let f = run.fits x lt in
+        let i = run.inside in
+        let few = deal_list.few in
+        omega (arith, few-causes);
+  }
 
   -- the first causes, those of the orders below m, where these are the orders of places below q
   running-at : (q m at : ℕ) → IsSplitAt causes m at → ((k : ℕ) → k < length orders → k < m → place_at orders k < q) → ((k : ℕ) → k < length orders → m ≤ k → q ≤ place_at orders k) → (x : ℕ) → running_total deals causes at x ≡ traded_before orders deals q x
@@ -92,9 +99,8 @@ module _ (orders : List Order) (list : IsOrderList orders) (deals : List Deal) (
 
   pub traded-at : (q m at : ℕ) (traded : List ℕ) → IsSplitAt causes m at → AreRunningTotals orders deals causes at traded → ((k : ℕ) → k < length orders → k < m → place_at orders k < q) → ((k : ℕ) → k < length orders → m ≤ k → q ≤ place_at orders k) → AreTraded orders deals q traded
   traded-at q m at traded split run low high = record {
-    count = run.count;
+    small = running-small at traded run;
     is = λ x lt. run.sums x lt ∙ running-at q m at split low high x;
-    fits = running-fits at traded run;
   }
 
   module _ (n : ℕ) (n_inside : n < length orders) where
@@ -107,28 +113,28 @@ module _ (orders : List Order) (list : IsOrderList orders) (deals : List Deal) (
       | inr ne ↦ let up = place-rises orders list n k (omega (arith, ne)) inside in omega arith
     ])
 
-    pub traded-now : (at : ℕ) (traded : List ℕ) → IsSplitAt causes (n + 1) at → AreRunningTotals orders deals causes at traded → AreTraded orders deals (suc p) traded
-    traded-now at traded split run = traded-at (suc p) (n + 1) at traded split run
+    pub traded-now : (at : ℕ) (traded : List ℕ) → IsSplitAt causes (suc n) at → AreRunningTotals orders deals causes at traded → AreTraded orders deals (suc p) traded
+    traded-now at traded split run = traded-at (suc p) (suc n) at traded split run
         (λ k inside lt. elim (cases_eq k n) [
           | inl e ↦ let same : place_at orders k ≡ p = ap (place_at orders) e in omega arith
           | inr ne ↦ let up = place-rises orders list k n (omega (arith, ne)) n_inside in omega arith
         ])
         (λ k inside le. let up = place-rises orders list n k (omega arith) inside in omega arith)
 
-    pub opening : (at : ℕ) (traded left before traded' left' before' : List ℕ) → traded' ≡ traded → left' ≡ left → before' ≡ before → ConformsBelow orders deals p → AreBefore orders deals n before → AreLeft orders deals n p left → IsSplitAt causes n at → AreRunningTotals orders deals causes at traded → IsOpening orders deals n traded' left' before'
-    opening at traded left before traded' left' before' same_traded same_left same_before conforms b l split run =
+    pub opening : (at : ℕ) (traded traded' : List ℕ) (sheet : Sheet) → traded' ≡ traded → ConformsBelow orders deals p → AreBefore orders deals n sheet.before.items → AreLeft orders deals n p sheet.left.items → IsSplitAt causes n at → AreRunningTotals orders deals causes at traded → IsOpening orders deals n traded' sheet
+    opening at traded traded' sheet same conforms b l split run =
         let t = traded-then at traded split run in
         record {
           kept = record {
             conforms = conforms;
             named = deal_list.named;
-            traded_is = λ x lt. ap (λ (xs : List ℕ). number_in xs x) same_traded ∙ t.is x lt;
-            before_is = λ x lt. ap (λ (xs : List ℕ). number_in xs x) same_before ∙ b.is x lt;
+            traded_is = λ x lt. ap (λ (xs : List ℕ). number_in xs x) same ∙ t.is x lt;
+            before_is = b.is;
           };
-          left_is = λ x lt. ap (λ (xs : List ℕ). number_in xs x) same_left ∙ l.is x lt;
+          left_is = l.is;
         }
 
-    pub left-after_deals : (start at : ℕ) (sizes traded old new ys : List ℕ) (m : ℕ) → IsSplitAt causes n start → IsSplitAt causes (n + 1) at → AreRunningTotals orders deals causes at traded → AreSizes orders deals (suc n) sizes → AreLeft orders deals n p old
+    pub left-after_deals : (start at : ℕ) (sizes traded old new ys : List ℕ) (m : ℕ) → IsSplitAt causes n start → IsSplitAt causes (suc n) at → AreRunningTotals orders deals causes at traded → AreSizes orders deals (suc n) sizes → AreLeft orders deals n p old
         → IsRefreshed deals causes start at sizes traded old new → m ≡ number_in sizes n - number_in traded n → ys ≡ slice_set new n m → AreLeft orders deals (suc n) (suc p) ys
     left-after_deals start at sizes traded old new ys m split later run z l refreshed m_is made =
         let t = traded-now at traded later run in
@@ -140,3 +146,13 @@ module _ (orders : List Order) (list : IsOrderList orders) (deals : List Deal) (
             | inr ne ↦ get_or-set_other {A = ℕ} new n x m 0 ne ∙ refreshed-after orders list deals deal_list causes are n n_inside start at run.inside split later sizes traded old new refreshed (λ y lt. z.is y (omega arith)) t.is l.is x (omega (arith, ne))
           ];
         })
+
+-- whatever the deals are, of these numbers
+pub open-sheet : (m : Market) (n q : ℕ) (numbers : Numbers) → AreNumbers m n q numbers → IsOpenSheet m.orders.now n numbers.sheet
+open-sheet m n q numbers known = record {
+  before_count = known.before.count;
+  sizes_count = known.sizes.count;
+  left_count = known.left.count;
+  closed = known.closed;
+  bounded = known.before.bounded;
+}

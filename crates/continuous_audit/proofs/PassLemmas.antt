@@ -1,10 +1,10 @@
 -- The first deal of a record that passes the best order over.
-use Rattle.std.proofs.Common.{◌≡◌, ◌<◌, ◌≤◌, ◌+◌, ℕ, List, [], ◌∷◌, length, true, false, Some, None, sym, ap, ◌∙◌, arith, inl, inr, subst, get_or}
+use Rattle.std.proofs.Common.{◌≡◌, ◌<◌, ◌≤◌, ℕ, suc, List, [], ◌∷◌, length, true, false, Some, None, sym, ap, ◌∙◌, arith, inl, inr, subst, get_or}
 use Rattle.std.proofs.lemmas.Bool.{cases_eq, cases_lt}
 use Rattle.audit_base.specs.declared.orders.Order.{Order}
 use Rattle.audit_base.specs.declared.orders.Deal.{Deal}
 use Rattle.audit_base.specs.Least.{least_answer}
-use Rattle.audit_base.specs.Orders.{order_at, place_at, side_at, other_side, IsOrderList}
+use Rattle.audit_base.specs.Orders.{missing_order, order_at, place_at, side_at, other_side, IsOrderList}
 use Rattle.audit_base.specs.Priority.{better}
 use Rattle.audit_base.specs.Deals.{deal_at, missing_deal, IsDealList}
 use Rattle.audit_base.specs.Continuous.{cause, resting, incoming, traded_before}
@@ -15,15 +15,15 @@ use Rattle.audit_base.proofs.OffenceLemmas.{get_or-default}
 use Rattle.order_book.specs.declared.books.Resting.{Resting}
 use Rattle.order_book.specs.Books.{first}
 use Rattle.continuous_audit.specs.declared.causes.Cause.{Cause}
-use Rattle.continuous_audit.specs.Causes.{cause_of, AreCauses}
 use Rattle.continuous_audit.specs.Breaches.{outranked_finding}
+use Rattle.continuous_audit.specs.Causes.{AreCauses, cause_of}
 use Rattle.continuous_audit.specs.Holding.{IsFilledInFront, resting_left, resting_left_after}
-use Rattle.continuous_audit.specs.Scans.{missing_cause, order_in, deal_in, IsSplitAt}
+use Rattle.continuous_audit.specs.Scans.{IsSplitAt, deal_in, missing_cause, order_in}
 use Rattle.continuous_audit.proofs.CauseLemmas.{incoming-cause}
 use Rattle.continuous_audit.proofs.RecordLemmas.{IsOfCause, ends, priority-away, priority-clear, priority-found}
 
 module _ (orders : List Order) (list : IsOrderList orders) (deals : List Deal) (deal_list : IsDealList orders deals) (causes : List Cause) (are : AreCauses orders deals causes) (n : ℕ) (n_inside : n < length orders)
-    (start end : ℕ) (within : end ≤ length causes) (split : IsSplitAt causes n start) (later : IsSplitAt causes (n + 1) end) where
+    (start end : ℕ) (within : end ≤ length causes) (split : IsSplitAt causes n start) (later : IsSplitAt causes (suc n) end) where
   abbrev p : ℕ
   p = place_at orders n
 
@@ -50,6 +50,13 @@ module _ (orders : List Order) (list : IsOrderList orders) (deals : List Deal) (
       let same : order_in causes i ≡ n = omega arith in
       let order_is : order_in causes i ≡ incoming orders (deal_at deals (deal_in causes i)) = ap (λ (c : Cause). c.order) h.1 in
       record { inside = h.0; at = sym (incoming-cause orders (deal_at deals (deal_in causes i))) ∙ ap (place_at orders) (sym order_is ∙ same) }
+
+  -- its resting order is of the other side
+  pub resting-opposite : (i : ℕ) → start ≤ i → i < end → side_at orders (resting orders (deal_at deals (deal_in causes i))) ≡ other_side (side_at orders n)
+  resting-opposite i from below =
+      let of = of-cause i from below in
+      let e = ends orders list deals deal_list.named n n_inside (deal_at deals (deal_in causes i)) (deal_list.named (deal_in causes i) missing_deal of.inside) of.at in
+      ap (side_at orders) e.1.resting_is ∙ e.1.of_side
 
   module _ (h : Resting) (zs : List Resting) (s : IsFilledInFront orders (other_side (side_at orders n)) (resting_left orders (traded_before orders deals) p) (resting_left_after orders deals p) (h ∷ zs)) where
     clear-at : (at : ℕ) → at ≤ end → ((i : ℕ) → start ≤ i → i < at → better (order_at orders h.index) (order_at orders (resting orders (deal_at deals (deal_in causes i)))) ≡ false)
@@ -88,7 +95,7 @@ module _ (orders : List Order) (list : IsOrderList orders) (deals : List Deal) (
 
 -- the same of a list with this first order
 pub pass-none-first : (orders : List Order) (list : IsOrderList orders) (deals : List Deal) (deal_list : IsDealList orders deals) (causes : List Cause) (are : AreCauses orders deals causes) (n : ℕ) (n_inside : n < length orders)
-    (start end : ℕ) (within : end ≤ length causes) (split : IsSplitAt causes n start) (later : IsSplitAt causes (n + 1) end) (best : Resting) (ys : List Resting) → first ys ≡ Some best
+    (start end : ℕ) (within : end ≤ length causes) (split : IsSplitAt causes n start) (later : IsSplitAt causes (suc n) end) (best : Resting) (ys : List Resting) → first ys ≡ Some best
     → IsFilledInFront orders (other_side (side_at orders n)) (resting_left orders (traded_before orders deals) (place_at orders n)) (resting_left_after orders deals (place_at orders n)) ys
     → ((i : ℕ) → start ≤ i → i < end → better (order_at orders best.index) (order_at orders (resting orders (deal_at deals (deal_in causes i)))) ≡ false)
     → least_answer (priority_finding orders deals (place_at orders n)) (length deals) ≡ None
@@ -99,7 +106,7 @@ pass-none-first orders list deals deal_list causes are n n_inside start end with
     (λ i from below. subst (λ (b : Resting). better (order_at orders b.index) (order_at orders (resting orders (deal_at deals (deal_in causes i)))) ≡ false) is (under i from below))
 
 pub pass-found-first : (orders : List Order) (list : IsOrderList orders) (deals : List Deal) (deal_list : IsDealList orders deals) (causes : List Cause) (are : AreCauses orders deals causes) (n : ℕ) (n_inside : n < length orders)
-    (start end : ℕ) (within : end ≤ length causes) (split : IsSplitAt causes n start) (later : IsSplitAt causes (n + 1) end) (best : Resting) (ys : List Resting) → first ys ≡ Some best
+    (start end : ℕ) (within : end ≤ length causes) (split : IsSplitAt causes n start) (later : IsSplitAt causes (suc n) end) (best : Resting) (ys : List Resting) → first ys ≡ Some best
     → IsFilledInFront orders (other_side (side_at orders n)) (resting_left orders (traded_before orders deals) (place_at orders n)) (resting_left_after orders deals (place_at orders n)) ys
     → (at : ℕ) → start ≤ at → at < end → ((i : ℕ) → start ≤ i → i < at → better (order_at orders best.index) (order_at orders (resting orders (deal_at deals (deal_in causes i)))) ≡ false)
     → better (order_at orders best.index) (order_at orders (resting orders (deal_at deals (deal_in causes at)))) ≡ true
@@ -111,3 +118,9 @@ pass-found-first orders list deals deal_list causes are n n_inside start end wit
     (λ i from below. subst (λ (x : Resting). better (order_at orders x.index) (order_at orders (resting orders (deal_at deals (deal_in causes i)))) ≡ false) is (under i from below))
     (subst (λ (x : Resting). better (order_at orders x.index) (order_at orders (resting orders (deal_at deals (deal_in causes at)))) ≡ true) is t)
     ∙ ap (λ (x : Resting). Some (outranked_finding orders (shown_after orders deals (place_at orders n)) (deal_at deals (deal_in causes at)) x.index)) (sym is)
+
+-- the order that the code reads of the deal of a cause
+pub resting-read : (orders : List Order) (deals : List Deal) (causes : List Cause) (are : AreCauses orders deals causes) (at : ℕ) → at < length causes → (d : Deal) → d ≡ get_or deals (deal_in causes at) d → (r : ℕ) → r ≡ resting orders d → r < length orders
+    → (o : Order) → o ≡ get_or orders r o → o ≡ order_at orders (resting orders (deal_at deals (deal_in causes at)))
+resting-read orders deals causes are at lt d d_read r r_is inside o o_read =
+    o_read ∙ get_or-default orders r o missing_order inside ∙ ap (order_at orders) (r_is ∙ ap (resting orders) (d_read ∙ get_or-default deals (deal_in causes at) d missing_deal (are.only at missing_cause lt).0))

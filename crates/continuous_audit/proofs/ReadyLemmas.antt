@@ -9,10 +9,11 @@ use Rattle.audit_base.specs.Deals.{NamesOrders}
 use Rattle.audit_base.specs.Continuous.{traded_before, size}
 use Rattle.audit_base.proofs.OrderLemmas.{place-rises}
 use Rattle.continuous_audit.specs.declared.endings.Ending.{Ending}
-use Rattle.continuous_audit.specs.declared.endings.Books.{Books}
-use Rattle.continuous_audit.specs.Endings.{AreEndings, BooksHold, place_in, amount_without}
+use Rattle.continuous_audit.specs.declared.books.Books.{Books}
+use Rattle.continuous_audit.specs.Books.{BooksHold, ready_place, without_own}
+use Rattle.continuous_audit.specs.Endings.{AreDropped, AreEndedBelow, AreEndings, amount_without}
 use Rattle.continuous_audit.specs.Holding.{resting_left, resting_left_after}
-use Rattle.continuous_audit.specs.Progress.{AreLeft, AreDropped, without_own, ready_place}
+use Rattle.continuous_audit.specs.Records.{AreLeft}
 use Rattle.continuous_audit.proofs.BooksLemmas.{after-endings, before-next}
 use Rattle.continuous_audit.proofs.RestLemmas.{traded-gap}
 use Rattle.continuous_audit.proofs.RecordLemmas.{no-cause}
@@ -21,16 +22,16 @@ pub ready-here : (orders : List Order) (n : ℕ) → n < length orders → ready
 ready-here orders zero lt = refl
 ready-here orders (suc n) lt = cond-true (nat_lt (suc n) (length orders)) (place_at orders (suc n)) (suc (place_at orders n)) (lt-ltb _ _ lt)
 
-pub dropped-more : (endings : List Ending) (start at p q : ℕ) → AreDropped endings start p → p ≤ q → at ≤ length endings → ((i : ℕ) → start ≤ i → i < at → place_in endings i < q) → AreDropped endings at q
-dropped-more endings start at p q old le inside between = record {
-  inside = inside;
+pub dropped-more : (endings : List Ending) (start at p q : ℕ) → AreDropped endings start p → p ≤ q → AreEndedBelow endings start at q → AreDropped endings at q
+dropped-more endings start at p q old le ended = record {
+  inside = ended.inside;
   early = λ i lt below. elim (cases_lt i start) [
     | inl less ↦ let e = old.early i less below in omega arith
-    | inr more ↦ between i more lt
+    | inr more ↦ ended.early i more lt
   ];
 }
 
-module _ (orders : List Order) (list : IsOrderList orders) (deals : List Deal) (named : All (NamesOrders orders) deals) (n : ℕ) (n_inside : n < length orders) where
+module _ (orders : List Order) (list : IsOrderList orders) (n : ℕ) (n_inside : n < length orders) where
   abbrev p : ℕ
   p = place_at orders n
 
@@ -54,17 +55,22 @@ module _ (orders : List Order) (list : IsOrderList orders) (deals : List Deal) (
         | inr ne ↦ let up = place-rises orders list (suc n) k (omega (arith, ne)) inside in omega arith
       ]
 
-  pub left-next : (left : List ℕ) → AreLeft orders deals (suc n) (suc p) left → AreLeft orders deals (suc n) q left
+module _ (orders : List Order) (list : IsOrderList orders) (deals : List Deal) (named : All (NamesOrders orders) deals) (n : ℕ) (n_inside : n < length orders) where
+  abbrev after : ℕ
+  after = suc (place_at orders n)
+
+  abbrev next : ℕ
+  next = ready_place orders (suc n)
+
+  pub left-next : (left : List ℕ) → AreLeft orders deals (suc n) after left → AreLeft orders deals (suc n) next left
   left-next left l = record {
     count = l.count;
-    is = λ x lt. l.is x lt ∙ ap (λ (m : ℕ). size orders (traded_before orders deals) x - m) (sym (traded-gap orders deals (suc p) q x next-above (no-cause orders list deals named n n_inside q next-above next-first)));
+    is = λ x lt. l.is x lt ∙ ap (λ (m : ℕ). size orders (traded_before orders deals) x - m) (sym (traded-gap orders deals after next x (next-above orders list n n_inside) (no-cause orders list deals named n n_inside next (next-above orders list n n_inside) (next-first orders list n n_inside))));
   }
 
-  module _ (endings : List Ending) (are : AreEndings orders endings) (start at upto : ℕ) where
-    pub others-hold : upto ≡ suc p → AreDropped endings start p → ((i : ℕ) → start ≤ i → i < at → place_in endings i < upto) → at ≤ length endings → (at < length endings → upto ≤ place_in endings at)
-        → (b : Books) → BooksHold orders (amount_without endings start at (resting_left_after orders deals p)) b → BooksHold orders (without_own orders deals n) b
-    others-hold e old between inside next b hold = after-endings orders list deals named n n_inside endings are start at old.early (λ i le lt. let l = between i le lt in omega arith) inside (λ lt. let l = next lt in omega arith) b hold
+  module _ (endings : List Ending) (are : AreEndings orders endings) (start at upto : ℕ) (ended : AreEndedBelow endings start at upto) where
+    pub others-hold : upto ≡ after → AreDropped endings start (place_at orders n) → (b : Books) → BooksHold orders (amount_without endings start at (resting_left_after orders deals (place_at orders n))) b → BooksHold orders (without_own orders deals n) b
+    others-hold e old b hold = after-endings orders list deals named n n_inside endings are start at old.early (λ i le lt. let l = ended.early i le lt in omega arith) ended.inside (λ lt. let l = ended.next lt in omega arith) b hold
 
-    pub next-holds : upto ≡ q → AreDropped endings start (suc p) → ((i : ℕ) → start ≤ i → i < at → place_in endings i < upto) → at ≤ length endings → (at < length endings → upto ≤ place_in endings at)
-        → (b : Books) → BooksHold orders (amount_without endings start at (resting_left orders (traded_before orders deals) (suc p))) b → BooksHold orders (resting_left orders (traded_before orders deals) q) b
-    next-holds e old between inside next b hold = before-next orders list deals named n n_inside q next-above next-first endings are start at old.early (λ i le lt. let l = between i le lt in omega arith) inside (λ lt. let l = next lt in omega arith) b hold
+    pub next-holds : upto ≡ next → AreDropped endings start after → (b : Books) → BooksHold orders (amount_without endings start at (resting_left orders (traded_before orders deals) after)) b → BooksHold orders (resting_left orders (traded_before orders deals) next) b
+    next-holds e old b hold = before-next orders list deals named n n_inside next (next-above orders list n n_inside) (next-first orders list n n_inside) endings are start at old.early (λ i le lt. let l = ended.early i le lt in omega arith) ended.inside (λ lt. let l = ended.next lt in omega arith) b hold

@@ -1,5 +1,5 @@
 -- After the deals of a record the numbers that are left are those of the rule.
-use Rattle.std.proofs.Common.{◌≡◌, ◌<◌, ◌≤◌, ◌+◌, ℕ, suc, List, length, true, refl, ap, ◌∙◌, arith, inl, inr, subst}
+use Rattle.std.proofs.Common.{◌≡◌, ◌<◌, ◌≤◌, ℕ, suc, List, length, true, refl, ap, ◌∙◌, arith, inl, inr, subst}
 use Rattle.std.specs.Prelude.{nat_lt, ◌==◌}
 use Rattle.std.proofs.lemmas.Bool.{cases_lt, both_ways, eq-eqb, or_left, or_right, cond_both}
 use Rattle.audit_base.specs.declared.orders.Order.{Order}
@@ -10,7 +10,7 @@ use Rattle.audit_base.specs.Continuous.{resting, traded_before, traded_at, size_
 use Rattle.audit_base.proofs.ContinuousOffenceLemmas.{traded-more}
 use Rattle.continuous_audit.specs.declared.causes.Cause.{Cause}
 use Rattle.continuous_audit.specs.Causes.{AreCauses}
-use Rattle.continuous_audit.specs.Scans.{number_in, deal_in, IsSplitAt, IsRefreshed}
+use Rattle.continuous_audit.specs.Scans.{IsRefreshed, IsSplitAt, deal_in, number_in}
 use Rattle.continuous_audit.proofs.RecordLemmas.{traded-resting}
 use Rattle.continuous_audit.proofs.PassLemmas.{located}
 
@@ -20,7 +20,7 @@ names-resting orders d = cond_both (nat_lt (place_at orders d.bid) (place_at ord
     (λ t. or_left (d.bid == d.bid) (d.ask == d.bid) (eq-eqb d.bid d.bid refl)) (λ t. or_right (d.bid == d.ask) (d.ask == d.ask) (eq-eqb d.ask d.ask refl))
 
 module _ (orders : List Order) (list : IsOrderList orders) (deals : List Deal) (deal_list : IsDealList orders deals) (causes : List Cause) (are : AreCauses orders deals causes) (n : ℕ) (n_inside : n < length orders)
-    (start end : ℕ) (within : end ≤ length causes) (split : IsSplitAt causes n start) (later : IsSplitAt causes (n + 1) end) where
+    (start end : ℕ) (within : end ≤ length causes) (split : IsSplitAt causes n start) (later : IsSplitAt causes (suc n) end) where
   abbrev p : ℕ
   p = place_at orders n
 

@@ -10,7 +10,7 @@ use Rattle.audit_base.specs.declared.orders.Deal.{Deal}
 use Rattle.audit_base.specs.declared.findings.Finding.{Finding}
 use Rattle.audit_base.specs.declared.terms.Side.TheVariants.{Buy, Sell}
 use Rattle.audit_base.specs.Least.{least_answer, first_of, only_if}
-use Rattle.audit_base.specs.Orders.{order_at, place_at, side_at, is_rests, IsOrderList}
+use Rattle.audit_base.specs.Orders.{missing_order, order_at, place_at, side_at, is_rests, IsOrderList}
 use Rattle.audit_base.specs.Deals.{names, deal_at, missing_deal, part_of, NamesOrders, IsDealList}
 use Rattle.audit_base.specs.Continuous.{cause, resting, incoming, traded_before, traded_at, entered_of, size_of, rests, size, uncancelled_before}
 use Rattle.audit_base.specs.CallOffences.{keeps_limits}
@@ -19,15 +19,18 @@ use Rattle.audit_base.proofs.OrderLemmas.{not_both_sides}
 use Rattle.audit_base.proofs.LeastLemmas.{least-none, least-at}
 use Rattle.audit_base.proofs.OffenceLemmas.{get_or-default}
 use Rattle.continuous_audit.specs.declared.causes.Cause.{Cause}
-use Rattle.continuous_audit.specs.Causes.{cause_of, AreCauses, running_total}
+use Rattle.continuous_audit.specs.declared.checking.Accounts.{Accounts}
+use Rattle.continuous_audit.specs.declared.checking.Coming.{Coming}
+use Rattle.continuous_audit.specs.declared.sheet.Sheet.{Sheet}
+use Rattle.continuous_audit.specs.Breaches.{IsDealBreach, IsDealUpto, rule_finding}
+use Rattle.continuous_audit.specs.Causes.{AreCauses, cause_of, running_total}
+use Rattle.continuous_audit.specs.Scans.{AreRunningTotals, IsKnown, IsSplitAt, deal_in, missing_cause, number_in, order_in}
 use Rattle.continuous_audit.specs.declared.breaches.DealRule.{DealRule}
 use Rattle.continuous_audit.specs.declared.breaches.DealRule.TheVariants.{Resting, Entered, Limits, Size}
 use Rattle.continuous_audit.specs.DealFindings as by_deal
-use Rattle.continuous_audit.specs.Breaches.{IsDealUpto, IsDealBreach, rule_finding}
-use Rattle.continuous_audit.specs.Scans.{number_in, missing_cause, order_in, deal_in, IsKnown, AreRunningTotals, IsSplitAt}
 use Rattle.continuous_audit.proofs.BreachLemmas.{upto-n, deal-upto}
 use Rattle.continuous_audit.proofs.CauseLemmas.{incoming-cause, running-upto}
-use Rattle.continuous_audit.proofs.NumberLemmas.{running-fits}
+use Rattle.continuous_audit.proofs.NumberLemmas.{running-small}
 use Rattle.continuous_audit.proofs.RecordLemmas.{ends}
 
 -- an order that rests before p, from what is left of it
@@ -69,7 +72,7 @@ module _ (orders : List Order) (list : IsOrderList orders) (deals : List Deal) (
       ∙ first-broken (rule_finding orders (shown_upto orders deals p k) (deal_at deals k)) (rests orders past p (resting orders (deal_at deals k))) (entered_of orders deals (incoming orders (deal_at deals k))) (keeps_limits orders (deal_at deals k))
       (nat_lt (size_of orders deals (deal_at deals k).bid) (traded_upto orders deals p k (deal_at deals k).bid)) (nat_lt (size_of orders deals (deal_at deals k).ask) (traded_upto orders deals p k (deal_at deals k).ask))
 
-  module _ (entered : Bool) (sizes left : List ℕ) (known : IsKnown orders deals n entered sizes left) (at : ℕ) (lt : at < length causes) (of : order_in causes at ≡ n) where
+  module _ (entered : Bool) (sheet : Sheet) (known : IsKnown orders deals n entered sheet) (at : ℕ) (lt : at < length causes) (of : order_in causes at ≡ n) where
     abbrev k : ℕ
     k = deal_in causes at
 
@@ -101,26 +104,30 @@ module _ (orders : List Order) (list : IsOrderList orders) (deals : List Deal) (
     pub here-upto : IsDealUpto deals n k
     here-upto = deal-upto orders list deals deal_list n n_inside k k_inside cause_here
 
+    -- what is known of its orders
+    abbrev accounts : ℕ → ℕ → Accounts
+    accounts bt at' = record { bid = by_deal.account_of sheet d.bid bt; ask = by_deal.account_of sheet d.ask at' }
+
     -- whether its resting order rests
-    waits-here : by_deal.resting_waits (order_at orders d.bid) (order_at orders d.ask) p (number_in left d.bid) (number_in left d.ask) ≡ rests orders past p (resting orders d)
-    waits-here =
+    waits-here : (bt at' : ℕ) → by_deal.resting_waits (order_at orders d.bid) (order_at orders d.ask) p (accounts bt at') ≡ rests orders past p (resting orders d)
+    waits-here bt at' =
         let e = ends orders list deals deal_list.named n n_inside d named_here cause_here in
         elim (cases_lt (place_at orders d.bid) (place_at orders d.ask)) [
           | inl less ↦
               let t : nat_lt (place_at orders d.bid) (place_at orders d.ask) ≡ true = lt-ltb _ _ less in
               let r_is : d.bid ≡ resting orders d = sym (cond-true _ d.bid d.ask t) in
               let earlier : place_at orders d.bid < p = omega (arith, cause_here) in
-              cond-true _ _ _ t ∙ waits-is orders past p d.bid (number_in left d.bid) earlier (known.left_is d.bid (below-n d.bid named_here.bid_inside earlier)) ∙ ap (rests orders past p) r_is
+              cond-true _ _ _ t ∙ waits-is orders past p d.bid (number_in sheet.left.items d.bid) earlier (known.left_is d.bid (below-n d.bid named_here.bid_inside earlier)) ∙ ap (rests orders past p) r_is
           | inr le ↦
               let f : nat_lt (place_at orders d.bid) (place_at orders d.ask) ≡ false = le-ltb _ _ le in
               let r_is : d.ask ≡ resting orders d = sym (cond-false _ d.bid d.ask f) in
               let earlier : place_at orders d.ask < p = subst (λ x. place_at orders x < p) (sym (r_is ∙ e.1.resting_is)) e.1.earlier in
-              cond-false _ _ _ f ∙ waits-is orders past p d.ask (number_in left d.ask) earlier (known.left_is d.ask (below-n d.ask named_here.ask_inside earlier)) ∙ ap (rests orders past p) r_is
+              cond-false _ _ _ f ∙ waits-is orders past p d.ask (number_in sheet.left.items d.ask) earlier (known.left_is d.ask (below-n d.ask named_here.ask_inside earlier)) ∙ ap (rests orders past p) r_is
         ]
 
-    pub checked : (bt at' : ℕ) → bt ≡ running_total deals causes (at + 1) d.bid → at' ≡ running_total deals causes (at + 1) d.ask
+    checked : (bt at' : ℕ) → bt ≡ running_total deals causes (at + 1) d.bid → at' ≡ running_total deals causes (at + 1) d.ask
         → conservation_finding orders deals p k ≡ option_map (rule_finding orders (shown_upto orders deals p k) d)
-        (by_deal.broken_rule d (order_at orders d.bid) (order_at orders d.ask) p entered bt at' (number_in sizes d.bid) (number_in sizes d.ask) (number_in left d.bid) (number_in left d.ask))
+        (by_deal.broken_rule d (order_at orders d.bid) (order_at orders d.ask) (record { place = p; entered = entered }) (accounts bt at'))
     checked bt at' bt_is at_is =
         let tb : bt ≡ traded_upto orders deals p k d.bid = bt_is ∙ running_here d.bid in
         let ta : at' ≡ traded_upto orders deals p k d.ask = at_is ∙ running_here d.ask in
@@ -128,7 +135,7 @@ module _ (orders : List Order) (list : IsOrderList orders) (deals : List Deal) (
         let za = known.size_is d.ask here-upto.ask_upto in
         let a : entered ≡ entered_of orders deals (incoming orders d) = known.arrived ∙ ap (entered_of orders deals) (sym incoming_here) in
         finding-is k cause_here
-        ∙ sym (λ i. option_map (rule_finding orders (shown_upto orders deals p k) d) (by_deal.first_broken (waits-here i) (a i) (keeps_limits orders d) (nat_lt (zb i) (tb i)) (nat_lt (za i) (ta i))))
+        ∙ sym (λ i. option_map (rule_finding orders (shown_upto orders deals p k) d) (by_deal.first_broken (waits-here bt at' i) (a i) (keeps_limits orders d) (nat_lt (zb i) (tb i)) (nat_lt (za i) (ta i))))
 
     pub traded-here : (traded : List ℕ) → AreRunningTotals orders deals causes (at + 1) traded → (x : ℕ) → x < length orders → number_in traded x ≡ traded_upto orders deals p k x
     traded-here traded run x inside = run.sums x inside ∙ running_here x
@@ -231,13 +238,13 @@ module _ (orders : List Order) (deals : List Deal) (causes : List Cause) (at : �
   more : (x : ℕ) → running_total deals causes (at + 1) x ≡ running_total deals causes at x + part_of x d
   more x = sum_by_more (λ (c : Cause). part_of x (deal_at deals c.deal)) causes at missing_cause lt ∙ ap (λ (e : Deal). running_total deals causes at x + part_of x e) (sym d_is)
 
-  pub bid-now : get_or xs d.bid 0 + q ≡ running_total deals causes (at + 1) d.bid
+  bid-now : get_or xs d.bid 0 + q ≡ running_total deals causes (at + 1) d.bid
   bid-now = sym at_bid ∙ (added-at d.bid).0 ∙ ap (λ (m : ℕ). m + part_of d.bid d) (is.sums d.bid named.bid_inside) ∙ sym (more d.bid)
 
-  pub ask-now : get_or xs d.ask 0 + q ≡ running_total deals causes (at + 1) d.ask
+  ask-now : get_or xs d.ask 0 + q ≡ running_total deals causes (at + 1) d.ask
   ask-now = sym at_ask ∙ (added-at d.ask).0 ∙ ap (λ (m : ℕ). m + part_of d.ask d) (is.sums d.ask named.ask_inside) ∙ sym (more d.ask)
 
-  pub running-after : (zs : List ℕ) → zs ≡ ys → AreRunningTotals orders deals causes (at + 1) zs
+  running-after : (zs : List ℕ) → zs ≡ ys → AreRunningTotals orders deals causes (at + 1) zs
   running-after zs same = subst (AreRunningTotals orders deals causes (at + 1)) (sym same) (record {
     inside = omega arith;
     count = length-set {A = ℕ} (slice_set xs d.bid (get_or xs d.bid 0 + q)) d.ask (get_or xs d.ask 0 + q) ∙ length-set {A = ℕ} xs d.bid (get_or xs d.bid 0 + q) ∙ is.count;
@@ -245,29 +252,55 @@ module _ (orders : List Order) (deals : List Deal) (causes : List Cause) (at : �
     fits = λ x inside. let a = added-at x in let f = is.fits x inside in omega (arith, a.0, a.1);
   })
 
--- the same, in the words of the code: the deal and the two orders that it reads
-pub checked-read : (orders : List Order) (list : IsOrderList orders) (deals : List Deal) (deal_list : IsDealList orders deals) (causes : List Cause) (are : AreCauses orders deals causes) (n : ℕ) (n_inside : n < length orders)
-    (entered : Bool) (sizes left : List ℕ) (known : IsKnown orders deals n entered sizes left) (at : ℕ) (lt : at < length causes) (of : order_in causes at ≡ n)
-    (d : Deal) (d_is : d ≡ deal_at deals (deal_in causes at)) (bid ask : Order) (b_is : bid ≡ order_at orders d.bid) (a_is : ask ≡ order_at orders d.ask) (place : ℕ) (p_is : place ≡ place_at orders n)
-    (bt at' : ℕ) (bt_is : bt ≡ running_total deals causes (at + 1) d.bid) (at_is : at' ≡ running_total deals causes (at + 1) d.ask)
+-- the same of a deal, its two orders and what is known of them, which equal those of the lists
+checked-read : (orders : List Order) (list : IsOrderList orders) (deals : List Deal) (deal_list : IsDealList orders deals) (causes : List Cause) (are : AreCauses orders deals causes) (n : ℕ) (n_inside : n < length orders)
+    (coming : Coming) (sheet : Sheet) (known : IsKnown orders deals n coming.entered sheet) (at : ℕ) (lt : at < length causes) (of : order_in causes at ≡ n)
+    (d : Deal) (d_is : d ≡ deal_at deals (deal_in causes at)) (bid ask : Order) (b_is : bid ≡ order_at orders d.bid) (a_is : ask ≡ order_at orders d.ask) (p_is : coming.place ≡ place_at orders n)
+    (accounts : Accounts) (bt at' : ℕ) → accounts.bid ≡ by_deal.account_of sheet d.bid bt → accounts.ask ≡ by_deal.account_of sheet d.ask at' → bt ≡ running_total deals causes (at + 1) d.bid → at' ≡ running_total deals causes (at + 1) d.ask
     → conservation_finding orders deals (place_at orders n) (deal_in causes at) ≡ option_map (rule_finding orders (shown_upto orders deals (place_at orders n) (deal_in causes at)) (deal_at deals (deal_in causes at)))
-    (by_deal.broken_rule d bid ask place entered bt at' (number_in sizes d.bid) (number_in sizes d.ask) (number_in left d.bid) (number_in left d.ask))
-checked-read orders list deals deal_list causes are n n_inside entered sizes left known at lt of d d_is bid ask b_is a_is place p_is bt at' bt_is at_is =
+    (by_deal.broken_rule d bid ask coming accounts)
+checked-read orders list deals deal_list causes are n n_inside coming sheet known at lt of d d_is bid ask b_is a_is p_is accounts bt at' bid_is ask_is bt_is at_is =
     let e = deal_at deals (deal_in causes at) in
     let b : bid ≡ order_at orders e.bid = b_is ∙ ap (λ (x : Deal). order_at orders x.bid) d_is in
     let a : ask ≡ order_at orders e.ask = a_is ∙ ap (λ (x : Deal). order_at orders x.ask) d_is in
-    checked orders list deals deal_list causes are n n_inside entered sizes left known at lt of bt at' (bt_is ∙ ap (λ (x : Deal). running_total deals causes (at + 1) x.bid) d_is) (at_is ∙ ap (λ (x : Deal). running_total deals causes (at + 1) x.ask) d_is)
-    ∙ sym (λ i. option_map (rule_finding orders (shown_upto orders deals (place_at orders n) (deal_in causes at)) e) (by_deal.broken_rule (d_is i) (b i) (a i) (p_is i) entered bt at' (number_in sizes (d_is i).bid) (number_in sizes (d_is i).ask) (number_in left (d_is i).bid) (number_in left (d_is i).ask)))
+    let kb : accounts.bid ≡ by_deal.account_of sheet e.bid bt = bid_is ∙ ap (λ (x : Deal). by_deal.account_of sheet x.bid bt) d_is in
+    let ka : accounts.ask ≡ by_deal.account_of sheet e.ask at' = ask_is ∙ ap (λ (x : Deal). by_deal.account_of sheet x.ask at') d_is in
+    checked orders list deals deal_list causes are n n_inside coming.entered sheet known at lt of bt at' (bt_is ∙ ap (λ (x : Deal). running_total deals causes (at + 1) x.bid) d_is) (at_is ∙ ap (λ (x : Deal). running_total deals causes (at + 1) x.ask) d_is)
+    ∙ sym (λ i. option_map (rule_finding orders (shown_upto orders deals (place_at orders n) (deal_in causes at)) e) (by_deal.broken_rule (d_is i) (b i) (a i) (record { place = p_is i; entered = coming.entered }) (record { bid = kb i; ask = ka i })))
+
+-- the same, in the words of the code: the deal and the orders that it reads, and what it adds
+module _ (orders : List Order) (list : IsOrderList orders) (deals : List Deal) (deal_list : IsDealList orders deals) (causes : List Cause) (are : AreCauses orders deals causes) (n : ℕ) (n_inside : n < length orders)
+    (at : ℕ) (lt : at < length causes) (xs : List ℕ) (run : AreRunningTotals orders deals causes at xs)
+    (d : Deal) (d_read : d ≡ get_or deals (deal_in causes at) d) (q : ℕ) (q_is : q ≡ d.quantity) (q_most : d.quantity ≤ 10 ^ 12) where
+  k_in : deal_in causes at < length deals
+  k_in = (are.only at missing_cause lt).0
+
+  d_is : d ≡ deal_at deals (deal_in causes at)
+  d_is = d_read ∙ get_or-default deals (deal_in causes at) d missing_deal k_in
+
+  named : NamesOrders orders d
+  named = subst (NamesOrders orders) (sym d_is) (deal_list.named (deal_in causes at) missing_deal k_in)
+
+  pub running-read : (zs : List ℕ) → zs ≡ slice_set (slice_set xs d.bid (get_or xs d.bid 0 + q)) d.ask (get_or xs d.ask 0 + q) → AreRunningTotals orders deals causes (at + 1) zs
+  running-read zs made = running-after orders deals causes at lt xs run d d_is named q q_is (omega arith) zs made
+
+  pub finding-read : (of : order_in causes at ≡ n) (coming : Coming) (sheet : Sheet) (known : IsKnown orders deals n coming.entered sheet) (own bid ask : Order) → own ≡ get_or orders n own → bid ≡ get_or orders d.bid bid → ask ≡ get_or orders d.ask ask → coming.place ≡ own.place
+      → (accounts : Accounts) (bt at' : ℕ) → accounts.bid ≡ by_deal.account_of sheet d.bid bt → accounts.ask ≡ by_deal.account_of sheet d.ask at' → bt ≡ get_or xs d.bid 0 + q → at' ≡ get_or xs d.ask 0 + q
+      → conservation_finding orders deals (place_at orders n) (deal_in causes at) ≡ option_map (rule_finding orders (shown_upto orders deals (place_at orders n) (deal_in causes at)) (deal_at deals (deal_in causes at)))
+      (by_deal.broken_rule d bid ask coming accounts)
+  finding-read of coming sheet known own bid ask own_read bid_read ask_read p_is accounts bt at' b_is a_is bt_is at_is =
+      checked-read orders list deals deal_list causes are n n_inside coming sheet known at lt of d d_is bid ask (bid_read ∙ get_or-default orders d.bid bid missing_order named.bid_inside) (ask_read ∙ get_or-default orders d.ask ask missing_order named.ask_inside)
+      (p_is ∙ ap (λ (o : Order). o.place) (own_read ∙ get_or-default orders n own missing_order n_inside)) accounts bt at' b_is a_is
+      (bt_is ∙ bid-now orders deals causes at lt xs run d d_is named q q_is (omega arith)) (at_is ∙ ask-now orders deals causes at lt xs run d d_is named q q_is (omega arith))
 
 -- the breach at the cause that the code has come to, after its deal is added
 pub breach-read : (orders : List Order) (list : IsOrderList orders) (deals : List Deal) (deal_list : IsDealList orders deals) (causes : List Cause) (are : AreCauses orders deals causes) (n : ℕ) (n_inside : n < length orders)
-    (entered : Bool) (sizes left : List ℕ) (known : IsKnown orders deals n entered sizes left) (start at : ℕ) (split : IsSplitAt causes n start) (clean : (i : ℕ) → start ≤ i → i < at → conservation_finding orders deals (place_at orders n) (deal_in causes i) ≡ None)
+    (entered : Bool) (sheet : Sheet) (known : IsKnown orders deals n entered sheet) (start at : ℕ) (split : IsSplitAt causes n start) (clean : (i : ℕ) → start ≤ i → i < at → conservation_finding orders deals (place_at orders n) (deal_in causes i) ≡ None)
     (lt : at < length causes) (of : order_in causes at ≡ n) (rule : DealRule) → conservation_finding orders deals (place_at orders n) (deal_in causes at) ≡ Some (rule_finding orders (shown_upto orders deals (place_at orders n) (deal_in causes at)) (deal_at deals (deal_in causes at)) rule)
     → (traded : List ℕ) → AreRunningTotals orders deals causes (at + 1) traded → IsDealBreach orders deals n traded (record { deal = deal_in causes at; rule = rule })
-breach-read orders list deals deal_list causes are n n_inside entered sizes left known start at split clean lt of rule here traded run = record {
-  upto = here-upto orders list deals deal_list causes are n n_inside entered sizes left known at lt of;
-  traded_count = run.count;
-  traded_fits = running-fits orders list deals deal_list causes are (at + 1) traded run;
-  traded_is = traded-here orders list deals deal_list causes are n n_inside entered sizes left known at lt of traded run;
+breach-read orders list deals deal_list causes are n n_inside entered sheet known start at split clean lt of rule here traded run = record {
+  upto = here-upto orders list deals deal_list causes are n n_inside entered sheet known at lt of;
+  small = running-small orders list deals deal_list causes are (at + 1) traded run;
+  traded_is = traded-here orders list deals deal_list causes are n n_inside entered sheet known at lt of traded run;
   shown = first-finding orders list deals deal_list causes are n n_inside start at split clean _ lt of here;
 }

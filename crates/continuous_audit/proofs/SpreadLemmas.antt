@@ -24,7 +24,7 @@ use Rattle.audit_base.proofs.PriorityLemmas.{better-outranks, bid-outranks, ask-
 use Rattle.audit_base.proofs.ContinuousOffenceLemmas.{traded-more}
 use Rattle.order_book.specs.declared.books.Resting.{Resting}
 use Rattle.order_book.specs.Books.{IsAhead, first}
-use Rattle.continuous_audit.specs.Holding.{resting_of, IsPart, Holds, resting_left, IsApart, is_active, meets_first, bid_of, ask_of}
+use Rattle.continuous_audit.specs.Holding.{Holds, IsApart, IsPart, ask_of, bid_of, is_active, meets_first, resting_left, resting_of}
 use Rattle.continuous_laws.proofs.StepLemmas.{rests-parts}
 use Rattle.continuous_laws.proofs.ExistLemmas.{rests-from}
 use Rattle.continuous_audit.proofs.RestLemmas.{resting_left-parts, resting_left-is, uncancelled-back}

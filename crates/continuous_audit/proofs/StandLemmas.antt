@@ -19,10 +19,10 @@ use Rattle.audit_base.proofs.LeastLemmas.{none_some}
 use Rattle.audit_base.proofs.OrderLemmas.{side-other}
 use Rattle.order_book.specs.declared.books.Resting.{Resting}
 use Rattle.order_book.specs.Books.{first}
-use Rattle.continuous_audit.specs.declared.endings.Books.{Books}
-use Rattle.continuous_audit.specs.Endings.{BooksHold, books_with, list_of}
-use Rattle.continuous_audit.specs.Holding.{Holds, IsApart, resting_left, is_active, meets_first, bid_of, ask_of}
-use Rattle.continuous_audit.specs.Progress.{without_own, is_active_with, stays_with, spread_by}
+use Rattle.continuous_audit.specs.declared.books.Books.{Books}
+use Rattle.continuous_audit.specs.Books.{BooksHold, HoldBelow, books_with, list_of, without_own}
+use Rattle.continuous_audit.specs.Holding.{Holds, IsApart, ask_of, bid_of, is_active, meets_first, resting_left}
+use Rattle.continuous_audit.specs.Spreads.{is_active_with, spread_by, stays_with}
 use Rattle.continuous_audit.proofs.HoldLemmas.{hold-same}
 use Rattle.continuous_audit.proofs.BooksLemmas.{side-holds, after-entry, no-entry}
 use Rattle.continuous_audit.proofs.RecordLemmas.{resting_left-own}
@@ -140,6 +140,6 @@ earlier-first n (x ∷ xs) all h e =
     subst (λ (r : Resting). r.index < n) same (All-head (λ (r : Resting). r.index < n) x xs all)
 
 -- the first of a book comes before the order of the record
-pub first-earlier : (n : ℕ) (b : Books) → All (λ (r : Resting). r.index < n) b.bids.resting → All (λ (r : Resting). r.index < n) b.asks.resting → (side : Side) (h : Resting) → first (list_of side b) ≡ Some h → h.index < n
-first-earlier n b bids asks Buy h e = earlier-first n b.bids.resting bids h e
-first-earlier n b bids asks Sell h e = earlier-first n b.asks.resting asks h e
+pub first-earlier : (n : ℕ) (b : Books) → HoldBelow n b → (side : Side) (h : Resting) → first (list_of side b) ≡ Some h → h.index < n
+first-earlier n b below Buy h e = earlier-first n b.bids.resting below.bids h e
+first-earlier n b below Sell h e = earlier-first n b.asks.resting below.asks h e

@@ -11,13 +11,13 @@ use Rattle.audit_base.specs.declared.orders.Deal.{Deal}
 use Rattle.audit_base.specs.Orders.{order_at, side_at, limit_at, place_at, other_side, IsOrderList}
 use Rattle.audit_base.specs.Continuous.{traded_before, before_of, size, size_of, left_before}
 use Rattle.order_book.specs.declared.books.Resting.{Resting}
-use Rattle.continuous_audit.specs.declared.endings.Books.{Books}
+use Rattle.continuous_audit.specs.declared.books.Books.{Books}
 use Rattle.continuous_audit.specs.declared.fills.Fill.{Fill}
 use Rattle.continuous_audit.specs.declared.pairs.Pair.{Pair}
 use Rattle.continuous_audit.specs.declared.matching.TradesSoFar.{TradesSoFar}
+use Rattle.continuous_audit.specs.Books.{BooksHold, list_of, resting_count, with_list}
 use Rattle.continuous_audit.specs.Chains.{IsClosed, IsOpening}
-use Rattle.continuous_audit.specs.Endings.{BooksHold, list_of, resting_count, with_list}
-use Rattle.continuous_audit.specs.Fills.{fills_of, rest_of, filled, total_filled}
+use Rattle.continuous_audit.specs.Fills.{filled, fills_of, rest_of, total_filled}
 use Rattle.continuous_audit.specs.Holding.{resting_left, resting_left_after}
 use Rattle.continuous_audit.specs.Matching.{AreApplied, AreExpected, IsCounted, IsMatched}
 use Rattle.continuous_audit.specs.Pairs.{IsDealt, pair_of}
@@ -36,10 +36,10 @@ pub record IsTraded (orders : List Order) (n q rest b : ℕ) (fills : List Fill)
   pub mid_left : List ℕ
   pub fills_are : fills ≡ fills_of (side_at orders n) (limit_at orders n) q (list_of (other_side (side_at orders n)) old.standing.books)
   pub rest_is : rest + total_filled fills ≡ q
-  pub applied : AreApplied fills old.traded.items old.left.items mid_traded mid_left
-  pub before : new.before.items ≡ slice_set old.before.items n b
+  pub applied : AreApplied fills old.traded.items old.sheet.left.items mid_traded mid_left
+  pub before : new.sheet.before.items ≡ slice_set old.sheet.before.items n b
   pub traded : new.traded.items ≡ slice_set mid_traded n (q - rest)
-  pub left : new.left.items ≡ slice_set mid_left n rest
+  pub left : new.sheet.left.items ≡ slice_set mid_left n rest
   pub books : new.standing.books ≡ with_list (other_side (side_at orders n)) (rest_of (side_at orders n) (limit_at orders n) q (list_of (other_side (side_at orders n)) old.standing.books)) old.standing.books
   pub pairs : new.pairs.items ≡ old.pairs.items ++ map (pair_of (side_at orders n) n) fills
 
@@ -71,27 +71,27 @@ module _ (orders : List Order) (list : IsOrderList orders) (n : ℕ) (n_inside :
           ∙ sym (traded-other orders list n n_inside deals is old.standing.books old_is.books q q_is x lt ne)
     ]
 
-    left-now : (x : ℕ) → x < suc n → number_in new.left.items x ≡ left_before orders deals (suc p) x
+    left-now : (x : ℕ) → x < suc n → number_in new.sheet.left.items x ≡ left_before orders deals (suc p) x
     left-now x lt = elim (cases_eq x n) [
       | inl e ↦
           let own = traded-own orders list n n_inside deals is old.standing.books old_is.books q q_is in
-          let long : n < length h.mid_left = let c = h.applied.left_count in let d = counted.left_count in omega arith in
+          let long : n < length h.mid_left = let c = h.applied.left_count in let d = counted.sheet.left_count in omega arith in
           let sum = h.rest_is in
           let all : total_filled fills ≡ total_filled all_fills = ap total_filled h.fills_are in
-          set-at h.mid_left new.left.items n rest x long h.left e ∙ (let v : rest ≡ size orders past n - past (suc p) n = omega arith in v) ∙ ap (λ (k : ℕ). size orders past k - past (suc p) k) (sym e)
+          set-at h.mid_left new.sheet.left.items n rest x long h.left e ∙ (let v : rest ≡ size orders past n - past (suc p) n = omega arith in v) ∙ ap (λ (k : ℕ). size orders past k - past (suc p) k) (sym e)
       | inr ne ↦
           let less : x < n = omega (arith, ne) in
           let was = old_is.left_is x less in
           let more = traded-other orders list n n_inside deals is old.standing.books old_is.books q q_is x (omega arith) ne in
           let all : filled fills x ≡ filled all_fills x = ap (λ (fs : List Fill). filled fs x) h.fills_are in
           let taken = h.applied.left_is x in
-          set-other h.mid_left new.left.items n rest x h.left ne ∙ (let v : number_in h.mid_left x ≡ size orders past x - past (suc p) x = omega arith in v)
+          set-other h.mid_left new.sheet.left.items n rest x h.left ne ∙ (let v : number_in h.mid_left x ≡ size orders past x - past (suc p) x = omega arith in v)
     ]
 
-    before-now : (x : ℕ) → x < suc n → number_in new.before.items x ≡ before_of orders deals x
+    before-now : (x : ℕ) → x < suc n → number_in new.sheet.before.items x ≡ before_of orders deals x
     before-now x lt = elim (cases_eq x n) [
-      | inl e ↦ let long = counted.before_count in set-at old.before.items new.before.items n b x (omega arith) h.before e ∙ b_is ∙ ap (before_of orders deals) (sym e)
-      | inr ne ↦ set-other old.before.items new.before.items n b x h.before ne ∙ old_is.before_is x (omega (arith, ne))
+      | inl e ↦ let long = counted.sheet.before_count in set-at old.sheet.before.items new.sheet.before.items n b x (omega arith) h.before e ∙ b_is ∙ ap (before_of orders deals) (sym e)
+      | inr ne ↦ set-other old.sheet.before.items new.sheet.before.items n b x h.before ne ∙ old_is.before_is x (omega (arith, ne))
     ]
 
     pub traded-matched : IsMatched orders deals (suc n) (suc p) (resting_left_after orders deals p) new
@@ -114,16 +114,23 @@ module _ (orders : List Order) (list : IsOrderList orders) (n : ℕ) (n_inside :
         dealt-by Buy f lt some most = record { bid_inside = n_inside; ask_inside = lt; some = some; most = most }
         dealt-by Sell f lt some most = record { bid_inside = lt; ask_inside = n_inside; some = some; most = most }
 
-    pub traded-counted : q ≤ 10 ^ 12 → b ≤ n * 2 ^ 72 → (closed : Bool) → (closed ≡ true → IsClosed orders n) → new.closed.items ≡ slice_set old.closed.items n closed
-        → IsCounted orders (suc n) (min 1 (number_in new.left.items n)) new
-    traded-counted fits bounded closed closed_is closed_new =
+    pub traded-counted : q ≤ 10 ^ 12 → b ≤ n * 2 ^ 72 → (closed : Bool) → (closed ≡ true → IsClosed orders n) → new.sheet.closed.items ≡ slice_set old.sheet.closed.items n closed → new.sheet.sizes.items ≡ slice_set old.sheet.sizes.items n q
+        → IsCounted orders (suc n) (min 1 (number_in new.sheet.left.items n)) new
+    traded-counted fits bounded closed closed_is closed_new sizes_new =
         let long_traded : length h.mid_traded ≡ length orders = h.applied.traded_count ∙ counted.traded_count in
-        let long_left : length h.mid_left ≡ length orders = h.applied.left_count ∙ counted.left_count in
+        let long_left : length h.mid_left ≡ length orders = h.applied.left_count ∙ counted.sheet.left_count in
         let sum = h.rest_is in record {
           traded_count = set-length h.mid_traded new.traded.items n (q - rest) h.traded ∙ long_traded;
-          before_count = set-length old.before.items new.before.items n b h.before ∙ counted.before_count;
-          left_count = set-length h.mid_left new.left.items n rest h.left ∙ long_left;
-          closed = closed-more orders deals n n_inside old.closed.items new.closed.items closed counted.closed closed_is closed_new;
+          sheet = record {
+            before_count = set-length old.sheet.before.items new.sheet.before.items n b h.before ∙ counted.sheet.before_count;
+            sizes_count = set-length old.sheet.sizes.items new.sheet.sizes.items n q sizes_new ∙ counted.sheet.sizes_count;
+            left_count = set-length h.mid_left new.sheet.left.items n rest h.left ∙ long_left;
+            closed = closed-more orders deals n n_inside old.sheet.closed.items new.sheet.closed.items closed counted.sheet.closed closed_is closed_new;
+            bounded = λ x. elim (cases_eq x n) [
+              | inl e ↦ let l = counted.sheet.before_count in let v = set-at old.sheet.before.items new.sheet.before.items n b x (omega arith) h.before e in subst (λ (k : ℕ). number_in new.sheet.before.items x ≤ k * 2 ^ 72) (sym e) (omega arith)
+              | inr ne ↦ let v = set-other old.sheet.before.items new.sheet.before.items n b x h.before ne in let was = counted.sheet.bounded x in omega arith
+            ];
+          };
           traded_fits = λ x. elim (cases_eq x n) [
             | inl e ↦ let v = set-at h.mid_traded new.traded.items n (q - rest) x (omega arith) h.traded e in omega arith
             | inr ne ↦
@@ -131,10 +138,6 @@ module _ (orders : List Order) (list : IsOrderList orders) (n : ℕ) (n_inside :
                 let w = h.applied.traded_is x in
                 let was = counted.traded_fits x in
                 omega (arith, filled-le fills x)
-          ];
-          bounded = λ x. elim (cases_eq x n) [
-            | inl e ↦ let l = counted.before_count in let v = set-at old.before.items new.before.items n b x (omega arith) h.before e in subst (λ (k : ℕ). number_in new.before.items x ≤ k * 2 ^ 72) (sym e) (omega arith)
-            | inr ne ↦ let v = set-other old.before.items new.before.items n b x h.before ne in let was = counted.bounded x in omega arith
           ];
           dealt = subst (All (IsDealt (length orders))) (sym h.pairs) (All-append (IsDealt (length orders)) old.pairs.items (map (pair_of s n) fills) counted.dealt (dealt-new fits));
           few =
@@ -146,7 +149,7 @@ module _ (orders : List Order) (list : IsOrderList orders) (n : ℕ) (n_inside :
               let e : total_filled fills ≡ total_filled all_fills = ap total_filled h.fills_are in
               let f : resting_count new.standing.books ≡ resting_count (with_list (other_side s) zs old.standing.books) = ap resting_count h.books in
               let g = count-with (other_side s) zs old.standing.books in
-              let own = set-at h.mid_left new.left.items n rest n (omega arith) h.left refl in
+              let own = set-at h.mid_left new.sheet.left.items n rest n (omega arith) h.left refl in
               let few = counted.few in
               let rest_as : rest ≡ q - total_filled all_fills = omega arith in
               omega (arith, walk-count s (limit_at orders n) q ys);
@@ -156,7 +159,7 @@ module _ (orders : List Order) (list : IsOrderList orders) (n : ℕ) (n_inside :
 
 pub traded-read : (orders : List Order) (n q rest b : ℕ) (old new : TradesSoFar) (own : Order) → own ≡ order_at orders n → (made first second : List Fill) (mid_traded mid_left : List ℕ)
     → made ≡ fills_of own.side own.limit q (list_of (other_side own.side) old.standing.books) → first ≡ made → second ≡ made → rest + total_filled made ≡ q
-    → AreApplied first old.traded.items old.left.items mid_traded mid_left → new.before.items ≡ slice_set old.before.items n b → new.traded.items ≡ slice_set mid_traded n (q - rest) → new.left.items ≡ slice_set mid_left n rest
+    → AreApplied first old.traded.items old.sheet.left.items mid_traded mid_left → new.sheet.before.items ≡ slice_set old.sheet.before.items n b → new.traded.items ≡ slice_set mid_traded n (q - rest) → new.sheet.left.items ≡ slice_set mid_left n rest
     → new.standing.books ≡ with_list (other_side own.side) (rest_of own.side own.limit q (list_of (other_side own.side) old.standing.books)) old.standing.books
     → new.pairs.items ≡ old.pairs.items ++ map (pair_of own.side n) second → IsTraded orders n q rest b first old new
 traded-read orders n q rest b old new own own_is made first second mid_traded mid_left made_is first_is second_is sum applied before traded left books pairs = record {
@@ -174,9 +177,8 @@ traded-read orders n q rest b old new own own_is made first second mid_traded mi
 
 module _ (orders : List Order) (list : IsOrderList orders) (n : ℕ) (n_inside : n < length orders) (old : TradesSoFar) where
   pub first-read : (deals : List Deal) → AreExpected orders deals → IsMatched orders deals n (place_at orders n) (resting_left orders (traded_before orders deals) (place_at orders n)) old
-      → (traded left before : List ℕ) → traded ≡ old.traded.items → left ≡ old.left.items → before ≡ old.before.items → IsOpening orders deals n traded left before
-  first-read deals is old_is traded left before t_is l_is b_is = opening-is orders list n n_inside deals is traded left before
-      (λ x lt. ap (λ (xs : List ℕ). number_in xs x) t_is ∙ old_is.traded_is x lt) (λ x lt. ap (λ (xs : List ℕ). number_in xs x) b_is ∙ old_is.before_is x lt) (λ x lt. ap (λ (xs : List ℕ). number_in xs x) l_is ∙ old_is.left_is x lt)
+      → (traded : List ℕ) → traded ≡ old.traded.items → IsOpening orders deals n traded old.sheet
+  first-read deals is old_is traded t_is = opening-is orders list n n_inside deals is traded old.sheet (λ x lt. ap (λ (xs : List ℕ). number_in xs x) t_is ∙ old_is.traded_is x lt) old_is.before_is old_is.left_is
 
   pub first-inside : IsCounted orders n 0 old → (deals : List Deal) → AreExpected orders deals → IsMatched orders deals n (place_at orders n) (resting_left orders (traded_before orders deals) (place_at orders n)) old
       → (q : ℕ) (own : Order) → own ≡ order_at orders n → (fills : List Fill) → fills ≡ fills_of own.side own.limit q (list_of (other_side own.side) old.standing.books)

@@ -12,7 +12,7 @@ use Rattle.audit_base.specs.ContinuousOffences.{finding_at_place, IsContinuousOf
 use Rattle.audit_base.proofs.OrderLemmas.{place-rises}
 use Rattle.audit_base.proofs.ContinuousOffenceLemmas.{no_fault-conforms, IsLast, late-conforms}
 use Rattle.continuous_audit.specs.Holding.{IsApart}
-use Rattle.continuous_audit.specs.Progress.{IsCalm}
+use Rattle.continuous_audit.specs.Records.{IsCalm}
 use Rattle.continuous_laws.proofs.StepLemmas.{rests-parts}
 use Rattle.continuous_laws.proofs.ExistLemmas.{rests-from}
 use Rattle.continuous_laws.proofs.PlaceLemmas.{traded-none}

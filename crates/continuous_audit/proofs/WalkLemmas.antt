@@ -17,8 +17,8 @@ use Rattle.audit_base.proofs.PriorityLemmas.{Better-one_way, Better-strict}
 use Rattle.order_book.specs.declared.books.Resting.{Resting}
 use Rattle.order_book.specs.Books.{IsAhead, after_take}
 use Rattle.continuous_audit.specs.declared.fills.Fill.{Fill}
-use Rattle.continuous_audit.specs.Holding.{resting_of, IsPart, Holds}
-use Rattle.continuous_audit.specs.Fills.{trades_with, fill_of, next_fill, fills_of, rest_of, filled, total_filled}
+use Rattle.continuous_audit.specs.Fills.{fill_of, filled, fills_of, next_fill, rest_of, total_filled, trades_with}
+use Rattle.continuous_audit.specs.Holding.{Holds, IsPart, resting_of}
 use Rattle.continuous_audit.proofs.HoldLemmas.{hold-taken, hold-same}
 use Rattle.continuous_audit.proofs.HeadLemmas.{ahead-better}
 use Rattle.continuous_audit.proofs.SpreadLemmas.{better-meets, meets-back, meets-twice}

@@ -1,5 +1,5 @@
 -- What breaks a rule at the record of an order, and the finding of it.
-use Rattle.std.specs.Prelude.{◌≡◌, ◌<◌, ◌≤◌, ◌+◌, ◌^◌, ℕ, List, None, Some, length}
+use Rattle.std.specs.Prelude.{◌≡◌, ◌<◌, ◌≤◌, ◌+◌, ◌^◌, ℕ, List, Option, None, Some, length, option_map}
 use Rattle.audit_base.specs.declared.terms.Side.{Side}
 use Rattle.audit_base.specs.declared.terms.Side.TheVariants.{Buy, Sell}
 use Rattle.audit_base.specs.declared.orders.Order.{Order}
@@ -16,24 +16,29 @@ use Rattle.continuous_audit.specs.declared.breaches.DealRule.TheVariants.{Restin
 use Rattle.continuous_audit.specs.declared.breaches.DealBreach.{DealBreach}
 use Rattle.continuous_audit.specs.declared.breaches.Breach.{Breach}
 use Rattle.continuous_audit.specs.declared.breaches.Breach.TheVariants as breach
-use Rattle.continuous_audit.specs.Progress.{conservation_at, spread_by}
+use Rattle.continuous_audit.specs.declared.market.Market.{Market}
+use Rattle.continuous_audit.specs.declared.numbers.Numbers.{Numbers}
+use Rattle.continuous_audit.specs.Records.{conservation_at, priority_at}
 use Rattle.continuous_audit.specs.Scans.{number_in, AreSmall}
+use Rattle.continuous_audit.specs.Spreads.{spread_by}
 
 -- the number that is shown with an order: what it has traded, and its Before added
-abbrev pub shown_in : List ℕ → List ℕ → ℕ → ℕ
-shown_in traded before i = number_in traded i + number_in before i
+abbrev pub shown_in : Numbers → ℕ → ℕ
+shown_in numbers i = number_in numbers.running.traded.items i
+    + number_in numbers.sheet.before.items i
 
 -- these numbers are there for each order, and fit
-pub record AreShown (orders : List Order) (traded before : List ℕ) : Type 0 where
-  pub traded_count : length traded ≡ length orders
-  pub before_count : length before ≡ length orders
-  pub traded_fits : AreSmall orders traded
-  pub before_fits : (x : ℕ) → number_in before x ≤ 2 ^ 126
+pub record AreShown (orders : List Order) (numbers : Numbers) : Type 0 where
+  pub traded : AreSmall orders numbers.running.traded.items
+  pub before_count : length numbers.sheet.before.items ≡ length orders
+  pub before_fits : (x : ℕ) → number_in numbers.sheet.before.items x ≤ 2 ^ 126
 
 -- the finding at a deal whose order of a side trades more than its Size
 abbrev pub over_size_finding : List Order → (ℕ → ℕ) → Deal → Side → Finding
-over_size_finding orders shown d Buy = at_deal property.BuyQuantity d (show_order orders shown d.bid) None
-over_size_finding orders shown d Sell = at_deal property.SellQuantity d (show_order orders shown d.ask) None
+over_size_finding orders shown d Buy =
+    at_deal property.BuyQuantity d (show_order orders shown d.bid) None
+over_size_finding orders shown d Sell =
+    at_deal property.SellQuantity d (show_order orders shown d.ask) None
 
 -- the finding at a deal that breaks this rule first, with these numbers shown
 abbrev pub rule_finding : List Order → (ℕ → ℕ) → Deal → DealRule → Finding
@@ -87,17 +92,25 @@ IsBreachUpto deals n (breach.Crossed other) = other ≤ n
 pub record IsDealBreach (orders : List Order) (deals : List Deal) (n : ℕ) (traded : List ℕ)
     (breach : DealBreach) : Type 0 where
   pub upto : IsDealUpto deals n breach.deal
-  pub traded_count : length traded ≡ length orders
-  pub traded_fits : AreSmall orders traded
+  pub small : AreSmall orders traded
   pub traded_is : (x : ℕ) → x < length orders
       → number_in traded x ≡ traded_upto orders deals (place_at orders n) breach.deal x
   pub shown : conservation_at orders deals n ≡ Some (rule_finding orders
       (shown_upto orders deals (place_at orders n) breach.deal) (deal_at deals breach.deal) breach.rule)
 
 -- this breach gives the finding at the record of the order at n, by what the orders have traded there
-pub record IsBreach (orders : List Order) (deals : List Deal) (n : ℕ) (traded before : List ℕ)
+pub record IsBreach (orders : List Order) (deals : List Deal) (n : ℕ) (numbers : Numbers)
     (breach : Breach) : Type 0 where
   pub upto : IsBreachUpto deals n breach
-  pub numbers : AreShown orders traded before
+  pub numbers_are : AreShown orders numbers
   pub shown : finding_at_place orders deals (place_at orders n)
-      ≡ Some (breach_finding orders deals n (shown_in traded before) breach)
+      ≡ Some (breach_finding orders deals n (shown_in numbers) breach)
+
+-- the record of the order at n breaks a rule by this breach
+abbrev pub Breaks : Market → ℕ → Numbers → Breach → Type 0
+Breaks m n numbers breach = IsBreach m.orders.now m.deals.now n numbers breach
+
+-- this deal of the order at n is the first that passes over a better order; None where none does
+abbrev pub IsFirstPassed : Market → ℕ → Option Breach → Type 0
+IsFirstPassed m n breach = priority_at m.orders.now m.deals.now n
+    ≡ option_map (breach_after m.orders.now m.deals.now n) breach

@@ -6,6 +6,7 @@ use Rattle.audit_base.specs.Orders.{order_at, place_at}
 use Rattle.audit_base.specs.Continuous.{chain, traded_before, before_of, left_before}
 use Rattle.audit_base.specs.Deals.{NamesOrders}
 use Rattle.audit_base.specs.ContinuousRules.{ConformsAt}
+use Rattle.continuous_audit.specs.declared.sheet.Sheet.{Sheet}
 use Rattle.continuous_audit.specs.Scans.{number_in}
 
 -- a record up to p ends an order
@@ -31,18 +32,28 @@ pub record AreClosed (orders : List Order) (m : ℕ) (closed : List Bool) : Type
 abbrev pub AreBounded : List ℕ → Type 0
 AreBounded before = (x : ℕ) → number_in before x ≤ x * 2 ^ 72
 
+-- whatever the deals are, the sheet has a place for each order, no Before is too great, and of the
+-- first m orders those whose flag is set have such a chain
+pub record IsOpenSheet (orders : List Order) (m : ℕ) (sheet : Sheet) : Type 0 where
+  pub before_count : length sheet.before.items ≡ length orders
+  pub sizes_count : length sheet.sizes.items ≡ length orders
+  pub left_count : length sheet.left.items ≡ length orders
+  pub closed : AreClosed orders m sheet.closed.items
+  pub bounded : AreBounded sheet.before.items
+
 -- before the order at n comes, where the rule holds at each earlier place: what the orders have
 -- traded, and Before of the earlier ones
 pub record IsKept (orders : List Order) (deals : List Deal) (n : ℕ)
-    (traded before : List ℕ) : Type 0 where
+    (traded : List ℕ) (sheet : Sheet) : Type 0 where
   pub conforms : (i : ℕ) → i < place_at orders n → ConformsAt orders deals i
   pub named : All (NamesOrders orders) deals
   pub traded_is : (x : ℕ) → x < length orders
       → number_in traded x ≡ traded_before orders deals (place_at orders n) x
-  pub before_is : (x : ℕ) → x < n → number_in before x ≡ before_of orders deals x
+  pub before_is : (x : ℕ) → x < n → number_in sheet.before.items x ≡ before_of orders deals x
 
 -- the same, with what is left of the earlier ones
 pub record IsOpening (orders : List Order) (deals : List Deal) (n : ℕ)
-    (traded left before : List ℕ) : Type 0 where
-  pub kept : IsKept orders deals n traded before
-  pub left_is : (x : ℕ) → x < n → number_in left x ≡ left_before orders deals (place_at orders n) x
+    (traded : List ℕ) (sheet : Sheet) : Type 0 where
+  pub kept : IsKept orders deals n traded sheet
+  pub left_is : (x : ℕ) → x < n
+      → number_in sheet.left.items x ≡ left_before orders deals (place_at orders n) x

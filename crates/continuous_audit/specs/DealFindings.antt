@@ -8,6 +8,10 @@ use Rattle.audit_base.specs.CallOffences.{is_within}
 use Rattle.audit_base.specs.Orders.{order_at}
 use Rattle.audit_base.specs.Continuous.{is_own_place}
 use Rattle.continuous_audit.specs.declared.breaches.DealRule.{DealRule}
+use Rattle.continuous_audit.specs.declared.checking.Account.{Account}
+use Rattle.continuous_audit.specs.declared.checking.Accounts.{Accounts}
+use Rattle.continuous_audit.specs.declared.checking.Coming.{Coming}
+use Rattle.continuous_audit.specs.declared.sheet.Sheet.{Sheet}
 use Rattle.continuous_audit.specs.declared.breaches.DealRule.TheVariants.{Resting, Entered, Limits, Size}
 pub use Rattle.audit_base.specs.Orders.{is_rests}
 pub use Rattle.audit_base.specs.Continuous.{uncancelled_before}
@@ -17,9 +21,9 @@ abbrev pub waits : Order → ℕ → ℕ → Bool
 waits o p left = is_rests o.life && uncancelled_before o.cancelled p && nat_lt 0 left
 
 -- of a bid and an ask that trade the earlier one rests before p, with so much left of each
-abbrev pub resting_waits : Order → Order → ℕ → ℕ → ℕ → Bool
-resting_waits bid ask p bid_left ask_left =
-    if nat_lt bid.place ask.place then waits bid p bid_left else waits ask p ask_left
+abbrev pub resting_waits : Order → Order → ℕ → Accounts → Bool
+resting_waits bid ask p known =
+    if nat_lt bid.place ask.place then waits bid p known.bid.left else waits ask p known.ask.left
 
 -- the first rule that a deal breaks: 7 its resting order rests, and its incoming one entered; 8 its price
 -- is within the limits; 10 and 11 neither order trades more than its Size
@@ -29,10 +33,18 @@ first_broken rests entered within bid_over ask_over = first_of
     ∷ only_if bid_over (Size Buy) ∷ only_if ask_over (Size Sell) ∷ [])
 
 -- the same, from what its bid and its ask have traded and had left
-abbrev pub broken_rule : Deal → Order → Order → ℕ → Bool → ℕ → ℕ → ℕ → ℕ → ℕ → ℕ → Option DealRule
-broken_rule d bid ask p entered bid_traded ask_traded bid_size ask_size bid_left ask_left =
-    first_broken (resting_waits bid ask p bid_left ask_left) entered (is_within bid ask d)
-    (nat_lt bid_size bid_traded) (nat_lt ask_size ask_traded)
+abbrev pub broken_rule : Deal → Order → Order → Coming → Accounts → Option DealRule
+broken_rule d bid ask coming known =
+    first_broken (resting_waits bid ask coming.place known) coming.entered (is_within bid ask d)
+    (nat_lt known.bid.size known.bid.traded) (nat_lt known.ask.size known.ask.traded)
+
+-- what is known of the order at an index that has traded so much
+abbrev pub account_of : Sheet → ℕ → ℕ → Account
+account_of sheet i traded = record {
+  traded = traded;
+  size = slice_index_or sheet.sizes.items i 0;
+  left = slice_index_or sheet.left.items i 0;
+}
 
 -- an order is placed, and its target rests if it has one
 abbrev pub enters : Order → Bool → Bool

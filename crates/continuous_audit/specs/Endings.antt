@@ -1,17 +1,11 @@
 -- The orders that a record ends, and the books without them.
-use Rattle.std.specs.Prelude.{◌≡◌, ◌<◌, ◌≤◌, ◌+◌, ℕ, zero, suc, Bool, ◌==◌, ◌&&◌, nat_le, List, [], ◌∷◌, ◌++◌, Option, None, Some, All, AllPairs, Contains, length, slice_index_or, if◌then◌else◌}
+use Rattle.std.specs.Prelude.{◌≡◌, ◌<◌, ◌≤◌, ℕ, zero, suc, Bool, ◌==◌, ◌&&◌, nat_le, List, [], ◌∷◌, ◌++◌, Option, None, Some, All, AllPairs, Contains, length, slice_index_or, if◌then◌else◌}
 use Rattle.std.specs.Ordering.{nat_cmp, ordering_then}
 use Rattle.std.specs.declared.cmp.Ordering.{Ordering}
-use Rattle.audit_base.specs.declared.terms.Side.{Side}
-use Rattle.audit_base.specs.declared.terms.Side.TheVariants.{Buy, Sell}
 use Rattle.audit_base.specs.declared.orders.Order.{Order}
 use Rattle.audit_base.specs.Least.{any_below}
 use Rattle.audit_base.specs.Orders.{order_at}
-use Rattle.order_book.specs.declared.books.Resting.{Resting}
-use Rattle.order_book.specs.Books.{without_order, with_order}
 use Rattle.continuous_audit.specs.declared.endings.Ending.{Ending}
-use Rattle.continuous_audit.specs.declared.endings.Books.{Books}
-use Rattle.continuous_audit.specs.Holding.{Holds, after_fills, left_in}
 
 -- the order at an index, if a record ends it
 abbrev pub ending_at : ℕ → Option ℕ → List Ending
@@ -52,39 +46,17 @@ place_in endings i = (slice_index_or endings i missing_ending).place
 abbrev pub index_in : List Ending → ℕ → ℕ
 index_in endings i = (slice_index_or endings i missing_ending).index
 
--- the list of a side
-abbrev pub list_of : Side → Books → List Resting
-list_of Buy b = b.bids.resting
-list_of Sell b = b.asks.resting
+-- of the endings those before an index come before a place
+pub record AreDropped (endings : List Ending) (start q : ℕ) : Type 0 where
+  pub inside : start ≤ length endings
+  pub early : (i : ℕ) → i < start → i < length endings → place_in endings i < q
 
--- the books with another list on one side
-abbrev pub with_list : Side → List Resting → Books → Books
-with_list Buy xs b = record b { bids = record b.bids { resting = xs } }
-with_list Sell xs b = record b { asks = record b.asks { resting = xs } }
-
--- the books without an order
-abbrev pub books_without : Side → ℕ → ℕ → Books → Books
-books_without side index limit b = with_list side (without_order index limit (list_of side b)) b
-
--- the books with one order more
-abbrev pub books_with : Side → Resting → Books → Books
-books_with Buy r b = record b { bids = record b.bids { resting = with_order b.bids.side r b.bids.resting } }
-books_with Sell r b = record b { asks = record b.asks { resting = with_order b.asks.side r b.asks.resting } }
-
--- the books with what is left now of the best orders of a side
-abbrev pub with_fills : Side → List ℕ → Books → Books
-with_fills side left b = with_list side (after_fills (left_in left) (list_of side b)) b
-
--- how many orders rest in both books
-abbrev pub resting_count : Books → ℕ
-resting_count b = length b.bids.resting + length b.asks.resting
-
--- both books hold these amounts
-pub record BooksHold (orders : List Order) (amount : ℕ → ℕ) (b : Books) : Type 0 where
-  pub bid_side : b.bids.side ≡ Buy
-  pub ask_side : b.asks.side ≡ Sell
-  pub bids : Holds orders Buy amount b.bids.resting
-  pub asks : Holds orders Sell amount b.asks.resting
+-- those from one index on and below another come before a place, and no later one does
+pub record AreEndedBelow (endings : List Ending) (start at upto : ℕ) : Type 0 where
+  pub from : start ≤ at
+  pub inside : at ≤ length endings
+  pub early : (i : ℕ) → start ≤ i → i < at → place_in endings i < upto
+  pub next : at < length endings → upto ≤ place_in endings at
 
 -- the order is one of those from an index on and below another
 abbrev pub is_gone : List Ending → ℕ → ℕ → ℕ → Bool

@@ -1,6 +1,7 @@
 -- What a reader must believe: the answer of the audit.
 pub mod Audits
 -- What private functions pass on.
+pub mod Books
 pub mod Breaches
 pub mod Causes
 pub mod Chains
@@ -8,7 +9,12 @@ pub mod DealFindings
 pub mod Endings
 pub mod Fills
 pub mod Holding
+pub mod Markets
 pub mod Matching
+pub mod Openings
 pub mod Pairs
 pub mod Progress
+pub mod Records
 pub mod Scans
+pub mod Sheets
+pub mod Spreads

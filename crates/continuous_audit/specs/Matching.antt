@@ -1,5 +1,5 @@
 -- What is known of the Expected trades before an order comes, and after it has traded.
-use Rattle.std.specs.Prelude.{◌≡◌, ◌<◌, ◌≤◌, ◌+◌, ◌-◌, ◌*◌, ◌^◌, ℕ, suc, false, List, [], All, length, replicate}
+use Rattle.std.specs.Prelude.{◌≡◌, ◌<◌, ◌≤◌, ◌+◌, ◌-◌, ◌*◌, ◌^◌, ℕ, suc, List, [], All, length, replicate}
 use Rattle.audit_base.specs.declared.orders.Order.{Order}
 use Rattle.audit_base.specs.declared.orders.Deal.{Deal}
 use Rattle.audit_base.specs.Orders.{place_at}
@@ -8,12 +8,12 @@ use Rattle.audit_base.specs.ContinuousRules.{ConformsContinuous}
 use Rattle.audit_base.specs.Expected.{IsExpectedContinuous}
 use Rattle.continuous_audit.specs.declared.matching.TradesSoFar.{TradesSoFar}
 use Rattle.continuous_audit.specs.Holding.{resting_left, resting_left_after}
-use Rattle.continuous_audit.specs.Chains.{AreBounded, AreClosed}
-use Rattle.continuous_audit.specs.Endings.{BooksHold, resting_count}
+use Rattle.continuous_audit.specs.Books.{AreEmptyBooks, BooksHold, resting_count}
+use Rattle.continuous_audit.specs.Chains.{IsOpenSheet}
 use Rattle.continuous_audit.specs.Fills.{filled}
 use Rattle.continuous_audit.specs.Pairs.{AreSharedPairs, IsDealt}
-use Rattle.continuous_audit.specs.Progress.{AreEmptyBooks}
 use Rattle.continuous_audit.specs.Scans.{number_in}
+use Rattle.continuous_audit.specs.Sheets.{IsBlank}
 use Rattle.continuous_audit.specs.declared.fills.Fill.{Fill}
 
 -- these deals are the Expected trades, and they conform
@@ -32,11 +32,8 @@ pub record AreApplied (fills : List Fill) (old_traded old_left traded left : Lis
 -- it rests, or it is the one that waits to
 pub record IsCounted (orders : List Order) (n waiting : ℕ) (t : TradesSoFar) : Type 0 where
   pub traded_count : length t.traded.items ≡ length orders
-  pub before_count : length t.before.items ≡ length orders
-  pub left_count : length t.left.items ≡ length orders
-  pub closed : AreClosed orders n t.closed.items
+  pub sheet : IsOpenSheet orders n t.sheet
   pub traded_fits : (x : ℕ) → number_in t.traded.items x ≤ n * 10 ^ 12
-  pub bounded : AreBounded t.before.items
   pub dealt : All (IsDealt (length orders)) t.pairs.items
   pub few : length t.pairs.items + resting_count t.standing.books + waiting ≤ n
 
@@ -45,8 +42,8 @@ pub record IsMatched (orders : List Order) (deals : List Deal) (n q : ℕ) (amou
     (t : TradesSoFar) : Type 0 where
   pub traded_is : (x : ℕ) → x < length orders
       → number_in t.traded.items x ≡ traded_before orders deals q x
-  pub before_is : (x : ℕ) → x < n → number_in t.before.items x ≡ before_of orders deals x
-  pub left_is : (x : ℕ) → x < n → number_in t.left.items x ≡ left_before orders deals q x
+  pub before_is : (x : ℕ) → x < n → number_in t.sheet.before.items x ≡ before_of orders deals x
+  pub left_is : (x : ℕ) → x < n → number_in t.sheet.left.items x ≡ left_before orders deals q x
   pub books : BooksHold orders amount t.standing.books
   pub pairs : AreSharedPairs orders deals n t.pairs.items
 
@@ -64,8 +61,6 @@ MatchedAfter orders n t = (deals : List Deal) → AreExpected orders deals
 -- before the first of so many orders
 pub record AreAtFirst (count : ℕ) (t : TradesSoFar) : Type 0 where
   pub traded : t.traded.items ≡ replicate count 0
-  pub before : t.before.items ≡ replicate count 0
-  pub closed : t.closed.items ≡ replicate count false
-  pub left : t.left.items ≡ replicate count 0
+  pub sheet : IsBlank count t.sheet
   pub standing : AreEmptyBooks t.standing
   pub pairs : t.pairs.items ≡ []

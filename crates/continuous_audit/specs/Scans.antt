@@ -1,11 +1,12 @@
 -- What is known of the orders so far, and where the deals of an order begin.
-use Rattle.std.specs.Prelude.{◌≡◌, ◌<◌, ◌≤◌, ◌-◌, ◌*◌, ◌^◌, ◌⊎◌, ℕ, suc, Bool, false, List, Option, None, Some, length, slice_index_or, slice_index, slice_set, ◌+◌}
+use Rattle.std.specs.Prelude.{◌≡◌, ◌<◌, ◌≤◌, ◌-◌, ◌*◌, ◌^◌, ◌⊎◌, ℕ, suc, Bool, false, List, Option, None, Some, length, slice_index_or}
 use Rattle.audit_base.specs.declared.orders.Order.{Order}
 use Rattle.audit_base.specs.declared.orders.Deal.{Deal}
 use Rattle.audit_base.specs.Orders.{place_at}
 use Rattle.audit_base.specs.Deals.{names, deal_at}
-use Rattle.audit_base.specs.Continuous.{before_of, entered_of, size_of, left_before, left_after}
+use Rattle.audit_base.specs.Continuous.{entered_of, size_of, left_before, left_after}
 use Rattle.continuous_audit.specs.declared.causes.Cause.{Cause}
+use Rattle.continuous_audit.specs.declared.sheet.Sheet.{Sheet}
 use Rattle.continuous_audit.specs.Causes.{running_total}
 
 -- the number at an index of a list
@@ -25,12 +26,13 @@ deal_in causes i = (slice_index_or causes i missing_cause).deal
 -- before the deals of the order at n: Size of each order up to it, what is left of the earlier ones, and
 -- whether it entered
 pub record IsKnown (orders : List Order) (deals : List Deal) (n : ℕ) (entered : Bool)
-    (sizes left : List ℕ) : Type 0 where
-  pub sizes_count : length sizes ≡ length orders
-  pub left_count : length left ≡ length orders
+    (sheet : Sheet) : Type 0 where
+  pub sizes_count : length sheet.sizes.items ≡ length orders
+  pub left_count : length sheet.left.items ≡ length orders
   pub arrived : entered ≡ entered_of orders deals n
-  pub size_is : (x : ℕ) → x ≤ n → number_in sizes x ≡ size_of orders deals x
-  pub left_is : (x : ℕ) → x < n → number_in left x ≡ left_before orders deals (place_at orders n) x
+  pub size_is : (x : ℕ) → x ≤ n → number_in sheet.sizes.items x ≡ size_of orders deals x
+  pub left_is : (x : ℕ) → x < n
+      → number_in sheet.left.items x ≡ left_before orders deals (place_at orders n) x
 
 -- what each order has traded in the first causes
 pub record AreRunningTotals (orders : List Order) (deals : List Deal) (causes : List Cause)
@@ -64,24 +66,12 @@ pub record IsRefreshed (deals : List Deal) (causes : List Cause) (start at : ℕ
       ⊎ ((number_in new x ≡ number_in old x) × ((i : ℕ) → start ≤ i → i < at
       → names x (deal_at deals (deal_in causes i)) ≡ false))
 
--- what each order has traded fits: it is at most 2^72
-abbrev pub AreSmall : List Order → List ℕ → Type 0
-AreSmall orders traded = (x : ℕ) → x < length orders → number_in traded x ≤ 2 ^ 72
+-- what each order has traded is there, and at most 2^72
+pub record AreSmall (orders : List Order) (traded : List ℕ) : Type 0 where
+  pub count : length traded ≡ length orders
+  pub most : (x : ℕ) → x < length orders → number_in traded x ≤ 2 ^ 72
 
 -- after the deals of the order at n: what is left of the earlier ones
 abbrev pub AreLeftAfter : List Order → List Deal → ℕ → List ℕ → Type 0
 AreLeftAfter orders deals n left = (x : ℕ) → x < n
     → number_in left x ≡ left_after orders deals (place_at orders n) x
-
--- whether the order at n entered, with its Before and its Size
-pub record IsOpened (orders : List Order) (deals : List Deal) (n : ℕ) (entered : Bool)
-    (before size : ℕ) : Type 0 where
-  pub entered_is : entered ≡ entered_of orders deals n
-  pub before_is : before ≡ before_of orders deals n
-  pub size_is : size ≡ size_of orders deals n
-
--- what the orders have traded, with a deal between two of them
-abbrev pub with_deal : List ℕ → ℕ → ℕ → ℕ → List ℕ
-with_deal traded bid ask quantity =
-    slice_set (slice_set traded bid (slice_index traded bid + quantity)) ask
-    (slice_index traded ask + quantity)

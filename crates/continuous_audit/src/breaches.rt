@@ -1,19 +1,20 @@
 //! What breaks a rule at the record of an order, and the finding of it.
-ghost use Rattle.std.specs.Prelude.{◌≡◌, ◌<◌, ◌≤◌, ◌+◌, ◌^◌, Some, length};
+ghost use Rattle.std.specs.Prelude.{◌≡◌, ◌<◌, Some, length};
 ghost use Rattle.audit_base.specs.declared.terms.Which.TheVariants as which;
 ghost use Rattle.audit_base.specs.declared.findings.Property.TheVariants as property;
 ghost use Rattle.audit_base.specs.declared.findings.Shown.TheVariants as shown;
-ghost use Rattle.audit_base.specs.Orders.{IsOrderList};
-ghost use Rattle.audit_base.specs.Deals.{NamesOrders, IsDealList};
+ghost use Rattle.audit_base.specs.Deals.{NamesOrders};
 ghost use Rattle.audit_base.specs.ContinuousOffences.{priority_of};
 ghost use Rattle.audit_base.specs.Shows.{found, show_order};
 ghost use Rattle.continuous_audit.specs.Breaches.{AreShown, IsBreachUpto, shown_in};
 ghost use Rattle.continuous_audit.specs.Breaches.{breach_finding, over_size_finding, rule_finding};
 ghost use Rattle.continuous_audit.specs.Breaches.{crossed_finding, outranked_finding};
-ghost use Rattle.continuous_audit.specs.Progress.{spread_by};
-ghost use Rattle.continuous_audit.specs.Scans.{number_in};
+ghost use Rattle.continuous_audit.specs.Markets.{IsMarket};
+ghost use Rattle.continuous_audit.specs.Spreads.{spread_by};
 
 use super::causes::{incoming, resting_of};
+use super::market::Market;
+use super::numbers::Numbers;
 use audit_base::findings::{Finding, OrderLine, Property, Shown};
 use audit_base::orders::{Deal, Order};
 use audit_base::terms::{Side, Which};
@@ -51,77 +52,63 @@ pub enum Breach {
 }
 
 /// The number that is shown with an order: what it has traded, and its Before added.
-fn shown_of(traded: &[u128], before: &[u128], index: usize) -> u128
-    requires traded_count { index < length traded.now }
-    requires before_count { index < length before.now }
-    requires traded_fits { number_in traded.now index ≤ 2 ^ 72 }
-    requires before_fits { number_in before.now index ≤ 2 ^ 126 }
-    ensures { result ≡ number_in traded.now index + number_in before.now index }
+fn shown_of(orders: &[Order], numbers: &Numbers, index: usize) -> u128
+    requires index { index < length orders.now }
+    requires numbers { AreShown orders.now numbers.now }
+    ensures { result ≡ shown_in numbers.now index }
 {
-    traded[index] + before[index]
+    numbers.running.traded[index] + numbers.sheet.before[index]
 }
 
 /// What shows the order at an index: the order, with what it has traded and its Before.
-fn show_order(orders: &[Order], traded: &[u128], before: &[u128], index: usize) -> Option<Shown>
+fn show_order(orders: &[Order], numbers: &Numbers, index: usize) -> Option<Shown>
     requires index { index < length orders.now }
-    requires numbers { AreShown orders.now traded.now before.now }
-    ensures { result ≡ show_order orders.now (shown_in traded.now before.now) index }
+    requires numbers { AreShown orders.now numbers.now }
+    ensures { result ≡ show_order orders.now (shown_in numbers.now) index }
 {
-    Some(Shown::Order(OrderLine::of(&orders[index], shown_of(traded, before, index))))
+    Some(Shown::Order(OrderLine::of(&orders[index], shown_of(orders, numbers, index))))
 }
 
 /// The finding at a deal whose order of a side trades more than its size.
-fn over_size_finding(
-    orders: &[Order],
-    traded: &[u128],
-    before: &[u128],
-    deal: &Deal,
-    side: Side,
-) -> Finding
+fn over_size_finding(orders: &[Order], numbers: &Numbers, deal: &Deal, side: Side) -> Finding
     requires named { NamesOrders orders.now deal.now }
-    requires numbers { AreShown orders.now traded.now before.now }
-    ensures { result ≡ over_size_finding orders.now (shown_in traded.now before.now) deal.now
+    requires numbers { AreShown orders.now numbers.now }
+    ensures { result ≡ over_size_finding orders.now (shown_in numbers.now) deal.now
         side }
 {
     match side {
         Side::Buy => {
-            let bid = show_order(orders, traded, before, deal.bid);
+            let bid = show_order(orders, numbers, deal.bid);
             Finding::at_deal(Property::BuyQuantity, deal, bid, None)
         }
         Side::Sell => {
-            let ask = show_order(orders, traded, before, deal.ask);
+            let ask = show_order(orders, numbers, deal.ask);
             Finding::at_deal(Property::SellQuantity, deal, ask, None)
         }
     }
 }
 
 /// The finding at a deal that breaks this rule first.
-fn rule_finding(
-    orders: &[Order],
-    traded: &[u128],
-    before: &[u128],
-    deal: &Deal,
-    rule: DealRule,
-) -> Finding
+fn rule_finding(orders: &[Order], numbers: &Numbers, deal: &Deal, rule: DealRule) -> Finding
     requires named { NamesOrders orders.now deal.now }
-    requires numbers { AreShown orders.now traded.now before.now }
-    ensures { result ≡ rule_finding orders.now (shown_in traded.now before.now) deal.now rule }
+    requires numbers { AreShown orders.now numbers.now }
+    ensures { result ≡ rule_finding orders.now (shown_in numbers.now) deal.now rule }
 {
     match rule {
         DealRule::Resting => {
-            let rest = show_order(orders, traded, before, resting_of(orders, deal));
+            let rest = show_order(orders, numbers, resting_of(orders, deal));
             Finding::at_deal(Property::Inactive, deal, rest, None)
         }
         DealRule::Entered => {
-            let come = show_order(orders, traded, before, incoming(orders, deal));
+            let come = show_order(orders, numbers, incoming(orders, deal));
             Finding::at_deal(Property::Inactive, deal, come, None)
         }
         DealRule::Limits => {
-            let bid = show_order(orders, traded, before, deal.bid);
-            let ask = show_order(orders, traded, before, deal.ask);
+            let bid = show_order(orders, numbers, deal.bid);
+            let ask = show_order(orders, numbers, deal.ask);
             Finding::at_deal(Property::Limit, deal, bid, ask)
         }
-        DealRule::Size(side) => over_size_finding(orders, traded, before, deal, side),
+        DealRule::Size(side) => over_size_finding(orders, numbers, deal, side),
     }
 }
 
@@ -136,22 +123,16 @@ fn property_of(side: Side) -> Property
 }
 
 /// The finding at a deal that passes over the order at an index.
-fn outranked_finding(
-    orders: &[Order],
-    traded: &[u128],
-    before: &[u128],
-    deal: &Deal,
-    over: usize,
-) -> Finding
+fn outranked_finding(orders: &[Order], numbers: &Numbers, deal: &Deal, over: usize) -> Finding
     requires named { NamesOrders orders.now deal.now }
     requires over { over < length orders.now }
-    requires numbers { AreShown orders.now traded.now before.now }
-    ensures { result ≡ outranked_finding orders.now (shown_in traded.now before.now) deal.now
+    requires numbers { AreShown orders.now numbers.now }
+    ensures { result ≡ outranked_finding orders.now (shown_in numbers.now) deal.now
         over }
 {
     let index = resting_of(orders, deal);
-    let first = show_order(orders, traded, before, over);
-    let second = show_order(orders, traded, before, index);
+    let first = show_order(orders, numbers, over);
+    let second = show_order(orders, numbers, index);
     Finding::at_deal(property_of(orders[index].side), deal, first, second)
 }
 
@@ -183,45 +164,35 @@ fn meeting_finding(own: &Order, other: &Order, own_traded: u128, other_traded: u
 }
 
 /// The finding at the record of the order at `order`, which meets the one at `other`.
-fn crossed_finding(
-    orders: &[Order],
-    traded: &[u128],
-    before: &[u128],
-    order: usize,
-    other: usize,
-) -> Finding
+fn crossed_finding(orders: &[Order], numbers: &Numbers, order: usize, other: usize) -> Finding
     requires order { order < length orders.now }
     requires other { other < length orders.now }
-    requires numbers { AreShown orders.now traded.now before.now }
-    ensures { result ≡ crossed_finding orders.now (shown_in traded.now before.now) order other }
+    requires numbers { AreShown orders.now numbers.now }
+    ensures { result ≡ crossed_finding orders.now (shown_in numbers.now) order other }
 {
-    let own_traded = shown_of(traded, before, order);
-    let other_traded = shown_of(traded, before, other);
+    let own_traded = shown_of(orders, numbers, order);
+    let other_traded = shown_of(orders, numbers, other);
     meeting_finding(&orders[order], &orders[other], own_traded, other_traded)
 }
 
-/// The finding of a breach at the record of the order at `order`, with what the orders have traded there.
+/// The finding of a breach at the record of the order at `order`.
 pub fn breach_finding(
-    orders: &[Order],
-    deals: &[Deal],
+    market: &Market<'_>,
     order: usize,
-    traded: &[u128],
-    before: &[u128],
+    numbers: &Numbers,
     breach: Breach,
 ) -> Finding
-    requires list { IsOrderList orders.now }
-    requires deal_list { IsDealList orders.now deals.now }
-    requires order { order < length orders.now }
-    requires upto { IsBreachUpto deals.now order breach }
-    requires numbers { AreShown orders.now traded.now before.now }
-    ensures { result ≡ breach_finding orders.now deals.now order (shown_in traded.now before.now)
-        breach }
+    requires market { IsMarket market.now }
+    requires order { order < length market.now.orders.now }
+    requires upto { IsBreachUpto market.now.deals.now order breach }
+    requires numbers { AreShown market.now.orders.now numbers.now }
+    ensures { result ≡ breach_finding market.now.orders.now market.now.deals.now order
+        (shown_in numbers.now) breach }
 {
+    let (orders, deals) = (market.orders, market.deals);
     match breach {
-        Breach::Deal(at) => rule_finding(orders, traded, before, &deals[at.deal], at.rule),
-        Breach::Outranked { deal, over } => {
-            outranked_finding(orders, traded, before, &deals[deal], over)
-        }
-        Breach::Crossed(other) => crossed_finding(orders, traded, before, order, other),
+        Breach::Deal(at) => rule_finding(orders, numbers, &deals[at.deal], at.rule),
+        Breach::Outranked { deal, over } => outranked_finding(orders, numbers, &deals[deal], over),
+        Breach::Crossed(other) => crossed_finding(orders, numbers, order, other),
     }
 }

@@ -1,9 +1,9 @@
 //! The deals by their incoming orders, and those of one order as they stand in the log.
-ghost use Rattle.std.specs.Prelude.{◌≡◌, ◌<◌, All, IfOk, length, IsPermutation, IsSorted};
+ghost use Rattle.std.specs.Prelude.{◌≡◌, ◌<◌, All, IfOk, length};
 ghost use Rattle.audit_base.specs.Orders.{order_at, place_at};
 ghost use Rattle.audit_base.specs.Deals.{NamesOrders, IsDealList};
 ghost use Rattle.audit_base.specs.Continuous.{incoming, resting};
-ghost use Rattle.continuous_audit.specs.Causes.{causes_upto, cause_cmp};
+ghost use Rattle.continuous_audit.specs.Causes.{AreCauses, causes_upto};
 
 use audit_base::faults::NoMemory;
 use audit_base::orders::{Deal, Order};
@@ -62,9 +62,7 @@ fn collect_causes(alloc: Global, orders: &[Order], deals: &[Deal]) -> Result<Vec
 /// The deals by their incoming orders, and those of one order as they stand in the log.
 pub fn sort_causes(alloc: Global, orders: &[Order], deals: &[Deal]) -> Result<Vec<Cause>, NoMemory>
     requires { All (NamesOrders orders.now) deals.now }
-    ensures moved { IfOk result (λ causes.
-        IsPermutation (causes_upto orders.now deals.now (length deals.now)) causes.items) }
-    ensures sorted { IfOk result (λ causes. IsSorted cause_cmp causes.items) }
+    ensures { IfOk result (λ causes. AreCauses orders.now deals.now causes.items) }
 {
     let mut causes = collect_causes(alloc, orders, deals)?;
     causes.sort()?;

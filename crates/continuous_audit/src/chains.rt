@@ -3,17 +3,17 @@ ghost use Rattle.std.specs.Prelude.{◌≡◌, ◌<◌, ◌≤◌, ◌*◌, ◌^
 ghost use Rattle.audit_base.specs.declared.orders.Deal.{Deal as ADeal};
 ghost use Rattle.audit_base.specs.Orders.{IsOrderList};
 ghost use Rattle.audit_base.specs.Continuous.{before_of, chain};
-ghost use Rattle.continuous_audit.specs.Chains.{AreBounded, AreClosed, IsClosed, IsKept, ends_by};
+ghost use Rattle.continuous_audit.specs.Chains.{IsClosed, IsKept, IsOpenSheet, ends_by};
 ghost use Rattle.continuous_audit.specs.Scans.{AreSmall, number_in};
 
+use super::sheet::Sheet;
 use audit_base::orders::Order;
 
 /// What the orders of the chain of an order have traded: its target, the target's target, and so on.
 fn chain_total(orders: &[Order], traded: &[u128], order: usize) -> u128
     requires list { IsOrderList orders.now }
     requires order { order < length orders.now }
-    requires count { length traded.now ≡ length orders.now }
-    requires fits { AreSmall orders.now traded.now }
+    requires traded { AreSmall orders.now traded.now }
     ensures total { result ≡ sum_by (number_in traded.now) (chain orders.now order) }
     ensures bounded { result ≤ order * 2 ^ 72 }
 {
@@ -28,27 +28,18 @@ fn chain_total(orders: &[Order], traded: &[u128], order: usize) -> u128
 
 /// Before of an order: what its chain has traded. Where the records of its target's chain end one another, as in
 /// every history, this is what the target has traded, and the target's own Before.
-pub fn chain_before(
-    orders: &[Order],
-    traded: &[u128],
-    before: &[u128],
-    closed: &[bool],
-    order: usize,
-) -> u128
+pub fn chain_before(orders: &[Order], traded: &[u128], sheet: &Sheet, order: usize) -> u128
     requires list { IsOrderList orders.now }
     requires order { order < length orders.now }
-    requires count { length traded.now ≡ length orders.now }
-    requires before_count { length before.now ≡ length orders.now }
-    requires fits { AreSmall orders.now traded.now }
-    requires before_bounded { AreBounded before.now }
-    requires closed { AreClosed orders.now order closed.now }
-    ensures before { (deals : List ADeal) → IsKept orders.now deals order traded.now before.now
+    requires traded { AreSmall orders.now traded.now }
+    requires sheet { IsOpenSheet orders.now order sheet.now }
+    ensures before { (deals : List ADeal) → IsKept orders.now deals order traded.now sheet.now
         → result ≡ before_of orders.now deals order }
     ensures bounded { result ≤ order * 2 ^ 72 }
 {
     if let Some(target) = orders[order].target {
-        if closed[target] {
-            return traded[target] + before[target];
+        if sheet.is_closed(target) {
+            return traded[target] + sheet.before[target];
         }
     }
     chain_total(orders, traded, order)
@@ -65,14 +56,15 @@ fn ends_by(cancelled: Option<u32>, place: u32) -> bool
 }
 
 /// Whether the records of the chain of an order end one another.
-pub fn is_closed(orders: &[Order], closed: &[bool], order: usize) -> bool
+pub fn is_closed(orders: &[Order], sheet: &Sheet, order: usize) -> bool
     requires list { IsOrderList orders.now }
     requires order { order < length orders.now }
-    requires closed { AreClosed orders.now order closed.now }
+    requires sheet { IsOpenSheet orders.now order sheet.now }
     ensures { result ≡ true → IsClosed orders.now order }
 {
     match orders[order].target {
-        Some(target) => closed[target] && ends_by(orders[target].cancelled, orders[order].place),
+        Some(target) => sheet.is_closed(target)
+            && ends_by(orders[target].cancelled, orders[order].place),
         None => true,
     }
 }

@@ -23,14 +23,39 @@ pub fn waits(order: &Order, place: u32, left: u64) -> bool
     order.life.rests() && is_uncancelled(order.cancelled, place) && left > 0
 }
 
-/// Whether the earlier one of a bid and an ask that trade rests before a place, with so much left of each.
-fn resting_waits(bid: &Order, ask: &Order, place: u32, bid_left: u64, ask_left: u64) -> bool
-    ensures { result ≡ by_deal.resting_waits bid.now ask.now place bid_left ask_left }
+/// What is known of one of a deal's orders.
+#[derive(Clone, Copy, Debug)]
+pub struct Account {
+    /// What it has traded up to the deal.
+    pub traded: u128,
+    /// Its Size.
+    pub size: u64,
+    /// What was left of it before the record.
+    pub left: u64,
+}
+
+/// What is known of both orders of a deal.
+#[derive(Clone, Copy, Debug)]
+pub struct Accounts {
+    pub bid: Account,
+    pub ask: Account,
+}
+
+/// The record that a deal belongs to: its place, and whether its order enters there.
+#[derive(Clone, Copy, Debug)]
+pub struct Coming {
+    pub place: u32,
+    pub entered: bool,
+}
+
+/// Whether the earlier one of a bid and an ask that trade rests before a place.
+fn resting_waits(bid: &Order, ask: &Order, place: u32, known: Accounts) -> bool
+    ensures { result ≡ by_deal.resting_waits bid.now ask.now place known }
 {
     if bid.place < ask.place {
-        waits(bid, place, bid_left)
+        waits(bid, place, known.bid.left)
     } else {
-        waits(ask, place, ask_left)
+        waits(ask, place, known.ask.left)
     }
 }
 
@@ -62,34 +87,20 @@ fn first_broken(
     None
 }
 
-/// What is known of one of a deal's orders.
-#[derive(Clone, Copy, Debug)]
-pub struct Account {
-    /// What it has traded up to the deal.
-    pub traded: u128,
-    /// Its Size.
-    pub size: u64,
-    /// What was left of it before the record.
-    pub left: u64,
-}
-
-/// The first rule that a deal breaks, from what its orders have traded and had left before the record. A finding has
-/// hundreds of bytes, and most deals have none, so none is made here.
+/// The first rule that a deal breaks, from what is known of its orders. A finding has hundreds of bytes, and most
+/// deals have none, so none is made here.
 pub fn broken_rule(
     deal: &Deal,
     bid: &Order,
     ask: &Order,
-    place: u32,
-    entered: bool,
-    own_bid: Account,
-    own_ask: Account,
+    coming: Coming,
+    known: Accounts,
 ) -> Option<DealRule>
-    ensures { result ≡ by_deal.broken_rule deal.now bid.now ask.now place entered
-        own_bid.traded own_ask.traded own_bid.size own_ask.size own_bid.left own_ask.left }
+    ensures { result ≡ by_deal.broken_rule deal.now bid.now ask.now coming known }
 {
-    let rests = resting_waits(bid, ask, place, own_bid.left, own_ask.left);
+    let rests = resting_waits(bid, ask, coming.place, known);
     let within = deal.is_within(bid, ask);
-    let bid_over = (own_bid.size as u128) < own_bid.traded;
-    let ask_over = (own_ask.size as u128) < own_ask.traded;
-    first_broken(rests, entered, within, bid_over, ask_over)
+    let bid_over = (known.bid.size as u128) < known.bid.traded;
+    let ask_over = (known.ask.size as u128) < known.ask.traded;
+    first_broken(rests, coming.entered, within, bid_over, ask_over)
 }

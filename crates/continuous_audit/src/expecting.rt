@@ -5,14 +5,15 @@ ghost use Rattle.audit_base.specs.Deals.{AreDeals, IsDealList};
 ghost use Rattle.audit_base.specs.Histories.{Regular};
 ghost use Rattle.audit_base.specs.ContinuousRules.{ConformsContinuous};
 ghost use Rattle.audit_base.specs.Expected.{IsExpectedContinuous};
-ghost use Rattle.continuous_audit.specs.Endings.{AreEndings};
+ghost use Rattle.continuous_audit.specs.Books.{ready_place};
+ghost use Rattle.continuous_audit.specs.Endings.{AreDropped, AreEndings};
 ghost use Rattle.continuous_audit.specs.Matching.{AreAtFirst, IsCounted, MatchedBefore};
-ghost use Rattle.continuous_audit.specs.Progress.{AreDropped, ready_place};
 
-use super::auditing::{empty_books, no_flags, zero_amounts, zero_totals};
+use super::books::Standing;
 use super::endings::{Ending, sort_endings};
 use super::matching::{TradesSoFar, match_record};
 use super::pairs::{number_pairs, sort_pairs};
+use super::sheet::Sheet;
 use audit_base::faults::NoMemory;
 use audit_base::orders::{Deal, Order};
 use std::alloc::Global;
@@ -21,16 +22,12 @@ use std::alloc::Global;
 fn no_trades(alloc: Global, count: usize) -> Result<TradesSoFar, NoMemory>
     ensures { IfOk result (AreAtFirst count) }
 {
-    let traded = zero_totals(alloc, count)?;
-    let before = zero_totals(alloc, count)?;
-    let closed = no_flags(alloc, count)?;
-    let left = zero_amounts(alloc, count)?;
+    let sheet = Sheet::new(alloc, count)?;
+    let traded = vec![in alloc; 0u128; count]?;
     Ok(TradesSoFar {
         traded,
-        before,
-        closed,
-        left,
-        standing: empty_books(alloc),
+        sheet,
+        standing: Standing::new(alloc),
         fills: Vec::new(alloc),
         pairs: Vec::new(alloc),
     })

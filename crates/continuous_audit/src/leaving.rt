@@ -1,10 +1,10 @@
 //! What is left of the orders after the deals of a record.
-ghost use Rattle.std.specs.Prelude.{◌≡◌, ◌≢◌, ◌<◌, ◌≤◌, ◌-◌, ℕ, All, length, slice_set, vec_len};
-ghost use Rattle.audit_base.specs.Deals.{deal_at};
-ghost use Rattle.continuous_audit.specs.Scans.{number_in, deal_in, IsRefreshed, HasDeals};
+ghost use Rattle.std.specs.Prelude.{◌≡◌, ◌<◌, ◌≤◌, ◌-◌, length, slice_set, vec_len};
+ghost use Rattle.continuous_audit.specs.Markets.{AreRefreshed};
+ghost use Rattle.continuous_audit.specs.Scans.{HasDeals, number_in};
 
-use super::causes::Cause;
-use audit_base::orders::Deal;
+use super::market::Market;
+use super::scanning::RunningTotals;
 
 /// What is left of a size of which so much has traded.
 pub fn left_of(size: u64, traded: u128) -> u64
@@ -17,6 +17,23 @@ pub fn left_of(size: u64, traded: u128) -> u64
     }
 }
 
+/// What is left of an order.
+pub fn left_at(sizes: &[u64], traded: &[u128], order: usize) -> u64
+    requires sizes { order < length sizes.now }
+    requires traded { order < length traded.now }
+    ensures { result ≡ number_in sizes.now order - number_in traded.now order }
+{
+    left_of(sizes[order], traded[order])
+}
+
+/// Sets a number of an order.
+pub fn set_amount(numbers: &mut Vec<u64>, order: usize, number: u64)
+    requires { order < vec_len numbers.old }
+    ensures { numbers.new.items ≡ slice_set numbers.old.items order number }
+{
+    numbers[order] = number;
+}
+
 /// Sets what is left of the two orders of a deal.
 fn set_left(left: &mut Vec<u64>, bid: usize, ask: usize, bid_left: u64, ask_left: u64)
     requires bid { bid < vec_len left.old }
@@ -27,28 +44,27 @@ fn set_left(left: &mut Vec<u64>, bid: usize, ask: usize, bid_left: u64, ask_left
     left[ask] = ask_left;
 }
 
-/// Sets what is left of the orders of these deals.
+/// Sets what is left of the orders of the deals from the causes at `start` on, as far as these are added.
 pub fn refresh_left(
-    deals: &[Deal],
-    causes: &[Cause],
+    market: &Market<'_>,
     start: usize,
-    end: usize,
+    running: &RunningTotals,
     sizes: &[u64],
-    traded: &[u128],
     left: &mut Vec<u64>,
 )
-    requires from { start ≤ end }
-    requires ends { end ≤ length causes.now }
-    requires deals { HasDeals deals.now causes.now (vec_len left.old) }
+    requires from { start ≤ running.now.at }
+    requires ends { running.now.at ≤ length market.now.causes.now }
+    requires deals { HasDeals market.now.deals.now market.now.causes.now (vec_len left.old) }
     requires sizes_count { length sizes.now ≡ vec_len left.old }
-    requires traded_count { length traded.now ≡ vec_len left.old }
-    ensures refreshed { IsRefreshed deals.now causes.now start end sizes.now traded.now
-        left.old.items left.new.items }
+    requires traded_count { vec_len running.now.traded ≡ vec_len left.old }
+    ensures refreshed { AreRefreshed market.now start running.now sizes.now left.old.items
+        left.new.items }
 {
-    for at in start..end {
+    let (deals, causes) = (market.deals, market.causes);
+    for at in start..running.at {
         let deal = &deals[causes[at].deal];
-        let bid_left = left_of(sizes[deal.bid], traded[deal.bid]);
-        let ask_left = left_of(sizes[deal.ask], traded[deal.ask]);
+        let bid_left = left_at(sizes, &running.traded, deal.bid);
+        let ask_left = left_at(sizes, &running.traded, deal.ask);
         set_left(left, deal.bid, deal.ask, bid_left, ask_left);
     }
 }

@@ -2,20 +2,23 @@
 #![tactic(auto)]
 
 pub mod auditing;
+mod books;
 mod breaches;
 mod causes;
 mod chains;
 mod checking;
-mod dealing;
 mod endings;
 pub mod expecting;
 mod filling;
 mod fills;
 mod leaving;
+mod market;
 mod matching;
+mod numbers;
 mod opening;
 mod pairs;
 mod passing;
-mod record_audit;
 mod scanning;
+mod sheet;
 mod spreading;
+mod state;

@@ -1,19 +1,20 @@
 //! One record of an order: what it trades under the rule, and what stands after it.
-ghost use Rattle.std.specs.Prelude.{◌≡◌, ◌<◌, ◌≤◌, ◌+◌, ◌-◌, ◌*◌, ◌^◌, ◌∷◌, [], ℕ, suc, min, All, IfOk, OnOk, length, slice_index, vec_len};
+ghost use Rattle.std.specs.Prelude.{◌≡◌, ◌<◌, ◌≤◌, ◌+◌, ◌-◌, ◌*◌, ◌^◌, ◌∷◌, [], ℕ, suc, min, All, IfOk, OnOk, length, slice_set, vec_len};
 ghost use Rattle.audit_base.specs.Orders.{IsOrderList, limit_at, other_side, place_at, side_at};
 ghost use Rattle.audit_base.specs.Histories.{Regular};
-ghost use Rattle.continuous_audit.specs.Endings.{AreEndings, list_of, with_list};
+ghost use Rattle.continuous_audit.specs.Books.{list_of, ready_place, with_list};
+ghost use Rattle.continuous_audit.specs.Endings.{AreDropped, AreEndings};
 ghost use Rattle.continuous_audit.specs.Fills.{fills_of, rest_of, total_filled};
 ghost use Rattle.continuous_audit.specs.Matching.{AreApplied, IsCounted, MatchedAfter, MatchedBefore};
-ghost use Rattle.continuous_audit.specs.Progress.{AreDropped, ready_place};
 ghost use Rattle.continuous_audit.specs.Scans.{number_in};
 
-use super::endings::{Books, Ending};
+use super::books::{Books, Standing};
+use super::endings::Ending;
 use super::fills::{Fill, take_fills};
-use super::leaving::left_of;
+use super::leaving::{left_of, set_amount};
 use super::opening::open_order;
 use super::pairs::{Pair, push_pairs};
-use super::record_audit::{Standing, drop_upto, next_place, set_amount, set_flag, set_total};
+use super::sheet::Sheet;
 use super::spreading::enter_own;
 use audit_base::faults::NoMemory;
 use audit_base::orders::Order;
@@ -24,14 +25,19 @@ use audit_base::terms::Side;
 #[derive(Drop)]
 pub struct TradesSoFar {
     pub traded: Vec<u128>,
-    pub before: Vec<u128>,
-    /// Whether the records of the chain of each order end one another.
-    pub closed: Vec<bool>,
-    pub left: Vec<u64>,
+    pub sheet: Sheet,
     pub standing: Standing,
     /// What the last order trades.
     pub fills: Vec<Fill>,
     pub pairs: Vec<Pair>,
+}
+
+/// Sets what an order has traded.
+fn set_total(traded: &mut Vec<u128>, order: usize, total: u128)
+    requires { order < vec_len traded.old }
+    ensures { traded.new.items ≡ slice_set traded.old.items order total }
+{
+    traded[order] = total;
 }
 
 /// Adds a fill to what its order has traded, and takes it from what is left of it.
@@ -90,19 +96,11 @@ fn trade_order(orders: &[Order], order: usize, so_far: &mut TradesSoFar) -> Resu
     requires matched { MatchedBefore orders.now order (place_at orders.now order) so_far.old }
     ensures started { OnOk result (so_far.new.standing.start ≡ so_far.old.standing.start) }
     ensures counted { OnOk result (IsCounted orders.now (suc order)
-        (min 1 (number_in so_far.new.left.items order)) so_far.new) }
+        (min 1 (number_in so_far.new.sheet.left.items order)) so_far.new) }
     ensures matched { OnOk result (MatchedAfter orders.now order so_far.new) }
 {
-    let opening = open_order(
-        orders,
-        &so_far.traded,
-        &so_far.left,
-        &so_far.before,
-        &so_far.closed,
-        order,
-    );
-    set_total(&mut so_far.before, order, opening.before);
-    set_flag(&mut so_far.closed, order, opening.closed);
+    let opening = open_order(orders, &so_far.traded, &so_far.sheet, order);
+    so_far.sheet.note(order, &opening);
     let own = &orders[order];
     let left = fill_order(
         own,
@@ -110,9 +108,9 @@ fn trade_order(orders: &[Order], order: usize, so_far: &mut TradesSoFar) -> Resu
         &mut so_far.standing.books,
         &mut so_far.fills,
     )?;
-    apply_fills(&so_far.fills, &mut so_far.traded, &mut so_far.left);
+    apply_fills(&so_far.fills, &mut so_far.traded, &mut so_far.sheet.left);
     set_total(&mut so_far.traded, order, (opening.size - left) as u128);
-    set_amount(&mut so_far.left, order, left);
+    set_amount(&mut so_far.sheet.left, order, left);
     push_pairs(own.side, order, &so_far.fills, &mut so_far.pairs)
 }
 
@@ -138,11 +136,10 @@ pub fn match_record(
         (MatchedBefore orders.now (suc order) (ready_place orders.now (suc order)) so_far.new) }
 {
     trade_order(orders, order, so_far)?;
-    let place = orders[order].place;
-    drop_upto(orders, endings, &mut so_far.standing, place as u64 + 1);
-    let left = so_far.left[order];
-    enter_own(orders, order, left, &mut so_far.standing.books)?;
-    let next = next_place(orders, order);
-    drop_upto(orders, endings, &mut so_far.standing, next);
+    let standing = &mut so_far.standing;
+    standing.drop_own(orders, endings, order);
+    let left = so_far.sheet.left[order];
+    enter_own(orders, order, left, &mut standing.books)?;
+    standing.drop_before_next(orders, endings, order);
     Ok(())
 }

@@ -1,13 +1,15 @@
 //! What an order brings at its own record.
-ghost use Rattle.std.specs.Prelude.{◌≡◌, ◌<◌, ◌≤◌, ◌*◌, ◌^◌, ℕ, List, None, Some, true, length};
+ghost use Rattle.std.specs.Prelude.{◌≡◌, ◌<◌, ◌≤◌, ◌^◌, ℕ, List, None, Some, true, length};
 ghost use Rattle.audit_base.specs.Orders.{IsOrderList};
 ghost use Rattle.audit_base.specs.declared.orders.Deal.{Deal as ADeal};
-ghost use Rattle.continuous_audit.specs.Chains.{AreBounded, AreClosed, IsClosed, IsOpening};
+ghost use Rattle.continuous_audit.specs.Chains.{IsOpening, IsOpenSheet};
 ghost use Rattle.continuous_audit.specs.DealFindings.{enters, size_left, waits_in};
-ghost use Rattle.continuous_audit.specs.Scans.{AreSmall, IsOpened};
+ghost use Rattle.continuous_audit.specs.Openings.{FitsOrder, IsOpened};
+ghost use Rattle.continuous_audit.specs.Scans.{AreSmall};
 
 use super::chains::{chain_before, is_closed};
 use super::checking::waits;
+use super::sheet::Sheet;
 use audit_base::numbers::Quantity;
 use audit_base::orders::Order;
 
@@ -22,15 +24,15 @@ fn enters(order: &Order, target_rests: bool) -> bool
 }
 
 /// Whether the target of an order rests before its place, or there is none.
-fn target_rests(orders: &[Order], left: &[u64], order: &Order) -> bool
+fn target_rests(orders: &[Order], sheet: &Sheet, order: &Order) -> bool
     requires inside { (t : ℕ) → order.now.target ≡ Some t → t < length orders.now }
-    requires count { length left.now ≡ length orders.now }
+    requires count { length sheet.now.left.items ≡ length orders.now }
     ensures none { order.now.target ≡ None → result ≡ true }
     ensures some { (t : ℕ) → order.now.target ≡ Some t
-        → result ≡ waits_in orders.now left.now order.now.place t }
+        → result ≡ waits_in orders.now sheet.now.left.items order.now.place t }
 {
     match order.target {
-        Some(index) => waits(&orders[index], order.place, left[index]),
+        Some(index) => waits(&orders[index], order.place, sheet.left[index]),
         None => true,
     }
 }
@@ -59,36 +61,23 @@ pub struct Opening {
 }
 
 /// What an order brings at its own record, from what the earlier ones have traded and have left.
-pub fn open_order(
-    orders: &[Order],
-    traded: &[u128],
-    left: &[u64],
-    before: &[u128],
-    closed: &[bool],
-    order: usize,
-) -> Opening
+pub fn open_order(orders: &[Order], traded: &[u128], sheet: &Sheet, order: usize) -> Opening
     requires list { IsOrderList orders.now }
     requires order { order < length orders.now }
-    requires count { length traded.now ≡ length orders.now }
-    requires left_count { length left.now ≡ length orders.now }
-    requires before_count { length before.now ≡ length orders.now }
-    requires fits { AreSmall orders.now traded.now }
-    requires before_bounded { AreBounded before.now }
-    requires closed { AreClosed orders.now order closed.now }
+    requires traded { AreSmall orders.now traded.now }
+    requires sheet { IsOpenSheet orders.now order sheet.now }
     ensures opened { (deals : List ADeal)
-        → IsOpening orders.now deals order traded.now left.now before.now
-        → IsOpened orders.now deals order result.entered result.before result.size }
-    ensures bounded { result.before ≤ order * 2 ^ 72 }
-    ensures closed { result.closed ≡ true → IsClosed orders.now order }
-    ensures most { result.size ≤ 10 ^ 12 }
+        → IsOpening orders.now deals order traded.now sheet.now
+        → IsOpened orders.now deals order result }
+    ensures fits { FitsOrder orders.now order result }
 {
-    let before = chain_before(orders, traded, before, closed, order);
+    let before = chain_before(orders, traded, sheet, order);
     let opened = &orders[order];
-    let entered = enters(opened, target_rests(orders, left, opened));
+    let entered = enters(opened, target_rests(orders, sheet, opened));
     Opening {
         entered,
         before,
-        closed: is_closed(orders, closed, order),
+        closed: is_closed(orders, sheet, order),
         size: size_left(entered, opened.quantity, before),
     }
 }

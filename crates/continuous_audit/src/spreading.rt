@@ -1,24 +1,24 @@
 //! Whether the order of a record meets one that rests, and its way into the book.
-ghost use Rattle.std.specs.Prelude.{◌≡◌, ◌<◌, ◌≤◌, ◌+◌, min, ◌&&◌, ℕ, List, Some, All, OnOk, length, option_map};
+ghost use Rattle.std.specs.Prelude.{◌≡◌, ◌<◌, ◌≤◌, ◌+◌, min, ◌&&◌, ℕ, List, Some, OnOk, length, option_map};
 ghost use Rattle.audit_base.specs.declared.orders.Deal.{Deal as ADeal};
 ghost use Rattle.audit_base.specs.Orders.{IsOrderList, place_at};
+ghost use Rattle.audit_base.specs.Continuous.{traded_before};
 ghost use Rattle.audit_base.specs.Expected.{limits_meet};
 ghost use Rattle.audit_base.specs.ContinuousOffences.{spread_finding};
-ghost use Rattle.continuous_audit.specs.Endings.{resting_count};
+ghost use Rattle.continuous_audit.specs.Books.{HoldAfter, HoldBelow, resting_count};
 ghost use Rattle.continuous_audit.specs.Breaches.{met_after};
-ghost use Rattle.continuous_audit.specs.Progress as progress;
+ghost use Rattle.continuous_audit.specs.Holding.{IsApart};
+ghost use Rattle.continuous_audit.specs.Spreads.{IsAfterOwn, is_active_with, stays_with};
 
-use super::dealing::best_of;
-use super::endings::{Books, enter_order};
+use super::books::Books;
 use audit_base::faults::NoMemory;
 use audit_base::numbers::Price;
 use audit_base::orders::Order;
 use audit_base::terms::Side;
-use order_book::books::Resting;
 
 /// Whether an order is active after its own record, where so much is left of it.
 fn is_active(order: &Order, left: u64) -> bool
-    ensures { result ≡ progress.is_active_with order.now left }
+    ensures { result ≡ is_active_with order.now left }
 {
     let uncancelled = match order.cancelled {
         Some(end) => order.place < end,
@@ -29,7 +29,7 @@ fn is_active(order: &Order, left: u64) -> bool
 
 /// Whether an order rests after its own record.
 fn stays(order: &Order, left: u64) -> bool
-    ensures { result ≡ progress.stays_with order.now left }
+    ensures { result ≡ stays_with order.now left }
 {
     order.life.rests() && is_active(order, left)
 }
@@ -46,29 +46,27 @@ pub fn limits_meet(side: Side, limit: Price, other: Price) -> bool
 
 /// Whether an order is active after its own record, where so much is left of it, and meets a limit of the other side.
 fn meets(order: &Order, left: u64, other: Price) -> bool
-    ensures { result ≡ progress.is_active_with order.now left && limits_meet order.now.side
+    ensures { result ≡ is_active_with order.now left && limits_meet order.now.side
         order.now.limit other }
 {
     is_active(order, left) && limits_meet(order.side, order.limit, other)
 }
 
 /// The best order of the other side, by its index, if the order of a record is active after it and meets that one.
-pub fn spread_of(orders: &[Order], order: usize, left: &[u64], books: &Books) -> Option<usize>
+pub fn spread_of(orders: &[Order], order: usize, left: u64, books: &Books) -> Option<usize>
     requires list { IsOrderList orders.now }
     requires order { order < length orders.now }
-    requires left_count { length left.now ≡ length orders.now }
-    requires bids { All (λ r. r.index < order) books.now.bids.resting }
-    requires asks { All (λ r. r.index < order) books.now.asks.resting }
-    ensures finding { (deals : List ADeal)
-        → progress.IsAtSpread orders.now deals order left.now books.now
+    requires earlier { HoldBelow order books.now }
+    ensures finding { (deals : List ADeal) → IsAfterOwn orders.now deals order left books.now
+        → IsApart orders.now (traded_before orders.now deals) (place_at orders.now order)
         → spread_finding orders.now deals (place_at orders.now order)
         ≡ option_map (met_after orders.now deals order) result }
     ensures upto { (other : ℕ) → result ≡ Some other → other ≤ order }
 {
     let own = &orders[order];
-    match best_of(books, own.side.other()) {
+    match books.best(own.side.other()) {
         Some(best) => {
-            if !meets(own, left[order], best.limit) {
+            if !meets(own, left, best.limit) {
                 return None;
             }
             Some(best.index)
@@ -84,17 +82,17 @@ pub fn enter_own(
     left: u64,
     books: &mut Books,
 ) -> Result<(), NoMemory>
+    requires list { IsOrderList orders.now }
     requires order { order < length orders.now }
-    requires bids { All (λ r. r.index < order) books.old.bids.resting }
-    requires asks { All (λ r. r.index < order) books.old.asks.resting }
+    requires earlier { HoldBelow order books.old }
     ensures entered { OnOk result ((deals : List ADeal)
-        → progress.IsEntering orders.now deals order left books.old
-        → progress.HoldAfter orders.now deals order books.new) }
+        → IsAfterOwn orders.now deals order left books.old
+        → HoldAfter orders.now deals order books.new) }
     ensures more { OnOk result (resting_count books.new ≤ resting_count books.old + min 1 left) }
 {
     let own = &orders[order];
     if stays(own, left) {
-        enter_order(books, own.side, order, own.limit, left)
+        books.enter(own.side, order, own.limit, left)
     } else {
         Ok(())
     }

@@ -22,7 +22,7 @@ fn zeros(alloc: Global, count: usize) -> Result<Vec<u128>, NoMemory>
 }
 
 /// Adds the quantity of a deal to what its two orders trade, and gives what they then trade.
-fn add_deal(traded: &mut Vec<u128>, bid: usize, ask: usize, quantity: u128) -> (u128, u128)
+pub fn add_deal(traded: &mut Vec<u128>, bid: usize, ask: usize, quantity: u128) -> (u128, u128)
     requires bid { bid < vec_len traded.old }
     requires ask { ask < vec_len traded.old }
     requires apart { bid ≢ ask }

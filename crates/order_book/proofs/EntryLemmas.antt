@@ -16,20 +16,21 @@ use Rattle.audit_base.specs.declared.terms.Side.TheVariants.{Buy, Sell}
 use Rattle.audit_base.specs.Priority.{better_limit}
 use Rattle.audit_base.proofs.SumLemmas.{AllPairs-cons}
 use Rattle.order_book.specs.declared.books.Resting.{Resting}
-use Rattle.order_book.specs.declared.ranks.Rank.{Rank}
+use Rattle.rank_order.specs.declared.ranks.Rank.{Rank}
 use Rattle.order_book.specs.Books.{HasLeft, IsAhead, with_order, is_pair, without_order, after_take, first}
-use Rattle.order_book.specs.Entries.{weight_of, rank_cmp, rank_of, IsEntry, AreEntries}
+use Rattle.order_book.specs.Entries.{IsEntry, AreEntries}
+use Rattle.rank_order.specs.Ranks.{rank_cmp, rank_of, weight_of}
 
 -- ranks against limits and indices
-ahead-less : (side : Side) (r s : Resting) → r.limit < 10 ^ 18 → s.limit < 10 ^ 18 → better_limit side r.limit s.limit ≡ true → rank_cmp (rank_of side r) (rank_of side s) ≡ Less
+ahead-less : (side : Side) (r s : Resting) → r.limit < 10 ^ 18 → s.limit < 10 ^ 18 → better_limit side r.limit s.limit ≡ true → rank_cmp (rank_of side r.index r.limit) (rank_of side s.index s.limit) ≡ Less
 ahead-less Buy r s p q h = grind (arith, nat_tests)
 ahead-less Sell r s p q h = grind (arith, nat_tests)
 
-behind-greater : (side : Side) (r s : Resting) → r.limit < 10 ^ 18 → s.limit < 10 ^ 18 → s.index < r.index → better_limit side r.limit s.limit ≡ false → rank_cmp (rank_of side r) (rank_of side s) ≡ Greater
+behind-greater : (side : Side) (r s : Resting) → r.limit < 10 ^ 18 → s.limit < 10 ^ 18 → s.index < r.index → better_limit side r.limit s.limit ≡ false → rank_cmp (rank_of side r.index r.limit) (rank_of side s.index s.limit) ≡ Greater
 behind-greater Buy r s p q lt h = grind (arith, nat_tests)
 behind-greater Sell r s p q lt h = grind (arith, nat_tests)
 
-less-ahead : (side : Side) (r s : Resting) → r.limit < 10 ^ 18 → s.limit < 10 ^ 18 → rank_cmp (rank_of side r) (rank_of side s) ≡ Less → IsAhead side r s
+less-ahead : (side : Side) (r s : Resting) → r.limit < 10 ^ 18 → s.limit < 10 ^ 18 → rank_cmp (rank_of side r.index r.limit) (rank_of side s.index s.limit) ≡ Less → IsAhead side r s
 less-ahead Buy r s p q h = elim (cases_lt s.limit r.limit) [
   | inl lt ↦ inl (lt-ltb s.limit r.limit lt)
   | inr le ↦ inr (grind (arith, nat_tests), grind (arith, nat_tests))
@@ -39,7 +40,7 @@ less-ahead Sell r s p q h = elim (cases_lt r.limit s.limit) [
   | inr le ↦ inr (grind (arith, nat_tests), grind (arith, nat_tests))
 ]
 
-equal-pair : (side : Side) (i l : ℕ) (s : Resting) → l < 10 ^ 18 → s.limit < 10 ^ 18 → is_eq (rank_cmp (record { weight = weight_of side l; index = i }) (rank_of side s)) ≡ is_pair i l s
+equal-pair : (side : Side) (i l : ℕ) (s : Resting) → l < 10 ^ 18 → s.limit < 10 ^ 18 → is_eq (rank_cmp (record { weight = weight_of side l; index = i }) (rank_of side s.index s.limit)) ≡ is_pair i l s
 equal-pair Buy i l s p q = grind (arith, nat_tests)
 equal-pair Sell i l s p q = grind (arith, nat_tests)
 
@@ -59,7 +60,7 @@ module _ (side : Side) where
       behind [] here later less = λ k d lt. absurd (omega arith)
       behind (f ∷ fs) here later less =
           let there = All-head (IsEntry side) f fs later in
-          let below : rank_cmp (rank_of side e.1) (rank_of side f.1) ≡ Less = subst (λ (k : Rank). rank_cmp k (rank_of side f.1) ≡ Less) here.key (subst (λ (k : Rank). rank_cmp e.0 k ≡ Less) there.key less.0) in
+          let below : rank_cmp (rank_of side e.1.index e.1.limit) (rank_of side f.1.index f.1.limit) ≡ Less = subst (λ (k : Rank). rank_cmp k (rank_of side f.1.index f.1.limit) ≡ Less) here.key (subst (λ (k : Rank). rank_cmp e.0 k ≡ Less) there.key less.0) in
           All-cons (IsAhead side e.1) f.1 (values_of fs) (less-ahead side e.1 f.1 here.held.priced there.held.priced below) (behind fs here (All-tail (IsEntry side) f fs later) less.1)
 
   pub are-ranked : (es : Es) → AreEntries side es → AllPairs (IsAhead side) (values_of es)
@@ -70,8 +71,8 @@ module _ (side : Side) where
 
   -- what `insert` makes
   insert-values : (r : Resting) → HasLeft r → (es : Es) → All (IsEntry side) es → All (λ x. x.index < r.index) (values_of es)
-      → (values_of (insert_entry rank_cmp es (rank_of side r) r) ≡ with_order side r (values_of es)) × (All (IsEntry side) (insert_entry rank_cmp es (rank_of side r) r))
-  insert-values r held [] each latest = (refl, All-cons (IsEntry side) (rank_of side r, r) [] (record { key = refl; held = held }) (All-nil (IsEntry side)))
+      → (values_of (insert_entry rank_cmp es (rank_of side r.index r.limit) r) ≡ with_order side r (values_of es)) × (All (IsEntry side) (insert_entry rank_cmp es (rank_of side r.index r.limit) r))
+  insert-values r held [] each latest = (refl, All-cons (IsEntry side) (rank_of side r.index r.limit, r) [] (record { key = refl; held = held }) (All-nil (IsEntry side)))
   insert-values r held (e ∷ es) each latest =
       let here = All-head (IsEntry side) e es each in
       let later = All-tail (IsEntry side) e es each in
@@ -79,17 +80,17 @@ module _ (side : Side) where
       let rest = insert-values r held es later (All-tail (λ (x : Resting). x.index < r.index) e.1 (values_of es) latest) in
       elim (cases_Bool (better_limit side r.limit e.1.limit)) [
         | inl t ↦
-            let less : rank_cmp (rank_of side r) e.0 ≡ Less = rw here.key (ahead-less side r e.1 held.priced here.held.priced t) in
-            rw (less, t) (refl, All-cons (IsEntry side) (rank_of side r, r) (e ∷ es) (record { key = refl; held = held }) each)
+            let less : rank_cmp (rank_of side r.index r.limit) e.0 ≡ Less = rw here.key (ahead-less side r e.1 held.priced here.held.priced t) in
+            rw (less, t) (refl, All-cons (IsEntry side) (rank_of side r.index r.limit, r) (e ∷ es) (record { key = refl; held = held }) each)
         | inr f ↦
-            let more : rank_cmp (rank_of side r) e.0 ≡ Greater = rw here.key (behind-greater side r e.1 held.priced here.held.priced lower f) in
-            rw (more, f) (ap (λ (xs : List Resting). e.1 ∷ xs) rest.0, All-cons (IsEntry side) e (insert_entry rank_cmp es (rank_of side r) r) here rest.1)
+            let more : rank_cmp (rank_of side r.index r.limit) e.0 ≡ Greater = rw here.key (behind-greater side r e.1 held.priced here.held.priced lower f) in
+            rw (more, f) (ap (λ (xs : List Resting). e.1 ∷ xs) rest.0, All-cons (IsEntry side) e (insert_entry rank_cmp es (rank_of side r.index r.limit) r) here rest.1)
       ]
 
-  pub inserted : (r : Resting) (rank : Rank) (es fs : Es) → rank ≡ rank_of side r → 0 < r.left → r.limit < 10 ^ 18 → AreEntries side es → All (λ x. x.index < r.index) (values_of es)
+  pub inserted : (r : Resting) (rank : Rank) (es fs : Es) → rank ≡ rank_of side r.index r.limit → 0 < r.left → r.limit < 10 ^ 18 → AreEntries side es → All (λ x. x.index < r.index) (values_of es)
       → fs ≡ insert_entry rank_cmp es rank r → IsStrictlySortedBy rank_cmp (keys_of fs) → AreEntries side fs × (values_of fs ≡ with_order side r (values_of es))
   inserted r rank es fs key some priced are latest e up =
-      let same : fs ≡ insert_entry rank_cmp es (rank_of side r) r = e ∙ ap (λ (k : Rank). insert_entry rank_cmp es k r) key in
+      let same : fs ≡ insert_entry rank_cmp es (rank_of side r.index r.limit) r = e ∙ ap (λ (k : Rank). insert_entry rank_cmp es k r) key in
       let both = insert-values r (record { some = some; priced = priced }) es are.each latest in
       (record { each = subst (All (IsEntry side)) (sym same) both.1; rising = up }, ap values_of same ∙ both.0)
 
@@ -147,7 +148,7 @@ module _ (side : Side) where
       let w-is : w ≡ record x.1 { left = x.1.left - quantity } = is ∙ ap (λ (y : Resting). record y { left = y.left - quantity }) (sym r-is) in
       let left-is : x.1.left ≡ r.left = ap (λ (y : Resting). y.left) r-is in
       let entry : IsEntry side (x.0, w) = record {
-        key = here.key ∙ ap (rank_of side) (sym w-is);
+        key = here.key ∙ ap (λ (x : Resting). rank_of side x.index x.limit) (sym w-is);
         held = rw w-is (record { some = omega arith; priced = here.held.priced });
       } in (
         record {

@@ -5,10 +5,10 @@ ghost use Rattle.std.specs.List.{list_any};
 ghost use Rattle.std.specs.Map.{set_value};
 ghost use Rattle.order_book.specs.Books.{IsAhead, HasLeft, is_pair, without_order, after_take, first, with_added};
 
-use super::ranks::Rank;
 use audit_base::faults::NoMemory;
 use audit_base::numbers::Price;
 use audit_base::terms::Side;
+use rank_order::ranks::Rank;
 use std::alloc::Global;
 use std::collections::BTreeMap;
 use std::marker::Model;

@@ -1,9 +1,8 @@
 -- The ranks of the orders of a side, sorted, are those orders from the best to the worst.
-use Rattle.std.proofs.Common.{◌≡◌, ◌≢◌, ◌<◌, ◌+◌, ◌^◌, ◌⊎◌, ℕ, List, [], ◌∷◌, ◌++◌, length, get_or, map, Bool, true, false, refl, sym, ap, ◌∙◌, arith, inl, inr, subst, eqb, All, AllPairs, Ordering, is_lt, nat_cmp, IsPermutation, IsSorted}
+use Rattle.std.proofs.Common.{◌≡◌, ◌≢◌, ◌<◌, ◌+◌, ◌^◌, ◌⊎◌, ℕ, List, [], ◌∷◌, ◌++◌, length, get_or, map, Bool, true, false, refl, sym, ap, ◌∙◌, arith, inl, inr, subst, eqb, All, AllPairs, is_lt, IsPermutation, IsSorted}
 use Rattle.std.specs.Prelude.{Contains}
-use Rattle.std.specs.Ordering.{ordering_then}
 use Rattle.std.specs.Cmp.{IsStrictWeakOrder}
-use Rattle.std.proofs.lemmas.Bool.{cases_Bool, cases_eq, both_ways, eq-eqb, ne_eqb}
+use Rattle.std.proofs.lemmas.Bool.{cases_Bool, cases_eq, cases_lt, both_ways, eq-eqb, ne_eqb}
 use Rattle.std.proofs.lemmas.Bool.Decides.{nat_tests}
 use Rattle.std.proofs.lemmas.Cmp.{nat_cmp_total, on_total, then_total}
 use Rattle.std.proofs.lemmas.List.{append-nil, length-map, get_or-map}
@@ -16,11 +15,11 @@ use Rattle.audit_base.specs.declared.orders.Order.{Order}
 use Rattle.audit_base.specs.Orders.{missing_order, order_at, limit_at, stands_on, Stands, IsOrderList}
 use Rattle.audit_base.specs.Priority.{outranks, Better, IsRanked}
 use Rattle.audit_base.proofs.SumLemmas.{AllPairs-head, AllPairs-tail, AllPairs-cons}
-use Rattle.audit_base.proofs.OrderLemmas.{test-stands, stands-test}
+use Rattle.audit_base.proofs.OrderLemmas.{place-rises, test-stands, stands-test}
 use Rattle.audit_base.proofs.OffenceLemmas.{get_or-default}
 use Rattle.audit_base.proofs.PriorityLemmas.{bid-outranks, ask-outranks, better-outranks, Better-total}
 use Rattle.rank_order.specs.declared.ranks.Rank.{Rank}
-use Rattle.rank_order.specs.Ranks.{weight_of, rank_of, rank_if, index_of, IsRankOf, AreRanks}
+use Rattle.rank_order.specs.Ranks.{weight_of, order_rank, rank_cmp, rank_if, index_of, IsRankOf, AreRanks}
 
 -- one more element
 AllPairs-push : {X : Type 0} (R : X → X → Type 0) (xs : List X) (y : X) → AllPairs R xs → All (λ x. R x y) xs → AllPairs R (xs ++ y ∷ [])
@@ -42,7 +41,7 @@ module _ (orders : List Order) (side : Side) where
 
   module _ (n : ℕ) (ranks : List Rank) (lt : n < length orders) (priced : limit_at orders n < 10 ^ 18) (are : AreRanks orders side n ranks) where
     abbrev rank : Rank
-    rank = rank_of n (order_at orders n)
+    rank = order_rank n (order_at orders n)
 
     within-more : All (λ r. r.index < n + 1) ranks
     within-more = All-weaker (λ (r : Rank). r.index < n) (λ (r : Rank). r.index < n + 1) (λ r less. omega arith) ranks are.within
@@ -62,8 +61,8 @@ module _ (orders : List Order) (side : Side) where
     added on = record {
       only = All-push (IsRankOf orders side) ranks rank are.only (record { stands = test-stands orders side n lt on; is = refl; priced = priced });
       each = λ i below s. elim (cases_eq i n) [
-        | inl same ↦ subst (λ k. Contains (ranks ++ rank ∷ []) (rank_of k (order_at orders k))) (sym same) (Contains-push ranks rank)
-        | inr ne ↦ Contains-append_left ranks (rank ∷ []) (rank_of i (order_at orders i)) (are.each i (omega (arith, ne)) s)
+        | inl same ↦ subst (λ k. Contains (ranks ++ rank ∷ []) (order_rank k (order_at orders k))) (sym same) (Contains-push ranks rank)
+        | inr ne ↦ Contains-append_left ranks (rank ∷ []) (order_rank i (order_at orders i)) (are.each i (omega (arith, ne)) s)
       ];
       within = All-push (λ (r : Rank). r.index < n + 1) ranks rank within-more (omega arith);
       rising = AllPairs-push (λ (r s : Rank). r.index < s.index) ranks rank are.rising are.within;
@@ -85,13 +84,10 @@ module _ (orders : List Order) (side : Side) where
 
 -- Sorted ranks.
 
-abbrev pub rank_cmp : Rank → Rank → Ordering
-rank_cmp a b = ordering_then (nat_cmp a.weight b.weight) (ordering_then (nat_cmp a.place b.place) (nat_cmp a.index b.index))
-
 abbrev same_index : Rank → Rank → Bool
 same_index r s = eqb r.index s.index
 
-lesser : (a b : Rank) → (a.weight < b.weight) ⊎ ((a.weight ≡ b.weight) × (a.place < b.place)) → is_lt (rank_cmp a b) ≡ true
+lesser : (a b : Rank) → (a.weight < b.weight) ⊎ ((a.weight ≡ b.weight) × (a.index < b.index)) → is_lt (rank_cmp a b) ≡ true
 lesser a b h = grind (arith, nat_tests)
 
 lighter : (side : Side) (o p : Order) → o.limit < 10 ^ 18 → outranks side o p ≡ true
@@ -100,7 +96,7 @@ lighter Buy o p priced over = elim (bid-outranks o p over) [ inl more ↦ inl (o
 lighter Sell o p priced over = ask-outranks o p over
 
 weak : IsStrictWeakOrder (λ (a b : Rank). is_lt (rank_cmp a b))
-weak = ranks_by (then_total (on_total (λ (r : Rank). r.weight) nat_cmp_total) (then_total (on_total (λ (r : Rank). r.place) nat_cmp_total) (on_total index_of nat_cmp_total))) (λ (r : Rank). r)
+weak = ranks_by (then_total (on_total (λ (r : Rank). r.weight) nat_cmp_total) (on_total index_of nat_cmp_total)) (λ (r : Rank). r)
 
 module _ (orders : List Order) (list : IsOrderList orders) (side : Side) where
   -- of two orders, the one of the rank that is no greater is better
@@ -113,9 +109,16 @@ module _ (orders : List Order) (list : IsOrderList orders) (side : Side) where
         let over : outranks side o p ≡ true = rw (← b.stands.of_side) (better-outranks o p under) in
         let ws : s.weight ≡ weight_of side o.limit = ap (λ (t : Rank). t.weight) b.is ∙ ap (λ (which : Side). weight_of which o.limit) b.stands.of_side in
         let wr : r.weight ≡ weight_of side p.limit = ap (λ (t : Rank). t.weight) a.is ∙ ap (λ (which : Side). weight_of which p.limit) a.stands.of_side in
-        let ps : s.place ≡ o.place = ap (λ (t : Rank). t.place) b.is in
-        let pr : r.place ≡ p.place = ap (λ (t : Rank). t.place) a.is in
-        let less : (s.weight < r.weight) ⊎ ((s.weight ≡ r.weight) × (s.place < r.place)) = rw (ws, wr, ps, pr) (lighter side o p b.priced over) in
+        let less : (s.weight < r.weight) ⊎ ((s.weight ≡ r.weight) × (s.index < r.index)) = elim (lighter side o p b.priced over) [
+          | inl light ↦ inl (omega arith)
+          | inr same ↦ inr (
+            omega (arith, same.0),
+            elim (cases_lt s.index r.index) [
+              | inl lt ↦ lt
+              | inr ge ↦ let up = place-rises orders list r.index s.index (omega (arith, apart)) b.stands.inside in absurd (omega (arith, same.1))
+            ],
+          )
+        ] in
         absurd (both_ways _ no_less (lesser s r less))
   ]
 
@@ -124,10 +127,10 @@ module _ (orders : List Order) (list : IsOrderList orders) (side : Side) where
   sorted-ranked ranks sorted are moved in_order = record {
     only = All-map (Stands orders side) index_of sorted (All-weaker (IsRankOf orders side) (λ (r : Rank). Stands orders side r.index) (λ r is. is.stands) sorted each_is);
     each = λ i s.
-        let c = Contains-permutation ranks sorted (rank_of i (order_at orders i)) moved (are.each i s.inside s) in
-        (c.0, omega (arith, c.1, length-map sorted index_of), get_or-map index_of sorted c.0 (rank_of i (order_at orders i)) i c.1 ∙ ap index_of c.2);
+        let c = Contains-permutation ranks sorted (order_rank i (order_at orders i)) moved (are.each i s.inside s) in
+        (c.0, omega (arith, c.1, length-map sorted index_of), get_or-map index_of sorted c.0 (order_rank i (order_at orders i)) i c.1 ∙ ap index_of c.2);
     best_first = λ i j d lt below.
-        let e : Rank = record { weight = 0; place = 0; index = d } in
+        let e : Rank = record { weight = 0; index = d } in
         let under : j < length sorted = omega (arith, length-map sorted index_of) in
         let over : Better orders (get_or sorted i e).index (get_or sorted j e).index =
         best-first (get_or sorted i e) (get_or sorted j e) (each_is i e (omega arith)) (each_is j e under) (apart i j e lt under)

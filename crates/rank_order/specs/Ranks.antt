@@ -1,5 +1,7 @@
 -- The ranks that the code sorts in place of the orders of a side.
 use Rattle.std.specs.Prelude.{◌≡◌, ◌<◌, ◌-◌, ◌^◌, ℕ, List, [], ◌∷◌, All, AllPairs, Contains, if◌then◌else◌}
+use Rattle.std.specs.Ordering.{nat_cmp, ordering_then}
+use Rattle.std.specs.declared.cmp.Ordering.{Ordering}
 use Rattle.audit_base.specs.declared.terms.Side.{Side}
 use Rattle.audit_base.specs.declared.terms.Side.TheVariants.{Buy, Sell}
 use Rattle.audit_base.specs.declared.orders.Order.{Order}
@@ -11,16 +13,21 @@ abbrev pub weight_of : Side → ℕ → ℕ
 weight_of Buy limit = 10 ^ 18 - limit
 weight_of Sell limit = limit
 
-abbrev pub weight : Order → ℕ
-weight o = weight_of o.side o.limit
+-- the rank of an order of a side at an index with this limit
+abbrev pub rank_of : Side → ℕ → ℕ → Rank
+rank_of side i limit = record { weight = weight_of side limit; index = i }
 
--- the rank of an order at an index
-abbrev pub rank_of : ℕ → Order → Rank
-rank_of i o = record { weight = weight o; place = o.place; index = i }
+-- how ranks compare
+abbrev pub rank_cmp : Rank → Rank → Ordering
+rank_cmp a b = ordering_then (nat_cmp a.weight b.weight) (nat_cmp a.index b.index)
+
+-- the rank of an order of a list
+abbrev pub order_rank : ℕ → Order → Rank
+order_rank i o = rank_of o.side i o.limit
 
 -- its rank alone where it stands on the side, else no rank
 abbrev pub rank_if : Side → ℕ → Order → List Rank
-rank_if side i o = if stands_on side o then rank_of i o ∷ [] else []
+rank_if side i o = if stands_on side o then order_rank i o ∷ [] else []
 
 -- the index of a rank
 abbrev pub index_of : Rank → ℕ
@@ -29,12 +36,13 @@ index_of r = r.index
 -- the rank is that of an order of the side that no record cancels, whose limit is a price
 pub record IsRankOf (orders : List Order) (side : Side) (r : Rank) : Type 0 where
   pub stands : Stands orders side r.index
-  pub is : r ≡ rank_of r.index (order_at orders r.index)
+  pub is : r ≡ order_rank r.index (order_at orders r.index)
   pub priced : limit_at orders r.index < 10 ^ 18
 
 -- these are the ranks of the first n orders, by rising index
 pub record AreRanks (orders : List Order) (side : Side) (n : ℕ) (ranks : List Rank) : Type 0 where
   pub only : All (IsRankOf orders side) ranks
-  pub each : (i : ℕ) → i < n → Stands orders side i → Contains ranks (rank_of i (order_at orders i))
+  pub each : (i : ℕ) → i < n → Stands orders side i
+      → Contains ranks (order_rank i (order_at orders i))
   pub within : All (λ r. r.index < n) ranks
   pub rising : AllPairs (λ r s. r.index < s.index) ranks

@@ -4,4 +4,4 @@
 
 pub mod comparing;
 pub mod ranking;
-mod ranks;
+pub mod ranks;

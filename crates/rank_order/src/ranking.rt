@@ -18,7 +18,7 @@ fn add_rank(ranks: &mut Vec<Rank>, side: Side, index: usize, order: &Order) -> R
         OnOk result (ranks.new.items ≡ ranks.old.items ++ more) }
     ensures priced { order.now.limit < 10 ^ 18 }
 {
-    let rank = Rank::of(index, order);
+    let rank = Rank::of(order.side, index, order.limit);
     if order.stands_on(side) {
         ranks.push(rank)?;
     }

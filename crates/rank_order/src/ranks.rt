@@ -1,46 +1,33 @@
 //! Ranks, which sort as the orders of a side do.
 ghost use Rattle.std.specs.Prelude.{◌≡◌, ◌<◌, ◌^◌};
-ghost use Rattle.rank_order.specs.Ranks.{rank_of, weight};
+ghost use Rattle.rank_order.specs.Ranks.{rank_of};
 
-use audit_base::orders::Order;
+use audit_base::numbers::Price;
 use audit_base::terms::Side;
 
 /// The rank of an order on its side: of two ranks of a side, the lesser is that of the better order.
-#[derive(Clone, Copy, PartialEq, Eq, PartialOrd, Ord)]
+#[derive(Clone, Copy, Debug, PartialEq, Eq, PartialOrd, Ord, Drop)]
 pub struct Rank {
     /// The limit of an ask in units of 10^-8; of a bid, what its limit is below 10^18.
     pub weight: u64,
-    /// The place of the order in the log.
-    pub place: u32,
-    /// The index of the order in its list.
+    /// The index of the order in its list, where places rise.
     pub index: usize,
 }
 
 // One more than the greatest limit.
 const LIMITS: u64 = 1_000_000_000_000_000_000;
 
-/// The weight of an order's limit, the less the better.
-fn weight(order: &Order) -> u64
-    ensures same { result ≡ weight order.now }
-    ensures priced { order.now.limit < 10 ^ 18 }
-{
-    let limit = order.limit.units();
-    match order.side {
-        Side::Buy => LIMITS - limit,
-        Side::Sell => limit,
-    }
-}
-
 impl Rank {
-    /// The rank of the order at this index.
-    pub fn of(index: usize, order: &Order) -> Rank
-        ensures same { result ≡ rank_of index order.now }
-        ensures priced { order.now.limit < 10 ^ 18 }
+    /// The rank of the order at this index with this limit.
+    pub fn of(side: Side, index: usize, limit: Price) -> Rank
+        ensures same { result ≡ rank_of side index limit }
+        ensures priced { limit < 10 ^ 18 }
     {
-        Rank {
-            weight: weight(order),
-            place: order.place,
-            index,
-        }
+        let units = limit.units();
+        let weight = match side {
+            Side::Buy => LIMITS - units,
+            Side::Sell => units,
+        };
+        Rank { weight, index }
     }
 }

@@ -1,27 +1,16 @@
-use Rattle.std.proofs.Common.{◌≡◌, ◌∙◌, ℕ, List, None, Ok, length, inl, inr, refl, sym, ap, subst}
+use Rattle.std.proofs.Common.{◌≡◌, ◌∙◌, ℕ, List, None, Ok, length, inl, inr, refl, ap}
 use Rattle.audit_base.proofs.LeastLemmas.{cases_Option}
 use Rattle.audit_base.proofs.ContinuousOffenceLemmas.{offence-fails}
-use Rattle.continuous_audit.specs.Causes.{AreCauses}
-use Rattle.continuous_audit.specs.Endings.{AreEndings}
+use Rattle.continuous_audit.specs.Markets.{IsMarket}
 use Rattle.continuous_audit.specs.Scans.{number_in}
-use Rattle.continuous_audit.proofs.AuditLemmas.{ready-first, last-conforms, last-count, last-traded}
-use Rattle.continuous_audit.proofs.CauseLemmas.{are-causes}
-use Rattle.continuous_audit.proofs.EndingLemmas.{are-endings}
+use Rattle.continuous_audit.proofs.AuditLemmas.{market-read, ready-first, last-conforms, last-count, last-traded}
 use Rattle.continuous_audit.proofs.auditing.audit_continuous.Goals as goal
 
-pub first_offence-requires-clause-causes : goal.first_offence-requires-clause-causes
-first_offence-requires-clause-causes c = subst (AreCauses c.args.orders.now c.args.deals.now) (sym c.deref.ensures.value)
-    (are-causes c.args.orders.now c.args.deals.now c.in_ok-causes.causes.items c.in_ok-causes.ensures.moved c.in_ok-causes.ensures.sorted)
-
-pub first_offence-requires-clause-endings : goal.first_offence-requires-clause-endings
-first_offence-requires-clause-endings c = subst (AreEndings c.args.orders.now) (sym c.deref-2.ensures.value)
-    (are-endings c.args.orders.now c.in_ok-endings.endings.items c.in_ok-endings.ensures.moved c.in_ok-endings.ensures.sorted)
+pub first_offence-requires-clause-market : goal.first_offence-requires-clause-market
+first_offence-requires-clause-market c = market-read _ c.in_ok-causes.causes.items c.in_ok-endings.endings.items c.requires.order_list c.requires.deal_list c.deref.ensures.value c.deref-2.ensures.value c.in_ok-causes.ensures c.in_ok-endings.ensures
 
 pub first_offence-requires-clause-ready : goal.first_offence-requires-clause-ready
-first_offence-requires-clause-ready c =
-    let are = subst (AreCauses c.args.orders.now c.args.deals.now) (sym c.deref.ensures.value)
-    (are-causes c.args.orders.now c.args.deals.now c.in_ok-causes.causes.items c.in_ok-causes.ensures.moved c.in_ok-causes.ensures.sorted) in
-    ready-first c.args.orders.now c.requires.order_list c.args.deals.now c.requires.deal_list c.deref.result.now are c.deref-2.result.now c.in_ok-numbers.numbers c.empty_books-standing.result c.in_ok-numbers.ensures c.empty_books-standing.ensures
+first_offence-requires-clause-ready c = ready-first _ (market-read _ c.in_ok-causes.causes.items c.in_ok-endings.endings.items c.requires.order_list c.requires.deal_list c.deref.ensures.value c.deref-2.ensures.value c.in_ok-causes.ensures c.in_ok-endings.ensures) c.in_ok-state.state c.in_ok-state.ensures
 
 pub returns-in-Some : goal.returns-in-Some
 returns-in-Some c =
@@ -30,15 +19,15 @@ returns-in-Some c =
 
 pub returns : goal.returns
 returns c =
-    let are = subst (AreCauses c.args.orders.now c.args.deals.now) (sym c.deref.ensures.value)
-    (are-causes c.args.orders.now c.args.deals.now c.in_ok-causes.causes.items c.in_ok-causes.ensures.moved c.in_ok-causes.ensures.sorted) in
     let none : c.in_ok-finding.field-0 ≡ None = elim (cases_Option c.in_ok-finding.field-0) [ inl e ↦ e | inr some ↦ absurd (c.in_default.not-Some some.0 some.1) ] in
     let ready = c.in_ok-finding.ensures.done (ap Ok none) in
-    let conforms = last-conforms c.args.orders.now c.requires.order_list c.args.deals.now c.requires.deal_list c.deref.result.now are c.deref-2.result.now c.first_offence.new.numbers c.first_offence.new.standing ready in
+    let state = c.first_offence.new.self in
+    let market : IsMarket (record { orders = c.args.orders; deals = c.args.deals; causes = c.deref.result; endings = c.deref-2.result }) = market-read _ c.in_ok-causes.causes.items c.in_ok-endings.endings.items c.requires.order_list c.requires.deal_list c.deref.ensures.value c.deref-2.ensures.value c.in_ok-causes.ensures c.in_ok-endings.ensures in
+    let conforms = last-conforms _ market state ready in
     record {
       conforms = conforms;
-      count = ap (λ (t : List ℕ × ℕ). length t.0) c.of.ensures ∙ last-count c.args.orders.now c.requires.order_list c.args.deals.now c.requires.deal_list c.deref.result.now are c.deref-2.result.now c.first_offence.new.numbers c.first_offence.new.standing ready;
-      totals = λ i lt. ap (λ (t : List ℕ × ℕ). number_in t.0 i) c.of.ensures ∙ last-traded c.args.orders.now c.requires.order_list c.args.deals.now c.requires.deal_list c.deref.result.now are c.deref-2.result.now c.first_offence.new.numbers c.first_offence.new.standing ready i lt;
+      count = ap (λ (t : List ℕ × ℕ). length t.0) c.of.ensures ∙ last-count _ market state ready;
+      totals = λ i lt. ap (λ (t : List ℕ × ℕ). number_in t.0 i) c.of.ensures ∙ last-traded _ market state ready i lt;
       volume_is = ap (λ (t : List ℕ × ℕ). t.1) c.of.ensures ∙ c.volume_of-volume.ensures.total;
       no_bound = refl;
       only = λ regular bid ask. c.continuous_uniqueness.ensures.only c.args.orders.now c.args.deals.now c.requires.order_list regular c.volume_of-volume.ensures.numbers conforms bid ask;

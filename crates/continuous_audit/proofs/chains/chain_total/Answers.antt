@@ -34,5 +34,5 @@ loop-target-preserved c =
     let steps = read.2 in
     let so_far = c.loop-target.invariant.sum in
     let fits = c.loop-target.invariant.fits in
-    let one = c.requires.fits c.in-Some.index inside in
+    let one = c.requires.traded.most c.in-Some.index inside in
     record { inside = read.0; sum = omega arith; fits = omega arith }

@@ -1,15 +1,13 @@
-use Rattle.std.proofs.Common.{◌≡◌, ◌<◌, ◌+◌, ℕ, List, length, sym, ap, subst, arith, get_or, All, is_lt, false, rules}
+use Rattle.std.proofs.Common.{List, length, sym, ap, subst, arith, All}
 use Rattle.std.proofs.lemmas.Result.{IfOk-weaker}
 use Rattle.continuous_audit.specs.declared.pairs.Pair.{Pair}
 use Rattle.continuous_audit.specs.Endings.{AreEndings}
-use Rattle.continuous_audit.specs.Pairs.{AreNumbered, IsDealt, pair_cmp}
-use Rattle.continuous_audit.proofs.EndingLemmas.{are-endings}
+use Rattle.continuous_audit.specs.Pairs.{AreNumbered, IsDealt}
 use Rattle.continuous_audit.proofs.ExpectingLemmas.{matched-first, sorted-dealt, sorted-length, made-expected, made-conforms, made-listed}
 use Rattle.continuous_audit.proofs.expecting.continuous_matching.Goals as goal
 
 pub match_records-requires-clause-endings : goal.match_records-requires-clause-endings
-match_records-requires-clause-endings c = subst (AreEndings c.args.orders.now) (sym c.deref.ensures.value)
-    (are-endings c.args.orders.now c.in_ok-endings.endings.items c.in_ok-endings.ensures.moved c.in_ok-endings.ensures.sorted)
+match_records-requires-clause-endings c = subst (AreEndings c.args.orders.now) (sym c.deref.ensures.value) c.in_ok-endings.ensures
 
 pub match_records-requires-clause-matched : goal.match_records-requires-clause-matched
 match_records-requires-clause-matched c = λ deals is. matched-first c.args.orders.now c.requires.order_list c.in_ok-so_far.so_far c.in_ok-so_far.ensures deals
@@ -18,8 +16,7 @@ pub number_pairs-requires-clause-few : goal.number_pairs-requires-clause-few
 number_pairs-requires-clause-few c =
     let pairs = c.match_records.new.so_far.pairs.items in
     let sorted = c.sort_pairs.new.pairs.items in
-    let ordered : (k : ℕ) (d : Pair) → k + 1 < length sorted → is_lt (pair_cmp (get_or sorted (k + 1) d) (get_or sorted k d)) ≡ false = λ k d lt. search rules in
-    let same = sorted-length c.args.orders.now c.requires.order_list c.requires.regular pairs sorted c.in_ok-sort_pairs.ensures.moved ordered (λ deals is. (c.in_ok-match_records.ensures.matched deals is).pairs) c.in_ok-match_records.ensures.counted.dealt in
+    let same = sorted-length c.args.orders.now c.requires.order_list c.requires.regular pairs sorted c.in_ok-sort_pairs.ensures.moved c.in_ok-sort_pairs.ensures.sorted (λ deals is. (c.in_ok-match_records.ensures.matched deals is).pairs) c.in_ok-match_records.ensures.counted.dealt in
     let few = c.in_ok-match_records.ensures.counted.few in
     let orders_few = c.requires.order_list.few in
     let long = ap (λ (ps : List Pair). length ps) c.deref-2.ensures.value in
@@ -29,33 +26,29 @@ pub number_pairs-requires-clause-dealt : goal.number_pairs-requires-clause-dealt
 number_pairs-requires-clause-dealt c =
     let pairs = c.match_records.new.so_far.pairs.items in
     let sorted = c.sort_pairs.new.pairs.items in
-    let ordered : (k : ℕ) (d : Pair) → k + 1 < length sorted → is_lt (pair_cmp (get_or sorted (k + 1) d) (get_or sorted k d)) ≡ false = λ k d lt. search rules in
     subst (All (IsDealt (length c.args.orders.now))) (sym c.deref-2.ensures.value)
-    (sorted-dealt c.args.orders.now c.requires.order_list c.requires.regular pairs sorted c.in_ok-sort_pairs.ensures.moved ordered (λ deals is. (c.in_ok-match_records.ensures.matched deals is).pairs) c.in_ok-match_records.ensures.counted.dealt)
+    (sorted-dealt c.args.orders.now c.requires.order_list c.requires.regular pairs sorted c.in_ok-sort_pairs.ensures.moved c.in_ok-sort_pairs.ensures.sorted (λ deals is. (c.in_ok-match_records.ensures.matched deals is).pairs) c.in_ok-match_records.ensures.counted.dealt)
 
 pub returns-clause-expected : goal.returns-clause-expected
 returns-clause-expected c =
     let pairs = c.match_records.new.so_far.pairs.items in
     let sorted = c.sort_pairs.new.pairs.items in
-    let ordered : (k : ℕ) (d : Pair) → k + 1 < length sorted → is_lt (pair_cmp (get_or sorted (k + 1) d) (get_or sorted k d)) ≡ false = λ k d lt. search rules in
-    IfOk-weaker c.number_pairs.result _ _ (λ made numbers. made-expected c.args.orders.now c.requires.order_list c.requires.regular pairs sorted c.in_ok-sort_pairs.ensures.moved ordered (λ deals is. (c.in_ok-match_records.ensures.matched deals is).pairs) c.in_ok-match_records.ensures.counted.dealt made.items
+    IfOk-weaker c.number_pairs.result _ _ (λ made numbers. made-expected c.args.orders.now c.requires.order_list c.requires.regular pairs sorted c.in_ok-sort_pairs.ensures.moved c.in_ok-sort_pairs.ensures.sorted (λ deals is. (c.in_ok-match_records.ensures.matched deals is).pairs) c.in_ok-match_records.ensures.counted.dealt made.items
     (subst (λ (ps : List Pair). AreNumbered c.args.orders.now ps made.items) c.deref-2.ensures.value numbers)) c.number_pairs.ensures.numbered
 
 pub returns-clause-conforms : goal.returns-clause-conforms
 returns-clause-conforms c =
     let pairs = c.match_records.new.so_far.pairs.items in
     let sorted = c.sort_pairs.new.pairs.items in
-    let ordered : (k : ℕ) (d : Pair) → k + 1 < length sorted → is_lt (pair_cmp (get_or sorted (k + 1) d) (get_or sorted k d)) ≡ false = λ k d lt. search rules in
-    IfOk-weaker c.number_pairs.result _ _ (λ made numbers. made-conforms c.args.orders.now c.requires.order_list c.requires.regular pairs sorted c.in_ok-sort_pairs.ensures.moved ordered (λ deals is. (c.in_ok-match_records.ensures.matched deals is).pairs) c.in_ok-match_records.ensures.counted.dealt made.items
+    IfOk-weaker c.number_pairs.result _ _ (λ made numbers. made-conforms c.args.orders.now c.requires.order_list c.requires.regular pairs sorted c.in_ok-sort_pairs.ensures.moved c.in_ok-sort_pairs.ensures.sorted (λ deals is. (c.in_ok-match_records.ensures.matched deals is).pairs) c.in_ok-match_records.ensures.counted.dealt made.items
     (subst (λ (ps : List Pair). AreNumbered c.args.orders.now ps made.items) c.deref-2.ensures.value numbers)) c.number_pairs.ensures.numbered
 
 pub returns-clause-deal_list : goal.returns-clause-deal_list
 returns-clause-deal_list c =
     let pairs = c.match_records.new.so_far.pairs.items in
     let sorted = c.sort_pairs.new.pairs.items in
-    let ordered : (k : ℕ) (d : Pair) → k + 1 < length sorted → is_lt (pair_cmp (get_or sorted (k + 1) d) (get_or sorted k d)) ≡ false = λ k d lt. search rules in
-    let same = sorted-length c.args.orders.now c.requires.order_list c.requires.regular pairs sorted c.in_ok-sort_pairs.ensures.moved ordered (λ deals is. (c.in_ok-match_records.ensures.matched deals is).pairs) c.in_ok-match_records.ensures.counted.dealt in
+    let same = sorted-length c.args.orders.now c.requires.order_list c.requires.regular pairs sorted c.in_ok-sort_pairs.ensures.moved c.in_ok-sort_pairs.ensures.sorted (λ deals is. (c.in_ok-match_records.ensures.matched deals is).pairs) c.in_ok-match_records.ensures.counted.dealt in
     let few = c.in_ok-match_records.ensures.counted.few in
     let orders_few = c.requires.order_list.few in
-    IfOk-weaker c.number_pairs.result _ _ (λ made numbers. made-listed c.args.orders.now c.requires.order_list c.requires.regular pairs sorted c.in_ok-sort_pairs.ensures.moved ordered (λ deals is. (c.in_ok-match_records.ensures.matched deals is).pairs) c.in_ok-match_records.ensures.counted.dealt made.items
+    IfOk-weaker c.number_pairs.result _ _ (λ made numbers. made-listed c.args.orders.now c.requires.order_list c.requires.regular pairs sorted c.in_ok-sort_pairs.ensures.moved c.in_ok-sort_pairs.ensures.sorted (λ deals is. (c.in_ok-match_records.ensures.matched deals is).pairs) c.in_ok-match_records.ensures.counted.dealt made.items
     (subst (λ (ps : List Pair). AreNumbered c.args.orders.now ps made.items) c.deref-2.ensures.value numbers) (omega arith)) c.number_pairs.ensures.numbered

@@ -1,6 +1,7 @@
 use Rattle.std.proofs.Common.{ℕ, sym, subst, add-one}
+use Rattle.continuous_audit.specs.Books.{ready_place}
+use Rattle.continuous_audit.specs.Endings.{AreDropped}
 use Rattle.continuous_audit.specs.Matching.{IsCounted, MatchedBefore}
-use Rattle.continuous_audit.specs.Progress.{AreDropped, ready_place}
 use Rattle.continuous_audit.proofs.expecting.match_records.Goals as goal
 
 pub loop-order-preserved : goal.loop-order-preserved

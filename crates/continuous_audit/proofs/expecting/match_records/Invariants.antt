@@ -1,5 +1,6 @@
+use Rattle.continuous_audit.specs.Books.{ready_place}
+use Rattle.continuous_audit.specs.Endings.{AreDropped}
 use Rattle.continuous_audit.specs.Matching.{IsCounted, MatchedBefore}
-use Rattle.continuous_audit.specs.Progress.{AreDropped, ready_place}
 use Rattle.continuous_audit.proofs.expecting.match_records.Given as goal
 
 abbrev pub invariant-loop-order : goal.invariant-loop-order

@@ -1,5 +1,5 @@
 use Rattle.std.proofs.Common.{◌≡◌, All, length}
-use Rattle.continuous_audit.specs.Holding.{after_fills, left_in, IsWithin}
+use Rattle.continuous_audit.specs.Holding.{IsWithin, after_fills, left_in}
 use Rattle.continuous_audit.proofs.filling.fill_best.Given as goal
 
 abbrev pub invariant-loop-best : goal.invariant-loop-best

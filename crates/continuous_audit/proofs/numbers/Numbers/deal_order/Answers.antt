@@ -1,0 +1,70 @@
+use Rattle.std.proofs.Common.{◌≡◌, ◌-◌, None, ◌∙◌, inl, inr, sym, subst, arith}
+use Rattle.audit_base.specs.Orders.{place_at}
+use Rattle.audit_base.proofs.LeastLemmas.{cases_Option}
+use Rattle.continuous_audit.specs.declared.breaches.Breach.TheVariants.{Deal}
+use Rattle.continuous_audit.specs.declared.numbers.Numbers.{Numbers}
+use Rattle.continuous_audit.specs.Breaches.{Breaks}
+use Rattle.continuous_audit.specs.Records.{AreLeft}
+use Rattle.continuous_audit.specs.Scans.{AreSmall, number_in}
+use Rattle.continuous_audit.proofs.BreachLemmas.{deal-breach}
+use Rattle.continuous_audit.proofs.NumberLemmas.{before-more, closed-more, known, left-after_deals, open-sheet, opening, running-small, sizes-more}
+use Rattle.continuous_audit.proofs.numbers.Numbers.deal_order.Goals as goal
+
+pub open_order-opening-requires-clause-traded : goal.open_order-opening-requires-clause-traded
+open_order-opening-requires-clause-traded c = subst (AreSmall c.args.market.now.orders.now) (sym c.deref.ensures.value)
+    (running-small c.args.market.now.orders.now c.requires.market.list c.args.market.now.deals.now c.requires.market.deal_list c.args.market.now.causes.now c.requires.market.causes c.args.self.now.running.at c.args.self.now.running.traded.items c.requires.known.running.totals)
+
+pub open_order-opening-requires-clause-sheet : goal.open_order-opening-requires-clause-sheet
+open_order-opening-requires-clause-sheet c = open-sheet c.args.market.now c.args.order (place_at c.args.market.now.orders.now c.args.order) c.args.self.now c.requires.known
+
+pub note-requires : goal.note-requires
+note-requires c = record {
+  before = let count = c.requires.known.before.count in let inside = c.requires.order in omega arith;
+  closed = let count = c.requires.known.closed.count in let inside = c.requires.order in omega arith;
+  sizes = let count = c.requires.known.sizes.count in let inside = c.requires.order in omega arith;
+}
+
+pub check_deals-requires-clause-known : goal.check_deals-requires-clause-known
+check_deals-requires-clause-known c =
+    let orders = c.args.market.now.orders.now in
+    let deals = c.args.market.now.deals.now in
+    let o = c.open_order-opening.ensures.opened deals (opening c.args.market.now.orders.now c.requires.market.list c.args.market.now.deals.now c.requires.market.deal_list c.args.market.now.causes.now c.requires.market.causes c.args.order c.requires.order c.args.self.now.running.at c.args.self.now.running.traded.items c.deref.result.now c.args.self.now.sheet c.deref.ensures.value c.requires.conforms c.requires.known.before c.requires.known.left c.requires.known.running.split c.requires.known.running.totals) in
+    known orders deals c.args.order c.requires.order c.open_order-opening.result.entered c.note.new.self o.entered_is
+    (sizes-more orders deals c.args.order c.requires.order _ _ c.open_order-opening.result.size c.requires.known.sizes o.size_is c.note.ensures.sizes)
+    (subst (AreLeft orders deals c.args.order (place_at orders c.args.order)) (sym c.note.ensures.left) c.requires.known.left)
+
+pub returns-clause-dealt : goal.returns-clause-dealt
+returns-clause-dealt c = λ e.
+    let orders = c.args.market.now.orders.now in
+    let deals = c.args.market.now.deals.now in
+    let none : c.check_deals.result ≡ None = elim (cases_Option c.check_deals.result) [ inl e ↦ e | inr some ↦ absurd (c.in_default.not-Some some.0 some.1) ] in
+    let traded = c.check_deals.ensures.traded none in
+    let o = c.open_order-opening.ensures.opened deals (opening c.args.market.now.orders.now c.requires.market.list c.args.market.now.deals.now c.requires.market.deal_list c.args.market.now.causes.now c.requires.market.causes c.args.order c.requires.order c.args.self.now.running.at c.args.self.now.running.traded.items c.deref.result.now c.args.self.now.sheet c.deref.ensures.value c.requires.conforms c.requires.known.before c.requires.known.left c.requires.known.running.split c.requires.known.running.totals) in
+    record {
+      conserved = c.check_deals.ensures.conserved none;
+      split = c.requires.known.running.split;
+      from = c.check_deals.ensures.from none;
+      known = record {
+        before = before-more orders deals c.args.order c.requires.order _ _ c.open_order-opening.result.before c.requires.known.before o.before_is c.open_order-opening.ensures.fits.bounded c.requires.market.list.few c.note.ensures.before;
+        closed = closed-more orders deals c.args.order c.requires.order _ _ c.open_order-opening.result.closed c.requires.known.closed c.open_order-opening.ensures.fits.closed c.note.ensures.closed;
+        sizes = sizes-more orders deals c.args.order c.requires.order _ _ c.open_order-opening.result.size c.requires.known.sizes o.size_is c.note.ensures.sizes;
+        left = left-after_deals c.args.market.now.orders.now c.requires.market.list c.args.market.now.deals.now c.requires.market.deal_list c.args.market.now.causes.now c.requires.market.causes c.args.order c.requires.order c.args.self.now.running.at c.check_deals.new.running.at c.deref-2.result.now c.check_deals.new.running.traded.items c.note.new.self.left.items c.refresh_left.new.left.items _ c.left_at-left.result
+            c.requires.known.running.split traded.split traded.totals
+            (sizes-more orders deals c.args.order c.requires.order _ _ c.open_order-opening.result.size c.requires.known.sizes o.size_is (c.deref-2.ensures.value ∙ c.note.ensures.sizes))
+            (subst (AreLeft orders deals c.args.order (place_at orders c.args.order)) (sym c.note.ensures.left) c.requires.known.left) c.refresh_left.ensures.refreshed
+            (c.left_at-left.ensures ∙ (λ i. number_in ((c.deref-3.ensures.value ∙ sym c.deref-2.ensures.value) i) c.args.order - number_in (c.deref-4.ensures.value i) c.args.order))
+            c.set_amount.ensures;
+        running = traded;
+      };
+    }
+
+pub returns-in-Some-clause-found : goal.returns-in-Some-clause-found
+returns-in-Some-clause-found c breach e =
+    let orders = c.args.market.now.orders.now in
+    let deals = c.args.market.now.deals.now in
+    let o = c.open_order-opening.ensures.opened deals (opening c.args.market.now.orders.now c.requires.market.list c.args.market.now.deals.now c.requires.market.deal_list c.args.market.now.causes.now c.requires.market.causes c.args.order c.requires.order c.args.self.now.running.at c.args.self.now.running.traded.items c.deref.result.now c.args.self.now.sheet c.deref.ensures.value c.requires.conforms c.requires.known.before c.requires.known.left c.requires.known.running.split c.requires.known.running.totals) in
+    let known = before-more orders deals c.args.order c.requires.order _ c.note.new.self.before.items c.open_order-opening.result.before c.requires.known.before o.before_is c.open_order-opening.ensures.fits.bounded c.requires.market.list.few c.note.ensures.before in
+    let same : Deal c.in-Some.breach ≡ breach = cc in
+    let numbers : Numbers = record { sheet = c.note.new.self; running = c.check_deals.new.running; start = c.args.self.now.running.at } in
+    subst (Breaks c.args.market.now c.args.order numbers) same
+    (deal-breach orders deals c.requires.market.deal_list c.args.order numbers c.in-Some.breach (c.check_deals.ensures.found c.in-Some.breach c.in-Some.is) known)

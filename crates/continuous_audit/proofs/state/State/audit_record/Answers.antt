@@ -1,0 +1,83 @@
+use Rattle.std.proofs.Common.{◌≡◌, ◌∙◌, Some, None, option_map, inl, inr, ap, subst, arith}
+use Rattle.audit_base.specs.Orders.{place_at}
+use Rattle.audit_base.specs.ContinuousOffences.{spread_finding}
+use Rattle.audit_base.proofs.LeastLemmas.{cases_Option}
+use Rattle.audit_base.proofs.OffenceLemmas.{get_or-default}
+use Rattle.continuous_audit.specs.declared.breaches.Breach.TheVariants.{Crossed}
+use Rattle.continuous_audit.specs.Breaches.{Breaks, met_after}
+use Rattle.continuous_audit.specs.Scans.{number_in}
+use Rattle.continuous_audit.specs.Spreads.{IsAfterOwn}
+use Rattle.continuous_audit.proofs.BooksLemmas.{hold-below}
+use Rattle.continuous_audit.proofs.BreachLemmas.{after-breach}
+use Rattle.continuous_audit.proofs.ReadyLemmas.{left-next, next-above, next-first}
+use Rattle.continuous_audit.proofs.RecordLemmas.{spread-shown, none-shown}
+use Rattle.continuous_audit.proofs.StandLemmas.{quiet-apart}
+use Rattle.continuous_audit.proofs.VerdictLemmas.{calm-next}
+use Rattle.continuous_audit.proofs.state.State.audit_record.Goals as goal
+
+pub drop_own-requires-clause-dropped : goal.drop_own-requires-clause-dropped
+drop_own-requires-clause-dropped c =
+    let none : c.trade.result ≡ None = elim (cases_Option c.trade.result) [ inl e ↦ e | inr some ↦ absurd (c.in_default.not-Some some.0 some.1) ] in
+    (c.trade.ensures.after_deals none).dropped
+
+pub spread_of-requires-clause-earlier : goal.spread_of-requires-clause-earlier
+spread_of-requires-clause-earlier c =
+    let none : c.trade.result ≡ None = elim (cases_Option c.trade.result) [ inl e ↦ e | inr some ↦ absurd (c.in_default.not-Some some.0 some.1) ] in
+    let after_deals = c.trade.ensures.after_deals none in
+    hold-below c.args.market.now.orders.now c.requires.market.list c.args.market.now.deals.now c.requires.market.deal_list.named c.args.order c.requires.order c.drop_own.new.self.books (c.drop_own.ensures.holds c.args.market.now.deals.now c.requires.market.deal_list.named after_deals.holds)
+
+pub enter_own-requires-clause-earlier : goal.enter_own-requires-clause-earlier
+enter_own-requires-clause-earlier c =
+    let none : c.trade.result ≡ None = elim (cases_Option c.trade.result) [ inl e ↦ e | inr some ↦ absurd (c.in_default.not-Some some.0 some.1) ] in
+    let after_deals = c.trade.ensures.after_deals none in
+    hold-below c.args.market.now.orders.now c.requires.market.list c.args.market.now.deals.now c.requires.market.deal_list.named c.args.order c.requires.order c.drop_own.new.self.books (c.drop_own.ensures.holds c.args.market.now.deals.now c.requires.market.deal_list.named after_deals.holds)
+
+pub returns-in-Some-clause-found : goal.returns-in-Some-clause-found
+returns-in-Some-clause-found c = λ breach e.
+    let same : c.in-Some.breach ≡ breach = cc in
+    c.trade.ensures.found breach (c.in-Some.is ∙ ap Some same)
+
+pub returns-in-Some-spread_of-clause-found : goal.returns-in-Some-spread_of-clause-found
+returns-in-Some-spread_of-clause-found c =
+    let orders = c.args.market.now.orders.now in
+    let deals = c.args.market.now.deals.now in
+    let n = c.args.order in
+    let none : c.trade.result ≡ None = elim (cases_Option c.trade.result) [ inl e ↦ e | inr some ↦ absurd (c.in_default.not-Some some.0 some.1) ] in
+    let after_deals = c.trade.ensures.after_deals none in
+    let left = after_deals.known.left in
+    let left_is : c.index-left.result.now ≡ number_in c.trade.new.self.numbers.sheet.left.items n = c.index-left.ensures ∙ get_or-default c.trade.new.self.numbers.sheet.left.items n c.index-left.result.now 0 (let count = left.count in let inside = c.requires.order in omega arith) in
+    let own : IsAfterOwn orders deals n c.index-left.result.now c.drop_own.new.self.books = record { named = c.requires.market.deal_list.named; left_is = left_is ∙ left.is n (omega arith); holds = c.drop_own.ensures.holds deals c.requires.market.deal_list.named after_deals.holds } in
+    let is = c.spread_of.ensures.finding deals own c.requires.ready.calm.apart in
+    let found = spread-shown orders deals (place_at orders n) _ after_deals.conserved after_deals.ranked (is ∙ ap (option_map (met_after orders deals n)) c.in-Some-spread_of.is) in
+    let made = after-breach orders deals n c.requires.order c.trade.new.self.numbers after_deals.traded after_deals.known.before (Crossed c.in-Some-spread_of.other)
+    (c.spread_of.ensures.upto c.in-Some-spread_of.other c.in-Some-spread_of.is) found in
+    λ breach e.
+    let same : Crossed c.in-Some-spread_of.other ≡ breach = cc in
+    subst (Breaks c.args.market.now n c.trade.new.self.numbers) same made
+
+pub returns-clause-ready : goal.returns-clause-ready
+returns-clause-ready c =
+    let orders = c.args.market.now.orders.now in
+    let deals = c.args.market.now.deals.now in
+    let n = c.args.order in
+    let none : c.trade.result ≡ None = elim (cases_Option c.trade.result) [ inl e ↦ e | inr some ↦ absurd (c.in_default.not-Some some.0 some.1) ] in
+    let after_deals = c.trade.ensures.after_deals none in
+    let left = after_deals.known.left in
+    let left_is : c.index-left.result.now ≡ number_in c.trade.new.self.numbers.sheet.left.items n = c.index-left.ensures ∙ get_or-default c.trade.new.self.numbers.sheet.left.items n c.index-left.result.now 0 (let count = left.count in let inside = c.requires.order in omega arith) in
+    let own : IsAfterOwn orders deals n c.index-left.result.now c.drop_own.new.self.books = record { named = c.requires.market.deal_list.named; left_is = left_is ∙ left.is n (omega arith); holds = c.drop_own.ensures.holds deals c.requires.market.deal_list.named after_deals.holds } in
+    let spread_none : spread_finding orders deals (place_at orders n) ≡ None = c.spread_of.ensures.finding deals own c.requires.ready.calm.apart
+    ∙ ap (option_map (met_after orders deals n)) (elim (cases_Option c.spread_of.result) [ inl e ↦ e | inr some ↦ absurd (c.in_default-spread_of.not-Some some.0 some.1) ]) in
+    λ e. record {
+      calm = calm-next c.args.market.now.orders.now c.requires.market.list c.args.market.now.deals.now c.requires.market.deal_list.named c.args.order c.requires.order _ (next-above orders c.requires.market.list n c.requires.order) (next-first orders c.requires.market.list n c.requires.order) c.requires.ready.calm
+          (none-shown orders deals (place_at orders n) after_deals.conserved after_deals.ranked spread_none)
+          (quiet-apart orders c.requires.market.list deals n c.requires.order c.drop_own.new.self.books own.holds c.requires.ready.calm.apart spread_none);
+      known = record {
+        before = after_deals.known.before;
+        closed = after_deals.known.closed;
+        sizes = after_deals.known.sizes;
+        left = left-next c.args.market.now.orders.now c.requires.market.list c.args.market.now.deals.now c.requires.market.deal_list.named c.args.order c.requires.order c.trade.new.self.numbers.sheet.left.items left;
+        running = after_deals.known.running;
+      };
+      books = c.drop_before_next.ensures.holds deals c.requires.market.deal_list.named (c.in_ok-enter_own.ensures.entered deals own);
+      dropped = c.drop_before_next.ensures.dropped;
+    }

@@ -1,0 +1,93 @@
+-- The books of both sides, and what is made of them.
+use Rattle.std.specs.Prelude.{◌≡◌, ◌<◌, ◌+◌, ◌==◌, ℕ, zero, suc, List, [], All, length, nat_lt, if◌then◌else◌}
+use Rattle.audit_base.specs.declared.terms.Side.{Side}
+use Rattle.audit_base.specs.declared.terms.Side.TheVariants.{Buy, Sell}
+use Rattle.audit_base.specs.declared.orders.Order.{Order}
+use Rattle.audit_base.specs.declared.orders.Deal.{Deal}
+use Rattle.audit_base.specs.Orders.{place_at}
+use Rattle.audit_base.specs.Continuous.{traded_before}
+use Rattle.order_book.specs.declared.books.Resting.{Resting}
+use Rattle.order_book.specs.Books.{without_order, with_order}
+use Rattle.continuous_audit.specs.declared.books.Books.{Books}
+use Rattle.continuous_audit.specs.declared.books.Standing.{Standing}
+use Rattle.continuous_audit.specs.Holding.{Holds, after_fills, left_in, resting_left, resting_left_after}
+
+-- the list of a side
+abbrev pub list_of : Side → Books → List Resting
+list_of Buy b = b.bids.resting
+list_of Sell b = b.asks.resting
+
+-- the books with another list on one side
+abbrev pub with_list : Side → List Resting → Books → Books
+with_list Buy xs b = record b { bids = record b.bids { resting = xs } }
+with_list Sell xs b = record b { asks = record b.asks { resting = xs } }
+
+-- the books without an order
+abbrev pub books_without : Side → ℕ → ℕ → Books → Books
+books_without side index limit b = with_list side (without_order index limit (list_of side b)) b
+
+-- the books with one order more
+abbrev pub books_with : Side → Resting → Books → Books
+books_with Buy r b =
+    record b { bids = record b.bids { resting = with_order b.bids.side r b.bids.resting } }
+books_with Sell r b =
+    record b { asks = record b.asks { resting = with_order b.asks.side r b.asks.resting } }
+
+-- the books with what is left now of the best orders of a side
+abbrev pub with_fills : Side → List ℕ → Books → Books
+with_fills side left b = with_list side (after_fills (left_in left) (list_of side b)) b
+
+-- how many orders rest in both books
+abbrev pub resting_count : Books → ℕ
+resting_count b = length b.bids.resting + length b.asks.resting
+
+-- each order in a book stands before the one at n in the order list
+pub record HoldBelow (n : ℕ) (b : Books) : Type 0 where
+  pub bids : All (λ r. r.index < n) b.bids.resting
+  pub asks : All (λ r. r.index < n) b.asks.resting
+
+-- both books hold these amounts
+pub record BooksHold (orders : List Order) (amount : ℕ → ℕ) (b : Books) : Type 0 where
+  pub bid_side : b.bids.side ≡ Buy
+  pub ask_side : b.asks.side ≡ Sell
+  pub bids : Holds orders Buy amount b.bids.resting
+  pub asks : Holds orders Sell amount b.asks.resting
+
+-- both books hold what rests before place q
+abbrev pub HoldAt : List Order → List Deal → ℕ → Books → Type 0
+HoldAt orders deals q b = BooksHold orders (resting_left orders (traded_before orders deals) q) b
+
+-- both books hold what rests of the orders before that at n, after its deals
+abbrev pub HoldAfterDeals : List Order → List Deal → ℕ → Books → Type 0
+HoldAfterDeals orders deals n b = BooksHold orders
+    (resting_left_after orders deals (place_at orders n)) b
+
+-- what rests after the record of the order at n, without this order
+abbrev pub without_own : List Order → List Deal → ℕ → ℕ → ℕ
+without_own orders deals n k = if k == n then 0
+    else resting_left orders (traded_before orders deals) (suc (place_at orders n)) k
+
+abbrev pub HoldWithoutOwn : List Order → List Deal → ℕ → Books → Type 0
+HoldWithoutOwn orders deals n b = BooksHold orders (without_own orders deals n) b
+
+-- both books hold what rests after its record
+abbrev pub HoldAfter : List Order → List Deal → ℕ → Books → Type 0
+HoldAfter orders deals n b = HoldAt orders deals (suc (place_at orders n)) b
+
+-- where the order at n comes, or one past the last place if there is none
+abbrev pub ready_place : List Order → ℕ → ℕ
+ready_place orders zero = place_at orders 0
+ready_place orders (suc n) = if nat_lt (suc n) (length orders) then place_at orders (suc n)
+    else suc (place_at orders n)
+
+-- both books hold what rests when it comes
+abbrev pub HoldNext : List Order → List Deal → ℕ → Books → Type 0
+HoldNext orders deals n b = HoldAt orders deals (ready_place orders n) b
+
+-- empty books, before the first order
+pub record AreEmptyBooks (standing : Standing) : Type 0 where
+  pub bid_side : standing.books.bids.side ≡ Buy
+  pub ask_side : standing.books.asks.side ≡ Sell
+  pub bids : standing.books.bids.resting ≡ []
+  pub asks : standing.books.asks.resting ≡ []
+  pub start : standing.start ≡ 0

@@ -1,0 +1,55 @@
+-- The orders and the deals of an audit, and what is known of them at a record.
+use Rattle.std.specs.Prelude.{◌≡◌, ◌<◌, ℕ, List, None}
+use Rattle.audit_base.specs.Orders.{IsOrderList, other_side, place_at, side_at}
+use Rattle.audit_base.specs.Deals.{IsDealList, deal_at}
+use Rattle.audit_base.specs.Continuous.{resting, traded_before}
+use Rattle.order_book.specs.declared.books.Resting.{Resting}
+use Rattle.continuous_audit.specs.declared.market.Market.{Market}
+use Rattle.continuous_audit.specs.declared.scanning.RunningTotals.{RunningTotals}
+use Rattle.continuous_audit.specs.Causes.{AreCauses}
+use Rattle.continuous_audit.specs.Endings.{AreEndings}
+use Rattle.continuous_audit.specs.Holding.{IsFilledInFront, resting_left, resting_left_after}
+use Rattle.continuous_audit.specs.Records.{ConformsBelow, conservation_at}
+use Rattle.continuous_audit.specs.Scans.{AreRunningTotals, IsRefreshed, IsSplitAt, deal_in}
+
+-- the deals are over the order list, and each deal and each order that is ended belongs to its record
+pub record IsMarket (m : Market) : Type 0 where
+  pub list : IsOrderList m.orders.now
+  pub deal_list : IsDealList m.orders.now m.deals.now
+  pub causes : AreCauses m.orders.now m.deals.now m.causes.now
+  pub endings : AreEndings m.orders.now m.endings.now
+
+-- the rule holds at each place before that of the order at n
+abbrev pub ConformsBefore : Market → ℕ → Type 0
+ConformsBefore m n = ConformsBelow m.orders.now m.deals.now (place_at m.orders.now n)
+
+-- each deal of the order at n keeps the limits and the quantities of its orders
+abbrev pub IsConserved : Market → ℕ → Type 0
+IsConserved m n = conservation_at m.orders.now m.deals.now n ≡ None
+
+-- what each order has traded in the deals of the first n orders
+pub record HaveTraded (m : Market) (n : ℕ) (running : RunningTotals) : Type 0 where
+  pub totals : AreRunningTotals m.orders.now m.deals.now m.causes.now running.at
+      running.traded.items
+  pub split : IsSplitAt m.causes.now n running.at
+
+-- what is left of the orders of the deals from a cause on, as far as these are added, is their size less
+-- what they have traded, and of the others what it was
+abbrev pub AreRefreshed : Market → ℕ → RunningTotals → List ℕ → List ℕ → List ℕ → Type 0
+AreRefreshed m start running sizes old new = IsRefreshed m.deals.now m.causes.now start running.at
+    sizes running.traded.items old new
+
+-- the resting order of the deal of the cause at an index
+abbrev pub resting_at : Market → ℕ → ℕ
+resting_at m i = resting m.orders.now (deal_at m.deals.now (deal_in m.causes.now i))
+
+-- an order that stands before the one at n in the order list, and is of the other side
+pub record IsOpposite (m : Market) (n : ℕ) (r : Resting) : Type 0 where
+  pub earlier : r.index < n
+  pub of_side : side_at m.orders.now r.index ≡ other_side (side_at m.orders.now n)
+
+-- a list of the other side shows at its first order what is left after the deals of the order at n
+abbrev pub IsFilledAgainst : Market → ℕ → List Resting → Type 0
+IsFilledAgainst m n ys = IsFilledInFront m.orders.now (other_side (side_at m.orders.now n))
+    (resting_left m.orders.now (traded_before m.orders.now m.deals.now) (place_at m.orders.now n))
+    (resting_left_after m.orders.now m.deals.now (place_at m.orders.now n)) ys

@@ -1,0 +1,57 @@
+-- What is known at a record, over the orders and the deals.
+use Rattle.std.specs.Prelude.{◌≡◌, ◌<◌, ◌≤◌, ◌^◌, ℕ, List, Option, length}
+use Rattle.audit_base.specs.declared.orders.Order.{Order}
+use Rattle.audit_base.specs.declared.orders.Deal.{Deal}
+use Rattle.audit_base.specs.declared.findings.Finding.{Finding}
+use Rattle.audit_base.specs.Orders.{place_at}
+use Rattle.audit_base.specs.Continuous.{traded_before, before_of, size_of, left_before}
+use Rattle.audit_base.specs.ContinuousRules.{ConformsAt}
+use Rattle.audit_base.specs.Least.{least_answer}
+use Rattle.audit_base.specs.ContinuousOffences.{conservation_finding, priority_finding}
+use Rattle.continuous_audit.specs.Holding.{IsApart}
+use Rattle.continuous_audit.specs.Chains.{AreBounded}
+use Rattle.continuous_audit.specs.Scans.{AreSmall, number_in}
+
+-- the rule holds at each place below q
+abbrev pub ConformsBelow : List Order → List Deal → ℕ → Type 0
+ConformsBelow orders deals q = (i : ℕ) → i < q → ConformsAt orders deals i
+
+-- the rule holds at each place below q, and of the orders that rest before q none meet
+pub record IsCalm (orders : List Order) (deals : List Deal) (q : ℕ) : Type 0 where
+  pub conforms : ConformsBelow orders deals q
+  pub apart : IsApart orders (traded_before orders deals) q
+
+-- Before of each of the first m orders
+pub record AreBefore (orders : List Order) (deals : List Deal) (m : ℕ)
+    (before : List ℕ) : Type 0 where
+  pub count : length before ≡ length orders
+  pub is : (x : ℕ) → x < m → number_in before x ≡ before_of orders deals x
+  pub fits : (x : ℕ) → number_in before x ≤ 2 ^ 126
+  pub bounded : AreBounded before
+
+-- Size of each of the first m orders
+pub record AreSizes (orders : List Order) (deals : List Deal) (m : ℕ)
+    (sizes : List ℕ) : Type 0 where
+  pub count : length sizes ≡ length orders
+  pub is : (x : ℕ) → x < m → number_in sizes x ≡ size_of orders deals x
+
+-- what is left of each of the first m orders before place q
+pub record AreLeft (orders : List Order) (deals : List Deal) (m q : ℕ)
+    (left : List ℕ) : Type 0 where
+  pub count : length left ≡ length orders
+  pub is : (x : ℕ) → x < m → number_in left x ≡ left_before orders deals q x
+
+-- what each order has traded before place q
+pub record AreTraded (orders : List Order) (deals : List Deal) (q : ℕ)
+    (traded : List ℕ) : Type 0 where
+  pub small : AreSmall orders traded
+  pub is : (x : ℕ) → x < length orders → number_in traded x ≡ traded_before orders deals q x
+
+-- the first finding of conservation, and the first of priority, at the record of the order at n
+abbrev pub conservation_at : List Order → List Deal → ℕ → Option Finding
+conservation_at orders deals n = least_answer
+    (conservation_finding orders deals (place_at orders n)) (length deals)
+
+abbrev pub priority_at : List Order → List Deal → ℕ → Option Finding
+priority_at orders deals n = least_answer (priority_finding orders deals (place_at orders n))
+    (length deals)

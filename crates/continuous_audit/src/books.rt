@@ -1,0 +1,174 @@
+//! The orders of both sides that rest, and those that records have ended.
+ghost use Rattle.std.specs.Prelude.{◌≡◌, ◌<◌, ◌≤◌, ◌+◌, ℕ, suc, List, OnOk, OnErr, All, length};
+ghost use Rattle.audit_base.specs.declared.orders.Deal.{Deal as ADeal};
+ghost use Rattle.audit_base.specs.Orders.{IsOrderList, place_at};
+ghost use Rattle.audit_base.specs.Deals.{NamesOrders};
+ghost use Rattle.order_book.specs.Books.{first};
+ghost use Rattle.continuous_audit.specs.Endings.{AreDropped, AreEndedBelow, AreEndings, IsEnding, amount_without};
+ghost use Rattle.continuous_audit.specs.Books.{AreEmptyBooks, BooksHold, HoldBelow, books_with, books_without, list_of};
+ghost use Rattle.continuous_audit.specs.Books.{HoldAfter, HoldAfterDeals, HoldNext, HoldWithoutOwn, ready_place};
+ghost use Rattle.continuous_audit.specs.Books.{resting_count, with_fills};
+ghost use Rattle.continuous_audit.specs.Holding.{IsWithin};
+
+use super::endings::Ending;
+use super::filling::fill_best;
+use audit_base::faults::NoMemory;
+use audit_base::numbers::Price;
+use audit_base::orders::Order;
+use audit_base::terms::Side;
+use order_book::books::{Book, Resting};
+use std::alloc::Global;
+
+/// The books of both sides.
+#[derive(Drop)]
+pub struct Books {
+    pub bids: Book,
+    pub asks: Book,
+}
+
+impl Books {
+    /// The best order of a side that rests.
+    pub fn best(&self, side: Side) -> Option<Resting>
+        ensures { result ≡ first (list_of side self.now) }
+    {
+        match side {
+            Side::Buy => self.bids.best(),
+            Side::Sell => self.asks.best(),
+        }
+    }
+
+    /// Takes from the book of a side what its orders have traded, by what is left of them now.
+    pub fn fill(&mut self, side: Side, left: &[u64])
+        requires bids { All (IsWithin left.now) self.old.bids.resting }
+        requires asks { All (IsWithin left.now) self.old.asks.resting }
+        ensures { self.new ≡ with_fills side left.now self.old }
+    {
+        match side {
+            Side::Buy => fill_best(&mut self.bids, left),
+            Side::Sell => fill_best(&mut self.asks, left),
+        }
+    }
+
+    /// Takes an order out of the book of its side.
+    fn cancel(&mut self, side: Side, index: usize, limit: Price)
+        ensures { self.new ≡ books_without side index limit self.old }
+    {
+        match side {
+            Side::Buy => {
+                self.bids.cancel(index, limit);
+            }
+            Side::Sell => {
+                self.asks.cancel(index, limit);
+            }
+        }
+    }
+
+    /// Adds a later order to the book of its side. Where it is out of memory the books are as before.
+    pub fn enter(
+        &mut self,
+        side: Side,
+        index: usize,
+        limit: Price,
+        left: u64,
+    ) -> Result<(), NoMemory>
+        requires some { 0 < left }
+        requires earlier { HoldBelow index self.old }
+        ensures ok { OnOk result
+            (self.new ≡ books_with side (record { index = index; limit = limit; left = left })
+            self.old) }
+        ensures err { OnErr result (self.new ≡ self.old) }
+        ensures more { OnOk result (resting_count self.new ≡ resting_count self.old + 1) }
+    {
+        match side {
+            Side::Buy => self.bids.add(index, limit, left),
+            Side::Sell => self.asks.add(index, limit, left),
+        }
+    }
+}
+
+/// The books, and how many of the orders that records end have been taken out of them.
+#[derive(Drop)]
+pub struct Standing {
+    pub books: Books,
+    pub start: usize,
+}
+
+/// The place of the order after the one at `order`, or one past its place if it is the last.
+fn next_place(orders: &[Order], order: usize) -> u64
+    requires { order < length orders.now }
+    ensures { result ≡ ready_place orders.now (suc order) }
+{
+    if order + 1 < orders.len() {
+        orders[order + 1].place as u64
+    } else {
+        orders[order].place as u64 + 1
+    }
+}
+
+impl Standing {
+    /// Empty books, before the first order.
+    pub fn new(alloc: Global) -> Standing
+        ensures { AreEmptyBooks result }
+    {
+        Standing {
+            books: Books {
+                bids: Book::new(alloc, Side::Buy),
+                asks: Book::new(alloc, Side::Sell),
+            },
+            start: 0,
+        }
+    }
+
+    /// Takes the orders out of the books that records before a place end.
+    fn drop_ended(&mut self, orders: &[Order], endings: &[Ending], upto: u64)
+        requires inside { All (IsEnding orders.now) endings.now }
+        requires from { self.old.start ≤ length endings.now }
+        ensures ended { AreEndedBelow endings.now self.old.start self.new.start upto }
+        ensures holds { (amount : ℕ → ℕ) → BooksHold orders.now amount self.old.books
+            → BooksHold orders.now
+            (amount_without endings.now self.old.start self.new.start amount) self.new.books }
+        ensures fewer { resting_count self.new.books ≤ resting_count self.old.books }
+    {
+        while self.start < endings.len() {
+            let ending = endings[self.start];
+            if upto <= ending.place as u64 {
+                return;
+            }
+            let order = &orders[ending.index];
+            self.books.cancel(order.side, ending.index, order.limit);
+            self.start += 1;
+        }
+    }
+
+    /// Takes out of the books what the record of an order ends, after its deals.
+    pub fn drop_own(&mut self, orders: &[Order], endings: &[Ending], order: usize)
+        requires list { IsOrderList orders.now }
+        requires order { order < length orders.now }
+        requires endings { AreEndings orders.now endings.now }
+        requires dropped { AreDropped endings.now self.old.start (place_at orders.now order) }
+        ensures dropped { AreDropped endings.now self.new.start (suc (place_at orders.now order)) }
+        ensures holds { (deals : List ADeal) → All (NamesOrders orders.now) deals
+            → HoldAfterDeals orders.now deals order self.old.books
+            → HoldWithoutOwn orders.now deals order self.new.books }
+        ensures fewer { resting_count self.new.books ≤ resting_count self.old.books }
+    {
+        let place = orders[order].place;
+        self.drop_ended(orders, endings, place as u64 + 1);
+    }
+
+    /// Takes out of the books what is ended between the record of an order and that of the next.
+    pub fn drop_before_next(&mut self, orders: &[Order], endings: &[Ending], order: usize)
+        requires list { IsOrderList orders.now }
+        requires order { order < length orders.now }
+        requires endings { AreEndings orders.now endings.now }
+        requires dropped { AreDropped endings.now self.old.start (suc (place_at orders.now order)) }
+        ensures dropped { AreDropped endings.now self.new.start
+            (ready_place orders.now (suc order)) }
+        ensures holds { (deals : List ADeal) → All (NamesOrders orders.now) deals
+            → HoldAfter orders.now deals order self.old.books
+            → HoldNext orders.now deals (suc order) self.new.books }
+        ensures fewer { resting_count self.new.books ≤ resting_count self.old.books }
+    {
+        self.drop_ended(orders, endings, next_place(orders, order));
+    }
+}

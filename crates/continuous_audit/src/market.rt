@@ -1,0 +1,15 @@
+//! What is judged: the orders and the deals, and which of them belong to which record.
+use super::causes::Cause;
+use super::endings::Ending;
+use audit_base::orders::{Deal, Order};
+
+/// The orders and the deals, which stay the same for the whole audit.
+#[derive(Clone, Copy)]
+pub struct Market<'a> {
+    pub orders: &'a [Order],
+    pub deals: &'a [Deal],
+    /// The deals by their incoming orders.
+    pub causes: &'a [Cause],
+    /// The orders that records end, by the places of these records.
+    pub endings: &'a [Ending],
+}
