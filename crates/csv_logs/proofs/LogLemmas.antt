@@ -1,13 +1,13 @@
 -- How what a log says goes on where more lines come.
-use Rattle.std.proofs.Common.{◌≡◌, ◌⊎◌, ◌≤◌, ℕ, suc, Bool, true, false, ◌+◌, List, [], ◌∷◌, ◌++◌, length, refl, sym, ap, subst, ◌∙◌, inl, inr, Some, None, Ok, Err, Option, Result, zero-add, arith}
+use Rattle.std.proofs.Common.{◌≡◌, ◌⊎◌, ℕ, Bool, true, false, ◌+◌, List, [], ◌∷◌, ◌++◌, length, refl, sym, ap, subst, ◌∙◌, inl, inr, Some, None, Ok, Err, Option, Result, zero-add, arith}
 use Rattle.std.specs.Prelude.{filter, if◌then◌else◌}
 use Rattle.std.specs.Option.{option_to_list}
 use Rattle.std.proofs.lemmas.Bool.{cases_Bool}
 use Rattle.audit_base.specs.declared.faults.Reason.{Reason}
 use Rattle.audit_base.specs.declared.faults.Reason.TheVariants as reason
 use Rattle.audit_base.specs.declared.faults.BadPlace.{BadPlace}
-use Rattle.csv_logs.specs.Lines.{Line, is_full, full_lines}
-use Rattle.csv_logs.specs.Logs.{is_header, line_entry, with_first, after_line, read_entries, read_lines, read_log}
+use Rattle.csv_logs.specs.Lines.{Line, is_full}
+use Rattle.csv_logs.specs.Logs.{is_header, line_entry, with_first, after_line, read_entries, read_lines}
 use Rattle.csv_logs.specs.Feeds.{IsPassed}
 use Rattle.csv_logs.specs.Steps.{header_says, line_says, entry_says}
 

@@ -1,6 +1,6 @@
 -- A line that is a record has at least eight bytes, and each record of a log at least nine of its bytes: the last line may lack its LF, but the header has one.
-use Rattle.std.proofs.Common.{◌≡◌, ℕ, Bool, true, false, ◌+◌, ◌-◌, ◌*◌, ◌==◌, ◌<◌, ◌≤◌, ◌^◌, List, [], ◌∷◌, ◌++◌, length, take, drop, refl, ap, inl, inr, Some, None, Ok, Err, Option, Result, arith, length-append}
-use Rattle.std.specs.Prelude.{IfOk, filter, if◌then◌else◌, option_map, unwrap_or}
+use Rattle.std.proofs.Common.{◌≡◌, ℕ, Bool, true, false, ◌+◌, ◌-◌, ◌*◌, ◌==◌, ◌≤◌, List, [], ◌∷◌, ◌++◌, length, drop, refl, ap, inl, inr, Some, None, Ok, Err, Option, Result, arith, length-append}
+use Rattle.std.specs.Prelude.{IfOk, filter, option_map, unwrap_or}
 use Rattle.std.specs.List.{list_all, ends_with}
 use Rattle.std.proofs.lemmas.Bool.{cases_Bool, eqb-true}
 use Rattle.std.proofs.lemmas.List.{length-drop, length-take-le}
