@@ -1,6 +1,6 @@
 -- What a feed stands for once a byte more has come.
-use Rattle.std.proofs.Common.{◌≡◌, ℕ, zero, suc, Bool, true, false, not, ◌==◌, ◌<◌, ◌+◌, ◌≤◌, List, [], ◌∷◌, ◌++◌, length, drop, refl, sym, ap, subst, ◌∙◌, inl, inr, Some, None, Ok, Err, Option, Result, append_assoc, length-append, add_assoc, arith}
-use Rattle.std.specs.Prelude.{All, IfErr, IfOk, OnOk, filter, is_some}
+use Rattle.std.proofs.Common.{◌≡◌, ℕ, zero, suc, Bool, true, false, not, ◌==◌, ◌<◌, ◌+◌, ◌*◌, ◌≤◌, List, [], ◌∷◌, ◌++◌, length, drop, refl, sym, ap, subst, ◌∙◌, inl, inr, Some, None, Ok, Err, Option, Result, append_assoc, length-append, add_assoc, arith}
+use Rattle.std.specs.Prelude.{IfErr, IfOk, OnOk, filter, is_some}
 use Rattle.std.specs.Global.{Vec}
 use Rattle.std.specs.List.{list_any}
 use Rattle.std.specs.Option.{option_to_list}
@@ -10,10 +10,10 @@ use Rattle.audit_base.specs.declared.faults.Reason.{Reason}
 use Rattle.audit_base.specs.declared.faults.Reason.TheVariants as reason
 use Rattle.audit_base.specs.declared.faults.BadPlace.{BadPlace}
 use Rattle.audit_base.specs.declared.faults.LogFault.{LogFault}
-use Rattle.log_source.specs.Collectors.{HasFew, HasPlace}
+use Rattle.log_source.specs.Collectors.{HasPlace}
 use Rattle.log_source.specs.Feeds.{HasRoom}
 use Rattle.log_source.specs.Handing.{Adds}
-use Rattle.log_source.specs.Sources.{longest_log}
+use Rattle.log_source.specs.Sources.{longest_read}
 use Rattle.csv_logs.specs.Lines.{Line, is_full, full_lines, cut_lines, placed, without_cr}
 use Rattle.csv_logs.specs.Steps.{EndsLine, Goes, HasLine, Moves, TakesFields, fields_say, line_at, line_says}
 use Rattle.csv_logs.specs.Logs.{is_header, line_entry, read_lines, read_log}
@@ -22,8 +22,9 @@ use Rattle.csv_logs.specs.declared.feeds.CsvFeed.{CsvFeed}
 use Rattle.csv_logs.specs.Columns.{line_fields, is_broken}
 use Rattle.csv_logs.specs.Readers.{is_closed}
 use Rattle.csv_logs.proofs.ClosedLemmas.{closed-unbroken}
-use Rattle.csv_logs.proofs.LineLemmas.{mark_size-le, whole-line, no-lf-drop, after-some, full-count, full_lines-line, full_lines-last}
-use Rattle.csv_logs.proofs.LogLemmas.{passed-line, passed-bad, passed-log, passed-count, read_lines-cases, read_log-count}
+use Rattle.csv_logs.proofs.LineLemmas.{mark_size-le, whole-line, no-lf-drop, after-some, full_lines-line, full_lines-last}
+use Rattle.csv_logs.proofs.LogLemmas.{passed-line, passed-bad, passed-log, read_lines-cases}
+use Rattle.csv_logs.proofs.SizeLemmas.{full-extent, passed-size}
 
 -- A line of `size` bytes that starts at `start` was taken: a good one adds what it says, a bad one leaves its place.
 abbrev pub TakesLine : {R : Type 0} → Result (Option R) Reason → ℕ → ℕ → (List R → Type 0) → ℕ → (List R → Type 0) → ℕ → Bool → Option BadPlace → Type 0
@@ -274,9 +275,9 @@ module _ {R : Type 0} (names : List (List ℕ)) (entry : List (List ℕ) → Res
   open-new = record { lines = []; cut = refl; whole = refl; size = refl; unfinished = refl; good = (refl, refl) }
 
   pub open-count : (entries : List R) (rest : List ℕ) (offset : ℕ) (header : Bool) (log : List ℕ) → IsOpen names entry entries rest offset header log
-      → length entries ≤ offset
+      → 9 * length entries ≤ offset
   open-count entries rest offset header log is =
-      omega (arith, passed-count names entry header entries (full_lines is.lines) is.good, full-count is.lines, is.size)
+      passed-size entry names header entries (full_lines is.lines) offset is.good (omega (arith, full-extent is.lines, is.size))
 
   -- what is left after a line that was empty
   empty-records : (entries : List R) (line : List ℕ) (offset : ℕ) (header : Bool) (bad : Option BadPlace) (log : List ℕ) → bad ≡ None
@@ -387,7 +388,7 @@ goes-then old middle new piece later left first then_on = record {
 
 -- the feed has room for what is left of a piece
 pub goes-left : {D : Type 0} (stands_for : D → List ℕ → Type 0) (feed : D) (old : List ℕ → Type 0) (piece left : List ℕ) → Goes old (stands_for feed) piece left
-    → (log : List ℕ) → old log → length log + length piece ≤ longest_log → HasRoom stands_for feed left
+    → (log : List ℕ) → old log → length log + length piece ≤ longest_read → HasRoom stands_for feed left
 goes-left stands_for feed old piece left goes log stood room = record {
   bytes = log ++ goes.done;
   stands = goes.stands log stood;
@@ -405,7 +406,7 @@ open-none names entry entries rest offset header bad log e is = subst (λ (b : O
 module _ {R : Type 0} (names : List (List ℕ)) (entry : List (List ℕ) → Result R Reason) (old : List ℕ → Type 0) (has_taken : List R → Type 0) (rest : List ℕ) (offset : ℕ) (header : Bool) where
   -- a log with a line that has not ended is within the limit
   pub goes-room : (bad : Option BadPlace) (piece left line later : List ℕ) → Goes old (StandsWith has_taken names entry rest offset header bad) piece left → is_some bad ≡ false
-      → left ≡ line ++ 10 ∷ later → list_any is_lf line ≡ false → (front : List ℕ) → old front → length front + length piece ≤ longest_log
+      → left ≡ line ++ 10 ∷ later → list_any is_lf line ≡ false → (front : List ℕ) → old front → length front + length piece ≤ longest_read
       → HasLine names entry has_taken (rest ++ line) offset header
   goes-room bad piece left line later goes none is whole front stood room =
       let s = goes.stands front stood in
@@ -523,11 +524,6 @@ module _ {R : Type 0} (names : List (List ℕ)) (entry : List (List ℕ) → Res
             (subst (λ (h : Bool). IsOpen names entry then_is.entries [] offset' h (log ++ 10 ∷ [])) has (still now then_is.entries log then_is.stands));
       }
 
-  pub ends-few : bad' ≡ None → header' ≡ true → (log : List ℕ) → length log ≤ longest_log → StandsWith before names entry rest offset header bad log → HasFew after
-  ends-few now has log within stood =
-      let read = ends-good now has log stood in
-      record { entries = read.entries; has = read.has; few = omega (arith, read_log-count names entry log read.entries read.reads, within) }
-
   pub ends-none : bad' ≡ None → header' ≡ false → (log : List ℕ) → StandsWith before names entry rest offset header bad log
       → read_log names entry log ≡ Err (record { place = 1; offset = offset + length rest; reason = reason.Header })
   ends-none now has log stood =
@@ -541,8 +537,8 @@ pub read-kept : {R : Type 0} (reading : Result (List R) BadPlace) (result : Resu
 read-kept reading (Ok kept) is = is.reads ∙ ap (λ entries. Ok entries) (sym is.has)
 read-kept reading (Err why) is = is
 
--- and these are sound where all records of the log are
-pub sound-kept : {R : Type 0} (reading : Result (List R) BadPlace) (result : Result (Vec R) LogFault) (sound : R → Type 0)
-    → IsReadAs reading result → IfOk reading (All sound) → IfOk result (λ kept. All sound kept.items)
-sound-kept reading (Ok kept) sound is all = rw is at all
-sound-kept reading (Err why) sound is all = tt
+-- and what holds of the records of the log holds of these
+pub holds-kept : {R : Type 0} (reading : Result (List R) BadPlace) (result : Result (Vec R) LogFault) (holds : List R → Type 0)
+    → IsReadAs reading result → IfOk reading holds → IfOk result (λ kept. holds kept.items)
+holds-kept reading (Ok kept) holds is all = rw is at all
+holds-kept reading (Err why) holds is all = tt

@@ -2,6 +2,7 @@ pub mod FieldLemmas
 pub mod LineLemmas
 pub mod UnquotedLemmas
 pub mod LogLemmas
+pub mod SizeLemmas
 pub mod ReadingLemmas
 pub mod FeedLemmas
 pub mod WrittenLemmas

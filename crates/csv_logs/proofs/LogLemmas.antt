@@ -1,16 +1,15 @@
 -- How what a log says goes on where more lines come.
-use Rattle.std.proofs.Common.{◌≡◌, ◌⊎◌, ◌≤◌, ℕ, suc, Bool, true, false, ◌+◌, List, [], ◌∷◌, ◌++◌, length, refl, sym, ap, subst, ◌∙◌, inl, inr, Some, None, Ok, Err, Option, Result, zero-add, arith}
+use Rattle.std.proofs.Common.{◌≡◌, ◌⊎◌, ℕ, Bool, true, false, ◌+◌, List, [], ◌∷◌, ◌++◌, length, refl, sym, ap, subst, ◌∙◌, inl, inr, Some, None, Ok, Err, Option, Result, zero-add, arith}
 use Rattle.std.specs.Prelude.{filter, if◌then◌else◌}
 use Rattle.std.specs.Option.{option_to_list}
 use Rattle.std.proofs.lemmas.Bool.{cases_Bool}
 use Rattle.audit_base.specs.declared.faults.Reason.{Reason}
 use Rattle.audit_base.specs.declared.faults.Reason.TheVariants as reason
 use Rattle.audit_base.specs.declared.faults.BadPlace.{BadPlace}
-use Rattle.csv_logs.specs.Lines.{Line, is_full, full_lines}
-use Rattle.csv_logs.specs.Logs.{is_header, line_entry, with_first, after_line, read_entries, read_lines, read_log}
+use Rattle.csv_logs.specs.Lines.{Line, is_full}
+use Rattle.csv_logs.specs.Logs.{is_header, line_entry, with_first, after_line, read_entries, read_lines}
 use Rattle.csv_logs.specs.Feeds.{IsPassed}
 use Rattle.csv_logs.specs.Steps.{header_says, line_says, entry_says}
-use Rattle.csv_logs.proofs.LineLemmas.{full-count}
 
 -- records before those that are read later
 abbrev pub with_front : {R : Type 0} → List R → Result (List R) BadPlace → Result (List R) BadPlace
@@ -118,7 +117,7 @@ header-err true why e = absurd (cc e)
 header-err false why e = (refl, cc)
 
 -- the header has passed, and the lines after it are good
-passed-header : {R : Type 0} (test : Bool) (here good : Result (List R) BadPlace) (bad : BadPlace) (entries : List R) → (if test then good else Err bad) ≡ Ok entries → (test ≡ true) × (good ≡ Ok entries)
+pub passed-header : {R : Type 0} (test : Bool) (here good : Result (List R) BadPlace) (bad : BadPlace) (entries : List R) → (if test then good else Err bad) ≡ Ok entries → (test ≡ true) × (good ≡ Ok entries)
 passed-header true here good bad entries e = (refl, e)
 passed-header false here good bad entries e = absurd (cc e)
 
@@ -171,28 +170,3 @@ module _ {R : Type 0} (names : List (List ℕ)) (entry : List (List ℕ) → Res
     ]
     | inr none ↦ inr (inr (λ other more. rw none (rw none at e)))
   ]
-
--- there are no more records than lines
-read_entries-count : {R : Type 0} (entry : List (List ℕ) → Result R Reason) (before : ℕ) (lines : List Line) (entries : List R) → read_entries entry before lines ≡ Ok entries → length entries ≡ length lines
-read_entries-count entry before [] entries e = let none : entries ≡ [] = cc in rw none refl
-read_entries-count entry before (line ∷ lines) entries e =
-    let q = after_line-ok before line.start (line_entry entry line.text) (read_entries entry (before + 1) lines) entries e in
-    ap length q.4 ∙ ap suc (read_entries-count entry (before + 1) lines q.1 q.3)
-
-pub passed-count : {R : Type 0} (names : List (List ℕ)) (entry : List (List ℕ) → Result R Reason) (header : Bool) (entries : List R) (lines : List Line) → IsPassed names entry header entries lines → length entries ≤ length lines
-passed-count names entry false entries lines is = rw is.1 (omega arith)
-passed-count names entry true entries [] is = absurd (cc is)
-passed-count {R} names entry true entries (first ∷ lines) is =
-    let p = passed-header {R = R} (is_header names first.text) (Ok entries) (read_entries entry 0 lines) _ entries is in
-    omega (arith, read_entries-count entry 0 lines entries p.1)
-
--- no log has more records than lines
-pub read_lines-count : {R : Type 0} (names : List (List ℕ)) (entry : List (List ℕ) → Result R Reason) (size : ℕ) (lines : List Line) (entries : List R) → read_lines names entry size lines ≡ Ok entries → length entries ≤ length lines
-read_lines-count names entry size [] entries is = absurd (cc is)
-read_lines-count names entry size (first ∷ lines) entries is = passed-count names entry true entries (first ∷ lines) is
-
--- nor more than bytes
-pub read_log-count : {R : Type 0} (names : List (List ℕ)) (entry : List (List ℕ) → Result R Reason) (log : List ℕ) (entries : List R) → read_log names entry log ≡ Ok entries → length entries ≤ length log
-unfolding read_log
-read_log-count names entry log entries is =
-    omega (arith, read_lines-count names entry (length log) (full_lines log) entries is, full-count log)

@@ -5,7 +5,7 @@ use Rattle.std.specs.List.{list_any}
 use Rattle.audit_base.specs.declared.faults.BadPlace.{BadPlace}
 use Rattle.audit_base.specs.declared.faults.LogFault.{LogFault}
 use Rattle.audit_base.specs.declared.faults.LogFault.TheVariants as fault
-use Rattle.log_source.specs.Sources.{longest_log}
+use Rattle.log_source.specs.Sources.{longest_read}
 use Rattle.csv_logs.specs.declared.feeds.CsvFeed.{CsvFeed}
 use Rattle.csv_logs.specs.Lines.{Line, full_lines}
 use Rattle.csv_logs.specs.Columns.{Meaning, Row}
@@ -69,12 +69,12 @@ abbrev pub StandsFor : {K R : Type 0} → TakenBy K R → Row → Meaning R → 
 StandsFor has_taken names entry feed log =
     StandsWith (has_taken feed.entries) names entry feed.rest.items feed.offset feed.header feed.bad log
 
--- The feed stands for some log that is no longer than a log may be.
+-- The feed stands for some log that is no longer than a log that is read may be.
 pub record IsWithinLimit {K R : Type 0} (has_taken : TakenBy K R) (names : Row) (entry : Meaning R)
     (feed : CsvFeed K) : Type 0 where
   pub log : List ℕ
   pub stands : StandsFor has_taken names entry feed log
-  pub within : length log ≤ longest_log
+  pub within : length log ≤ longest_read
 
 -- The collector has been handed exactly the records of a good log.
 pub record HasRead {R : Type 0} (has_taken : Taken R) (reading : Reading R) : Type 0 where

@@ -5,7 +5,7 @@ use Rattle.audit_base.specs.declared.faults.Reason.{Reason}
 use Rattle.audit_base.specs.declared.faults.Reason.TheVariants as reason
 use Rattle.audit_base.specs.declared.faults.BadPlace.{BadPlace}
 use Rattle.log_source.specs.Handing.{Adds}
-use Rattle.log_source.specs.Sources.{longest_log}
+use Rattle.log_source.specs.Sources.{longest_read}
 use Rattle.csv_logs.specs.declared.feeds.CsvFeed.{CsvFeed}
 use Rattle.csv_logs.specs.Columns.{Meaning, Row}
 use Rattle.csv_logs.specs.Feeds.{IsOpen, StandsFor, StandsWith, Taken, TakenBy}
@@ -68,14 +68,14 @@ EndsLine names entry before line offset header after rest' offset' header' bad' 
     → IsOpen names entry entries line offset header log
     → StandsWith after names entry rest' offset' header' bad' (log ++ 10 ∷ [])
 
--- Some log that ends with this line, not ended, is no longer than a log may be.
+-- Some log that ends with this line, not ended, is no longer than a log that is read may be.
 pub record HasLine {R : Type 0} (names : Row) (entry : Meaning R) (has_taken : Taken R)
     (line : List ℕ) (offset : ℕ) (header : Bool) : Type 0 where
   pub entries : List R
   pub has : has_taken entries
   pub log : List ℕ
   pub stands : IsOpen names entry entries line offset header log
-  pub room : length log ≤ longest_log
+  pub room : length log ≤ longest_read
 
 -- A piece was taken up to what is left of it, and the feed stands for as much more.
 pub record Goes (old new : List ℕ → Type 0) (piece left : List ℕ) : Type 0 where
@@ -90,8 +90,8 @@ abbrev pub FeedMoves : {K R : Type 0} → TakenBy K R → Outcome → ℕ → �
 FeedMoves has_taken outcome start size old new =
     Moves outcome start size (has_taken new.entries) old.offset new.offset new.header new.bad
 
--- some log that the feed stands for, ended with this line in place of its rest, is no longer than a
--- log may be
+-- some log that the feed stands for, ended with this line in place of its rest, is no longer than a log
+-- that is read may be
 abbrev pub FeedHasLine : {K R : Type 0} → TakenBy K R → Row → Meaning R → CsvFeed K → List ℕ → Type 0
 FeedHasLine has_taken names entry feed line =
     HasLine names entry (has_taken feed.entries) line feed.offset feed.header

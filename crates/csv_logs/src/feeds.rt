@@ -1,16 +1,15 @@
 //! Feeds: what takes a log piece by piece, keeps its records and the line that has not ended, and
 //! stops at the first bad line.
-ghost use Rattle.std.specs.Prelude.{◌≡◌, ℕ, List, ◌+◌, ◌<◌, ◌≤◌, ◌^◌, ◌++◌, [], All, IfErr, IfOk, IsTrue, OnOk, vec_len};
+ghost use Rattle.std.specs.Prelude.{◌≡◌, ℕ, List, ◌+◌, ◌-◌, ◌<◌, ◌≤◌, ◌^◌, ◌++◌, [], All, IfErr, IfOk, IsTrue, OnOk, vec_len};
 ghost use Rattle.std.specs.List.{list_all};
 ghost use Rattle.log_source.specs.Feeds.{HasRoom};
-ghost use Rattle.log_source.specs.Collectors.{HasFew, HasPlace};
+ghost use Rattle.log_source.specs.Collectors.{HasNineBytesEach, HasPlace};
 ghost use Rattle.csv_logs.specs.Columns.{is_unquoted_byte};
 ghost use Rattle.csv_logs.specs.Readers.{IsReadingLine, PassesLine, is_closed};
 ghost use Rattle.csv_logs.specs.Feeds.{IsHandedAs, IsReadAs, IsWithinLimit, StandsFor};
 ghost use Rattle.csv_logs.specs.Steps.{FeedEndsLine, FeedGoes, FeedHasLine, FeedMoves, KeepsAllButRest};
 ghost use Rattle.csv_logs.specs.Lines.{without_cr};
 ghost use Rattle.csv_logs.specs.Logs.{read_log};
-ghost use Rattle.log_source.specs.Sources.{longest_log};
 
 use crate::entries::{LogEntry, take_fields, take_text};
 use crate::fields::Fields;
@@ -208,13 +207,16 @@ impl<R: LogEntry, K: Collector<Entry = R>> CsvFeed<K> {
 
     /// The collector, which has been handed exactly the records of the log that has come, or its first bad
     /// line: what the reading of the whole log gives, for every log that the feed stands for. Each record
-    /// is sound: one of life Market has the market price of its side.
-    #[tactic(auto, using(crate::proofs::ReadingLemmas::log_sound))]
+    /// is sound: one of life Market has the market price of its side. Each has at least nine bytes of the
+    /// log, so there is a place for one more.
+    #[tactic(auto, using(crate::proofs::ReadingLemmas::log_sound, crate::proofs::SizeLemmas::log_nine))]
     pub fn close(mut self) -> Result<K, LogFault>
         requires { IsWithinLimit K.has_taken R.names R.meaning self }
         ensures reads { (log : List ℕ) → StandsFor K.has_taken R.names R.meaning self log
             → IsHandedAs K.has_taken (read_log R.names R.meaning log) result }
-        ensures few { IfOk result (λ collector. HasFew (K.has_taken collector)) }
+        ensures few { IfOk result (HasPlace K.has_taken) }
+        ensures nine { (log : List ℕ) → IfOk (read_log R.names R.meaning log)
+            (λ entries. HasNineBytesEach entries log) }
         ensures sound { (log : List ℕ) → IfOk (read_log R.names R.meaning log) (All R.sound) }
     {
         R::means_sound_records();
@@ -252,7 +254,10 @@ impl<R: LogEntry> CsvFeed<Vec<R>> {
             (log : List ℕ) → StandsFor has_taken R.names R.meaning self log
             → IsReadAs (read_log R.names R.meaning log) result }
         ensures sound { IfOk result (λ entries. All R.sound entries.items) }
-        ensures few { IfOk result (λ entries. vec_len entries ≤ longest_log) }
+        ensures few { IfOk result (λ entries. vec_len entries < 2 ^ 32 - 1) }
+        ensures nine { let has_taken = ⟦<Vec<R> as Collector>⟧.has_taken in
+            (log : List ℕ) → StandsFor has_taken R.names R.meaning self log
+            → IfOk result (λ entries. HasNineBytesEach entries.items log) }
     {
         self.close()
     }

@@ -1,5 +1,5 @@
 -- A Framer's room for what is still to be fed, through its steps.
-use Rattle.std.proofs.Common.{◌≡◌, ℕ, zero, suc, ◌+◌, ◌≤◌, true, List, [], ◌∷◌, ◌++◌, length, replicate, refl, arith}
+use Rattle.std.proofs.Common.{◌≡◌, ℕ, zero, suc, ◌+◌, ◌<◌, ◌^◌, true, List, [], ◌∷◌, ◌++◌, length, replicate, refl, arith}
 use Rattle.std.specs.List.{list_all}
 use Rattle.std.proofs.lemmas.List.{length-append, length-replicate, take_at}
 use Rattle.fix_framing.specs.declared.framer.Framer.{Framer}
@@ -44,7 +44,7 @@ are-breaks (suc n) = are-breaks n
 length-line_ends : (n : ℕ) → length (line_ends n) ≡ n
 length-line_ends n = length-replicate n 10
 
-pub room-anew : (framer : Framer) (piece : List ℕ) → framer.next ≡ 0 → framer.base + length (held framer) + length piece ≤ 67108864 → HasRoom framer piece
+pub room-anew : (framer : Framer) (piece : List ℕ) → framer.next ≡ 0 → framer.base + length (held framer) + length piece < 2 ^ 64 → HasRoom framer piece
 room-anew framer piece next most =
     let count = length-line_ends framer.base in
     let all = length-append (line_ends framer.base) (held framer) in

@@ -1,7 +1,6 @@
 -- What a Framer stands for, and what its steps say.
-use Rattle.std.specs.Prelude.{◌≡◌, ◌≢◌, ℕ, ◌+◌, ◌-◌, ◌<◌, ◌≤◌, ◌⊎◌, Some, List, [], ◌∷◌, ◌++◌, length, take, drop, slice_get, IsTrue}
+use Rattle.std.specs.Prelude.{◌≡◌, ◌≢◌, ℕ, ◌+◌, ◌-◌, ◌<◌, ◌≤◌, ◌^◌, ◌⊎◌, Some, List, [], ◌∷◌, ◌++◌, length, take, drop, slice_get, IsTrue}
 use Rattle.std.specs.List.{list_all, slice_range}
-use Rattle.audit_base.specs.Sizes.{longest_log}
 use Rattle.fix_framing.specs.declared.framer.Framer.{Framer}
 use Rattle.fix_framing.specs.declared.framer.Step.{Step}
 use Rattle.fix_framing.specs.declared.framer.Step.TheVariants.{Whole, Wait, Fault}
@@ -55,12 +54,12 @@ pub record IsNextOffset (framer : Framer) (at : ℕ) : Type 0 where
   pub there : (fed : List ℕ) (frames : List (List ℕ))
       → StandsFor framer fed frames → drop at fed ≡ next_text framer
 
--- the framer has room for the piece: it stands for bytes that are with it at most 67,108,864
+-- the framer has room for the piece: it stands for bytes that are with it fewer than 2^64
 pub record HasRoom (framer : Framer) (piece : List ℕ) : Type 0 where
   pub fed : List ℕ
   pub frames : List (List ℕ)
   pub stands : StandsFor framer fed frames
-  pub most : length fed + length piece ≤ longest_log
+  pub most : length fed + length piece < 2 ^ 64
 
 -- what the old framer stands for, the new one stands for with the piece behind it
 abbrev pub Feeds : Framer → Framer → List ℕ → Type 0

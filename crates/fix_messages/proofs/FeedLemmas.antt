@@ -1,6 +1,6 @@
 -- What a feed stands for through its steps.
-use Rattle.std.proofs.Common.{◌≡◌, ◌≢◌, ℕ, ◌+◌, ◌-◌, ◌≤◌, Bool, true, false, Option, Some, None, Result, Ok, Err, List, [], ◌∷◌, ◌++◌, length, take, drop, is_ok, refl, sym, subst, ap, ◌∙◌, inl, inr, append_assoc, arith}
-use Rattle.std.specs.Prelude.{All, IfOk, IsTrue, MatchResult, OnOk, is_some}
+use Rattle.std.proofs.Common.{◌≡◌, ◌≢◌, ℕ, ◌+◌, ◌-◌, ◌*◌, ◌≤◌, Bool, true, false, Option, Some, None, Result, Ok, Err, List, [], ◌∷◌, ◌++◌, length, take, drop, is_ok, refl, sym, subst, ap, ◌∙◌, inl, inr, append_assoc, arith}
+use Rattle.std.specs.Prelude.{IfOk, IsTrue, MatchResult, OnOk, is_some}
 use Rattle.std.specs.Global.{Vec}
 use Rattle.std.specs.Result.{is_err}
 use Rattle.std.specs.List.{list_all, slice_range}
@@ -11,7 +11,7 @@ use Rattle.audit_base.specs.declared.faults.Reason.{Reason}
 use Rattle.audit_base.specs.declared.faults.Reason.TheVariants as reason
 use Rattle.audit_base.specs.declared.faults.BadPlace.{BadPlace}
 use Rattle.audit_base.specs.declared.faults.LogFault.{LogFault}
-use Rattle.log_source.specs.Collectors.{HasFew, HasPlace}
+use Rattle.log_source.specs.Collectors.{HasPlace}
 use Rattle.log_source.specs.Feeds.{HasRoom}
 use Rattle.fix_fields.specs.Grammar.{TagValue}
 use Rattle.fix_framing.specs.Breaks.{is_break}
@@ -59,8 +59,8 @@ module _ {R : Type 0} (meaning : List TagValue → Result (Option R) MessageFaul
       ∙ framed-reads meaning 0 front (unframed framer ++ more) frames entries stands.framed good
       ∙ ap (λ (k : ℕ). prepend entries (read_items (body_says meaning) (items_from 0 k (unframed framer ++ more)))) size
 
-  -- no more records than bytes
-  pub few-records : (entries : List R) (framer : Framer) (log : List ℕ) (frames : List (List ℕ)) → framing.StandsFor framer log frames → read_frames meaning frames ≡ Ok entries → length entries ≤ length log
+  -- no record has fewer than nine bytes
+  pub few-records : (entries : List R) (framer : Framer) (log : List ℕ) (frames : List (List ℕ)) → framing.StandsFor framer log frames → read_frames meaning frames ≡ Ok entries → 9 * length entries ≤ length log
   few-records entries framer log frames stands good =
       let a = read_frames-count meaning frames entries good in
       let b = framed-count (take (reached framer) log) frames stands.framed in
@@ -257,7 +257,7 @@ module _ {K R : Type 0} (has_taken : K → List R → Type 0) (meaning : List Ta
     pub ends-within : IsWithin has_taken meaning old → new.bad ≡ None → HasLog has_taken meaning new
     ends-within within good = record { log = within.log; reads = ended within.log good within.stands; within = within.within }
 
-    pub ends-few : IsWithin has_taken meaning old → new.bad ≡ None → HasFew (has_taken new.entries)
+    pub ends-few : IsWithin has_taken meaning old → new.bad ≡ None → HasPlace has_taken new.entries
     ends-few within good =
         let r = ended within.log good within.stands in
         let few = few-records meaning r.entries new.framer within.log r.frames r.stands r.good in
@@ -294,8 +294,8 @@ module _ {K R : Type 0} (has_taken : K → List R → Type 0) (meaning : List Ta
     within = omega (arith, room.room, length-append room.bytes piece);
   }
 
--- a list of records is sound where all records of the log are
-pub sound-kept : {R : Type 0} (reading : Result (List R) BadPlace) (result : Result (Vec R) LogFault) (sound : R → Type 0)
-    → IsReadAs reading result → IfOk reading (All sound) → IfOk result (λ kept. All sound kept.items)
-sound-kept reading (Ok kept) sound is all = rw is at all
-sound-kept reading (Err why) sound is all = tt
+-- what holds of the records of a log holds of a list of them
+pub holds-kept : {R : Type 0} (reading : Result (List R) BadPlace) (result : Result (Vec R) LogFault) (holds : List R → Type 0)
+    → IsReadAs reading result → IfOk reading holds → IfOk result (λ kept. holds kept.items)
+holds-kept reading (Ok kept) holds is all = rw is at all
+holds-kept reading (Err why) holds is all = tt

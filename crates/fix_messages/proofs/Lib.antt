@@ -3,6 +3,7 @@ pub mod LogLemmas
 pub mod FeedLemmas
 pub mod BodyLemmas
 pub mod ReadingLemmas
+pub mod SizeLemmas
 pub mod PairLemmas
 pub mod FewLemmas
 pub mod WrittenLemmas

@@ -1,5 +1,5 @@
 -- The items of a log, and what they say behind frames that are good.
-use Rattle.std.proofs.Common.{◌≡◌, ℕ, zero, suc, ◌+◌, ◌-◌, ◌≤◌, Bool, true, false, cond, Option, Some, None, Result, Ok, Err, List, [], ◌∷◌, ◌++◌, length, drop, refl, sym, subst, ap, ◌∙◌, inl, inr, append_assoc, arith}
+use Rattle.std.proofs.Common.{◌≡◌, ℕ, zero, suc, ◌+◌, ◌-◌, ◌*◌, ◌≤◌, Bool, true, false, cond, Option, Some, None, Result, Ok, Err, List, [], ◌∷◌, ◌++◌, length, drop, refl, sym, subst, ap, ◌∙◌, inl, inr, append_assoc, arith}
 use Rattle.std.specs.List.{list_all}
 use Rattle.std.specs.Option.{option_to_list}
 use Rattle.std.proofs.lemmas.Bool.{and_parts, cases_Bool}
@@ -8,9 +8,10 @@ use Rattle.audit_base.specs.declared.faults.Reason.{Reason}
 use Rattle.audit_base.specs.declared.faults.BadPlace.{BadPlace}
 use Rattle.fix_fields.specs.Grammar.{TagValue}
 use Rattle.fix_framing.specs.Breaks.{is_break, after_breaks}
-use Rattle.fix_framing.specs.Frames.{header, IsFrame, frame_fault, frame_size, body_of}
+use Rattle.fix_framing.specs.Frames.{before_checksum, checksum_field, header, IsFrame, frame_fault, frame_size, body_of}
 use Rattle.fix_framing.specs.Framing.{IsFramed}
 use Rattle.fix_framing.specs.declared.frames.FrameFault.{FrameFault}
+use Rattle.fix_framing.proofs.FrameLemmas.{length-before}
 use Rattle.fix_framing.proofs.MessageLemmas.{IsFrame-no_fault, IsFrame-body_of, IsFrame-size}
 use Rattle.fix_messages.specs.declared.meanings.MessageFault.{MessageFault}
 use Rattle.fix_messages.specs.Bodies.{body_says}
@@ -181,12 +182,16 @@ module _ {R : Type 0} (meaning : List TagValue → Result (Option R) MessageFaul
       ∙ ap (λ (b : List ℕ). after_item start (body_says meaning b) (read_items (body_says meaning) (items_from 0 (start + length frame) (r ++ rest)))) is_body
       ∙ after-frame (body_says meaning (body_of frame)) (read_frames meaning frames) entries start (read_items (body_says meaning) (items_from 0 (start + length frame) (r ++ rest))) reading good later
 
--- each frame has a byte at least
-pub framed-count : (front : List ℕ) (frames : List (List ℕ)) → IsFramed front frames → length frames ≤ length front
+-- a frame has the bytes of its header and its checksum field, and more
+pub frame-size : (frame body : List ℕ) → IsFrame frame body → 9 ≤ length frame
+frame-size frame body is =
+    omega (arith, ap length is.whole, length-append (before_checksum is.length_digits body) (checksum_field is.sum_digits), length-before is.length_digits body)
+
+-- so frames have at least nine bytes each
+pub framed-count : (front : List ℕ) (frames : List (List ℕ)) → IsFramed front frames → 9 * length frames ≤ length front
 framed-count front [] framed = omega arith
 framed-count front (frame ∷ frames) framed =
-    let first = frame-first frame framed.1 framed.4 in
-    let some : length frame ≡ suc (length first.0) = ap length first.1 in
+    let some = frame-size frame framed.1 framed.4 in
     let size : length front ≡ length framed.0 + (length frame + length framed.2) =
     ap length framed.5 ∙ length-append framed.0 (frame ++ framed.2) ∙ ap (λ (k : ℕ). length framed.0 + k) (length-append frame framed.2) in
     let rest = framed-count framed.2 frames framed.6 in omega (arith, some, size, rest)

@@ -5,7 +5,7 @@ use Rattle.audit_base.specs.declared.faults.Reason.{Reason}
 use Rattle.audit_base.specs.declared.faults.BadPlace.{BadPlace}
 use Rattle.audit_base.specs.declared.faults.LogFault.{LogFault}
 use Rattle.audit_base.specs.declared.faults.LogFault.TheVariants as fault
-use Rattle.log_source.specs.Sources.{longest_log}
+use Rattle.log_source.specs.Sources.{longest_read}
 use Rattle.fix_framing.specs.Frames.{body_of}
 use Rattle.fix_framing.specs.Framing as framing
 use Rattle.fix_framing.specs.declared.framer.Framer.{Framer}
@@ -57,12 +57,12 @@ StandsAt has_taken meaning framer (Some bad) log = IsShut meaning framer bad log
 abbrev pub StandsFor : {K R : Type 0} → (K → List R → Type 0) → Meaning R → FixFeed K → List ℕ → Type 0
 StandsFor has_taken meaning feed log = StandsAt (has_taken feed.entries) meaning feed.framer feed.bad log
 
--- The feed stands for some log that is no longer than a log may be.
+-- The feed stands for some log that is no longer than a log that is read may be.
 pub record IsWithin {K R : Type 0} (has_taken : K → List R → Type 0) (meaning : Meaning R) (feed : FixFeed K)
     : Type 0 where
   pub log : List ℕ
   pub stands : StandsFor has_taken meaning feed log
-  pub within : length log ≤ longest_log
+  pub within : length log ≤ longest_read
 
 -- The collector has been handed exactly the records of a good log.
 pub record IsRead {R : Type 0} (has_taken : List R → Type 0) (reading : Result (List R) BadPlace) : Type 0 where

@@ -10,7 +10,7 @@ use Rattle.audit_base.specs.declared.records.OrderRecord.{OrderRecord}
 use Rattle.audit_base.specs.declared.records.OrderRecord.TheVariants as record_of
 use Rattle.audit_base.specs.declared.terms.Life.{Life}
 use Rattle.log_source.specs.Handing.{Adds}
-use Rattle.log_source.specs.Sources.{longest_log}
+use Rattle.log_source.specs.Sources.{longest_read}
 use Rattle.fix_fields.specs.Grammar.{TagValue}
 use Rattle.fix_framing.specs.Frames.{frame_fault}
 use Rattle.fix_framing.specs.Framing.{next_text, unframed}
@@ -29,12 +29,12 @@ abbrev pub TakesSaid : {R : Type 0} → Result (Option R) Reason → (List R →
 TakesSaid (Ok new) before after answer = Adds before after (option_to_list new) × (answer ≡ Ok tt)
 TakesSaid (Err why) before after answer = Adds before after [] × (answer ≡ Err why)
 
--- The framer of a feed stands for some log that is no longer than a log may be.
+-- The framer of a feed stands for some log that is no longer than a log that is read may be.
 pub record HasLog {K R : Type 0} (has_taken : K → List R → Type 0) (meaning : Meaning R) (feed : FixFeed K)
     : Type 0 where
   pub log : List ℕ
   pub reads : HasRead (has_taken feed.entries) meaning feed.framer log
-  pub within : length log ≤ longest_log
+  pub within : length log ≤ longest_read
 
 -- A good message was taken: what was read of a log stays read, with the message, and fewer bytes are left.
 pub record Goes {K R : Type 0} (has_taken : K → List R → Type 0) (meaning : Meaning R) (old new : FixFeed K)

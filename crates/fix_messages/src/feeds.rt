@@ -1,8 +1,7 @@
 //! Feeds: what takes a FIX log piece by piece, hands on its records, and stops at the first bad message.
-ghost use Rattle.std.specs.Prelude.{◌≡◌, ◌≤◌, ℕ, List, [], All, None, Some, Ok, vec_len, IfOk, OnOk, MatchBool};
-ghost use Rattle.log_source.specs.Collectors.{HasFew, HasPlace};
+ghost use Rattle.std.specs.Prelude.{◌≡◌, ◌-◌, ◌<◌, ◌^◌, ℕ, List, [], All, None, Some, Ok, vec_len, IfOk, OnOk, MatchBool};
+ghost use Rattle.log_source.specs.Collectors.{HasNineBytesEach, HasPlace};
 ghost use Rattle.fix_framing.specs.Framing.{held};
-ghost use Rattle.log_source.specs.Sources.{longest_log};
 ghost use Rattle.fix_messages.specs.Feeds.{StandsFor, IsHandedAs, IsReadAs, IsWithin};
 ghost use Rattle.fix_messages.specs.Logs.{frame_reason, read_log};
 ghost use Rattle.fix_messages.specs.Steps.{Ends, Goes, HasLog, IsPlace};
@@ -132,13 +131,16 @@ impl<R: FixEntry, K: Collector<Entry = R>> FixFeed<K> {
 
     /// The collector, which has been handed exactly the records of the log that has come, or its first bad
     /// message: what the reading of the whole log gives, for every log that the feed stands for. Each record
-    /// is sound: one of life Market has the market price of its side.
-    #[tactic(auto, using(crate::proofs::PricedLemmas::log_sound))]
+    /// is sound: one of life Market has the market price of its side. Each has at least nine bytes of the
+    /// log, so there is a place for one more.
+    #[tactic(auto, using(crate::proofs::PricedLemmas::log_sound, crate::proofs::SizeLemmas::log_nine))]
     pub fn close(mut self) -> Result<K, LogFault>
         requires { IsWithin K.has_taken R.meaning self }
         ensures reads { (log : List ℕ) → StandsFor K.has_taken R.meaning self log
             → IsHandedAs K.has_taken (read_log R.meaning log) result }
-        ensures few { IfOk result (λ collector. HasFew (K.has_taken collector)) }
+        ensures few { IfOk result (HasPlace K.has_taken) }
+        ensures nine { (log : List ℕ) → IfOk (read_log R.meaning log)
+            (λ entries. HasNineBytesEach entries log) }
         ensures sound { (log : List ℕ) → IfOk (read_log R.meaning log) (All R.sound) }
     {
         R::means_sound_records();
@@ -174,7 +176,10 @@ impl<R: FixEntry> FixFeed<Vec<R>> {
             (log : List ℕ) → StandsFor has_taken R.meaning self log
             → IsReadAs (read_log R.meaning log) result }
         ensures sound { IfOk result (λ entries. All R.sound entries.items) }
-        ensures few { IfOk result (λ entries. vec_len entries ≤ longest_log) }
+        ensures few { IfOk result (λ entries. vec_len entries < 2 ^ 32 - 1) }
+        ensures nine { let has_taken = ⟦<Vec<R> as Collector>⟧.has_taken in
+            (log : List ℕ) → StandsFor has_taken R.meaning self log
+            → IfOk result (λ entries. HasNineBytesEach entries.items log) }
     {
         self.close()
     }

@@ -1,10 +1,11 @@
 //! Reading a log that is there as a whole.
-ghost use Rattle.std.specs.Prelude.{◌≤◌, All, IfOk, length, vec_len};
+ghost use Rattle.std.specs.Prelude.{◌-◌, ◌<◌, ◌≤◌, ◌^◌, All, IfOk, length, vec_len};
 ghost use Rattle.audit_base.specs.Histories.{HasMarketPrice};
 ghost use Rattle.fix_messages.specs.Bodies.{order_entry, report_entry};
 ghost use Rattle.fix_messages.specs.Feeds.{IsReadAs};
 ghost use Rattle.fix_messages.specs.Logs.{read_log, order_log, report_log, IsOnlyReading};
-ghost use Rattle.log_source.specs.Sources.{longest_log};
+ghost use Rattle.log_source.specs.Collectors.{HasNineBytesEach};
+ghost use Rattle.log_source.specs.Sources.{longest_read};
 
 use crate::entries::FixEntry;
 use crate::feeds::FixFeed;
@@ -16,10 +17,11 @@ use std::alloc::Global;
 
 /// One feed and its end.
 fn entries_of<R: FixEntry>(alloc: Global, bytes: &[u8]) -> Result<Vec<R>, LogFault>
-    requires { length bytes.now ≤ longest_log }
+    requires { length bytes.now ≤ longest_read }
     ensures reads { IsReadAs (read_log R.meaning bytes.now) result }
     ensures sound { IfOk result (λ entries. All R.sound entries.items) }
-    ensures few { IfOk result (λ entries. vec_len entries ≤ longest_log) }
+    ensures few { IfOk result (λ entries. vec_len entries < 2 ^ 32 - 1) }
+    ensures nine { IfOk result (λ entries. HasNineBytesEach entries.items bytes.now) }
     ensures unique { IsOnlyReading R.meaning bytes.now (read_log R.meaning bytes.now) }
 {
     let mut feed = FixFeed::new(alloc);
@@ -27,7 +29,7 @@ fn entries_of<R: FixEntry>(alloc: Global, bytes: &[u8]) -> Result<Vec<R>, LogFau
     feed.finish()
 }
 
-/// The new orders, cancels and replacements of an order log of at most 67,108,864 bytes, in order.
+/// The new orders, cancels and replacements of an order log of at most 34,359,738,368 bytes, in order.
 /// Messages of other types and possible duplicates are passed over.
 ///
 /// The answer is `Bad` exactly where the log is bad: its place is one more than the number of records
@@ -35,25 +37,28 @@ fn entries_of<R: FixEntry>(alloc: Global, bytes: &[u8]) -> Result<Vec<R>, LogFau
 /// behind CR and LF bytes; its reason is the first test that the message fails: the tests of its
 /// frame, of its fields, and of the table of its type. Each log is good with one list or bad at one
 /// place, and never both. A market order has the market price of its side. The answer is `Memory` where
-/// there was too little. There are no more records than the log has bytes.
+/// there was too little. Each record has at least nine bytes of the log, so the places of all records
+/// fit 32 bits.
 pub fn fix_orders_of(alloc: Global, bytes: &[u8]) -> Result<Vec<OrderRecord>, LogFault>
-    requires { length bytes.now ≤ longest_log }
+    requires { length bytes.now ≤ longest_read }
     ensures reads { IsReadAs (order_log bytes.now) result }
     ensures priced { IfOk result (λ entries. All HasMarketPrice entries.items) }
-    ensures few { IfOk result (λ entries. vec_len entries ≤ longest_log) }
+    ensures few { IfOk result (λ entries. vec_len entries < 2 ^ 32 - 1) }
+    ensures nine { IfOk result (λ entries. HasNineBytesEach entries.items bytes.now) }
     ensures unique { IsOnlyReading order_entry bytes.now (order_log bytes.now) }
 {
     entries_of(alloc, bytes)
 }
 
-/// The trade reports of a trade log of at most 67,108,864 bytes, in order: execution reports of
+/// The trade reports of a trade log of at most 34,359,738,368 bytes, in order: execution reports of
 /// execution type F. Messages of other types, possible duplicates and reports of other execution
-/// types are passed over. `Bad` and `Memory` come as for an order log. There are no more reports than the
-/// log has bytes.
+/// types are passed over. `Bad` and `Memory` come as for an order log, and each report has at least nine
+/// bytes as there.
 pub fn fix_reports_of(alloc: Global, bytes: &[u8]) -> Result<Vec<Report>, LogFault>
-    requires { length bytes.now ≤ longest_log }
+    requires { length bytes.now ≤ longest_read }
     ensures reads { IsReadAs (report_log bytes.now) result }
-    ensures few { IfOk result (λ reports. vec_len reports ≤ longest_log) }
+    ensures few { IfOk result (λ reports. vec_len reports < 2 ^ 32 - 1) }
+    ensures nine { IfOk result (λ reports. HasNineBytesEach reports.items bytes.now) }
     ensures unique { IsOnlyReading report_entry bytes.now (report_log bytes.now) }
 {
     entries_of(alloc, bytes)

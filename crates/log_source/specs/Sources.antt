@@ -9,9 +9,9 @@ use Rattle.log_source.specs.declared.shelf.Failed.{Failed}
 use Rattle.log_source.specs.declared.shelf.StartFault.{StartFault}
 use Rattle.log_source.specs.declared.shelf.StartFault.TheVariants as start
 
--- the greatest limit, in bytes, that the reading of a log may be given, 64 MiB
+-- the greatest limit, in bytes, that the reading of a log may be given, 32 GiB
 abbrev pub longest_read : ℕ
-longest_read = 67108864
+longest_read = 34359738368
 
 -- the slot beside this one
 abbrev pub other_of : Which → Which

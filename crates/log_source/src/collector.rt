@@ -12,7 +12,7 @@ use audit_base::records::Traded;
 ///
 /// A reader asks `wants` before it makes a record. A record that is not wanted is only tested, and
 /// handed on by `pass_over`; it still has its place. There may be at most 4,294,967,294 records before
-/// each, which the lines of a log of `LONGEST_READ` bytes never reach.
+/// each, which those of a log of `LONGEST_READ` bytes never reach: each has at least nine of the bytes.
 pub trait Collector: Drop {
     type Entry: Traded;
 

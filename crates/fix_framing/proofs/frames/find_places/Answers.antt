@@ -1,4 +1,4 @@
-use Rattle.std.proofs.Common.{◌≡◌, ◌+◌, arith}
+use Rattle.std.proofs.Common.{arith}
 use Rattle.fix_framing.proofs.LengthLemmas.{fault-great, no-fault, field-body, field-size}
 use Rattle.fix_framing.proofs.frames.find_places.Goals as goal
 

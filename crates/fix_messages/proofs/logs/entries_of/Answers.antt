@@ -13,3 +13,6 @@ returns-clause-unique g c = only_reading _ _
 
 pub returns-in_err-feed-clause-unique : goal.returns-in_err-feed-clause-unique
 returns-in_err-feed-clause-unique g c = only_reading _ _
+
+pub returns-clause-nine : goal.returns-clause-nine
+returns-clause-nine g c = c.finish.ensures.nine c.args.bytes.now (c.in_ok-feed.ensures [] c.new-feed.ensures)

@@ -1,5 +1,6 @@
 use Rattle.std.proofs.Common.{◌≡◌, vec_len, length, arith}
-use Rattle.csv_logs.proofs.FeedLemmas.{ends-bad, ends-few, ends-good, ends-none}
+use Rattle.csv_logs.proofs.FeedLemmas.{ends-bad, ends-good, ends-none}
+use Rattle.csv_logs.proofs.SizeLemmas.{read-place}
 use Rattle.csv_logs.proofs.feeds.CsvFeed.close.Goals as goal
 
 pub returns-in-Some-bad-clause-reads : goal.returns-in-Some-bad-clause-reads
@@ -17,4 +18,5 @@ returns-in-None-2-clause-reads g c =
 
 pub returns-in-None-clause-few : goal.returns-in-None-clause-few
 returns-in-None-clause-few g c =
-    ends-few _ _ _ _ _ _ _ _ _ _ _ _ c.in_default.is c.in_ok-end_rest.ensures.rest c.in_ok-end_rest.ensures.taken c.in-None.is c.if-self.true c.requires.log c.requires.within c.requires.stands
+    read-place g.R.LogEntry.meaning g.R.LogEntry.names g.K.Collector.has_taken _ c.requires.log c.requires.within
+    (ends-good _ _ _ _ _ _ _ _ _ _ _ _ c.in_default.is c.in_ok-end_rest.ensures.rest c.in_ok-end_rest.ensures.taken c.in-None.is c.if-self.true c.requires.log c.requires.stands)

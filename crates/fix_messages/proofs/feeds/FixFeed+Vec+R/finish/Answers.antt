@@ -1,5 +1,7 @@
+use Rattle.std.specs.Prelude.{All}
+use Rattle.log_source.specs.Collectors.{HasNineBytesEach}
 use Rattle.fix_messages.specs.Logs.{read_log}
-use Rattle.fix_messages.proofs.FeedLemmas.{read-kept, sound-kept}
+use Rattle.fix_messages.proofs.FeedLemmas.{holds-kept, read-kept}
 use Rattle.fix_messages.proofs.feeds.FixFeed+Vec+R.finish.Goals as goal
 
 pub returns-clause-reads : goal.returns-clause-reads
@@ -9,5 +11,10 @@ returns-clause-reads g c = λ log stood. read-kept (read_log g.R.FixEntry.meanin
 pub returns-clause-sound : goal.returns-clause-sound
 returns-clause-sound g c =
     let log = c.requires.log in
-    sound-kept (read_log g.R.FixEntry.meaning log) c.close.result g.R.FixEntry.sound
+    holds-kept (read_log g.R.FixEntry.meaning log) c.close.result (All g.R.FixEntry.sound)
     (read-kept (read_log g.R.FixEntry.meaning log) _ (c.close.ensures.reads log c.requires.stands)) (c.close.ensures.sound log)
+
+pub returns-clause-nine : goal.returns-clause-nine
+returns-clause-nine g c = λ log stood.
+    holds-kept (read_log g.R.FixEntry.meaning log) c.close.result (λ entries. HasNineBytesEach entries log)
+    (read-kept (read_log g.R.FixEntry.meaning log) _ (c.close.ensures.reads log stood)) (c.close.ensures.nine log)
