@@ -1,13 +1,14 @@
 -- The commands that read two logs: which steps lead to a report, and where they stop.
 use Rattle.std.proofs.Common.{◌≡◌, ◌∙◌, refl, ℕ, true, false, List, [], ◌∷◌, None, Some, Result, Ok, Err, IsOk}
+use Rattle.std.specs.Prelude.{MatchResult}
+use Rattle.audit_base.specs.declared.findings.Finding.{Finding}
+use Rattle.audit_base.specs.declared.records.TradeRecord.{TradeRecord}
 use Rattle.audit_base.specs.declared.faults.BadPlace.{BadPlace}
 use Rattle.audit_base.specs.declared.records.OrderRecord.{OrderRecord}
 use Rattle.audit_base.specs.declared.terms.Which.{Which}
 use Rattle.audit_base.specs.declared.terms.Which.TheVariants.{Orders, Trades}
 use Rattle.audit_report.specs.declared.statuses.Status.{Status}
 use Rattle.audit_report.specs.Lines.{read_fault_line, too_long_line}
-use Rattle.record_verdict.specs.declared.before_rule.BeforeRule.{BeforeRule}
-use Rattle.record_verdict.specs.declared.questions.Question.{Question}
 use Rattle.log_verdict.specs.declared.sources.Source.{Source}
 use Rattle.command_words.specs.declared.requests.Request.{Request}
 use Rattle.log_verdict.specs.declared.stops.Stop.{Stop}
@@ -15,7 +16,7 @@ use Rattle.log_verdict.specs.declared.stops.Stop.TheVariants as stop
 use Rattle.log_verdict.specs.BothLogs.{source_of, IsAuditStop, IsStarted, ReadsAfterOrders, ReadsLogs}
 use Rattle.audit_run.specs.Deciding.{IsStop, StartsBoth}
 use Rattle.log_verdict.specs.Collecting.{step_of}
-use Rattle.log_verdict.specs.LogVerdicts.{log_in, order_log, trade_log}
+use Rattle.log_verdict.specs.LogVerdicts.{log_in, order_log, trade_log, OfLogs}
 use Rattle.audit_run.specs.Reporting.{IsReportStatus}
 use Rattle.audit_run.specs.Requests.{log_at, next_log, IsReport}
 use Rattle.audit_run.specs.Runs.{IsText, ReportsLogs, StopsAtLog}

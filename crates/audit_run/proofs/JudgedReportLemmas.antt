@@ -26,8 +26,9 @@ use Rattle.record_verdict.specs.declared.questions.Question.{Question}
 use Rattle.audit_run.specs.declared.reports.Report.{Report}
 use Rattle.audit_run.specs.Certificates.{IsCertificateOf, ReportsWith}
 use Rattle.record_verdict.specs.Judgements.{IsJudged, IsOutcome}
-use Rattle.audit_run.specs.JudgedReports.{IsCertifiedDeals, IsDealsCertificate, LogsComeTo, ReportsCertify}
-use Rattle.log_verdict.specs.LogVerdicts.{order_log, trade_log, HaveRecords, Log, OfLogs}
+use Rattle.audit_run.specs.JudgedReports.{IsCertified, IsDealsCertificate, LogsComeTo, ReportsCertify}
+use Rattle.log_verdict.specs.LogVerdicts.{order_log, trade_log, HaveRecords, IsLogVerdict, Log, OfLogs}
+use Rattle.record_verdict.specs.Scopes.{scope_of}
 use Rattle.record_verdict.specs.Stages.{IsJudgedDeals, VerdictIs}
 use Rattle.record_verdict.specs.BeforeRule.{AreJudgeable, AreSound, IsBeforeRule}
 use Rattle.audit_run.specs.Deciding.{IsReportOf}
@@ -59,15 +60,15 @@ refused_certifies q reached v other report is same made reports orders trades co
   reports = rw same (reports (IsCertificateOf q orders trades) (rw same at made));
 }
 
-pub malformed_certifies : (q : Question) (log : Which) (bad : BadPlace) (v : Verdict) (report : Report) → VerdictIs q (upto.Malformed log bad) v → IsReportOf v report → ReportsCertify q (upto.Malformed log bad) report
-malformed_certifies q log bad v report is made =
+pub report_certifies : (q : Question) (reached : BeforeRule) (v : Verdict) (report : Report) → ((sound : ResolvedTrades) → reached ≡ upto.Sound sound → ⊥) → VerdictIs q reached v → IsReportOf v report
+    → ReportsCertify q reached report
+report_certifies q (upto.Malformed log bad) v report none is made =
     refused_certifies q (upto.Malformed log bad) v (verdict.Malformed log bad) report is (is.of_place log bad refl) made
     (λ is_text other. record { status_is = other.status_is; text_is = other.text_is })
-
-pub found_certifies : (q : Question) (finding : Finding) (v : Verdict) (report : Report) → VerdictIs q (upto.Found finding) v → IsReportOf v report → ReportsCertify q (upto.Found finding) report
-found_certifies q finding v report is made =
+report_certifies q (upto.Found finding) v report none is made =
     refused_certifies q (upto.Found finding) v (verdict.Rejected finding) report is (is.of_finding finding refl) made
     (λ is_text other. record { status_is = other.status_is; text_is = other.text_is })
+report_certifies q (upto.Sound sound) v report none is made = absurd (none sound refl)
 
 -- Logs that come to sound trades have records that do.
 pub record HaveSoundRecords (q : Question) (orders trades : Log) (resolved : ResolvedTrades) : Type 0 where

@@ -22,7 +22,8 @@ use Rattle.audit_report.specs.declared.verdicts.Verdict.TheVariants as verdict
 use Rattle.audit_report.specs.Lines.{read_fault_line, too_long_line}
 use Rattle.audit_report.specs.Statuses.{verdict_status}
 use Rattle.audit_report.specs.Texts.{verdict_text}
-use Rattle.log_source.specs.Sources.{other_of}
+use Rattle.log_source.specs.declared.shelf.Shelf.{Ghosts as Shelf}
+use Rattle.log_source.specs.Sources.{longest_log, other_of}
 use Rattle.log_verdict.specs.declared.reading.Unread.{Unread}
 use Rattle.log_verdict.specs.declared.reading.Unread.TheVariants as unread
 use Rattle.audit_run.specs.declared.reports.Report.{Report}
@@ -41,7 +42,8 @@ use Rattle.audit_run.specs.OtherTexts.{orders_finding, ConvertsTrades, ExpectsOf
 use Rattle.audit_run.specs.Reporting.{DecidesLog, IsReportStatus, IsWithoutLog, SaysReport}
 use Rattle.audit_run.specs.Requests.{next_log, IsReport, ReportsVerdict}
 use Rattle.audit_run.specs.Runs.{IsText, ReportsLogs, StopsAtLog}
-use Rattle.log_verdict.specs.Steps.{Reading, Step, IsReadFault, IsTooLong, BeginsWithin, Lead, NeverFall, with_slot}
+use Rattle.log_verdict.specs.declared.sources.Source.{Source}
+use Rattle.log_verdict.specs.Steps.{Reading, Step, IsReadFault, IsTooLong, BeginsWithin, Lead, NeverFall, with_slot, reading, reading_by, reading_within}
 use Rattle.audit_run.specs.Deciding.{DecidesReport, IsReportOf}
 
 -- The statuses that a report may have.
@@ -262,3 +264,12 @@ expects-done the_rule symbol entries report formed admits done is = rw none (rec
   where
     none : orders_finding the_rule symbol entries ≡ None
     none = rw (formed, admits) refl
+
+-- A call whose logs have at most 64 MiB.
+
+module _ {S : Type 0} (shelf : Shelf S) (old new : S) (source : Source) (few : source.limit ≡ longest_log) where
+  pub decides_within : (request : Request) (result : Result Report Stop) → DecidesReport (reading_by source shelf old new) request result → DecidesReport (reading shelf old new) request result
+  decides_within request result is = subst (λ (n : ℕ). DecidesReport (reading_within n shelf old new) request result) few is
+
+  pub stays_within : (result : Result Report Stop) → StaysWithin (reading_by source shelf old new) result → StaysWithin (reading shelf old new) result
+  stays_within result is = subst (λ (n : ℕ). StaysWithin (reading_within n shelf old new) result) few is

@@ -6,7 +6,6 @@ use Rattle.audit_base.specs.declared.orders.Deal.{Deal}
 use Rattle.audit_base.specs.declared.orders.Order.{Order}
 use Rattle.audit_base.specs.declared.records.OrderRecord.{OrderRecord}
 use Rattle.audit_base.specs.declared.records.TradeRecord.{TradeRecord}
-use Rattle.audit_base.specs.declared.terms.Rule.TheVariants as rule
 use Rattle.audit_base.specs.declared.terms.Which.{Which}
 use Rattle.audit_base.specs.Histories.{order_list}
 use Rattle.audit_base.specs.Trades.{deals_of}
@@ -16,9 +15,8 @@ use Rattle.audit_report.specs.declared.verdicts.Verdict.TheVariants as verdict
 use Rattle.matching_core.specs.declared.deals_draft.ResolvedTrades.{ResolvedTrades}
 use Rattle.session_audit.specs.declared.phases.Phase.{Phase}
 use Rattle.record_verdict.specs.declared.before_rule.BeforeRule.TheVariants as upto
-use Rattle.record_verdict.specs.declared.questions.Question.{Question}
 use Rattle.audit_run.specs.declared.reports.Report.{Report}
-use Rattle.record_verdict.specs.Judgements.{question}
+use Rattle.record_verdict.specs.Scopes.{day_scope}
 use Rattle.audit_run.specs.JudgedReports.{ReportsDay}
 use Rattle.audit_run.specs.OtherTexts.{IsRefused}
 use Rattle.audit_run.specs.Reporting.{SaysReport}
@@ -27,15 +25,11 @@ use Rattle.record_verdict.specs.BeforeRule.{AreSound, IsBeforeRule}
 use Rattle.audit_run.proofs.JudgedReportLemmas.{of_logs}
 use Rattle.audit_run.specs.Deciding.{IsReportOf}
 
--- continuous trading admits every order
-abbrev pub asked : List ℕ → Question
-asked symbol = question rule.Continuous symbol false
-
 module _ (symbol : List ℕ) (phases : List Phase) (table : Bool) (report : Report) where
   -- a bad place is reported, whatever the phases are
   pub malformed_day : (log : Which) (bad : BadPlace) → IsReportOf (verdict.Malformed log bad) report → ReportsDay symbol phases table (upto.Malformed log bad) report
   malformed_day log bad made orders trades come =
-      of_logs (λ entries paired. IsBeforeRule (asked symbol) entries paired (upto.Malformed log bad)) (λ entries paired. JudgesDayOf symbol phases table entries paired report.status report.text.items)
+      of_logs (λ entries paired. IsBeforeRule (day_scope symbol) entries paired (upto.Malformed log bad)) (λ entries paired. JudgesDayOf symbol phases table entries paired report.status report.text.items)
       (λ other place. upto.Malformed log bad ≡ upto.Malformed other place) (λ other place. IsRefused (verdict.Malformed other place) report.status report.text.items)
       (λ entries paired is. absurd is)
       (λ other place e. subst (λ (v : Verdict). IsRefused v report.status report.text.items) (same other place e) (record { status_is = made.status_is; text_is = made.text_is }))
@@ -47,7 +41,7 @@ module _ (symbol : List ℕ) (phases : List Phase) (table : Bool) (report : Repo
   -- so is a finding
   pub found_day : (finding : Finding) → IsReportOf (verdict.Rejected finding) report → ReportsDay symbol phases table (upto.Found finding) report
   found_day finding made orders trades come =
-      of_logs (λ entries paired. IsBeforeRule (asked symbol) entries paired (upto.Found finding)) (λ entries paired. JudgesDayOf symbol phases table entries paired report.status report.text.items)
+      of_logs (λ entries paired. IsBeforeRule (day_scope symbol) entries paired (upto.Found finding)) (λ entries paired. JudgesDayOf symbol phases table entries paired report.status report.text.items)
       (λ other place. upto.Found finding ≡ upto.Malformed other place) (λ other place. IsRefused (verdict.Malformed other place) report.status report.text.items)
       (λ entries paired is. rw is (record { status_is = made.status_is; text_is = made.text_is }))
       (λ other place e. absurd (apart other place e)) orders trades come
@@ -59,14 +53,14 @@ module _ (symbol : List ℕ) (phases : List Phase) (table : Bool) (report : Repo
   pub sound_day : (resolved : ResolvedTrades) → SaysReport (JudgesDay symbol phases table resolved.history resolved.deals.items resolved.count) report
       → ReportsDay symbol phases table (upto.Sound resolved) report
   sound_day resolved is orders trades come =
-      of_logs (λ entries paired. IsBeforeRule (asked symbol) entries paired (upto.Sound resolved)) (λ entries paired. JudgesDayOf symbol phases table entries paired report.status report.text.items)
+      of_logs (λ entries paired. IsBeforeRule (day_scope symbol) entries paired (upto.Sound resolved)) (λ entries paired. JudgesDayOf symbol phases table entries paired report.status report.text.items)
       (λ other place. upto.Sound resolved ≡ upto.Malformed other place) (λ other place. IsRefused (verdict.Malformed other place) report.status report.text.items)
       (λ entries paired sound. of_sound entries paired sound) (λ other place e. absurd (apart other place e)) orders trades come
     where
       apart : (other : Which) (place : BadPlace) → upto.Sound resolved ≡ upto.Malformed other place → ⊥
       apart other place e = cc
 
-      of_sound : (entries : List OrderRecord) (paired : Result (List TradeRecord) Finding) → AreSound (asked symbol) entries paired resolved → JudgesDayOf symbol phases table entries paired report.status report.text.items
+      of_sound : (entries : List OrderRecord) (paired : Result (List TradeRecord) Finding) → AreSound (day_scope symbol) entries paired resolved → JudgesDayOf symbol phases table entries paired report.status report.text.items
       of_sound entries paired sound =
           let history : List Order = order_list symbol entries in
           rw sound.none

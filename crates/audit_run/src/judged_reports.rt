@@ -53,8 +53,8 @@ pub(crate) fn certify_report(
     ensures { IfOk result (ReportsCertify question.now reached.now) }
 {
     let verdict = verdict_after(alloc, question, reached)?;
-    match reached {
-        BeforeRule::Sound(resolved) => certified_report(alloc, question, resolved, &verdict),
-        BeforeRule::Malformed { .. } | BeforeRule::Found(_) => verdict_report(alloc, &verdict),
+    if let BeforeRule::Sound(resolved) = reached {
+        return certified_report(alloc, question, resolved, &verdict);
     }
+    verdict_report(alloc, &verdict)
 }
