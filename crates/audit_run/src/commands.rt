@@ -1,6 +1,7 @@
 //! The report of each command. A command is an arm of `report_on`.
-ghost use Rattle.std.specs.Prelude.{IsTrue};
+ghost use Rattle.std.specs.Prelude.{◌≡◌, IsTrue};
 ghost use Rattle.call_laws.specs.Laws.{asks_for_greatest};
+ghost use Rattle.log_source.specs.Sources.{longest_log};
 ghost use Rattle.log_verdict.specs.BothLogs.{HaveOneLimit, StaysWithin};
 ghost use Rattle.audit_run.specs.Deciding.{audit_of, certify_of, DecidesReport};
 ghost use Rattle.command_words.specs.Words.{MayBeAsked};
@@ -14,7 +15,8 @@ use super::reports::{Report, verdict_report};
 use super::sessions::report_session;
 use super::verifying::report_verify;
 use audit_base::names::Name;
-use audit_base::terms::Rule;
+use audit_base::terms::{Form, Rule};
+use command_words::paths::PathText;
 use command_words::requests::Request;
 use log_source::shelf::Shelf;
 use log_verdict::both_logs::read_both;
@@ -74,6 +76,15 @@ fn report_certify<F: Shelf>(
     }
 }
 
+/// The log of this path, in this form, of at most 64 MiB, read with hashes of this seed.
+fn source_of(path: &PathText, form: Form, seed: HashSeed) -> Source<'_>
+    ensures name { result.name.now ≡ path.now }
+    ensures form { result.form ≡ form }
+    ensures limit { result.limit ≡ longest_log }
+{
+    Source::of(path.as_str(), form, seed)
+}
+
 /// The report of the command that the request is.
 pub(crate) fn report_on<F: Shelf>(
     alloc: Global,
@@ -102,8 +113,8 @@ pub(crate) fn report_on<F: Shelf>(
                 symbol: *symbol,
                 table: *table,
             };
-            let orders = Source::of(orders.as_str(), *orders_form, seed);
-            let trades = Source::of(trades.as_str(), *trades_form, seed);
+            let orders = source_of(orders, *orders_form, seed);
+            let trades = source_of(trades, *trades_form, seed);
             report_audit(alloc, shelf, &question, &orders, &trades)
         }
         Request::Expect {
@@ -112,11 +123,11 @@ pub(crate) fn report_on<F: Shelf>(
             orders,
             orders_form,
         } => {
-            let orders = Source::of(orders.as_str(), *orders_form, seed);
+            let orders = source_of(orders, *orders_form, seed);
             report_expect(alloc, shelf, *rule, symbol, &orders)
         }
         Request::Convert { log, form, path } => {
-            report_convert(alloc, shelf, *log, &Source::of(path.as_str(), *form, seed))
+            report_convert(alloc, shelf, *log, &source_of(path, *form, seed))
         }
         Request::Generate { start, count } => Ok(report_generate(alloc, *start, *count)?),
         Request::Certify {
@@ -127,8 +138,8 @@ pub(crate) fn report_on<F: Shelf>(
             orders_form,
             trades_form,
         } => {
-            let orders = Source::of(orders.as_str(), *orders_form, seed);
-            let trades = Source::of(trades.as_str(), *trades_form, seed);
+            let orders = source_of(orders, *orders_form, seed);
+            let trades = source_of(trades, *trades_form, seed);
             report_certify(alloc, shelf, *rule, symbol, &orders, &trades)
         }
         Request::Verify {
@@ -139,8 +150,8 @@ pub(crate) fn report_on<F: Shelf>(
             orders_form,
             trades_form,
         } => {
-            let orders = Source::of(orders.as_str(), *orders_form, seed);
-            let trades = Source::of(trades.as_str(), *trades_form, seed);
+            let orders = source_of(orders, *orders_form, seed);
+            let trades = source_of(trades, *trades_form, seed);
             report_verify(alloc, shelf, symbol, &orders, &trades, certificate.as_str())
         }
         Request::Session {
@@ -152,8 +163,8 @@ pub(crate) fn report_on<F: Shelf>(
             trades_form,
             table,
         } => {
-            let orders = Source::of(orders.as_str(), *orders_form, seed);
-            let trades = Source::of(trades.as_str(), *trades_form, seed);
+            let orders = source_of(orders, *orders_form, seed);
+            let trades = source_of(trades, *trades_form, seed);
             report_session(
                 alloc,
                 shelf,

@@ -3,7 +3,6 @@
 ghost use Rattle.audit_run.specs.ExpectedTrades.{AuditAcceptsExpectedTrades, ExpectedTradesAreAccepted};
 ghost use Rattle.audit_run.specs.Laws.{CertifiedIsVerified, GenerateWrites};
 
-use log_verdict::laws::one_verdict;
 pub use log_verdict::laws::{forms_agree, one_verdict};
 
 /// Where a call of `run` on the words of `expect` answers 0, over a shelf and a sink that tell, the text that

@@ -1,4 +1,6 @@
-use Rattle.std.proofs.Common.{refl, sym, subst, ◌∙◌, ℕ, List}
+use Rattle.std.proofs.Common.{◌≡◌, refl, sym, subst, ◌∙◌, ℕ, List}
+use Rattle.record_verdict.specs.declared.before_rule.BeforeRule.TheVariants.{Malformed}
+use Rattle.record_verdict.specs.BeforeRule.{IsBeforeRule}
 use Rattle.audit_run.specs.Certificates.{IsVerifyReport}
 use Rattle.record_verdict.specs.Scopes.{call_scope}
 use Rattle.log_verdict.specs.LogVerdicts.{log_in, trade_log}
@@ -14,7 +16,8 @@ pub returns-then-is_malformed-clause-decides : goal.returns-then-is_malformed-cl
 returns-then-is_malformed-clause-decides g c =
     let malformed = sym c.is_malformed.ensures ∙ c.if-is_malformed.true in
     both_text (reading_by c.args.orders.now g.F.Shelf c.args.shelf.now c.read_both.new.shelf) c.in-Ok.ensures.later c.args.orders.now c.args.trades.now
-    (verify_of c.args.symbol.now c.args.orders.now c.args.trades.now c.args.certificate.now) (record { first = refl; second = λ bytes. refl }) _ _
+    (verify_of c.args.symbol.now c.args.orders.now c.args.trades.now c.args.certificate.now) (record { first = refl; second = λ bytes. refl })
+    (λ entries paired. IsBeforeRule (call_scope c.args.symbol.now) entries paired c.in-Ok.reached) (λ log bad. c.in-Ok.reached ≡ Malformed log bad)
     _ _
     (λ logs short come. subst (λ (bytes : List ℕ). IsVerifyReport c.args.symbol.now (log_in c.args.orders.now.form (log_at logs 0)) (log_in c.args.trades.now.form (log_at logs 1)) bytes
     c.in_ok-verify_report-in-Ok.field-0.status c.in_ok-verify_report-in-Ok.field-0.text.items) (sym short) (c.in_ok-verify_report-in-Ok.ensures _ _ come))
