@@ -88,22 +88,7 @@ ahead-outranks : (side : Side) (o p : Order) → (better_limit side o.limit p.li
 ahead-outranks side o p (inl h) = or_left _ _ h
 ahead-outranks side o p (inr h) = or_right (better_limit side o.limit p.limit) _ (and_from _ _ (eq-eqb _ _ h.0) (lt-ltb _ _ h.1))
 
-outranks-ahead : (side : Side) (o p : Order) → outranks side o p ≡ true → (better_limit side o.limit p.limit ≡ true) ⊎ ((o.limit ≡ p.limit) × (o.place < p.place))
-outranks-ahead side o p h = elim (or_cases (better_limit side o.limit p.limit) ((o.limit == p.limit) && nat_lt o.place p.place) h) [
-  | inl l ↦ inl l
-  | inr r ↦ let parts = and_parts (o.limit == p.limit) (nat_lt o.place p.place) r in inr (eqb-true _ _ parts.0, ltb-true _ _ parts.1)
-]
-
 module _ (orders : List Order) (list : IsOrderList orders) (side : Side) where
-  index-rises : (i j : ℕ) → i < length orders → j < length orders → place_at orders i < place_at orders j → i < j
-  index-rises i j hi hj lt = elim (cases_lt i j) [
-    | inl less ↦ less
-    | inr more ↦ elim (cases_eq i j) [
-      | inl e ↦ let same : place_at orders i ≡ place_at orders j = ap (place_at orders) e in absurd (omega arith)
-      | inr ne ↦ let up = place-rises orders list j i (omega (arith, ne)) hi in absurd (omega arith)
-    ]
-  ]
-
   pub ahead-better : (i j m n : ℕ) → i < length orders → j < length orders → side_at orders i ≡ side → side_at orders j ≡ side
       → IsAhead side (resting_with orders i m) (resting_with orders j n) → Better orders i j
   ahead-better i j m n hi hj si sj (inl h) = outranks-better side (order_at orders i) (order_at orders j) si sj (ahead-outranks side (order_at orders i) (order_at orders j) (inl h))
@@ -124,9 +109,6 @@ module _ (orders : List Order) (list : IsOrderList orders) (side : Side) where
   module _ (before after : ℕ → ℕ) (h : Resting) (ys : List Resting) (is : (k : ℕ) → after k ≤ before k) (s : IsFilledInFront orders side before after (h ∷ ys)) where
     pub first-part : IsPart orders side s.amount h
     first-part = All-head (IsPart orders side s.amount) h ys s.holds.only
-
-    pub first-left : h.left ≡ after h.index
-    first-left = ap (λ (r : Resting). r.left) first-part.is ∙ s.first_now h refl
 
     pub first-some : 0 < after h.index
     first-some = let e = s.first_now h refl in let p = first-part.some in omega arith

@@ -19,9 +19,6 @@ use Rattle.continuous_laws.proofs.StepLemmas.{rests-parts}
 use Rattle.continuous_audit.proofs.RestLemmas.{resting_left-parts}
 use Rattle.continuous_audit.proofs.HeadLemmas.{after_fills-holds}
 
-pub refreshed-none : (deals : List Deal) (causes : List Cause) (start : ℕ) (sizes traded old : List ℕ) → IsRefreshed deals causes start start sizes traded old old
-refreshed-none deals causes start sizes traded old = record { count = refl; each = λ x. inr (refl, λ i le lt. absurd (omega arith)) }
-
 pub refreshed-more : (deals : List Deal) (causes : List Cause) (start at : ℕ) (sizes traded old xs ys : List ℕ) (d : Deal) → d ≡ deal_at deals (deal_in causes at) → d.bid < length xs → d.ask < length xs
     → ys ≡ slice_set (slice_set xs d.bid (number_in sizes d.bid - number_in traded d.bid)) d.ask (number_in sizes d.ask - number_in traded d.ask)
     → IsRefreshed deals causes start at sizes traded old xs → IsRefreshed deals causes start (at + 1) sizes traded old ys

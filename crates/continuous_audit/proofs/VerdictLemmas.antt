@@ -74,19 +74,3 @@ module _ (orders : List Order) (list : IsOrderList orders) (deals : List Deal) (
             stands_yet = uncancelled-back _ (suc p) q le at.stands_yet;
             has_left = omega arith;
           })
-
-  -- after the last order the rule holds
-  pub all-conform : IsLast orders p → IsCalm orders deals p → finding_at_place orders deals p ≡ None → ConformsContinuous orders deals
-  all-conform last calm none = record {
-    named = named;
-    each = λ i. elim (cases_lt i (suc p)) [
-      | inl lt ↦ upto i lt
-      | inr le ↦ subst (λ j. ConformsAt orders deals j) (omega arith) (late-conforms orders deals p named last upto (i - p))
-    ];
-  }
-    where
-      upto : (i : ℕ) → i < suc p → ConformsAt orders deals i
-      upto i lt = elim (cases_eq i p) [
-        | inl e ↦ subst (λ j. ConformsAt orders deals j) (sym e) (here-conforms calm none)
-        | inr ne ↦ calm.conforms i (omega (arith, ne))
-      ]

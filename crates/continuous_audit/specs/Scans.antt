@@ -70,8 +70,3 @@ pub record IsRefreshed (deals : List Deal) (causes : List Cause) (start at : ℕ
 pub record AreSmall (orders : List Order) (traded : List ℕ) : Type 0 where
   pub count : length traded ≡ length orders
   pub most : (x : ℕ) → x < length orders → number_in traded x ≤ 2 ^ 72
-
--- after the deals of the order at n: what is left of the earlier ones
-abbrev pub AreLeftAfter : List Order → List Deal → ℕ → List ℕ → Type 0
-AreLeftAfter orders deals n left = (x : ℕ) → x < n
-    → number_in left x ≡ left_after orders deals (place_at orders n) x

@@ -17,13 +17,6 @@ open_order-opening-requires-clause-traded c = subst (AreSmall c.args.market.now.
 pub open_order-opening-requires-clause-sheet : goal.open_order-opening-requires-clause-sheet
 open_order-opening-requires-clause-sheet c = open-sheet c.args.market.now c.args.order (place_at c.args.market.now.orders.now c.args.order) c.args.self.now c.requires.known
 
-pub note-requires : goal.note-requires
-note-requires c = record {
-  before = let count = c.requires.known.before.count in let inside = c.requires.order in omega arith;
-  closed = let count = c.requires.known.closed.count in let inside = c.requires.order in omega arith;
-  sizes = let count = c.requires.known.sizes.count in let inside = c.requires.order in omega arith;
-}
-
 pub check_deals-requires-clause-known : goal.check_deals-requires-clause-known
 check_deals-requires-clause-known c =
     let orders = c.args.market.now.orders.now in
