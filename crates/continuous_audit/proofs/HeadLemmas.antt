@@ -1,13 +1,13 @@
 -- A settled book holds what is left after the record, unless a deal passes its best order over; and this order shows which.
 use Rattle.std.proofs.Common.{◌≡◌, ◌≢◌, ◌<◌, ◌≤◌, ◌-◌, ◌⊎◌, ℕ, suc, List, [], ◌∷◌, length, true, false, cond, Some, refl, sym, ap, ◌∙◌, arith, inl, inr, subst}
 use Rattle.std.specs.Prelude.{nat_lt, ◌==◌, ◌&&◌, Contains}
-use Rattle.std.proofs.lemmas.Bool.{cases_Bool, cases_eq, cases_lt, both_ways, lt-ltb, le-ltb, ltb-true, eq-eqb, ne_eqb, cond-true, cond-false, and_parts, and_from, or_left, or_right, or_cases, eqb-true, false_from_ne_true}
+use Rattle.std.proofs.lemmas.Bool.{cases_Bool, cases_eq, cases_lt, both_ways, lt-ltb, le-ltb, ltb-true, eq-eqb, ne_eqb, cond-true, cond-false, and_parts, and_from, or_left, or_right, false_from_ne_true}
 use Rattle.std.proofs.lemmas.List.Elements.{All-head, All-contains}
 use Rattle.audit_base.specs.declared.terms.Side.{Side}
 use Rattle.audit_base.specs.declared.orders.Order.{Order}
 use Rattle.audit_base.specs.declared.orders.Deal.{Deal}
 use Rattle.audit_base.specs.Least.{any_below}
-use Rattle.audit_base.specs.Orders.{order_at, side_at, place_at, IsOrderList}
+use Rattle.audit_base.specs.Orders.{order_at, side_at, IsOrderList}
 use Rattle.audit_base.specs.Priority.{better, better_limit, outranks, Better, best}
 use Rattle.audit_base.specs.Continuous.{traded_before, traded_at, rests, left}
 use Rattle.audit_base.specs.ContinuousOffences.{waits_ahead}

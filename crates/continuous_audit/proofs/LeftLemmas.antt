@@ -1,5 +1,5 @@
 -- What is left of the orders, deal by deal, and what the books owe to it.
-use Rattle.std.proofs.Common.{◌≡◌, ◌<◌, ◌+◌, ◌-◌, ℕ, List, length, false, refl, sym, ap, ◌∙◌, arith, inl, inr, subst, All, get_or}
+use Rattle.std.proofs.Common.{◌≡◌, ◌<◌, ◌+◌, ◌-◌, ℕ, List, length, false, sym, ap, ◌∙◌, arith, inl, inr, subst, All, get_or}
 use Rattle.std.specs.Prelude.{slice_set}
 use Rattle.std.proofs.lemmas.List.{length-set, get_or-set_same, get_or-set_other}
 use Rattle.std.proofs.lemmas.Bool.{cases_eq, cases_lt, or_from, ne_eqb}

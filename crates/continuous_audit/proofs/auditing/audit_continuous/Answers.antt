@@ -1,4 +1,4 @@
-use Rattle.std.proofs.Common.{◌≡◌, ◌∙◌, ℕ, List, None, Ok, length, inl, inr, refl, ap}
+use Rattle.std.proofs.Common.{◌∙◌, ℕ, List, Ok, length, refl, ap}
 use Rattle.audit_base.proofs.ContinuousOffenceLemmas.{offence-fails}
 use Rattle.continuous_audit.specs.Markets.{IsMarket}
 use Rattle.continuous_audit.specs.Scans.{number_in}

@@ -1,4 +1,4 @@
-use Rattle.std.proofs.Common.{◌≡◌, ◌<◌, ◌+◌, ◌∙◌, sym, arith, length}
+use Rattle.std.proofs.Common.{◌<◌, ◌+◌, ◌∙◌, sym, arith, length}
 use Rattle.audit_base.proofs.ContinuousLemmas.{target-below}
 use Rattle.continuous_audit.proofs.KeptLemmas.{target-read, before-kept, before-walked}
 use Rattle.continuous_audit.proofs.chains.chain_before.Goals as goal

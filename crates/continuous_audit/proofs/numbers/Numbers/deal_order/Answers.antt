@@ -1,4 +1,4 @@
-use Rattle.std.proofs.Common.{◌≡◌, ◌-◌, None, ◌∙◌, inl, inr, sym, subst, arith}
+use Rattle.std.proofs.Common.{◌≡◌, ◌-◌, ◌∙◌, sym, subst}
 use Rattle.audit_base.specs.Orders.{place_at}
 use Rattle.continuous_audit.specs.declared.breaches.Breach.TheVariants.{Deal}
 use Rattle.continuous_audit.specs.declared.numbers.Numbers.{Numbers}

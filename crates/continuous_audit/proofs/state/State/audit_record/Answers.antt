@@ -1,4 +1,4 @@
-use Rattle.std.proofs.Common.{◌≡◌, ◌∙◌, Some, None, option_map, inl, inr, ap, subst, arith}
+use Rattle.std.proofs.Common.{◌≡◌, ◌∙◌, Some, None, option_map, ap, subst, arith}
 use Rattle.audit_base.specs.Orders.{place_at}
 use Rattle.audit_base.specs.ContinuousOffences.{spread_finding}
 use Rattle.audit_base.proofs.OffenceLemmas.{get_or-default}

@@ -1,4 +1,4 @@
-use Rattle.std.proofs.Common.{◌≡◌, ◌∙◌, ℕ, None, Some, length, inl, inr, sym, ap, subst, arith, add-one, Ok}
+use Rattle.std.proofs.Common.{◌≡◌, ◌∙◌, ℕ, Some, length, sym, ap, subst, arith, add-one, Ok}
 use Rattle.audit_base.specs.Orders.{place_at}
 use Rattle.continuous_audit.specs.Progress.{IsReadyNext}
 use Rattle.continuous_audit.specs.Records.{IsCalm}

@@ -1,4 +1,4 @@
-use Rattle.std.proofs.Common.{◌≡◌, ◌∙◌, None, option_map, inl, inr, ap}
+use Rattle.std.proofs.Common.{◌∙◌, option_map, ap}
 use Rattle.audit_base.specs.Orders.{place_at}
 use Rattle.continuous_audit.specs.Breaches.{breach_after}
 use Rattle.continuous_audit.proofs.BreachLemmas.{after-breach}
