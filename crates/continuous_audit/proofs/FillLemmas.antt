@@ -19,9 +19,6 @@ same-lessened (x ∷ xs) left now h some le ge =
 pub after_fills-more : (left : ℕ → ℕ) (x : Resting) (xs : List Resting) → left x.index ≡ 0 → after_fills left (x ∷ xs) ≡ after_fills left xs
 after_fills-more left x xs e = cond-false (nat_lt 0 (left x.index)) (record x { left = left x.index } ∷ xs) (after_fills left xs) (le-ltb 0 (left x.index) (omega arith))
 
-pub after_fills-end : (left : ℕ → ℕ) (x : Resting) (xs : List Resting) → 0 < left x.index → after_fills left (x ∷ xs) ≡ record x { left = left x.index } ∷ xs
-after_fills-end left x xs lt = cond-true (nat_lt 0 (left x.index)) (record x { left = left x.index } ∷ xs) (after_fills left xs) (lt-ltb 0 (left x.index) lt)
-
 -- where the first order has nothing left, it goes, and the rest settles as before
 pub fill-step : (left : List ℕ) (xs ys : List Resting) (r : Resting) → Some r ≡ first xs → left_in left r.index ≤ 0 → ys ≡ with_best_left (left_in left r.index) xs → All (IsWithin left) xs
     → All (IsWithin left) ys × (after_fills (left_in left) ys ≡ after_fills (left_in left) xs)

@@ -1,13 +1,13 @@
 -- A settled book holds what is left after the record, unless a deal passes its best order over; and this order shows which.
 use Rattle.std.proofs.Common.{◌≡◌, ◌≢◌, ◌<◌, ◌≤◌, ◌-◌, ◌⊎◌, ℕ, suc, List, [], ◌∷◌, length, true, false, cond, Some, refl, sym, ap, ◌∙◌, arith, inl, inr, subst}
 use Rattle.std.specs.Prelude.{nat_lt, ◌==◌, ◌&&◌, Contains}
-use Rattle.std.proofs.lemmas.Bool.{cases_Bool, cases_eq, cases_lt, both_ways, lt-ltb, le-ltb, ltb-true, eq-eqb, ne_eqb, cond-true, cond-false, and_parts, and_from, or_left, or_right, or_cases, eqb-true, false_from_ne_true}
+use Rattle.std.proofs.lemmas.Bool.{cases_Bool, cases_eq, cases_lt, both_ways, lt-ltb, le-ltb, ltb-true, eq-eqb, ne_eqb, cond-true, cond-false, and_parts, and_from, or_left, or_right, false_from_ne_true}
 use Rattle.std.proofs.lemmas.List.Elements.{All-head, All-contains}
 use Rattle.audit_base.specs.declared.terms.Side.{Side}
 use Rattle.audit_base.specs.declared.orders.Order.{Order}
 use Rattle.audit_base.specs.declared.orders.Deal.{Deal}
 use Rattle.audit_base.specs.Least.{any_below}
-use Rattle.audit_base.specs.Orders.{order_at, side_at, place_at, IsOrderList}
+use Rattle.audit_base.specs.Orders.{order_at, side_at, IsOrderList}
 use Rattle.audit_base.specs.Priority.{better, better_limit, outranks, Better, best}
 use Rattle.audit_base.specs.Continuous.{traded_before, traded_at, rests, left}
 use Rattle.audit_base.specs.ContinuousOffences.{waits_ahead}
@@ -88,22 +88,7 @@ ahead-outranks : (side : Side) (o p : Order) → (better_limit side o.limit p.li
 ahead-outranks side o p (inl h) = or_left _ _ h
 ahead-outranks side o p (inr h) = or_right (better_limit side o.limit p.limit) _ (and_from _ _ (eq-eqb _ _ h.0) (lt-ltb _ _ h.1))
 
-outranks-ahead : (side : Side) (o p : Order) → outranks side o p ≡ true → (better_limit side o.limit p.limit ≡ true) ⊎ ((o.limit ≡ p.limit) × (o.place < p.place))
-outranks-ahead side o p h = elim (or_cases (better_limit side o.limit p.limit) ((o.limit == p.limit) && nat_lt o.place p.place) h) [
-  | inl l ↦ inl l
-  | inr r ↦ let parts = and_parts (o.limit == p.limit) (nat_lt o.place p.place) r in inr (eqb-true _ _ parts.0, ltb-true _ _ parts.1)
-]
-
 module _ (orders : List Order) (list : IsOrderList orders) (side : Side) where
-  index-rises : (i j : ℕ) → i < length orders → j < length orders → place_at orders i < place_at orders j → i < j
-  index-rises i j hi hj lt = elim (cases_lt i j) [
-    | inl less ↦ less
-    | inr more ↦ elim (cases_eq i j) [
-      | inl e ↦ let same : place_at orders i ≡ place_at orders j = ap (place_at orders) e in absurd (omega arith)
-      | inr ne ↦ let up = place-rises orders list j i (omega (arith, ne)) hi in absurd (omega arith)
-    ]
-  ]
-
   pub ahead-better : (i j m n : ℕ) → i < length orders → j < length orders → side_at orders i ≡ side → side_at orders j ≡ side
       → IsAhead side (resting_with orders i m) (resting_with orders j n) → Better orders i j
   ahead-better i j m n hi hj si sj (inl h) = outranks-better side (order_at orders i) (order_at orders j) si sj (ahead-outranks side (order_at orders i) (order_at orders j) (inl h))
@@ -124,9 +109,6 @@ module _ (orders : List Order) (list : IsOrderList orders) (side : Side) where
   module _ (before after : ℕ → ℕ) (h : Resting) (ys : List Resting) (is : (k : ℕ) → after k ≤ before k) (s : IsFilledInFront orders side before after (h ∷ ys)) where
     pub first-part : IsPart orders side s.amount h
     first-part = All-head (IsPart orders side s.amount) h ys s.holds.only
-
-    pub first-left : h.left ≡ after h.index
-    first-left = ap (λ (r : Resting). r.left) first-part.is ∙ s.first_now h refl
 
     pub first-some : 0 < after h.index
     first-some = let e = s.first_now h refl in let p = first-part.some in omega arith

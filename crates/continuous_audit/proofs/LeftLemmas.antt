@@ -1,5 +1,5 @@
 -- What is left of the orders, deal by deal, and what the books owe to it.
-use Rattle.std.proofs.Common.{◌≡◌, ◌<◌, ◌+◌, ◌-◌, ℕ, List, length, false, refl, sym, ap, ◌∙◌, arith, inl, inr, subst, All, get_or}
+use Rattle.std.proofs.Common.{◌≡◌, ◌<◌, ◌+◌, ◌-◌, ℕ, List, length, false, sym, ap, ◌∙◌, arith, inl, inr, subst, All, get_or}
 use Rattle.std.specs.Prelude.{slice_set}
 use Rattle.std.proofs.lemmas.List.{length-set, get_or-set_same, get_or-set_other}
 use Rattle.std.proofs.lemmas.Bool.{cases_eq, cases_lt, or_from, ne_eqb}
@@ -18,9 +18,6 @@ use Rattle.continuous_audit.specs.Scans.{IsRefreshed, deal_in, number_in}
 use Rattle.continuous_laws.proofs.StepLemmas.{rests-parts}
 use Rattle.continuous_audit.proofs.RestLemmas.{resting_left-parts}
 use Rattle.continuous_audit.proofs.HeadLemmas.{after_fills-holds}
-
-pub refreshed-none : (deals : List Deal) (causes : List Cause) (start : ℕ) (sizes traded old : List ℕ) → IsRefreshed deals causes start start sizes traded old old
-refreshed-none deals causes start sizes traded old = record { count = refl; each = λ x. inr (refl, λ i le lt. absurd (omega arith)) }
 
 pub refreshed-more : (deals : List Deal) (causes : List Cause) (start at : ℕ) (sizes traded old xs ys : List ℕ) (d : Deal) → d ≡ deal_at deals (deal_in causes at) → d.bid < length xs → d.ask < length xs
     → ys ≡ slice_set (slice_set xs d.bid (number_in sizes d.bid - number_in traded d.bid)) d.ask (number_in sizes d.ask - number_in traded d.ask)

@@ -109,10 +109,7 @@ module _ (orders : List Order) (list : IsOrderList orders) (n : ℕ) (n_inside :
   -- what is known of the orders when the order at n comes
   pub opening-is : (traded : List ℕ) (sheet : Sheet) → ((x : ℕ) → x < length orders → number_in traded x ≡ past p x) → ((x : ℕ) → x < n → number_in sheet.before.items x ≡ before_of orders deals x)
       → ((x : ℕ) → x < n → number_in sheet.left.items x ≡ left_before orders deals p x) → IsOpening orders deals n traded sheet
-  opening-is traded sheet traded_is before_is left_is = record {
-    kept = record { conforms = λ i lt. is.conforms.each i; named = is.conforms.named; traded_is = traded_is; before_is = before_is };
-    left_is = left_is;
-  }
+  opening-is traded sheet traded_is before_is left_is = record { conforms = λ i lt. is.conforms.each i; named = is.conforms.named; traded_is = traded_is; before_is = before_is; left_is = left_is }
 
   -- what rests is earlier
   earlier : (k : ℕ) → k < length orders → 0 < rested k → (k < n) × (place_at orders k < p)

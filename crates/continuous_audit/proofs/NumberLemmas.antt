@@ -125,12 +125,10 @@ module _ (orders : List Order) (list : IsOrderList orders) (deals : List Deal) (
     opening at traded traded' sheet same conforms b l split run =
         let t = traded-then at traded split run in
         record {
-          kept = record {
-            conforms = conforms;
-            named = deal_list.named;
-            traded_is = λ x lt. ap (λ (xs : List ℕ). number_in xs x) same ∙ t.is x lt;
-            before_is = b.is;
-          };
+          conforms = conforms;
+          named = deal_list.named;
+          traded_is = λ x lt. ap (λ (xs : List ℕ). number_in xs x) same ∙ t.is x lt;
+          before_is = b.is;
           left_is = l.is;
         }
 

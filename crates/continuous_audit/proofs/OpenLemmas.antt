@@ -12,7 +12,7 @@ use Rattle.continuous_audit.specs.declared.opening.Opening.{Opening}
 use Rattle.continuous_audit.specs.declared.sheet.Sheet.{Sheet}
 use Rattle.continuous_audit.specs.DealFindings as by_deal
 use Rattle.continuous_audit.specs.Chains.{IsOpening}
-use Rattle.continuous_audit.specs.Openings.{IsOpened}
+use Rattle.continuous_audit.specs.Sheets.{IsOpened}
 use Rattle.continuous_audit.specs.Scans.{number_in}
 use Rattle.continuous_audit.proofs.ScanLemmas.{waits-is}
 

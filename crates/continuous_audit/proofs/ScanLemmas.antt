@@ -252,22 +252,6 @@ module _ (orders : List Order) (deals : List Deal) (causes : List Cause) (at : �
     fits = λ x inside. let a = added-at x in let f = is.fits x inside in omega (arith, a.0, a.1);
   })
 
--- the same of a deal, its two orders and what is known of them, which equal those of the lists
-checked-read : (orders : List Order) (list : IsOrderList orders) (deals : List Deal) (deal_list : IsDealList orders deals) (causes : List Cause) (are : AreCauses orders deals causes) (n : ℕ) (n_inside : n < length orders)
-    (coming : Coming) (sheet : Sheet) (known : IsKnown orders deals n coming.entered sheet) (at : ℕ) (lt : at < length causes) (of : order_in causes at ≡ n)
-    (d : Deal) (d_is : d ≡ deal_at deals (deal_in causes at)) (bid ask : Order) (b_is : bid ≡ order_at orders d.bid) (a_is : ask ≡ order_at orders d.ask) (p_is : coming.place ≡ place_at orders n)
-    (accounts : Accounts) (bt at' : ℕ) → accounts.bid ≡ by_deal.account_of sheet d.bid bt → accounts.ask ≡ by_deal.account_of sheet d.ask at' → bt ≡ running_total deals causes (at + 1) d.bid → at' ≡ running_total deals causes (at + 1) d.ask
-    → conservation_finding orders deals (place_at orders n) (deal_in causes at) ≡ option_map (rule_finding orders (shown_upto orders deals (place_at orders n) (deal_in causes at)) (deal_at deals (deal_in causes at)))
-    (by_deal.broken_rule d bid ask coming accounts)
-checked-read orders list deals deal_list causes are n n_inside coming sheet known at lt of d d_is bid ask b_is a_is p_is accounts bt at' bid_is ask_is bt_is at_is =
-    let e = deal_at deals (deal_in causes at) in
-    let b : bid ≡ order_at orders e.bid = b_is ∙ ap (λ (x : Deal). order_at orders x.bid) d_is in
-    let a : ask ≡ order_at orders e.ask = a_is ∙ ap (λ (x : Deal). order_at orders x.ask) d_is in
-    let kb : accounts.bid ≡ by_deal.account_of sheet e.bid bt = bid_is ∙ ap (λ (x : Deal). by_deal.account_of sheet x.bid bt) d_is in
-    let ka : accounts.ask ≡ by_deal.account_of sheet e.ask at' = ask_is ∙ ap (λ (x : Deal). by_deal.account_of sheet x.ask at') d_is in
-    checked orders list deals deal_list causes are n n_inside coming.entered sheet known at lt of bt at' (bt_is ∙ ap (λ (x : Deal). running_total deals causes (at + 1) x.bid) d_is) (at_is ∙ ap (λ (x : Deal). running_total deals causes (at + 1) x.ask) d_is)
-    ∙ sym (λ i. option_map (rule_finding orders (shown_upto orders deals (place_at orders n) (deal_in causes at)) e) (by_deal.broken_rule (d_is i) (b i) (a i) (record { place = p_is i; entered = coming.entered }) (record { bid = kb i; ask = ka i })))
-
 -- the same, in the words of the code: the deal and the orders that it reads, and what it adds
 module _ (orders : List Order) (list : IsOrderList orders) (deals : List Deal) (deal_list : IsDealList orders deals) (causes : List Cause) (are : AreCauses orders deals causes) (n : ℕ) (n_inside : n < length orders)
     (at : ℕ) (lt : at < length causes) (xs : List ℕ) (run : AreRunningTotals orders deals causes at xs)
@@ -289,9 +273,16 @@ module _ (orders : List Order) (list : IsOrderList orders) (deals : List Deal) (
       → conservation_finding orders deals (place_at orders n) (deal_in causes at) ≡ option_map (rule_finding orders (shown_upto orders deals (place_at orders n) (deal_in causes at)) (deal_at deals (deal_in causes at)))
       (by_deal.broken_rule d bid ask coming accounts)
   finding-read of coming sheet known own bid ask own_read bid_read ask_read p_is accounts bt at' b_is a_is bt_is at_is =
-      checked-read orders list deals deal_list causes are n n_inside coming sheet known at lt of d d_is bid ask (bid_read ∙ get_or-default orders d.bid bid missing_order named.bid_inside) (ask_read ∙ get_or-default orders d.ask ask missing_order named.ask_inside)
-      (p_is ∙ ap (λ (o : Order). o.place) (own_read ∙ get_or-default orders n own missing_order n_inside)) accounts bt at' b_is a_is
-      (bt_is ∙ bid-now orders deals causes at lt xs run d d_is named q q_is (omega arith)) (at_is ∙ ask-now orders deals causes at lt xs run d d_is named q q_is (omega arith))
+      let e = deal_at deals (deal_in causes at) in
+      let place : coming.place ≡ place_at orders n = p_is ∙ ap (λ (o : Order). o.place) (own_read ∙ get_or-default orders n own missing_order n_inside) in
+      let b : bid ≡ order_at orders e.bid = bid_read ∙ get_or-default orders d.bid bid missing_order named.bid_inside ∙ ap (λ (x : Deal). order_at orders x.bid) d_is in
+      let a : ask ≡ order_at orders e.ask = ask_read ∙ get_or-default orders d.ask ask missing_order named.ask_inside ∙ ap (λ (x : Deal). order_at orders x.ask) d_is in
+      let kb : accounts.bid ≡ by_deal.account_of sheet e.bid bt = b_is ∙ ap (λ (x : Deal). by_deal.account_of sheet x.bid bt) d_is in
+      let ka : accounts.ask ≡ by_deal.account_of sheet e.ask at' = a_is ∙ ap (λ (x : Deal). by_deal.account_of sheet x.ask at') d_is in
+      let tb = bt_is ∙ bid-now orders deals causes at lt xs run d d_is named q q_is (omega arith) ∙ ap (λ (x : Deal). running_total deals causes (at + 1) x.bid) d_is in
+      let ta = at_is ∙ ask-now orders deals causes at lt xs run d d_is named q q_is (omega arith) ∙ ap (λ (x : Deal). running_total deals causes (at + 1) x.ask) d_is in
+      checked orders list deals deal_list causes are n n_inside coming.entered sheet known at lt of bt at' tb ta
+      ∙ sym (λ i. option_map (rule_finding orders (shown_upto orders deals (place_at orders n) (deal_in causes at)) e) (by_deal.broken_rule (d_is i) (b i) (a i) (record { place = place i; entered = coming.entered }) (record { bid = kb i; ask = ka i })))
 
 -- the breach at the cause that the code has come to, after its deal is added
 pub breach-read : (orders : List Order) (list : IsOrderList orders) (deals : List Deal) (deal_list : IsDealList orders deals) (causes : List Cause) (are : AreCauses orders deals causes) (n : ℕ) (n_inside : n < length orders)

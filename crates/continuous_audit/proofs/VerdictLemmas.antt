@@ -1,5 +1,5 @@
 -- What the audit knows before an order comes, and what it answers.
-use Rattle.std.proofs.Common.{◌≡◌, ◌<◌, ◌≤◌, ◌-◌, ℕ, suc, List, length, true, Some, None, sym, ap, arith, inl, inr, subst, All}
+use Rattle.std.proofs.Common.{◌≡◌, ◌<◌, ◌≤◌, ℕ, suc, List, length, true, Some, None, ap, arith, inl, inr, All}
 use Rattle.std.proofs.lemmas.Bool.{cases_eq, cases_lt}
 use Rattle.audit_base.specs.declared.orders.Order.{Order}
 use Rattle.audit_base.specs.declared.orders.Deal.{Deal}
@@ -7,10 +7,10 @@ use Rattle.audit_base.specs.declared.findings.Finding.{Finding}
 use Rattle.audit_base.specs.Orders.{place_at, IsOrderList}
 use Rattle.audit_base.specs.Deals.{NamesOrders}
 use Rattle.audit_base.specs.Continuous.{traded_before, rests}
-use Rattle.audit_base.specs.ContinuousRules.{ConformsAt, ConformsContinuous}
+use Rattle.audit_base.specs.ContinuousRules.{ConformsAt}
 use Rattle.audit_base.specs.ContinuousOffences.{finding_at_place, IsContinuousOffence}
 use Rattle.audit_base.proofs.OrderLemmas.{place-rises}
-use Rattle.audit_base.proofs.ContinuousOffenceLemmas.{no_fault-conforms, IsLast, late-conforms}
+use Rattle.audit_base.proofs.ContinuousOffenceLemmas.{no_fault-conforms}
 use Rattle.continuous_audit.specs.Holding.{IsApart}
 use Rattle.continuous_audit.specs.Records.{IsCalm}
 use Rattle.continuous_laws.proofs.StepLemmas.{rests-parts}
@@ -74,19 +74,3 @@ module _ (orders : List Order) (list : IsOrderList orders) (deals : List Deal) (
             stands_yet = uncancelled-back _ (suc p) q le at.stands_yet;
             has_left = omega arith;
           })
-
-  -- after the last order the rule holds
-  pub all-conform : IsLast orders p → IsCalm orders deals p → finding_at_place orders deals p ≡ None → ConformsContinuous orders deals
-  all-conform last calm none = record {
-    named = named;
-    each = λ i. elim (cases_lt i (suc p)) [
-      | inl lt ↦ upto i lt
-      | inr le ↦ subst (λ j. ConformsAt orders deals j) (omega arith) (late-conforms orders deals p named last upto (i - p))
-    ];
-  }
-    where
-      upto : (i : ℕ) → i < suc p → ConformsAt orders deals i
-      upto i lt = elim (cases_eq i p) [
-        | inl e ↦ subst (λ j. ConformsAt orders deals j) (sym e) (here-conforms calm none)
-        | inr ne ↦ calm.conforms i (omega (arith, ne))
-      ]

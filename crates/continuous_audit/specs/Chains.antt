@@ -42,18 +42,13 @@ pub record IsOpenSheet (orders : List Order) (m : ℕ) (sheet : Sheet) : Type 0 
   pub bounded : AreBounded sheet.before.items
 
 -- before the order at n comes, where the rule holds at each earlier place: what the orders have
--- traded, and Before of the earlier ones
-pub record IsKept (orders : List Order) (deals : List Deal) (n : ℕ)
+-- traded, and of the earlier ones Before and what is left
+pub record IsOpening (orders : List Order) (deals : List Deal) (n : ℕ)
     (traded : List ℕ) (sheet : Sheet) : Type 0 where
   pub conforms : (i : ℕ) → i < place_at orders n → ConformsAt orders deals i
   pub named : All (NamesOrders orders) deals
   pub traded_is : (x : ℕ) → x < length orders
       → number_in traded x ≡ traded_before orders deals (place_at orders n) x
   pub before_is : (x : ℕ) → x < n → number_in sheet.before.items x ≡ before_of orders deals x
-
--- the same, with what is left of the earlier ones
-pub record IsOpening (orders : List Order) (deals : List Deal) (n : ℕ)
-    (traded : List ℕ) (sheet : Sheet) : Type 0 where
-  pub kept : IsKept orders deals n traded sheet
   pub left_is : (x : ℕ) → x < n
       → number_in sheet.left.items x ≡ left_before orders deals (place_at orders n) x

@@ -11,7 +11,6 @@ pub mod Fills
 pub mod Holding
 pub mod Markets
 pub mod Matching
-pub mod Openings
 pub mod Pairs
 pub mod Progress
 pub mod Records

@@ -4,7 +4,7 @@ use Rattle.audit_base.specs.declared.orders.Order.{Order}
 use Rattle.audit_base.specs.declared.orders.Deal.{Deal}
 use Rattle.audit_base.specs.Orders.{place_at}
 use Rattle.audit_base.specs.Deals.{names, deal_at}
-use Rattle.audit_base.specs.Continuous.{entered_of, size_of, left_before, left_after}
+use Rattle.audit_base.specs.Continuous.{entered_of, size_of, left_before}
 use Rattle.continuous_audit.specs.declared.causes.Cause.{Cause}
 use Rattle.continuous_audit.specs.declared.sheet.Sheet.{Sheet}
 use Rattle.continuous_audit.specs.Causes.{running_total}
@@ -70,8 +70,3 @@ pub record IsRefreshed (deals : List Deal) (causes : List Cause) (start at : ℕ
 pub record AreSmall (orders : List Order) (traded : List ℕ) : Type 0 where
   pub count : length traded ≡ length orders
   pub most : (x : ℕ) → x < length orders → number_in traded x ≤ 2 ^ 72
-
--- after the deals of the order at n: what is left of the earlier ones
-abbrev pub AreLeftAfter : List Order → List Deal → ℕ → List ℕ → Type 0
-AreLeftAfter orders deals n left = (x : ℕ) → x < n
-    → number_in left x ≡ left_after orders deals (place_at orders n) x

@@ -1,7 +1,11 @@
--- What is known of each order, by its index.
-use Rattle.std.specs.Prelude.{◌≡◌, ◌<◌, ℕ, false, length, replicate, slice_set}
+-- What an order brings at its own record, and what is then known of it.
+use Rattle.std.specs.Prelude.{◌≡◌, ◌≤◌, ◌*◌, ◌^◌, ℕ, List, true, false, replicate, slice_set}
+use Rattle.audit_base.specs.declared.orders.Order.{Order}
+use Rattle.audit_base.specs.declared.orders.Deal.{Deal}
+use Rattle.audit_base.specs.Continuous.{before_of, entered_of, size_of}
 use Rattle.continuous_audit.specs.declared.opening.Opening.{Opening}
 use Rattle.continuous_audit.specs.declared.sheet.Sheet.{Sheet}
+use Rattle.continuous_audit.specs.Chains.{IsClosed}
 
 -- nothing is known yet of any of so many orders
 pub record IsBlank (count : ℕ) (sheet : Sheet) : Type 0 where
@@ -10,11 +14,18 @@ pub record IsBlank (count : ℕ) (sheet : Sheet) : Type 0 where
   pub sizes : sheet.sizes.items ≡ replicate count 0
   pub left : sheet.left.items ≡ replicate count 0
 
--- there is a place for the order at an index
-pub record HasRoomAt (n : ℕ) (sheet : Sheet) : Type 0 where
-  pub before : n < length sheet.before.items
-  pub closed : n < length sheet.closed.items
-  pub sizes : n < length sheet.sizes.items
+-- whether the order at n entered, with its Before and its Size
+pub record IsOpened (orders : List Order) (deals : List Deal) (n : ℕ)
+    (opening : Opening) : Type 0 where
+  pub entered_is : opening.entered ≡ entered_of orders deals n
+  pub before_is : opening.before ≡ before_of orders deals n
+  pub size_is : opening.size ≡ size_of orders deals n
+
+-- whatever the deals are, its Before and its Size are not too great, and a flag that is set tells of its chain
+pub record FitsOrder (orders : List Order) (n : ℕ) (opening : Opening) : Type 0 where
+  pub bounded : opening.before ≤ n * 2 ^ 72
+  pub closed : opening.closed ≡ true → IsClosed orders n
+  pub most : opening.size ≤ 10 ^ 12
 
 -- what an order brings is noted, and nothing else changes
 pub record IsNoted (n : ℕ) (opening : Opening) (old new : Sheet) : Type 0 where

@@ -3,7 +3,7 @@ ghost use Rattle.std.specs.Prelude.{◌≡◌, ◌<◌, ◌≤◌, ◌*◌, ◌^
 ghost use Rattle.audit_base.specs.declared.orders.Deal.{Deal as ADeal};
 ghost use Rattle.audit_base.specs.Orders.{IsOrderList};
 ghost use Rattle.audit_base.specs.Continuous.{before_of, chain};
-ghost use Rattle.continuous_audit.specs.Chains.{IsClosed, IsKept, IsOpenSheet, ends_by};
+ghost use Rattle.continuous_audit.specs.Chains.{IsClosed, IsOpenSheet, IsOpening, ends_by};
 ghost use Rattle.continuous_audit.specs.Scans.{AreSmall, number_in};
 
 use super::sheet::Sheet;
@@ -33,13 +33,13 @@ pub fn chain_before(orders: &[Order], traded: &[u128], sheet: &Sheet, order: usi
     requires order { order < length orders.now }
     requires traded { AreSmall orders.now traded.now }
     requires sheet { IsOpenSheet orders.now order sheet.now }
-    ensures before { (deals : List ADeal) → IsKept orders.now deals order traded.now sheet.now
+    ensures before { (deals : List ADeal) → IsOpening orders.now deals order traded.now sheet.now
         → result ≡ before_of orders.now deals order }
     ensures bounded { result ≤ order * 2 ^ 72 }
 {
     if let Some(target) = orders[order].target {
         if sheet.is_closed(target) {
-            return traded[target] + sheet.before[target];
+            return traded[target] + sheet.before_of(target);
         }
     }
     chain_total(orders, traded, order)

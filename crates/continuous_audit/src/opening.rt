@@ -4,7 +4,7 @@ ghost use Rattle.audit_base.specs.Orders.{IsOrderList};
 ghost use Rattle.audit_base.specs.declared.orders.Deal.{Deal as ADeal};
 ghost use Rattle.continuous_audit.specs.Chains.{IsOpening, IsOpenSheet};
 ghost use Rattle.continuous_audit.specs.DealFindings.{enters, size_left, waits_in};
-ghost use Rattle.continuous_audit.specs.Openings.{FitsOrder, IsOpened};
+ghost use Rattle.continuous_audit.specs.Sheets.{FitsOrder, IsOpened};
 ghost use Rattle.continuous_audit.specs.Scans.{AreSmall};
 
 use super::chains::{chain_before, is_closed};

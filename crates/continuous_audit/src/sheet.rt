@@ -2,7 +2,8 @@
 ghost use Rattle.std.specs.Prelude.{◌≡◌, ◌<◌, IfOk, vec_len};
 ghost use Rattle.continuous_audit.specs.Chains.{flag_in};
 ghost use Rattle.continuous_audit.specs.DealFindings.{account_of};
-ghost use Rattle.continuous_audit.specs.Sheets.{HasRoomAt, IsBlank, IsNoted};
+ghost use Rattle.continuous_audit.specs.Scans.{number_in};
+ghost use Rattle.continuous_audit.specs.Sheets.{IsBlank, IsNoted};
 
 use super::checking::Account;
 use super::opening::Opening;
@@ -34,7 +35,9 @@ impl Sheet {
 
     /// Notes what an order brings at its own record.
     pub fn note(&mut self, order: usize, opening: &Opening)
-        requires { HasRoomAt order self.old }
+        requires before { order < vec_len self.old.before }
+        requires closed { order < vec_len self.old.closed }
+        requires sizes { order < vec_len self.old.sizes }
         ensures { IsNoted order opening.now self.old self.new }
     {
         self.before[order] = opening.before;
@@ -53,6 +56,14 @@ impl Sheet {
             size: self.sizes[order],
             left: self.left[order],
         }
+    }
+
+    /// Before of an order.
+    pub fn before_of(&self, order: usize) -> u128
+        requires { order < vec_len self.now.before }
+        ensures { result ≡ number_in self.now.before.items order }
+    {
+        self.before[order]
     }
 
     /// Whether the records of the chain of an order end one another, as far as is known.

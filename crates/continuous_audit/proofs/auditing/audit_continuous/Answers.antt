@@ -1,5 +1,4 @@
-use Rattle.std.proofs.Common.{◌≡◌, ◌∙◌, ℕ, List, None, Ok, length, inl, inr, refl, ap}
-use Rattle.audit_base.proofs.LeastLemmas.{cases_Option}
+use Rattle.std.proofs.Common.{◌∙◌, ℕ, List, Ok, length, refl, ap}
 use Rattle.audit_base.proofs.ContinuousOffenceLemmas.{offence-fails}
 use Rattle.continuous_audit.specs.Markets.{IsMarket}
 use Rattle.continuous_audit.specs.Scans.{number_in}
@@ -19,8 +18,7 @@ returns-in-Some c =
 
 pub returns : goal.returns
 returns c =
-    let none : c.in_ok-finding.field-0 ≡ None = elim (cases_Option c.in_ok-finding.field-0) [ inl e ↦ e | inr some ↦ absurd (c.in_default.not-Some some.0 some.1) ] in
-    let ready = c.in_ok-finding.ensures.done (ap Ok none) in
+    let ready = c.in_ok-finding.ensures.done (ap Ok c.in_default.is) in
     let state = c.first_offence.new.self in
     let market : IsMarket (record { orders = c.args.orders; deals = c.args.deals; causes = c.deref.result; endings = c.deref-2.result }) = market-read _ c.in_ok-causes.causes.items c.in_ok-endings.endings.items c.requires.order_list c.requires.deal_list c.deref.ensures.value c.deref-2.ensures.value c.in_ok-causes.ensures c.in_ok-endings.ensures in
     let conforms = last-conforms _ market state ready in

@@ -1,7 +1,5 @@
-use Rattle.std.proofs.Common.{◌≡◌, ◌<◌, ◌+◌, ◌∙◌, sym, arith, length}
+use Rattle.std.proofs.Common.{◌<◌, ◌+◌, ◌∙◌, sym, arith, length}
 use Rattle.audit_base.proofs.ContinuousLemmas.{target-below}
-use Rattle.audit_base.proofs.OffenceLemmas.{get_or-default}
-use Rattle.continuous_audit.specs.Scans.{number_in}
 use Rattle.continuous_audit.proofs.KeptLemmas.{target-read, before-kept, before-walked}
 use Rattle.continuous_audit.proofs.chains.chain_before.Goals as goal
 
@@ -13,6 +11,14 @@ is_closed-requires c =
     let inside = c.requires.order in
     omega arith
 
+pub before_of-requires : goal.before_of-requires
+before_of-requires c =
+    let e = target-read c.args.orders.now c.args.order c.in-Some.target _ c.requires.order c.in-Some.is in
+    let lower = target-below c.args.orders.now c.requires.list c.args.order c.requires.order c.in-Some.target e in
+    let long = c.requires.sheet.before_count in
+    let inside = c.requires.order in
+    omega arith
+
 pub overflow_add-result : goal.overflow_add-result
 overflow_add-result c =
     let t = c.in-Some.target in
@@ -20,7 +26,7 @@ overflow_add-result c =
     let few = c.requires.list.few in
     let inside = c.requires.order in
     let one = c.requires.traded.most t (omega arith) in
-    let before : c.index.result.now ≡ number_in c.args.sheet.now.before.items t = c.index.ensures ∙ get_or-default c.args.sheet.now.before.items t c.index.result.now 0 (let long = c.requires.sheet.before_count in omega arith) in
+    let before = c.before_of.ensures in
     let rest = c.requires.sheet.bounded t in
     omega arith
 
@@ -30,8 +36,7 @@ returns-then-is_closed-clause-before c deals kept =
     let e = target-read c.args.orders.now c.args.order t _ c.requires.order c.in-Some.is in
     let lower = target-below c.args.orders.now c.requires.list c.args.order c.requires.order t e in
     let t_in : t < length c.args.orders.now = let inside = c.requires.order in omega arith in
-    let before : c.index.result.now ≡ number_in c.args.sheet.now.before.items t = c.index.ensures ∙ get_or-default c.args.sheet.now.before.items t c.index.result.now 0 (let long = c.requires.sheet.before_count in omega arith) in
-    (λ i. kept.traded_is t t_in i + (before ∙ kept.before_is t lower) i)
+    (λ i. kept.traded_is t t_in i + (c.before_of.ensures ∙ kept.before_is t lower) i)
     ∙ sym (before-kept c.args.orders.now c.requires.list deals kept.named c.args.order t c.requires.order e (c.requires.sheet.closed.is t lower (sym c.is_closed.ensures ∙ c.if-is_closed.true)) kept.conforms)
 
 pub returns-then-is_closed-clause-bounded : goal.returns-then-is_closed-clause-bounded
@@ -41,7 +46,7 @@ returns-then-is_closed-clause-bounded c =
     let lower = target-below c.args.orders.now c.requires.list c.args.order c.requires.order t e in
     let inside = c.requires.order in
     let one = c.requires.traded.most t (omega arith) in
-    let before : c.index.result.now ≡ number_in c.args.sheet.now.before.items t = c.index.ensures ∙ get_or-default c.args.sheet.now.before.items t c.index.result.now 0 (let long = c.requires.sheet.before_count in omega arith) in
+    let before = c.before_of.ensures in
     let rest = c.requires.sheet.bounded t in
     omega arith
 

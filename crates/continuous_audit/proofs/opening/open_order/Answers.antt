@@ -16,4 +16,4 @@ pub returns-clause-opened : goal.returns-clause-opened
 returns-clause-opened c = λ deals is.
     let o_is : c.index-orders-order.result ≡ order_at c.args.orders.now c.args.order = c.index-orders-order.is ∙ get_or-default c.args.orders.now c.args.order c.index-orders-order.result missing_order c.requires.order in
     opened c.args.orders.now c.requires.list deals c.args.order c.requires.order c.args.traded.now c.args.sheet.now is c.index-orders-order.result o_is c.target_rests.result c.target_rests.ensures.none c.target_rests.ensures.some
-    _ c.enters-entered.ensures (c.chain_before-before.ensures.before deals is.kept) c.size_left.ensures.same
+    _ c.enters-entered.ensures (c.chain_before-before.ensures.before deals is) c.size_left.ensures.same

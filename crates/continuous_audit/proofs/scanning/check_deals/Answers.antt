@@ -3,7 +3,6 @@ use Rattle.std.proofs.lemmas.Bool.{cases_eq}
 use Rattle.audit_base.specs.Orders.{place_at}
 use Rattle.audit_base.specs.Deals.{deal_at}
 use Rattle.audit_base.specs.ContinuousOffences.{conservation_finding, shown_upto}
-use Rattle.audit_base.proofs.LeastLemmas.{cases_Option}
 use Rattle.continuous_audit.specs.declared.checking.Accounts.{Accounts}
 use Rattle.continuous_audit.specs.declared.checking.Coming.{Coming}
 use Rattle.continuous_audit.specs.DealFindings as by_deal
@@ -56,7 +55,7 @@ loop-running-preserved c =
     let made = option_map (rule_finding orders (shown_upto orders deals (place_at orders c.args.order) (deal_in c.args.market.now.causes.now at)) (deal_at deals (deal_in c.args.market.now.causes.now at))) in
     let h : c.broken_rule.result ≡ by_deal.broken_rule d c.index-orders-deal.result c.index-orders-deal-in-loop-running.result coming accounts = search rules in
     let none : conservation_finding orders deals (place_at orders c.args.order) (deal_in c.args.market.now.causes.now at) ≡ None =
-    is ∙ ap made (sym h ∙ elim (cases_Option c.broken_rule.result) [ inl e ↦ e | inr some ↦ absurd (c.in_default.not-Some some.0 some.1) ]) in
+    is ∙ ap made (sym h ∙ c.in_default.is) in
     record {
       from = let l = c.loop-running.invariant.from in omega arith;
       own = λ i le lt. elim (cases_eq i at) [

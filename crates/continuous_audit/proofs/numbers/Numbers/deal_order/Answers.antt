@@ -1,6 +1,5 @@
-use Rattle.std.proofs.Common.{◌≡◌, ◌-◌, None, ◌∙◌, inl, inr, sym, subst, arith}
+use Rattle.std.proofs.Common.{◌≡◌, ◌-◌, ◌∙◌, sym, subst}
 use Rattle.audit_base.specs.Orders.{place_at}
-use Rattle.audit_base.proofs.LeastLemmas.{cases_Option}
 use Rattle.continuous_audit.specs.declared.breaches.Breach.TheVariants.{Deal}
 use Rattle.continuous_audit.specs.declared.numbers.Numbers.{Numbers}
 use Rattle.continuous_audit.specs.Breaches.{Breaks}
@@ -17,13 +16,6 @@ open_order-opening-requires-clause-traded c = subst (AreSmall c.args.market.now.
 pub open_order-opening-requires-clause-sheet : goal.open_order-opening-requires-clause-sheet
 open_order-opening-requires-clause-sheet c = open-sheet c.args.market.now c.args.order (place_at c.args.market.now.orders.now c.args.order) c.args.self.now c.requires.known
 
-pub note-requires : goal.note-requires
-note-requires c = record {
-  before = let count = c.requires.known.before.count in let inside = c.requires.order in omega arith;
-  closed = let count = c.requires.known.closed.count in let inside = c.requires.order in omega arith;
-  sizes = let count = c.requires.known.sizes.count in let inside = c.requires.order in omega arith;
-}
-
 pub check_deals-requires-clause-known : goal.check_deals-requires-clause-known
 check_deals-requires-clause-known c =
     let orders = c.args.market.now.orders.now in
@@ -37,13 +29,12 @@ pub returns-clause-dealt : goal.returns-clause-dealt
 returns-clause-dealt c = λ e.
     let orders = c.args.market.now.orders.now in
     let deals = c.args.market.now.deals.now in
-    let none : c.check_deals.result ≡ None = elim (cases_Option c.check_deals.result) [ inl e ↦ e | inr some ↦ absurd (c.in_default.not-Some some.0 some.1) ] in
-    let traded = c.check_deals.ensures.traded none in
+    let traded = c.check_deals.ensures.traded c.in_default.is in
     let o = c.open_order-opening.ensures.opened deals (opening c.args.market.now.orders.now c.requires.market.list c.args.market.now.deals.now c.requires.market.deal_list c.args.market.now.causes.now c.requires.market.causes c.args.order c.requires.order c.args.self.now.running.at c.args.self.now.running.traded.items c.deref.result.now c.args.self.now.sheet c.deref.ensures.value c.requires.conforms c.requires.known.before c.requires.known.left c.requires.known.running.split c.requires.known.running.totals) in
     record {
-      conserved = c.check_deals.ensures.conserved none;
+      conserved = c.check_deals.ensures.conserved c.in_default.is;
       split = c.requires.known.running.split;
-      from = c.check_deals.ensures.from none;
+      from = c.check_deals.ensures.from c.in_default.is;
       known = record {
         before = before-more orders deals c.args.order c.requires.order _ _ c.open_order-opening.result.before c.requires.known.before o.before_is c.open_order-opening.ensures.fits.bounded c.requires.market.list.few c.note.ensures.before;
         closed = closed-more orders deals c.args.order c.requires.order _ _ c.open_order-opening.result.closed c.requires.known.closed c.open_order-opening.ensures.fits.closed c.note.ensures.closed;

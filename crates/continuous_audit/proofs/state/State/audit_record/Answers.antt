@@ -1,7 +1,6 @@
-use Rattle.std.proofs.Common.{◌≡◌, ◌∙◌, Some, None, option_map, inl, inr, ap, subst, arith}
+use Rattle.std.proofs.Common.{◌≡◌, ◌∙◌, Some, None, option_map, ap, subst, arith}
 use Rattle.audit_base.specs.Orders.{place_at}
 use Rattle.audit_base.specs.ContinuousOffences.{spread_finding}
-use Rattle.audit_base.proofs.LeastLemmas.{cases_Option}
 use Rattle.audit_base.proofs.OffenceLemmas.{get_or-default}
 use Rattle.continuous_audit.specs.declared.breaches.Breach.TheVariants.{Crossed}
 use Rattle.continuous_audit.specs.Breaches.{Breaks, met_after}
@@ -17,20 +16,15 @@ use Rattle.continuous_audit.proofs.state.State.audit_record.Goals as goal
 
 pub drop_own-requires-clause-dropped : goal.drop_own-requires-clause-dropped
 drop_own-requires-clause-dropped c =
-    let none : c.trade.result ≡ None = elim (cases_Option c.trade.result) [ inl e ↦ e | inr some ↦ absurd (c.in_default.not-Some some.0 some.1) ] in
-    (c.trade.ensures.after_deals none).dropped
+    (c.trade.ensures.after_deals c.in_default.is).dropped
 
 pub spread_of-requires-clause-earlier : goal.spread_of-requires-clause-earlier
 spread_of-requires-clause-earlier c =
-    let none : c.trade.result ≡ None = elim (cases_Option c.trade.result) [ inl e ↦ e | inr some ↦ absurd (c.in_default.not-Some some.0 some.1) ] in
-    let after_deals = c.trade.ensures.after_deals none in
-    hold-below c.args.market.now.orders.now c.requires.market.list c.args.market.now.deals.now c.requires.market.deal_list.named c.args.order c.requires.order c.drop_own.new.self.books (c.drop_own.ensures.holds c.args.market.now.deals.now c.requires.market.deal_list.named after_deals.holds)
+    hold-below c.args.market.now.orders.now c.requires.market.list c.args.market.now.deals.now c.requires.market.deal_list.named c.args.order c.requires.order c.drop_own.new.self.books (c.drop_own.ensures.holds c.args.market.now.deals.now c.requires.market.deal_list.named (c.trade.ensures.after_deals c.in_default.is).holds)
 
 pub enter_own-requires-clause-earlier : goal.enter_own-requires-clause-earlier
 enter_own-requires-clause-earlier c =
-    let none : c.trade.result ≡ None = elim (cases_Option c.trade.result) [ inl e ↦ e | inr some ↦ absurd (c.in_default.not-Some some.0 some.1) ] in
-    let after_deals = c.trade.ensures.after_deals none in
-    hold-below c.args.market.now.orders.now c.requires.market.list c.args.market.now.deals.now c.requires.market.deal_list.named c.args.order c.requires.order c.drop_own.new.self.books (c.drop_own.ensures.holds c.args.market.now.deals.now c.requires.market.deal_list.named after_deals.holds)
+    hold-below c.args.market.now.orders.now c.requires.market.list c.args.market.now.deals.now c.requires.market.deal_list.named c.args.order c.requires.order c.drop_own.new.self.books (c.drop_own.ensures.holds c.args.market.now.deals.now c.requires.market.deal_list.named (c.trade.ensures.after_deals c.in_default.is).holds)
 
 pub returns-in-Some-clause-found : goal.returns-in-Some-clause-found
 returns-in-Some-clause-found c = λ breach e.
@@ -42,8 +36,7 @@ returns-in-Some-spread_of-clause-found c =
     let orders = c.args.market.now.orders.now in
     let deals = c.args.market.now.deals.now in
     let n = c.args.order in
-    let none : c.trade.result ≡ None = elim (cases_Option c.trade.result) [ inl e ↦ e | inr some ↦ absurd (c.in_default.not-Some some.0 some.1) ] in
-    let after_deals = c.trade.ensures.after_deals none in
+    let after_deals = c.trade.ensures.after_deals c.in_default.is in
     let left = after_deals.known.left in
     let left_is : c.index-left.result.now ≡ number_in c.trade.new.self.numbers.sheet.left.items n = c.index-left.ensures ∙ get_or-default c.trade.new.self.numbers.sheet.left.items n c.index-left.result.now 0 (let count = left.count in let inside = c.requires.order in omega arith) in
     let own : IsAfterOwn orders deals n c.index-left.result.now c.drop_own.new.self.books = record { named = c.requires.market.deal_list.named; left_is = left_is ∙ left.is n (omega arith); holds = c.drop_own.ensures.holds deals c.requires.market.deal_list.named after_deals.holds } in
@@ -60,13 +53,12 @@ returns-clause-ready c =
     let orders = c.args.market.now.orders.now in
     let deals = c.args.market.now.deals.now in
     let n = c.args.order in
-    let none : c.trade.result ≡ None = elim (cases_Option c.trade.result) [ inl e ↦ e | inr some ↦ absurd (c.in_default.not-Some some.0 some.1) ] in
-    let after_deals = c.trade.ensures.after_deals none in
+    let after_deals = c.trade.ensures.after_deals c.in_default.is in
     let left = after_deals.known.left in
     let left_is : c.index-left.result.now ≡ number_in c.trade.new.self.numbers.sheet.left.items n = c.index-left.ensures ∙ get_or-default c.trade.new.self.numbers.sheet.left.items n c.index-left.result.now 0 (let count = left.count in let inside = c.requires.order in omega arith) in
     let own : IsAfterOwn orders deals n c.index-left.result.now c.drop_own.new.self.books = record { named = c.requires.market.deal_list.named; left_is = left_is ∙ left.is n (omega arith); holds = c.drop_own.ensures.holds deals c.requires.market.deal_list.named after_deals.holds } in
     let spread_none : spread_finding orders deals (place_at orders n) ≡ None = c.spread_of.ensures.finding deals own c.requires.ready.calm.apart
-    ∙ ap (option_map (met_after orders deals n)) (elim (cases_Option c.spread_of.result) [ inl e ↦ e | inr some ↦ absurd (c.in_default-spread_of.not-Some some.0 some.1) ]) in
+    ∙ ap (option_map (met_after orders deals n)) c.in_default-spread_of.is in
     λ e. record {
       calm = calm-next c.args.market.now.orders.now c.requires.market.list c.args.market.now.deals.now c.requires.market.deal_list.named c.args.order c.requires.order _ (next-above orders c.requires.market.list n c.requires.order) (next-first orders c.requires.market.list n c.requires.order) c.requires.ready.calm
           (none-shown orders deals (place_at orders n) after_deals.conserved after_deals.ranked spread_none)

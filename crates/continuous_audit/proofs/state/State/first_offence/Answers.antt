@@ -1,6 +1,5 @@
-use Rattle.std.proofs.Common.{◌≡◌, ◌∙◌, ℕ, None, Some, length, inl, inr, sym, ap, subst, arith, add-one, Ok}
+use Rattle.std.proofs.Common.{◌≡◌, ◌∙◌, ℕ, Some, length, sym, ap, subst, arith, add-one, Ok}
 use Rattle.audit_base.specs.Orders.{place_at}
-use Rattle.audit_base.proofs.LeastLemmas.{cases_Option}
 use Rattle.continuous_audit.specs.Progress.{IsReadyNext}
 use Rattle.continuous_audit.specs.Records.{IsCalm}
 use Rattle.continuous_audit.proofs.ReadyLemmas.{ready-here}
@@ -9,8 +8,7 @@ use Rattle.continuous_audit.proofs.state.State.first_offence.Goals as goal
 
 pub loop-order-preserved : goal.loop-order-preserved
 loop-order-preserved c =
-    let none : c.in_ok-breach.field-0 ≡ None = elim (cases_Option c.in_ok-breach.field-0) [ inl e ↦ e | inr some ↦ absurd (c.in_default.not-Some some.0 some.1) ] in
-    subst (λ (m : ℕ). IsReadyNext c.args.market.now m c.audit_record.new.self) (sym (add-one c.loop-order.order)) (c.in_ok-breach.ensures.ready (ap Ok none))
+    subst (λ (m : ℕ). IsReadyNext c.args.market.now m c.audit_record.new.self) (sym (add-one c.loop-order.order)) (c.in_ok-breach.ensures.ready (ap Ok c.in_default.is))
 
 pub returns-clause-done : goal.returns-clause-done
 returns-clause-done c = λ e.

@@ -1,6 +1,5 @@
-use Rattle.std.proofs.Common.{◌≡◌, ◌∙◌, None, option_map, inl, inr, ap}
+use Rattle.std.proofs.Common.{◌∙◌, option_map, ap}
 use Rattle.audit_base.specs.Orders.{place_at}
-use Rattle.audit_base.proofs.LeastLemmas.{cases_Option}
 use Rattle.continuous_audit.specs.Breaches.{breach_after}
 use Rattle.continuous_audit.proofs.BreachLemmas.{after-breach}
 use Rattle.continuous_audit.proofs.NumberLemmas.{traded-now}
@@ -11,16 +10,14 @@ pub returns-clause-found : goal.returns-clause-found
 returns-clause-found c breach e =
     let orders = c.args.market.now.orders.now in
     let deals = c.args.market.now.deals.now in
-    let none : c.deal_order.result ≡ None = elim (cases_Option c.deal_order.result) [ inl e ↦ e | inr some ↦ absurd (c.in_default.not-Some some.0 some.1) ] in
-    let dealt = c.deal_order.ensures.dealt none in
+    let dealt = c.deal_order.ensures.dealt c.in_default.is in
     let t = traded-now c.args.market.now.orders.now c.requires.market.list c.args.market.now.deals.now c.requires.market.deal_list c.args.market.now.causes.now c.requires.market.causes c.args.order c.requires.order c.deal_order.new.self.running.at c.deal_order.new.self.running.traded.items dealt.known.running.split dealt.known.running.totals in
     after-breach orders deals c.args.order c.requires.order c.deal_order.new.self t dealt.known.before breach (c.pass_deals.ensures.upto breach e)
     (priority-shown orders deals (place_at orders c.args.order) _ dealt.conserved (c.pass_deals.ensures.passed ∙ ap (option_map (breach_after orders deals c.args.order)) e))
 
 pub returns-clause-after_deals : goal.returns-clause-after_deals
 returns-clause-after_deals c = λ quiet.
-    let none : c.deal_order.result ≡ None = elim (cases_Option c.deal_order.result) [ inl e ↦ e | inr some ↦ absurd (c.in_default.not-Some some.0 some.1) ] in
-    let dealt = c.deal_order.ensures.dealt none in
+    let dealt = c.deal_order.ensures.dealt c.in_default.is in
     record {
       conserved = dealt.conserved;
       ranked = c.pass_deals.ensures.passed ∙ ap (option_map (breach_after c.args.market.now.orders.now c.args.market.now.deals.now c.args.order)) quiet;
