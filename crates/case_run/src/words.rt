@@ -1,5 +1,5 @@
 //! The words of a casebook, read by hand: exactly the well-formed words are taken.
-ghost use Rattle.std.specs.Prelude.{◌≡◌, ◌≤◌, None, Some, length, map, IfOk, IsErrOf};
+ghost use Rattle.std.specs.Prelude.{◌≡◌, ◌+◌, ◌<◌, ◌≤◌, None, Some, drop, length, map, IfOk, IsErrOf};
 ghost use Rattle.std.specs.String.{string_bytes};
 ghost use Rattle.case_run.specs.Commands as spec;
 
@@ -227,6 +227,14 @@ fn part_length(words: &[String]) -> usize
     count
 }
 
+/// The words behind the one at a place, from 0.
+fn words_behind(words: &[String], place: usize) -> &[String]
+    requires { place < length words.now }
+    ensures { result.now ≡ drop (place + 1) words.now }
+{
+    &words[place + 1..]
+}
+
 /// The commands that the words ask for: one or more, with the word `then` between them. `Usage` comes
 /// exactly where they are not well-formed, out of memory aside.
 pub(crate) fn read_commands(alloc: Global, words: &[String]) -> Result<Vec<Command>, WordsFault>
@@ -246,6 +254,6 @@ pub(crate) fn read_commands(alloc: Global, words: &[String]) -> Result<Vec<Comma
         if count == rest.len() {
             return Ok(commands);
         }
-        rest = &rest[count + 1..];
+        rest = words_behind(rest, count);
     }
 }

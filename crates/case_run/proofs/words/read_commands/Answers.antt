@@ -1,5 +1,4 @@
 use Rattle.std.proofs.Common.{rules, ◌≡◌, ◌<◌, ◌+◌, sym, subst, List, [], ◌∷◌, ◌++◌, length, map, take, drop, None}
-use Rattle.std.proofs.lemmas.List.{take_rest}
 use Rattle.std.specs.String.{string_bytes}
 use Rattle.case_run.specs.Commands.{command_of}
 use Rattle.case_run.proofs.CommandLemmas.{IsReadSoFar, more_read, none_read, whole_read}
@@ -21,7 +20,7 @@ pub parts-preserved : goal.parts-preserved
 parts-preserved c =
     let added : c.push.new.self.items ≡ c.parts.commands.items ++ c.in_ok-command.command ∷ [] = search rules in
     let less : c.part_length-count.result < length c.parts.rest.now = search rules in
-    subst (λ (ws : List _). IsReadSoFar c.args.words.now c.push.new.self.items ws) (sym (take_rest c.parts.rest.now (c.part_length-count.result + 1)))
+    subst (λ (ws : List _). IsReadSoFar c.args.words.now c.push.new.self.items ws) (sym c.words_behind.ensures)
     (subst (λ (cs : List _). IsReadSoFar c.args.words.now cs (drop (c.part_length-count.result + 1) c.parts.rest.now)) (sym added)
     (more_read c.args.words.now c.parts.commands.items c.parts.rest.now c.part_length-count.result c.parts.invariant c.part_length-count.ensures.length
     c.in_ok-command.command less c.in_ok-command.ensures.command))
