@@ -4,6 +4,7 @@ use audit_base::terms::Which;
 use log_source::endless_shelf::EndlessShelf;
 use log_source::feed::Feed;
 use log_source::file_shelf::FileShelf;
+use log_source::limits::LONGEST_READ;
 use log_source::memory_shelf::MemoryShelf;
 use log_source::pump::pump;
 use log_source::quiet_shelf::QuietShelf;
@@ -122,7 +123,7 @@ fn every_piece_is_handed_on(rt: HostRuntime) -> Result<(), Fail> {
             Vec::from_slice(rt.alloc(), b"seventeen letters")?,
         )?;
         let mut counter = ByteCount { bytes: 0 };
-        let result = pump(&mut shelf, Which::Trades, "log", LIMIT, &mut counter);
+        let result = pump(&mut shelf, Which::Trades, "log", LONGEST_READ, &mut counter);
         let wanted = if fails <= 5 {
             Err(TakeFault::Fault)
         } else {
@@ -137,26 +138,18 @@ fn every_piece_is_handed_on(rt: HostRuntime) -> Result<(), Fail> {
 // The log has seventeen bytes, in pieces of seven.
 #[test]
 fn a_log_is_too_long_where_it_passes_the_limit(rt: HostRuntime) -> Result<(), Fail> {
-    for (limit, handed) in [
-        (0, 0),
-        (6, 0),
-        (7, 7),
-        (13, 7),
-        (14, 14),
-        (16, 14),
-        (17, 17),
-    ] {
+    for limit in 0..=17 {
         let orders = Vec::from_slice(rt.alloc(), b"seventeen letters")?;
         let mut shelf = QuietShelf::new(orders, Vec::new(rt.alloc()), 7);
         let mut counter = ByteCount { bytes: 0 };
         let result = pump(&mut shelf, Which::Orders, "any", limit, &mut counter);
-        let wanted = if limit < 17 {
-            Err(TakeFault::TooLong)
+        if limit < 17 {
+            assert_eq!(rt; result, Err(TakeFault::TooLong), "limit {limit}");
+            assert_eq!(rt; counter.bytes as u64, limit / 7 * 7, "limit {limit}");
         } else {
-            Ok(())
-        };
-        assert_eq!(rt; result, wanted, "limit {limit}");
-        assert_eq!(rt; counter.bytes, handed, "limit {limit}");
+            assert_eq!(rt; result, Ok(()), "limit {limit}");
+            assert_eq!(rt; counter.bytes, 17, "limit {limit}");
+        }
     }
     Ok(())
 }
