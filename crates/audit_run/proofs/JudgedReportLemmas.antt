@@ -1,6 +1,6 @@
 -- What is reported of two logs by what they come to before the rule is looked at.
-use Rattle.std.proofs.Common.{◌≡◌, sym, subst, refl, ℕ, List, length, Option, None, Some, Result, Ok, Err}
-use Rattle.std.specs.Prelude.{MatchOption, MatchResult}
+use Rattle.std.proofs.Common.{◌≡◌, subst, refl, ℕ, List, Option, None, Some, Result, Ok, Err}
+use Rattle.std.specs.Prelude.{MatchResult}
 use Rattle.audit_base.specs.declared.faults.BadPlace.{BadPlace}
 use Rattle.audit_base.specs.declared.findings.Finding.{Finding}
 use Rattle.audit_base.specs.declared.orders.Deal.{Deal}
@@ -9,12 +9,9 @@ use Rattle.audit_base.specs.declared.records.OrderRecord.{OrderRecord}
 use Rattle.audit_base.specs.declared.records.TradeRecord.{TradeRecord}
 use Rattle.audit_base.specs.declared.terms.Which.{Which}
 use Rattle.audit_base.specs.declared.terms.Which.TheVariants.{Orders, Trades}
-use Rattle.audit_base.specs.Deals.{AreDeals}
 use Rattle.audit_base.specs.Histories.{order_list}
 use Rattle.audit_base.specs.Rules.{Conforms}
-use Rattle.audit_base.specs.Trades.{deals_of}
-use Rattle.audit_base.specs.Verdicts.{log_finding, paired_trades, IsRuleVerdict}
-use Rattle.audit_base.proofs.VerdictLemmas.{one-verdict-of_deals}
+use Rattle.audit_base.specs.Verdicts.{IsRuleVerdict}
 use Rattle.audit_certificate.specs.Agreement.{Agrees, IsCertificate}
 use Rattle.audit_report.specs.declared.verdicts.Accepted.{Accepted}
 use Rattle.audit_report.specs.declared.verdicts.Verdict.{Verdict}
@@ -30,7 +27,7 @@ use Rattle.audit_run.specs.JudgedReports.{IsCertified, IsDealsCertificate, LogsC
 use Rattle.log_verdict.specs.LogVerdicts.{order_log, trade_log, HaveRecords, IsLogVerdict, Log, OfLogs}
 use Rattle.record_verdict.specs.Scopes.{scope_of}
 use Rattle.record_verdict.specs.Stages.{IsJudgedDeals, VerdictIs}
-use Rattle.record_verdict.specs.BeforeRule.{AreJudgeable, AreSound, IsBeforeRule}
+use Rattle.record_verdict.specs.BeforeRule.{AreSound, IsBeforeRule}
 use Rattle.audit_run.specs.Deciding.{IsReportOf}
 
 -- what follows of records and of a bad place follows of two logs

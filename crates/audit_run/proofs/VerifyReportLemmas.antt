@@ -1,5 +1,5 @@
 -- What is reported of a certificate by what two logs come to before the rule is looked at.
-use Rattle.std.proofs.Common.{◌≡◌, subst, ℕ, List, false, Result}
+use Rattle.std.proofs.Common.{◌≡◌, subst, ℕ, List, Result}
 use Rattle.audit_base.specs.declared.faults.BadPlace.{BadPlace}
 use Rattle.audit_base.specs.declared.findings.Finding.{Finding}
 use Rattle.audit_base.specs.declared.orders.Deal.{Deal}

@@ -1,18 +1,8 @@
 -- What a command decides: the report on its logs, or the line of the log at which reading stopped.
-use Rattle.std.specs.Prelude.{◌≡◌, ◌≤◌, ◌⊎◌, ℕ, Bool, List, [], ◌∷◌, None, Some, Result, Ok, Err, IsOk, is_ok, length, MatchResult}
+use Rattle.std.specs.Prelude.{◌≡◌, ℕ, Bool, List, [], ◌∷◌, Some, Result, is_ok, MatchResult}
 use Rattle.audit_base.specs.declared.terms.Rule.{Rule}
-use Rattle.audit_base.specs.declared.terms.Which.{Which}
 use Rattle.audit_base.specs.declared.terms.Which.TheVariants.{Orders, Trades}
-use Rattle.audit_base.specs.declared.faults.BadPlace.{BadPlace}
-use Rattle.audit_base.specs.declared.findings.Finding.{Finding}
-use Rattle.audit_base.specs.declared.records.OrderRecord.{OrderRecord}
-use Rattle.audit_base.specs.declared.records.TradeRecord.{TradeRecord}
-use Rattle.audit_base.specs.declared.orders.Order.{Order}
-use Rattle.audit_base.specs.Histories.{order_list, WellFormed}
 use Rattle.audit_base.specs.Least.{only_if}
-use Rattle.audit_base.specs.Trades.{deals_of, unsound_trade}
-use Rattle.audit_base.specs.Verdicts.{call_finding}
-use Rattle.matching_core.specs.declared.deals_draft.ResolvedTrades.{ResolvedTrades}
 use Rattle.audit_report.specs.declared.statuses.Status.TheVariants as status
 use Rattle.audit_report.specs.declared.verdicts.Verdict.{Verdict}
 use Rattle.audit_report.specs.Lines.{read_fault_line, too_long_line}
@@ -20,23 +10,16 @@ use Rattle.audit_report.specs.Statuses.{verdict_status}
 use Rattle.audit_report.specs.Texts.{verdict_text}
 use Rattle.log_verdict.specs.declared.stops.Stop.{Stop}
 use Rattle.log_verdict.specs.declared.stops.Stop.TheVariants as stop
-use Rattle.log_verdict.specs.declared.reading.Unread.{Unread}
-use Rattle.log_verdict.specs.declared.reading.Unread.TheVariants as unread
-use Rattle.record_verdict.specs.declared.before_rule.BeforeRule.{BeforeRule}
-use Rattle.record_verdict.specs.declared.before_rule.BeforeRule.TheVariants as upto
 use Rattle.record_verdict.specs.declared.questions.Question.{Question}
 use Rattle.log_verdict.specs.declared.sources.Source.{Source}
 use Rattle.audit_run.specs.declared.reports.Report.{Report}
 use Rattle.command_words.specs.declared.requests.Request.{Request}
 use Rattle.command_words.specs.declared.requests.Request.TheVariants.{Audit, Certify, Verify, Session}
-use Rattle.log_verdict.specs.Collecting.{step_of, IsReadAs}
-use Rattle.log_verdict.specs.LogVerdicts.{order_log, trade_log}
+use Rattle.log_verdict.specs.LogVerdicts.{order_log}
 use Rattle.audit_run.specs.Requests.{next_log}
 use Rattle.audit_run.specs.Runs.{IsText}
-use Rattle.log_source.specs.Sources.{longest_log}
 use Rattle.session_audit.specs.declared.phases.Phase.{Phase}
-use Rattle.record_verdict.specs.BeforeRule.{IsBeforeRule}
-use Rattle.log_verdict.specs.Steps.{Reading, IsReadFault, IsTooLong, BeginsWithin, EndsWithin}
+use Rattle.log_verdict.specs.Steps.{Reading}
 
 -- the line of a stop
 abbrev pub IsStop : Reading → Request → Stop → Type 0

@@ -1,24 +1,18 @@
 -- What the functions of a command that reads one log, or none, pass on to one another.
-use Rattle.std.specs.Prelude.{◌≡◌, ◌++◌, ℕ, List, Result, Err, IsTrue, MatchResult}
+use Rattle.std.specs.Prelude.{◌≡◌, ◌++◌, ℕ, List, Result, Err, MatchResult}
 use Rattle.audit_base.specs.declared.terms.Which.{Which}
 use Rattle.audit_report.specs.declared.statuses.Status.{Status}
 use Rattle.audit_report.specs.declared.statuses.Status.TheVariants as status
 use Rattle.audit_report.specs.declared.verdicts.Verdict.TheVariants.{Malformed}
-use Rattle.call_laws.specs.Laws.{asks_for_greatest}
-use Rattle.log_maker.specs.Generator.{IsStart, IsCount}
-use Rattle.session_audit.specs.Phases.{ArePhases}
 use Rattle.log_verdict.specs.declared.reading.Unread.{Unread}
 use Rattle.log_verdict.specs.declared.reading.Unread.TheVariants as unread
 use Rattle.audit_run.specs.declared.reports.Report.{Report}
-use Rattle.command_words.specs.declared.requests.Request.{Request}
-use Rattle.command_words.specs.declared.requests.Request.TheVariants.{Audit, Expect, Convert, Generate, Certify, Verify, Session}
 use Rattle.log_verdict.specs.declared.stops.Stop.{Stop}
 use Rattle.log_verdict.specs.declared.stops.Stop.TheVariants as stop
 use Rattle.log_verdict.specs.BothLogs.{IsLogStop}
 use Rattle.audit_run.specs.Deciding.{IsReportOf}
 use Rattle.log_verdict.specs.Collecting.{IsReadAs}
 use Rattle.log_verdict.specs.Steps.{Reading}
-use Rattle.command_words.specs.WordForms.{has_table}
 
 -- a report is reported of a log with this status and text
 abbrev pub SaysReport : (Status → List ℕ → Type 0) → Report → Type 0

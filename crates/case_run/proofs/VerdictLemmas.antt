@@ -1,5 +1,5 @@
 -- The verdict on the two logs of a filing, from what was read of both.
-use Rattle.std.proofs.Common.{◌≡◌, ◌∙◌, sym, ap, subst, refl, inl, inr, ◌⊎◌, ⊎_elim, ℕ, false, List, [], Option, None, Some, Result, Ok, Err, IsOk}
+use Rattle.std.proofs.Common.{◌≡◌, sym, ap, subst, refl, inl, inr, ⊎_elim, ℕ, false, List, [], Option, None, Some, Result, Ok, Err, IsOk}
 use Rattle.std.specs.Prelude.{MatchResult, is_ok}
 use Rattle.audit_base.specs.declared.faults.BadPlace.{BadPlace}
 use Rattle.audit_base.specs.declared.findings.Finding.{Finding}
@@ -20,17 +20,14 @@ use Rattle.log_verdict.specs.declared.stops.Stop.{Stop}
 use Rattle.log_verdict.specs.declared.stops.Stop.TheVariants as stop
 use Rattle.log_verdict.specs.BothLogs.{IsAfterGoodOrders, IsAuditStop, ReadsAfterOrders, ReadsVerdict}
 use Rattle.log_verdict.specs.BothLogs as both
-use Rattle.log_verdict.specs.Collecting.{step_of, IsReadAs}
+use Rattle.log_verdict.specs.Collecting.{step_of}
 use Rattle.log_verdict.specs.LogVerdicts.{log_in, order_log, trade_log, IsLogVerdict}
 use Rattle.log_verdict.specs.Steps.{Reading, Step, IsRead}
 use Rattle.record_verdict.specs.declared.questions.Question.{Question}
 use Rattle.record_verdict.specs.Judgements.{question, IsJudged, IsOutcome}
-use Rattle.case_run.specs.Play.{IsVerdictOn}
-use Rattle.case_run.specs.Runs.{IsBadLog, IsStarted, OfLog, name_in}
-use Rattle.case_run.specs.Turns.{halt_of_stop, IsLengthHalt, IsLogHalt, JudgesLogs, ReadsMalformed, StaysWithin}
+use Rattle.case_run.specs.Runs.{IsStarted, OfLog, name_in}
+use Rattle.case_run.specs.Turns.{halt_of_stop, IsLogHalt, JudgesLogs, ReadsMalformed, StaysWithin}
 use Rattle.case_run.specs.declared.commands.Filing.{Filing}
-use Rattle.case_run.specs.declared.halts.Halt.{Halt}
-use Rattle.case_run.specs.declared.halts.Halt.TheVariants as halt
 
 -- a verdict on records is no bad place
 judged_sound : (q : Question) (entries : List OrderRecord) (paired : Result (List TradeRecord) Finding) (log : Which) (bad : BadPlace) → IsJudged q entries paired (verdict.Malformed log bad) → ⊥

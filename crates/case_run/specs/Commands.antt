@@ -13,7 +13,6 @@ use Rattle.case_keeper.specs.declared.case.Mark.{Mark}
 use Rattle.case_keeper.specs.declared.case.Mark.TheVariants.{Accepted, Broken}
 use Rattle.case_run.specs.declared.commands.Command.{Command}
 use Rattle.case_run.specs.declared.commands.Command.TheVariants as command
-use Rattle.case_run.specs.declared.commands.Filing.{Filing}
 
 -- `file LABEL RULE SYMBOL FORM ORDERS TRADES`; LABEL is a name that does not begin with `-`, as SYMBOL is
 abbrev pub file_command : List (List ℕ) → Option Command

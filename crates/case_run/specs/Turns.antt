@@ -1,7 +1,6 @@
 -- One command of a run, as the functions that do it pass it on.
 use Rattle.std.specs.Prelude.{◌≡◌, ◌≢◌, ◌≤◌, ◌⊎◌, ℕ, true, false, Option, Some, Result, Ok, Err, List, MatchResult}
 use Rattle.audit_base.specs.declared.terms.Which.{Which}
-use Rattle.audit_base.specs.declared.terms.Which.TheVariants.{Orders, Trades}
 use Rattle.audit_report.specs.declared.verdicts.Verdict.{Verdict}
 use Rattle.audit_report.specs.declared.verdicts.Verdict.TheVariants as verdict
 use Rattle.log_verdict.specs.Collecting.{IsReadAs}

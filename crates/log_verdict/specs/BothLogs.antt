@@ -1,6 +1,5 @@
 -- Two logs, read one after the other: what is known of both, or why it is not.
-use Rattle.std.specs.Prelude.{◌≡◌, ◌≤◌, ◌⊎◌, ℕ, Bool, List, [], ◌∷◌, None, Some, Result, Ok, Err, IsOk, is_ok, length, MatchResult}
-use Rattle.audit_base.specs.declared.terms.Rule.{Rule}
+use Rattle.std.specs.Prelude.{◌≡◌, ◌≤◌, ◌⊎◌, ℕ, List, None, Result, Ok, Err, IsOk, length, MatchResult}
 use Rattle.audit_base.specs.declared.terms.Which.{Which}
 use Rattle.audit_base.specs.declared.terms.Which.TheVariants.{Orders, Trades}
 use Rattle.audit_base.specs.declared.faults.BadPlace.{BadPlace}
@@ -9,9 +8,7 @@ use Rattle.audit_base.specs.declared.records.OrderRecord.{OrderRecord}
 use Rattle.audit_base.specs.declared.records.TradeRecord.{TradeRecord}
 use Rattle.audit_base.specs.declared.orders.Order.{Order}
 use Rattle.audit_base.specs.Histories.{order_list, WellFormed}
-use Rattle.audit_base.specs.Least.{only_if}
 use Rattle.audit_base.specs.Trades.{deals_of, unsound_trade}
-use Rattle.audit_base.specs.Verdicts.{call_finding}
 use Rattle.matching_core.specs.declared.deals_draft.ResolvedTrades.{ResolvedTrades}
 use Rattle.log_verdict.specs.declared.stops.Stop.{Stop}
 use Rattle.log_verdict.specs.declared.stops.Stop.TheVariants as stop
@@ -23,7 +20,6 @@ use Rattle.record_verdict.specs.declared.questions.Question.{Question}
 use Rattle.log_verdict.specs.declared.sources.Source.{Source}
 use Rattle.log_verdict.specs.Collecting.{step_of, IsReadAs}
 use Rattle.log_verdict.specs.LogVerdicts.{order_log, trade_log}
-use Rattle.log_source.specs.Sources.{longest_log}
 use Rattle.record_verdict.specs.BeforeRule.{IsBeforeRule}
 use Rattle.log_verdict.specs.Steps.{Reading, IsReadFault, IsTooLong, BeginsWithin, EndsWithin}
 use Rattle.record_verdict.specs.declared.scopes.Scope.{Scope}

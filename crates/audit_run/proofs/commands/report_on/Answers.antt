@@ -2,7 +2,7 @@ use Rattle.std.proofs.Common.{refl}
 use Rattle.audit_base.specs.declared.terms.Which.TheVariants.{Orders}
 use Rattle.log_verdict.specs.LogVerdicts.{log_in, order_log}
 use Rattle.log_verdict.specs.Steps.{reading_by}
-use Rattle.audit_run.proofs.ReportLemmas.{convert-status, decides-one, decides_within, expect-status, stays_within}
+use Rattle.audit_run.proofs.ReportLemmas.{convert-status, decides-one, decides_within, expect-status}
 use Rattle.audit_run.proofs.commands.report_on.Goals as goal
 
 pub returns-in-Expect-clause-decides : goal.returns-in-Expect-clause-decides

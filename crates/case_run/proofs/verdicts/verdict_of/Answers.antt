@@ -1,5 +1,4 @@
-use Rattle.std.proofs.Common.{◌≡◌, ap, subst, sym, ◌∙◌, ℕ, Ok, Err}
-use Rattle.log_source.specs.Sources.{longest_log}
+use Rattle.std.proofs.Common.{subst, ℕ, Ok, Err}
 use Rattle.log_verdict.specs.Steps.{reading_by, reading_within}
 use Rattle.audit_report.specs.declared.verdicts.Verdict.{Verdict}
 use Rattle.case_run.specs.Turns.{OnLogs, StaysWithin}
