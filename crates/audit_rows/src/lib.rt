@@ -41,6 +41,8 @@ mod matching_rows;
 #[cfg(test)]
 mod maximum_rows;
 #[cfg(test)]
+mod memory_rows;
+#[cfg(test)]
 mod sink_faults;
 #[cfg(test)]
 mod source_faults;
