@@ -1,8 +1,8 @@
 //! The program `casebook`: files the verdicts of audits under labels in a database, and lists and shows
 //! them.
 //!
-//! `main` hands words, files, standard output and an opener over files (`file_opener`) to `run_book` of
-//! `case_run`, which does all the rest, and closes the database (`closing`).
+//! `main` hands words, files, standard output, a seed and an opener over files (`file_opener`) to
+//! `run_book_seeded` of `case_run`, which does all the rest, and closes the database (`closing`).
 #![tactic(auto)]
 
 #[cfg(test)]
