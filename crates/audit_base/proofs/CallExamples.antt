@@ -5,6 +5,7 @@ use Rattle.std.proofs.Common.{ap, arith, get_or}
 use Rattle.audit_base.specs.declared.terms.Side.TheVariants.{Buy, Sell}
 use Rattle.audit_base.specs.declared.terms.Which.TheVariants as which
 use Rattle.audit_base.specs.declared.terms.Rule.TheVariants as rule
+use Rattle.audit_base.specs.declared.terms.VolumeRule.TheVariants as of_volume
 use Rattle.audit_base.specs.declared.records.OrderRecord.{OrderRecord}
 use Rattle.audit_base.specs.declared.records.OrderRecord.TheVariants.{New}
 use Rattle.audit_base.specs.declared.terms.Life.TheVariants.{Rests}
@@ -164,7 +165,7 @@ crossed_pair_maximum =
     let m : Matching crossed_pair deals = no_offence-matching false crossed_pair deals (all_named crossed_pair deals refl) refl in
     record { matching = m; fair = no_offence-fair crossed_pair deals m refl; greatest = cut-greatest crossed_pair deals 0 refl }
 
-pub crossed_pair_maximum-bound : IsBound rule.Maximum (orders_in crossed_orders) 2 0
+pub crossed_pair_maximum-bound : IsBound of_volume.Maximum (orders_in crossed_orders) 2 0
 unfolding all_definitions
 crossed_pair_maximum-bound = record { holds = (omega arith, refl); none_below = λ k lt. absurd (omega arith) }
 
@@ -205,7 +206,7 @@ staircase_uniform =
     }
 
 -- the bound is 2: below it at most one unit is offered
-pub staircase_uniform-bound : IsBound rule.Uniform staircase 2 (whole 2)
+pub staircase_uniform-bound : IsBound of_volume.Uniform staircase 2 (whole 2)
 unfolding all_definitions
 staircase_uniform-bound = record {
   holds = (omega arith, refl);
@@ -457,7 +458,7 @@ greatest_numbers =
     let m : Matching great [] = no_offence-matching false great [] (all_named great [] refl) refl in
     record { matching = m; fair = no_offence-fair great [] m refl; greatest = cut-greatest great [] (10 ^ 18) refl }
 
-pub greatest_numbers-bound : IsBound rule.Maximum great 0 (10 ^ 18)
+pub greatest_numbers-bound : IsBound of_volume.Maximum great 0 (10 ^ 18)
 unfolding all_definitions
 greatest_numbers-bound = record {
   holds = (omega arith, refl);
@@ -485,7 +486,7 @@ table_of_a_call =
     let m : Matching table deals = no_offence-matching false table deals (all_named table deals refl) refl in
     record { matching = m; fair = no_offence-fair table deals m refl; greatest = cut-greatest table deals (whole 10 + 1) refl }
 
-pub table_of_a_call-bound : IsBound rule.Maximum table 20 (whole 10 + 1)
+pub table_of_a_call-bound : IsBound of_volume.Maximum table 20 (whole 10 + 1)
 unfolding all_definitions
 table_of_a_call-bound = record {
   holds = (omega arith, refl);

@@ -5,6 +5,7 @@ pub mod ContinuousOffenceLemmas
 pub mod DealLemmas
 pub mod DigitLemmas
 pub mod ExampleLogs
+pub mod FieldTextLemmas
 pub mod HistoryExamples
 pub mod HistoryLemmas
 pub mod LeastLemmas

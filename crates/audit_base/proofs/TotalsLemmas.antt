@@ -7,15 +7,14 @@ use Rattle.std.proofs.lemmas.Bool.{cases_eq, or_from, ne_eqb}
 use Rattle.audit_base.specs.declared.orders.Order.{Order}
 use Rattle.audit_base.specs.declared.orders.Deal.{Deal}
 use Rattle.audit_base.specs.Orders.{side_at}
-use Rattle.audit_base.specs.Deals.{names, traded, volume, deal_at, missing_deal, NamesOrders}
+use Rattle.audit_base.specs.Deals.{names, traded, AreTotals, volume, deal_at, missing_deal, NamesOrders}
 use Rattle.audit_base.proofs.OffenceLemmas.{traded_more, part-away}
 use Rattle.audit_base.proofs.DealLemmas.{part-bid, part-ask}
 use Rattle.audit_base.proofs.OrderLemmas.{not_both_sides}
 
 -- what the first k deals come to
 pub record AreTotalsSoFar (orders : List Order) (deals : List Deal) (k : ℕ) (so_far : List ℕ) (total : ℕ) : Type 0 where
-  pub count : length so_far ≡ length orders
-  pub sums : (i : ℕ) → i < length orders → get_or so_far i 0 ≡ traded (take k deals) i
+  pub totals : AreTotals orders (take k deals) so_far
   pub whole : total ≡ volume (take k deals)
   pub bounded : (i : ℕ) → i < length orders → get_or so_far i 0 ≤ k * 10 ^ 12
   pub total_bounded : total ≤ k * 10 ^ 12
@@ -27,8 +26,10 @@ apart orders d n same = not_both_sides (sym n.buys ∙ ap (side_at orders) same 
 -- nothing is traded before the first deal
 pub totals-none : (orders : List Order) (deals : List Deal) → AreTotalsSoFar orders deals 0 (replicate (length orders) 0) 0
 totals-none orders deals = record {
-  count = length-replicate (length orders) 0;
-  sums = λ i lt. get_or-replicate {A = ℕ} (length orders) i 0 0 lt;
+  totals = record {
+    count = length-replicate (length orders) 0;
+    each = λ i lt. get_or-replicate {A = ℕ} (length orders) i 0 0 lt;
+  };
   whole = refl;
   bounded = λ i lt. omega (arith, get_or-replicate {A = ℕ} (length orders) i 0 0 lt);
   total_bounded = omega arith;
@@ -60,10 +61,10 @@ module _ (orders : List Order) (deals : List Deal) (k : ℕ) (lt : k < length de
     after = slice_set (slice_set so_far (deal_at deals k).bid (get_or so_far (deal_at deals k).bid 0 + quantity)) (deal_at deals k).ask (get_or so_far (deal_at deals k).ask 0 + quantity)
 
     within_bid : (deal_at deals k).bid < length so_far
-    within_bid = omega (arith, is.count, named.bid_inside)
+    within_bid = omega (arith, is.totals.count, named.bid_inside)
 
     within_ask : (deal_at deals k).ask < length so_far
-    within_ask = omega (arith, is.count, named.ask_inside)
+    within_ask = omega (arith, is.totals.count, named.ask_inside)
 
     at_ask : get_or after (deal_at deals k).ask 0 ≡ get_or so_far (deal_at deals k).ask 0 + quantity
     at_ask =
@@ -82,19 +83,21 @@ module _ (orders : List Order) (deals : List Deal) (k : ℕ) (lt : k < length de
     -- what is kept of an order after the deal, and that it is bounded
     sums-after : (i : ℕ) → i < length orders → (get_or after i 0 ≡ traded (take (k + 1) deals) i) × (get_or after i 0 ≤ (k + 1) * 10 ^ 12)
     sums-after i lt_i = elim (cases_eq i (deal_at deals k).bid) [
-      | inl e ↦ let p : (λ (x : ℕ). (get_or after x 0 ≡ traded (take (k + 1) deals) x) × (get_or after x 0 ≤ (k + 1) * 10 ^ 12)) (deal_at deals k).bid = (omega (arith, at_bid, bid-more, is.sums (deal_at deals k).bid named.bid_inside, same), omega (arith, at_bid, is.bounded (deal_at deals k).bid named.bid_inside, most)) in
+      | inl e ↦ let p : (λ (x : ℕ). (get_or after x 0 ≡ traded (take (k + 1) deals) x) × (get_or after x 0 ≤ (k + 1) * 10 ^ 12)) (deal_at deals k).bid = (omega (arith, at_bid, bid-more, is.totals.each (deal_at deals k).bid named.bid_inside, same), omega (arith, at_bid, is.bounded (deal_at deals k).bid named.bid_inside, most)) in
           subst (λ (x : ℕ). (get_or after x 0 ≡ traded (take (k + 1) deals) x) × (get_or after x 0 ≤ (k + 1) * 10 ^ 12)) (sym e) p
       | inr not_bid ↦ elim (cases_eq i (deal_at deals k).ask) [
-        | inl e ↦ let p : (λ (x : ℕ). (get_or after x 0 ≡ traded (take (k + 1) deals) x) × (get_or after x 0 ≤ (k + 1) * 10 ^ 12)) (deal_at deals k).ask = (omega (arith, at_ask, ask-more, is.sums (deal_at deals k).ask named.ask_inside, same), omega (arith, at_ask, is.bounded (deal_at deals k).ask named.ask_inside, most)) in
+        | inl e ↦ let p : (λ (x : ℕ). (get_or after x 0 ≡ traded (take (k + 1) deals) x) × (get_or after x 0 ≤ (k + 1) * 10 ^ 12)) (deal_at deals k).ask = (omega (arith, at_ask, ask-more, is.totals.each (deal_at deals k).ask named.ask_inside, same), omega (arith, at_ask, is.bounded (deal_at deals k).ask named.ask_inside, most)) in
             subst (λ (x : ℕ). (get_or after x 0 ≡ traded (take (k + 1) deals) x) × (get_or after x 0 ≤ (k + 1) * 10 ^ 12)) (sym e) p
-        | inr not_ask ↦ (omega (arith, at_other i not_bid not_ask, other-same i not_bid not_ask, is.sums i lt_i), omega (arith, at_other i not_bid not_ask, is.bounded i lt_i))
+        | inr not_ask ↦ (omega (arith, at_other i not_bid not_ask, other-same i not_bid not_ask, is.totals.each i lt_i), omega (arith, at_other i not_bid not_ask, is.bounded i lt_i))
       ]
     ]
 
     pub totals-more : AreTotalsSoFar orders deals (k + 1) after (total + quantity)
     totals-more = record {
-      count = length-set {A = ℕ} (slice_set so_far (deal_at deals k).bid (get_or so_far (deal_at deals k).bid 0 + quantity)) (deal_at deals k).ask (get_or so_far (deal_at deals k).ask 0 + quantity) ∙ length-set {A = ℕ} so_far (deal_at deals k).bid (get_or so_far (deal_at deals k).bid 0 + quantity) ∙ is.count;
-      sums = λ i lt_i. (sums-after i lt_i).0;
+      totals = record {
+        count = length-set {A = ℕ} (slice_set so_far (deal_at deals k).bid (get_or so_far (deal_at deals k).bid 0 + quantity)) (deal_at deals k).ask (get_or so_far (deal_at deals k).ask 0 + quantity) ∙ length-set {A = ℕ} so_far (deal_at deals k).bid (get_or so_far (deal_at deals k).bid 0 + quantity) ∙ is.totals.count;
+        each = λ i lt_i. (sums-after i lt_i).0;
+      };
       whole = omega (arith, volume-more, is.whole, same);
       bounded = λ i lt_i. (sums-after i lt_i).1;
       total_bounded = omega (arith, is.total_bounded, most);

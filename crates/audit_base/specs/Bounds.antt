@@ -3,8 +3,8 @@ use Rattle.std.specs.Prelude.{◌≡◌, ◌≤◌, ◌^◌, ℕ, ◌+◌, min, 
 use Rattle.audit_base.specs.declared.terms.Side.TheVariants.{Buy, Sell}
 use Rattle.audit_base.specs.declared.orders.Order.{Order}
 use Rattle.audit_base.specs.declared.orders.Cut.{Cut}
-use Rattle.audit_base.specs.declared.terms.Rule.{Rule}
-use Rattle.audit_base.specs.declared.terms.Rule.TheVariants as rule
+use Rattle.audit_base.specs.declared.terms.VolumeRule.{VolumeRule}
+use Rattle.audit_base.specs.declared.terms.VolumeRule.TheVariants as of_volume
 use Rattle.audit_base.specs.Least.{IsLeast}
 use Rattle.audit_base.specs.Orders.{stands_on}
 
@@ -52,10 +52,8 @@ pub record IsBestUniform (orders : List Order) (c : Cut) : Type 0 where
 
 -- Bound: the least price from 0 to 10^18 at which the cut (under `uniform`, the executable volume)
 -- is the volume
-abbrev pub IsBound : Rule → List Order → ℕ → ℕ → Type 0
-IsBound rule.Maximum orders volume p = IsLeast (λ q. (q ≤ 10 ^ 18) × (cut orders q ≡ volume)) p
-IsBound rule.Uniform orders volume p =
+abbrev pub IsBound : VolumeRule → List Order → ℕ → ℕ → Type 0
+IsBound of_volume.Maximum orders volume p =
+    IsLeast (λ q. (q ≤ 10 ^ 18) × (cut orders q ≡ volume)) p
+IsBound of_volume.Uniform orders volume p =
     IsLeast (λ q. (q ≤ 10 ^ 18) × (executable_volume orders q ≡ volume)) p
-IsBound rule.Matching orders volume p = ⊥
-IsBound rule.Fair orders volume p = ⊥
-IsBound rule.Continuous orders volume p = ⊥

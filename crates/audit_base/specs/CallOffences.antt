@@ -1,11 +1,13 @@
 -- The first offence under the rules of a call, and what shows it.
-use Rattle.std.specs.Prelude.{◌≡◌, ◌<◌, ℕ, ◌+◌, Bool, true, false, ◌==◌, ◌&&◌, not, nat_lt, nat_le, is_some, List, [], ◌∷◌, Option, None, Some, take, length, MatchOption}
+use Rattle.std.specs.Prelude.{◌≡◌, ◌<◌, ℕ, ◌+◌, Bool, false, ◌==◌, ◌&&◌, not, nat_lt, is_some, List, [], ◌∷◌, Option, None, Some, take, length, MatchOption, IsSomeAnd}
 use Rattle.std.specs.Option.{option_or}
 use Rattle.audit_base.specs.declared.terms.Side.{Side}
 use Rattle.audit_base.specs.declared.terms.Side.TheVariants.{Buy, Sell}
 use Rattle.audit_base.specs.declared.terms.Which.TheVariants as which
-use Rattle.audit_base.specs.declared.terms.Rule.{Rule}
-use Rattle.audit_base.specs.declared.terms.Rule.TheVariants as rule
+use Rattle.audit_base.specs.declared.terms.CallRule.{CallRule}
+use Rattle.audit_base.specs.declared.terms.CallRule.TheVariants as call
+use Rattle.audit_base.specs.declared.terms.VolumeRule.{VolumeRule}
+use Rattle.audit_base.specs.declared.terms.VolumeRule.TheVariants as of_volume
 use Rattle.audit_base.specs.declared.orders.Order.{Order}
 use Rattle.audit_base.specs.declared.orders.Deal.{Deal}
 use Rattle.audit_base.specs.declared.findings.Property.{Property}
@@ -15,9 +17,10 @@ use Rattle.audit_base.specs.declared.findings.Shown.TheVariants as shown
 use Rattle.audit_base.specs.Least.{least_answer, any_below, first_of, only_if}
 use Rattle.audit_base.specs.Orders.{order_at, quantity_at, stands_on}
 use Rattle.audit_base.specs.Priority.{better, best}
-use Rattle.audit_base.specs.Deals.{deal_at, traded, volume}
+use Rattle.audit_base.specs.Deals.{deal_at, traded, volume, is_within}
 use Rattle.audit_base.specs.Calls.{IsGreatestVolume, IsGreatestUniformVolume}
 use Rattle.audit_base.specs.Rules.{Only}
+use Rattle.audit_base.specs.RuleKinds.{greatest_of, rule_of_volume, asks_one_price}
 use Rattle.audit_base.specs.Shows.{at_deal, with_traded, show_order, show_found, show_place}
 
 -- First part: the least deal up to which the deals aren't a matching (or, under `uniform`, haven't
@@ -26,10 +29,6 @@ use Rattle.audit_base.specs.Shows.{at_deal, with_traded, show_order, show_found,
 -- some record cancels the order
 abbrev pub is_cancelled : List Order → ℕ → Bool
 is_cancelled orders i = is_some (order_at orders i).cancelled
-
--- the price is from the limit of this ask to that of this bid
-abbrev pub is_within : Order → Order → Deal → Bool
-is_within bid ask d = nat_le ask.limit d.price && nat_le d.price bid.limit
 
 -- the price is within the limits of the deal's own orders
 abbrev pub keeps_limits : List Order → Deal → Bool
@@ -130,18 +129,15 @@ fair_offence orders deals =
 
 -- Third part: the volume isn't the greatest that the rule allows.
 
--- the greatest volume that the rule allows; the rules `matching` and `fair` ask for none
-abbrev pub IsGreatestUnder : Rule → List Order → ℕ → Type 0
-IsGreatestUnder rule.Uniform orders v = IsGreatestUniformVolume orders v
-IsGreatestUnder rule.Maximum orders v = IsGreatestVolume orders v
-IsGreatestUnder rule.Matching orders v = ⊥
-IsGreatestUnder rule.Fair orders v = ⊥
-IsGreatestUnder rule.Continuous orders v = ⊥
+-- the greatest volume that the rule allows
+abbrev pub IsGreatestUnder : VolumeRule → List Order → ℕ → Type 0
+IsGreatestUnder of_volume.Uniform orders v = IsGreatestUniformVolume orders v
+IsGreatestUnder of_volume.Maximum orders v = IsGreatestVolume orders v
 
 -- 14: the volume is below the greatest. The finding stands at one more than the number of trades of
 -- the whole log, and shows the best short bid and the best short ask, with what they trade in the
 -- whole log and their dues
-pub record IsVolumeOffence (the_rule : Rule) (orders : List Order) (deals : List Deal)
+pub record IsVolumeOffence (the_rule : VolumeRule) (orders : List Order) (deals : List Deal)
     (count : ℕ) (finding : Finding) : Type 0 where
   pub most : ℕ
   pub bid : ℕ
@@ -152,8 +148,8 @@ pub record IsVolumeOffence (the_rule : Rule) (orders : List Order) (deals : List
   pub below : volume deals < most
   pub short_bid : best_short orders deals Buy ≡ Some bid
   pub short_ask : best_short orders deals Sell ≡ Some ask
-  pub only_bid : Only the_rule orders bid bid_due
-  pub only_ask : Only the_rule orders ask ask_due
+  pub only_bid : Only (rule_of_volume the_rule) orders bid bid_due
+  pub only_ask : Only (rule_of_volume the_rule) orders ask ask_due
   pub shows : finding ≡ record {
     property = property.Volume;
     log = which.Trades;
@@ -164,18 +160,17 @@ pub record IsVolumeOffence (the_rule : Rule) (orders : List Order) (deals : List
   }
 
 -- what the parts before the volume find under each rule of a call
-abbrev pub early_offence : Rule → List Order → List Deal → Option Finding
-early_offence rule.Matching orders deals = matching_offence false orders deals
-early_offence rule.Fair orders deals =
+abbrev pub early_offence : CallRule → List Order → List Deal → Option Finding
+early_offence call.Matching orders deals = matching_offence false orders deals
+early_offence call.Fair orders deals =
     option_or (matching_offence false orders deals) (fair_offence orders deals)
-early_offence rule.Uniform orders deals =
-    option_or (matching_offence true orders deals) (fair_offence orders deals)
-early_offence rule.Maximum orders deals =
-    option_or (matching_offence false orders deals) (fair_offence orders deals)
-early_offence rule.Continuous orders deals = None
+early_offence (call.Greatest the_rule) orders deals =
+    option_or (matching_offence (asks_one_price the_rule) orders deals) (fair_offence orders deals)
 
--- First offence (call): the first of the three parts
-abbrev pub IsCallOffence : Rule → List Order → List Deal → ℕ → Finding → Type 0
+-- First offence (call): the first of the three parts, the third of which only a rule that asks for the
+-- greatest volume has
+abbrev pub IsCallOffence : CallRule → List Order → List Deal → ℕ → Finding → Type 0
 IsCallOffence the_rule orders deals count finding =
     MatchOption (early_offence the_rule orders deals)
-    (IsVolumeOffence the_rule orders deals count finding) (λ f. finding ≡ f)
+    (IsSomeAnd (greatest_of the_rule) (λ r. IsVolumeOffence r orders deals count finding))
+    (λ f. finding ≡ f)

@@ -15,7 +15,7 @@ use Rattle.audit_base.specs.Deals.{deal_at}
 use Rattle.audit_base.specs.CallOffences.{keeps_limits}
 use Rattle.audit_base.specs.Continuous.{cause, incoming, resting, traded_before, traded_at, traded_after, before_of, entered_of, size_of, left_after, rests_before, active_after}
 use Rattle.audit_base.specs.ContinuousRules.{ConformsAt}
-use Rattle.audit_base.specs.Shows.{found, at_deal, show_order, show_found}
+use Rattle.audit_base.specs.Shows.{found, at_deal, show_order, show_found, priority_of}
 
 -- First part: the least deal of cause i that fails 7, 8, 10 or 11, with the first of these.
 
@@ -70,11 +70,6 @@ shown_after orders deals i x = traded_after orders deals i x + before_of orders 
 abbrev pub waits_ahead : List Order → List Deal → ℕ → ℕ → ℕ → Bool
 waits_ahead orders deals i r x = rests_before orders deals i x
     && nat_lt 0 (left_after orders deals i x) && better (order_at orders x) (order_at orders r)
-
--- the priority finding of a side
-abbrev pub priority_of : Side → Property
-priority_of Buy = property.BuyPriority
-priority_of Sell = property.SellPriority
 
 -- 12 or 13 at the deal at k: the best order that waits ahead is shown, and the deal's resting order
 unfoldable pub priority_finding : List Order → List Deal → ℕ → ℕ → Option Finding

@@ -1,5 +1,5 @@
 -- Deals, and the sums over them.
-use Rattle.std.specs.Prelude.{◌≡◌, ◌<◌, ◌≤◌, ◌^◌, ℕ, Bool, ◌==◌, ◌||◌, ◌&&◌, List, All, AllPairs, length, sum_by, slice_index_or, if◌then◌else◌}
+use Rattle.std.specs.Prelude.{◌≡◌, ◌<◌, ◌≤◌, ◌^◌, ℕ, Bool, ◌==◌, ◌||◌, ◌&&◌, nat_le, List, All, AllPairs, length, sum_by, slice_index, slice_index_or, if◌then◌else◌}
 use Rattle.audit_base.specs.declared.terms.Side.TheVariants.{Buy, Sell}
 use Rattle.audit_base.specs.declared.orders.Order.{Order}
 use Rattle.audit_base.specs.declared.orders.Deal.{Deal}
@@ -17,6 +17,11 @@ part_of i d = if names i d then d.quantity else 0
 abbrev pub traded : List Deal → ℕ → ℕ
 traded deals i = sum_by (part_of i) deals
 
+-- the numbers are what each order of the list trades in these deals
+pub record AreTotals (orders : List Order) (deals : List Deal) (totals : List ℕ) : Type 0 where
+  pub count : length totals ≡ length orders
+  pub each : (i : ℕ) → i < length orders → slice_index totals i ≡ traded deals i
+
 -- Pair: the quantities of the deals that name both a bid and an ask, added
 abbrev pub pair : List Deal → ℕ → ℕ → ℕ
 pair deals bid ask = sum_by (λ d. if (d.bid == bid) && (d.ask == ask) then d.quantity else 0) deals
@@ -31,6 +36,10 @@ missing_deal = record { place = 0; bid = 0; ask = 0; quantity = 0; price = 0 }
 
 abbrev pub deal_at : List Deal → ℕ → Deal
 deal_at deals k = slice_index_or deals k missing_deal
+
+-- the price is from the limit of this ask to that of this bid
+abbrev pub is_within : Order → Order → Deal → Bool
+is_within bid ask d = nat_le ask.limit d.price && nat_le d.price bid.limit
 
 -- the deal names a bid and an ask of the order list
 pub record NamesOrders (orders : List Order) (d : Deal) : Type 0 where

@@ -6,6 +6,7 @@ use Rattle.audit_base.specs.declared.terms.Side.{Side}
 use Rattle.audit_base.specs.declared.terms.Side.TheVariants.{Buy, Sell}
 use Rattle.audit_base.specs.declared.terms.Rule.{Rule}
 use Rattle.audit_base.specs.declared.terms.Rule.TheVariants as rule
+use Rattle.audit_base.specs.declared.terms.VolumeRule.TheVariants as of_volume
 use Rattle.audit_base.specs.declared.records.TradeRecord.{TradeRecord}
 use Rattle.audit_base.specs.declared.orders.Order.{Order}
 use Rattle.audit_base.specs.declared.orders.Deal.{Deal}
@@ -40,7 +41,7 @@ pub record IsExpectedUniform (orders : List Order) (deals : List Deal) : Type 0 
   pub most : ℕ
   pub bound : ℕ
   pub greatest : IsGreatestUniformVolume orders most
-  pub is_bound : IsBound rule.Uniform orders most bound
+  pub is_bound : IsBound of_volume.Uniform orders most bound
   pub pairs : deals ≡ uniform_deals orders most bound
 
 -- `maximum`: with the greatest volume, the pairs of units at the ask's limit

@@ -1,7 +1,7 @@
 -- The history of a symbol, when it is well-formed, and its order list.
-use Rattle.std.specs.Prelude.{◌≡◌, ⊤, ◌<◌, ◌≤◌, ℕ, zero, suc, Bool, true, false, ◌==◌, ◌||◌, ◌&&◌, not, nat_lt, List, [], ◌∷◌, Option, None, Some, is_some, is_none, option_map, filter, filter_map, count_by, take, length, slice_index_or, if◌then◌else◌}
+use Rattle.std.specs.Prelude.{◌≡◌, ⊤, ◌<◌, ◌≤◌, ℕ, zero, suc, Bool, true, false, ◌&&◌, not, List, [], ◌∷◌, Option, None, Some, is_some, is_none, option_map, filter, filter_map, count_by, take, length, slice_index_or, if◌then◌else◌}
 use Rattle.std.specs.List.{enumerate_from}
-use Rattle.audit_base.specs.Moments.{Moment}
+use Rattle.audit_base.specs.Moments.{Moment, is_before}
 use Rattle.audit_base.specs.declared.names.Key.{Key}
 use Rattle.audit_base.specs.declared.terms.Side.{Side}
 use Rattle.audit_base.specs.declared.terms.Which.TheVariants as which
@@ -70,10 +70,6 @@ abbrev pub fits_side : Option Side → Option Side → Bool
 fits_side None target = true
 fits_side (Some side) None = false
 fits_side (Some side) (Some target) = same_side side target
-
--- one moment is before another
-abbrev pub is_before : Moment → Moment → Bool
-is_before a b = nat_lt a.second b.second || ((a.second == b.second) && nat_lt a.nano b.nano)
 
 -- The history of a symbol: its order records, each with its place in the log, from 1 over all
 -- symbols.

@@ -13,10 +13,12 @@ pub mod Bounds
 pub mod Units
 pub mod Continuous
 pub mod ContinuousRules
+pub mod RuleKinds
 pub mod Rules
 pub mod Expected
 -- Findings and the verdict:
 pub mod Shows
+pub mod Flaws
 pub mod CallOffences
 pub mod ContinuousOffences
 pub mod Verdicts

@@ -1,11 +1,14 @@
 -- What a finding shows: records, keys, and orders with what they have traded.
 use Rattle.std.specs.Prelude.{ℕ, List, Option, None, Some, option_and_then}
+use Rattle.audit_base.specs.declared.terms.Side.{Side}
+use Rattle.audit_base.specs.declared.terms.Side.TheVariants.{Buy, Sell}
 use Rattle.audit_base.specs.declared.terms.Which.{Which}
 use Rattle.audit_base.specs.declared.terms.Which.TheVariants as which
 use Rattle.audit_base.specs.declared.orders.Order.{Order}
 use Rattle.audit_base.specs.declared.orders.Deal.{Deal}
 use Rattle.audit_base.specs.declared.findings.OrderLine.{OrderLine}
 use Rattle.audit_base.specs.declared.findings.Property.{Property}
+use Rattle.audit_base.specs.declared.findings.Property.TheVariants as property
 use Rattle.audit_base.specs.declared.findings.Finding.{Finding}
 use Rattle.audit_base.specs.declared.findings.Shown.{Shown}
 use Rattle.audit_base.specs.declared.findings.Shown.TheVariants as shown
@@ -49,3 +52,8 @@ show_found orders traded i = option_and_then (show_order orders traded) i
 -- another record of a log
 abbrev pub show_place : Which → ℕ → Option Shown
 show_place log place = Some (shown.Place log place)
+
+-- the priority finding of a side
+abbrev pub priority_of : Side → Property
+priority_of Buy = property.BuyPriority
+priority_of Sell = property.SellPriority

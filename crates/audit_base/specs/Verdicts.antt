@@ -1,7 +1,6 @@
 -- The verdict on two logs that have been read: the first phase with an answer decides.
-use Rattle.std.specs.Prelude.{◌≡◌, ℕ, List, [], ◌∷◌, Option, None, Some, Result, Ok, Err, length, MatchOption}
+use Rattle.std.specs.Prelude.{◌≡◌, ℕ, List, [], ◌∷◌, Option, None, Some, Result, Ok, Err, length, MatchOption, option_and_then}
 use Rattle.audit_base.specs.declared.terms.Rule.{Rule}
-use Rattle.audit_base.specs.declared.terms.Rule.TheVariants as rule
 use Rattle.audit_base.specs.declared.records.OrderRecord.{OrderRecord}
 use Rattle.audit_base.specs.declared.records.TradeRecord.{TradeRecord}
 use Rattle.audit_base.specs.declared.orders.Order.{Order}
@@ -10,17 +9,14 @@ use Rattle.audit_base.specs.declared.findings.Finding.{Finding}
 use Rattle.audit_base.specs.Least.{first_of}
 use Rattle.audit_base.specs.Histories.{history_finding, order_list, instant_order}
 use Rattle.audit_base.specs.Trades.{unsound_trade, deals_of}
+use Rattle.audit_base.specs.RuleKinds.{call_rule}
 use Rattle.audit_base.specs.Rules.{Conforms}
 use Rattle.audit_base.specs.CallOffences.{IsCallOffence}
 use Rattle.audit_base.specs.ContinuousOffences.{IsContinuousOffence}
 
 -- finding 16 is looked for under the four rules of a call
 abbrev pub call_finding : Rule → List Order → Option Finding
-call_finding rule.Continuous orders = None
-call_finding rule.Matching orders = instant_order orders
-call_finding rule.Fair orders = instant_order orders
-call_finding rule.Uniform orders = instant_order orders
-call_finding rule.Maximum orders = instant_order orders
+call_finding the_rule orders = option_and_then (λ call. instant_order orders) (call_rule the_rule)
 
 -- finding 4: a trade log that has been read is its trades, or this finding where its reports don't
 -- pair
@@ -43,11 +39,9 @@ log_finding the_rule symbol entries trades =
 
 -- First offence of a rule; `count` is the number of trades of the whole log
 abbrev pub IsFirstOffence : Rule → List Order → List Deal → ℕ → Finding → Type 0
-IsFirstOffence rule.Continuous orders deals count f = IsContinuousOffence orders deals f
-IsFirstOffence rule.Matching orders deals count f = IsCallOffence rule.Matching orders deals count f
-IsFirstOffence rule.Fair orders deals count f = IsCallOffence rule.Fair orders deals count f
-IsFirstOffence rule.Uniform orders deals count f = IsCallOffence rule.Uniform orders deals count f
-IsFirstOffence rule.Maximum orders deals count f = IsCallOffence rule.Maximum orders deals count f
+IsFirstOffence the_rule orders deals count f =
+    MatchOption (call_rule the_rule) (IsContinuousOffence orders deals f)
+    (λ call. IsCallOffence call orders deals count f)
 
 -- what the rule says: nothing where the deals conform, else the first offence
 abbrev pub IsRuleVerdict : Rule → List Order → List Deal → ℕ → Option Finding → Type 0

@@ -5,7 +5,7 @@ ghost use Rattle.audit_base.specs.Words.{property_word};
 
 use super::names::Key;
 use super::numbers::{Price, Quantity};
-use super::orders::{Deal, Order};
+use super::orders::Order;
 use super::terms::{Side, Which};
 
 /// An order with what it has traded.
@@ -127,25 +127,4 @@ pub struct Finding {
     pub first: Option<Shown>,
     pub second: Option<Shown>,
     pub short: Option<Short>,
-}
-
-impl Finding {
-    /// The finding at a trade, by its deal, with what shows it. It has no volumes.
-    pub fn at_deal(
-        property: Property,
-        deal: &Deal,
-        first: Option<Shown>,
-        second: Option<Shown>,
-    ) -> Finding
-        ensures { result ≡ shows.at_deal property deal.now first second }
-    {
-        Finding {
-            property,
-            log: Which::Trades,
-            place: deal.place,
-            first,
-            second,
-            short: None,
-        }
-    }
 }

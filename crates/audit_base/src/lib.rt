@@ -6,10 +6,13 @@
 pub mod columns;
 pub mod digits;
 pub mod faults;
+pub mod field_texts;
 pub mod findings;
+pub mod flaws;
 pub mod names;
 pub mod numbers;
 pub mod orders;
+pub mod ranges;
 pub mod records;
 pub mod sizes;
 pub mod stamps;

@@ -1,6 +1,6 @@
 //! Orders and deals, as the rules speak of them.
 ghost use Rattle.std.specs.Prelude.{◌≡◌};
-ghost use Rattle.audit_base.specs.CallOffences.{is_within};
+ghost use Rattle.audit_base.specs.Deals.{is_within};
 ghost use Rattle.audit_base.specs.Orders as spec;
 
 use super::names::Key;

@@ -1,6 +1,6 @@
 //! Points in time, as logs write them.
 ghost use Rattle.std.specs.Prelude.{◌≡◌, ◌<◌, ◌≤◌, ◌^◌, IfSome, length};
-ghost use Rattle.audit_base.specs.Histories.{is_before};
+ghost use Rattle.audit_base.specs.Moments.{is_before};
 ghost use Rattle.audit_base.specs.Digits.{digits_form};
 ghost use Rattle.audit_base.specs.Stamps as form;
 
@@ -21,13 +21,13 @@ pub struct Stamp {
 
 impl Model for Stamp {
     ghost use Rattle.std.specs.Prelude.{◌<◌, ◌^◌};
-    ghost use Rattle.audit_base.specs.Moments.{Moment};
+    ghost use Rattle.audit_base.specs.Moments.{Moment, end_of_time};
 
     ghost Value = { Moment };
 
     ghost view = { λ s. record { second = s.second; nano = s.nano } };
 
-    ghost invariant = { λ s. (s.second < 326764800000) × (s.nano < 10 ^ 9) };
+    ghost invariant = { λ s. (s.second < end_of_time) × (s.nano < 10 ^ 9) };
 
     ghost inverse = { λ m. record { second = m.second; nano = m.nano } };
 }

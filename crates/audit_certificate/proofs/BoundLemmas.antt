@@ -1,52 +1,42 @@
 -- Line 2.
-use Rattle.std.proofs.Common.{◌≡◌, ℕ, ◌+◌, ◌-◌, ◌^◌, ◌<◌, ◌≤◌, List, [], ◌∷◌, ◌++◌, length, get_or, Bool, true, false, Some, None, refl, sym, ap, ◌∙◌, arith, inl, inr, subst, add-one, IsTrue, ◌↔◌}
+use Rattle.std.proofs.Common.{◌≡◌, ℕ, ◌+◌, ◌-◌, ◌^◌, ◌≤◌, List, [], ◌∷◌, ◌++◌, length, get_or, Bool, true, false, Some, None, refl, sym, ap, ◌∙◌, arith, inl, inr, subst, add-one, IsTrue, ◌↔◌}
 use Rattle.std.specs.Prelude.{max, drop, take, nat_lt, nat_le, not, ◌==◌, ◌&&◌, decimal}
 use Rattle.std.specs.Cmp.{first_so, second_so}
 use Rattle.std.specs.Fmt.{digits}
 use Rattle.std.specs.List.{list_all, position, position_or_len}
 use Rattle.std.proofs.Math.Seq.{take-append_seam}
-use Rattle.std.proofs.lemmas.Bool.{cases_eq, cases_lt, cond-true, cond-false, lt-ltb, le-ltb, both_ways, false≢true}
+use Rattle.std.proofs.lemmas.Bool.{cases_lt, cond-true, cond-false, lt-ltb, le-ltb, both_ways, false≢true}
 use Rattle.std.proofs.lemmas.List.{take_all, length-drop, length-append}
-use Rattle.audit_base.specs.declared.terms.Rule.{Rule}
+use Rattle.audit_base.specs.declared.terms.VolumeRule.{VolumeRule}
 use Rattle.audit_base.specs.declared.orders.Order.{Order}
 use Rattle.audit_base.specs.Digits.{fraction_digits, fixed_digits}
 use Rattle.audit_base.specs.Names.{is_name_byte}
 use Rattle.audit_base.specs.Numbers.{price_form, price_text}
-use Rattle.audit_base.specs.Orders.{order_at, IsOrder}
+use Rattle.audit_base.specs.Orders.{order_at}
 use Rattle.audit_base.proofs.NumberLemmas.{price_again}
 use Rattle.audit_base.proofs.UnquotedLemmas.{price_is_unquoted}
 use Rattle.audit_certificate.specs.Agreement.{ShowsBound, IsBoundLine}
 use Rattle.audit_certificate.specs.Bounds.{above_if_short, above_short_bids, is_comma, take_upto, before_comma, price_or_above, price_of, named_price}
 use Rattle.audit_certificate.specs.Texts.{bound_text}
 
--- the price above the short bids among the first n orders, whose numbers are in range
+-- the price above the short bids among the first n orders
 pub record IsAboveSoFar (orders : List Order) (traded : List ℕ) (n price : ℕ) : Type 0 where
   pub same : price ≡ above_short_bids orders traded n
   pub in_range : price ≤ 10 ^ 18
-  pub numbers : (i : ℕ) → i < n → IsOrder (order_at orders i)
-  pub places : (i : ℕ) → i < n → (order_at orders i).place < 2 ^ 32
 
 pub above-none : (orders : List Order) (traded : List ℕ) → IsAboveSoFar orders traded 0 0
 unfolding above_short_bids
-above-none orders traded = record { same = refl; in_range = omega arith; numbers = λ i lt. absurd (omega arith); places = λ i lt. absurd (omega arith) }
+above-none orders traded = record { same = refl; in_range = omega arith }
 
 pub above-more : (orders : List Order) (traded : List ℕ) (n price next : ℕ) (o : Order) (here : ℕ) → o ≡ order_at orders n → here ≡ above_if_short o (get_or traded n 0)
-    → here ≤ 10 ^ 18 → IsOrder o → o.place < 2 ^ 32 → next ≡ max here price → IsAboveSoFar orders traded n price → IsAboveSoFar orders traded (n + 1) next
+    → here ≤ 10 ^ 18 → next ≡ max here price → IsAboveSoFar orders traded n price → IsAboveSoFar orders traded (n + 1) next
 unfolding above_short_bids
-above-more orders traded n price next o here o_is here_is here_most order placed next_is so_far =
+above-more orders traded n price next o here o_is here_is here_most next_is so_far =
     let most = so_far.in_range in
     let at_here : here ≡ above_if_short (order_at orders n) (get_or traded n 0) = here_is ∙ ap (λ (x : Order). above_if_short x (get_or traded n 0)) o_is in
     record {
       same = next_is ∙ (λ i. max (at_here i) (so_far.same i)) ∙ ap (above_short_bids orders traded) (sym (add-one n));
       in_range = omega arith;
-      numbers = λ i lt. elim (cases_eq i n) [
-        | inl e ↦ subst (λ (k : ℕ). IsOrder (order_at orders k)) (sym e) (subst IsOrder o_is order)
-        | inr ne ↦ so_far.numbers i (omega (arith, ne))
-      ];
-      places = λ i lt. elim (cases_eq i n) [
-        | inl e ↦ subst (λ (k : ℕ). (order_at orders k).place < 2 ^ 32) (sym e) (subst (λ (x : Order). x.place < 2 ^ 32) o_is placed)
-        | inr ne ↦ so_far.places i (omega (arith, ne))
-      ];
     }
 
 pub price-behind : (line : List ℕ) → 6 ≤ length line → price_of (before_comma (take (length line - 6) (drop 6 line))) ≡ named_price line
@@ -102,7 +92,7 @@ price-named price reached line most line_is =
     ∙ price-again price most
 
 -- whether the line is a line 2
-pub tells-bound : (the_rule : Rule) (orders : List Order) (reached price : ℕ) (line : List ℕ) (same shows : Bool) → price ≡ named_price line → price ≤ 10 ^ 18
+pub tells-bound : (the_rule : VolumeRule) (orders : List Order) (reached price : ℕ) (line : List ℕ) (same shows : Bool) → price ≡ named_price line → price ≤ 10 ^ 18
     → IsTrue same ↔ (line ≡ bound_text price reached) → same ≡ true → IsTrue shows ↔ ShowsBound the_rule orders reached price
     → IsTrue shows ↔ IsBoundLine the_rule orders reached line
 tells-bound the_rule orders reached price line same shows price_is most tells_text text tells = (
@@ -110,7 +100,7 @@ tells-bound the_rule orders reached price line same shows price_is most tells_te
   λ is. tells.1 (subst (ShowsBound the_rule orders reached) (sym (price-named is.price reached line is.in_range is.text_is) ∙ sym price_is) is.shows),
 )
 
-pub tells-no_bound : (the_rule : Rule) (orders : List Order) (reached price : ℕ) (line : List ℕ) (same : Bool) → price ≡ named_price line
+pub tells-no_bound : (the_rule : VolumeRule) (orders : List Order) (reached price : ℕ) (line : List ℕ) (same : Bool) → price ≡ named_price line
     → IsTrue same ↔ (line ≡ bound_text price reached) → same ≡ false → IsTrue false ↔ IsBoundLine the_rule orders reached line
 tells-no_bound the_rule orders reached price line same price_is tells_text off = (
   λ t. absurd (false≢true t),

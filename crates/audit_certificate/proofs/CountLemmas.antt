@@ -1,32 +1,14 @@
--- What is counted of the first deals, and one deal further.
-use Rattle.std.proofs.Common.{◌≡◌, ◌∙◌, inl, inr, sym, ap, subst, ℕ, ◌+◌, ◌*◌, ◌^◌, ◌<◌, ◌≤◌, List, length, take, get_or, arith, All}
-use Rattle.std.specs.Prelude.{slice_set, replicate}
+-- What the deals come to, one deal after another.
+use Rattle.std.proofs.Common.{◌≡◌, ◌∙◌, sym, ap, subst, ℕ, ◌+◌, ◌*◌, ◌^◌, ◌<◌, ◌≤◌, List, length, take, get_or, arith, All}
+use Rattle.std.specs.Prelude.{slice_set}
 use Rattle.std.proofs.lemmas.List.{length-set, get_or-set_other, take_all}
-use Rattle.std.proofs.lemmas.Bool.{cases_eq}
 use Rattle.audit_base.specs.declared.orders.Order.{Order}
 use Rattle.audit_base.specs.declared.orders.Deal.{Deal}
-use Rattle.audit_base.specs.Deals.{traded, volume, deal_at, missing_deal, NamesOrders, IsDeal}
-use Rattle.audit_base.proofs.OffenceLemmas.{get_or-default}
-use Rattle.audit_base.proofs.TotalsLemmas.{AreTotalsSoFar, apart, totals-none, totals-more}
-use Rattle.short_order.specs.Totals.{AreTotals}
+use Rattle.audit_base.specs.Deals.{traded, volume, deal_at, missing_deal, AreTotals, NamesOrders, IsDeal}
+use Rattle.audit_base.proofs.TotalsLemmas.{AreTotalsSoFar, apart, totals-more}
 
--- what the first k deals come to, and that their numbers are in range
-pub record AreCountsSoFar (orders : List Order) (deals : List Deal) (k : ℕ) (so_far : List ℕ) (total : ℕ) : Type 0 where
-  pub totals : AreTotalsSoFar orders deals k so_far total
-  pub ranges : (i : ℕ) → i < k → IsDeal (deal_at deals i)
-
-pub counts-none : (orders : List Order) (deals : List Deal) → AreCountsSoFar orders deals 0 (replicate (length orders) 0) 0
-counts-none orders deals = record { totals = totals-none orders deals; ranges = λ i lt. absurd (omega arith) }
-
--- the numbers of one deal more are in range
-ranges-more : (deals : List Deal) (k : ℕ) → ((i : ℕ) → i < k → IsDeal (deal_at deals i)) → IsDeal (deal_at deals k) → (i : ℕ) → i < k + 1 → IsDeal (deal_at deals i)
-ranges-more deals k ranges range i below = elim (cases_eq i k) [
-  | inl e ↦ subst (λ (j : ℕ). IsDeal (deal_at deals j)) (sym e) range
-  | inr ne ↦ ranges i (omega (arith, ne))
-]
-
--- the same in the words of the code: the deal that it reads, and the numbers after each of the two additions
-module _ (orders : List Order) (deals : List Deal) (k : ℕ) (lt : k < length deals) (named : All (NamesOrders orders) deals) (d : Deal) (d_is : d ≡ deal_at deals k) (so_far : List ℕ) (total quantity : ℕ) (is : AreCountsSoFar orders deals k so_far total) (same : quantity ≡ d.quantity) (range : IsDeal d) where
+-- one deal further in the words of the code: the deal that it reads, and the numbers after each of the two additions
+module _ (orders : List Order) (deals : List Deal) (k : ℕ) (lt : k < length deals) (named : All (NamesOrders orders) deals) (d : Deal) (d_is : d ≡ deal_at deals k) (so_far : List ℕ) (total quantity : ℕ) (is : AreTotalsSoFar orders deals k so_far total) (same : quantity ≡ d.quantity) (range : IsDeal d) where
   named_here : NamesOrders orders d
   named_here = subst (NamesOrders orders) (sym d_is) (named k missing_deal lt)
 
@@ -37,7 +19,7 @@ module _ (orders : List Order) (deals : List Deal) (k : ℕ) (lt : k < length de
   ask-inside = omega (arith, is.totals.count, named_here.ask_inside)
 
   pub bid-fits : get_or so_far d.bid 0 + quantity ≤ (k + 1) * 10 ^ 12
-  bid-fits = omega (arith, is.totals.bounded d.bid named_here.bid_inside, same, range.most)
+  bid-fits = omega (arith, is.bounded d.bid named_here.bid_inside, same, range.most)
 
   abbrev pub with_bid : List ℕ
   with_bid = slice_set so_far d.bid (get_or so_far d.bid 0 + quantity)
@@ -52,26 +34,22 @@ module _ (orders : List Order) (deals : List Deal) (k : ℕ) (lt : k < length de
   ask-inside_after = omega (arith, length-set {A = ℕ} so_far d.bid (get_or so_far d.bid 0 + quantity), ask-inside)
 
   pub ask-fits : get_or with_bid d.ask 0 + quantity ≤ (k + 1) * 10 ^ 12
-  ask-fits = omega (arith, ask-stays, is.totals.bounded d.ask named_here.ask_inside, same, range.most)
+  ask-fits = omega (arith, ask-stays, is.bounded d.ask named_here.ask_inside, same, range.most)
 
   pub counted : (half whole : List ℕ) → half ≡ with_bid → whole ≡ slice_set half d.ask (get_or half d.ask 0 + quantity)
-      → AreCountsSoFar orders deals (k + 1) whole (total + quantity)
+      → AreTotalsSoFar orders deals (k + 1) whole (total + quantity)
   counted half whole half_is whole_is =
       let is_after : whole ≡ slice_set with_bid d.ask (get_or so_far d.ask 0 + quantity) =
       whole_is ∙ ap (λ (xs : List ℕ). slice_set xs d.ask (get_or xs d.ask 0 + quantity)) half_is ∙ ap (λ (n : ℕ). slice_set with_bid d.ask (n + quantity)) ask-stays in
-      let P : Deal → Type 0 = λ e. AreCountsSoFar orders deals (k + 1) (slice_set (slice_set so_far e.bid (get_or so_far e.bid 0 + quantity)) e.ask (get_or so_far e.ask 0 + quantity)) (total + quantity) in
-      subst (λ (xs : List ℕ). AreCountsSoFar orders deals (k + 1) xs (total + quantity)) (sym is_after)
-      (subst P (sym d_is) (record {
-        totals = totals-more orders deals k lt (named k missing_deal lt) so_far total quantity is.totals (same ∙ ap (λ (e : Deal). e.quantity) d_is) most;
-        ranges = ranges-more deals k is.ranges (subst IsDeal d_is range);
-      }))
+      let P : Deal → Type 0 = λ e. AreTotalsSoFar orders deals (k + 1) (slice_set (slice_set so_far e.bid (get_or so_far e.bid 0 + quantity)) e.ask (get_or so_far e.ask 0 + quantity)) (total + quantity) in
+      subst (λ (xs : List ℕ). AreTotalsSoFar orders deals (k + 1) xs (total + quantity)) (sym is_after)
+      (subst P (sym d_is) (totals-more orders deals k lt (named k missing_deal lt) so_far total quantity is (same ∙ ap (λ (e : Deal). e.quantity) d_is) most))
 
 -- after the last deal
-pub counts-all : (orders : List Order) (deals : List Deal) (k : ℕ) (so_far : List ℕ) (total : ℕ) → k ≡ length deals → AreCountsSoFar orders deals k so_far total
-    → AreTotals orders deals so_far × (total ≡ volume deals) × All IsDeal deals
+pub counts-all : (orders : List Order) (deals : List Deal) (k : ℕ) (so_far : List ℕ) (total : ℕ) → k ≡ length deals → AreTotalsSoFar orders deals k so_far total
+    → AreTotals orders deals so_far × (total ≡ volume deals)
 counts-all orders deals k so_far total all is =
     let whole : take k deals ≡ deals = take_all k deals (omega arith) in (
-      record { count = is.totals.count; each = λ i lt. is.totals.sums i lt ∙ ap (λ (ds : List Deal). traded ds i) whole },
-      is.totals.whole ∙ ap volume whole,
-      λ i d lt. subst IsDeal (sym (get_or-default deals i d missing_deal lt)) (is.ranges i (omega arith)),
+      record { count = is.totals.count; each = λ i lt. is.totals.each i lt ∙ ap (λ (ds : List Deal). traded ds i) whole },
+      is.whole ∙ ap volume whole,
     )

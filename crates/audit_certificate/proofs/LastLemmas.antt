@@ -11,7 +11,7 @@ use Rattle.audit_base.specs.Deals as deals_of
 use Rattle.audit_base.specs.Calls.{Fair}
 use Rattle.audit_base.proofs.OrderLemmas.{stands-test, test-stands}
 use Rattle.audit_base.proofs.PriorityLemmas.{Better-strict, Better-onward, Better-one_way, Better-total}
-use Rattle.short_order.specs.Totals.{AreTotals}
+use Rattle.audit_base.specs.Deals.{AreTotals}
 use Rattle.audit_certificate.specs.Texts.{last_text}
 use Rattle.audit_certificate.specs.Agreement.{IsLastOf}
 use Rattle.audit_certificate.specs.LastOrders.{IsOn, trades_on, worse_of, later_of, last_trading, is_filled_ahead, AreFilledAhead, TellsLastLine}

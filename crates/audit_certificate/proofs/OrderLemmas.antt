@@ -3,7 +3,7 @@ use Rattle.std.proofs.Common.{◌≡◌, ℕ, ◌+◌, ◌<◌, ◌≤◌, List,
 use Rattle.std.proofs.lemmas.Bool.{cases_eq}
 use Rattle.audit_base.specs.declared.orders.Order.{Order}
 use Rattle.audit_base.specs.declared.orders.Deal.{Deal}
-use Rattle.short_order.specs.Totals.{AreTotals}
+use Rattle.audit_base.specs.Deals.{AreTotals}
 use Rattle.audit_certificate.specs.Lines.{behind_line, behind_lines, BeginsWith}
 use Rattle.audit_base.specs.Orders.{order_at, place_at}
 use Rattle.audit_certificate.specs.Texts.{order_text}

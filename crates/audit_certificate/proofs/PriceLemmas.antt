@@ -4,8 +4,8 @@ use Rattle.std.specs.Prelude.{max, nat_lt, nat_le, ◌&&◌}
 use Rattle.std.proofs.Math.Nat.{le-max_left, le-max_right}
 use Rattle.std.proofs.lemmas.Bool.{cases_Bool, cases_eq, cases_lt, and_parts, and_from, or_left, cond-true, cond-false, lt-ltb, le-leb, ltb-true, leb-true}
 use Rattle.std.proofs.lemmas.List.{take_all}
-use Rattle.audit_base.specs.declared.terms.Rule.{Rule}
-use Rattle.audit_base.specs.declared.terms.Rule.TheVariants as rule
+use Rattle.audit_base.specs.declared.terms.VolumeRule.{VolumeRule}
+use Rattle.audit_base.specs.declared.terms.VolumeRule.TheVariants as of_volume
 use Rattle.audit_base.specs.declared.terms.Side.{Side}
 use Rattle.audit_base.specs.declared.terms.Side.TheVariants.{Buy, Sell}
 use Rattle.audit_base.specs.declared.orders.Order.{Order}
@@ -14,7 +14,8 @@ use Rattle.audit_base.specs.declared.orders.Cut.{Cut}
 use Rattle.audit_base.specs.Sums.{sum_below}
 use Rattle.audit_base.specs.Orders.{missing_order, order_at, side_at, quantity_at, limit_at, same_side, stands_on, Stands, IsOrderList, AreOrders}
 use Rattle.audit_base.specs.Priority.{Better}
-use Rattle.audit_base.specs.Deals.{traded, volume, AreDeals}
+use Rattle.audit_base.specs.RuleKinds.{rule_of_volume}
+use Rattle.audit_base.specs.Deals.{traded, volume, AreDeals, AreTotals}
 use Rattle.audit_base.specs.Calls.{Matching, Fair, ConformsMaximum}
 use Rattle.audit_base.specs.Bounds.{wanted, offered_below, demand, supply_below}
 use Rattle.audit_base.specs.Rules.{Conforms}
@@ -22,19 +23,18 @@ use Rattle.audit_base.proofs.SumLemmas.{below-le, below-list}
 use Rattle.audit_base.proofs.OrderLemmas.{stands-test, test-stands, same_side-is}
 use Rattle.audit_base.proofs.PriorityLemmas.{outranks-better}
 use Rattle.audit_base.proofs.VolumeLemmas.{volume-le-cut}
-use Rattle.call_laws.specs.Laws.{asks_for_greatest, ShortOrdersDoNotMeet}
+use Rattle.call_laws.specs.Laws.{ShortOrdersDoNotMeet}
 use Rattle.call_laws.specs.Optimum.{MaximumReachesLeastCut}
 use Rattle.call_laws.proofs.ConformLemmas.{conforms-fair}
 use Rattle.call_laws.proofs.FairLemmas.{trades-stands, side-volume, share, share-own}
 use Rattle.call_laws.proofs.ShortLemmas.{IsShort, is-short}
-use Rattle.short_order.specs.Totals.{AreTotals}
 use Rattle.audit_certificate.specs.Agreement.{IsLeastPrice}
 use Rattle.audit_certificate.specs.Bounds.{above_if_short, above_short_bids, IsLeastCutPrice, IsPriceOf}
 
 -- Under `maximum` it is the price of the least cut.
 
 least-maximum : MaximumReachesLeastCut → (orders : List Order) (deals : List Deal) (price : ℕ) → IsOrderList orders → AreOrders orders → ConformsMaximum orders deals → IsLeastCutPrice orders price
-    → IsLeastPrice rule.Maximum orders (volume deals) price
+    → IsLeastPrice of_volume.Maximum orders (volume deals) price
 least-maximum reaches orders deals price list ranges conforms is =
     let c : Cut = record { price = price; volume = is.volume } in
     let made = reaches orders c list ranges is.least in
@@ -75,9 +75,6 @@ pub record IsAbove (orders : List Order) (deals : List Deal) (n price : ℕ) : T
   pub reached : (price ≡ 0) ⊎ ((i : ℕ) × (i < n) × IsShort orders deals Buy i × (limit_at orders i + 1 ≡ price))
 
 module _ (orders : List Order) (deals : List Deal) (traded_by : List ℕ) (totals : AreTotals orders deals traded_by) where
-  one : ℕ → ℕ
-  one i = above_if_short (order_at orders i) (get_or traded_by i 0)
-
   one-short : (i : ℕ) → i < length orders → IsShort orders deals Buy i → above_if_short (order_at orders i) (get_or traded_by i 0) ≡ limit_at orders i + 1
   one-short i lt s = cond-true _ (limit_at orders i + 1) 0 (and_from _ _ (stands-test orders Buy i s.stands) (lt-ltb (get_or traded_by i 0) (quantity_at orders i) (omega (arith, totals.each i lt, s.below))))
 
@@ -121,15 +118,12 @@ module _ (orders : List Order) (deals : List Deal) (traded_by : List ℕ) (total
         ];
       }
 
-  module _ (the_rule : Rule) (apart : ShortOrdersDoNotMeet) (asks : asks_for_greatest the_rule ≡ true) (list : IsOrderList orders) (ranges : AreOrders orders) (deal_ranges : AreDeals deals) (conforms : Conforms the_rule orders deals) where
-    price : ℕ
-    price = above_short_bids orders traded_by (length orders)
-
+  module _ (the_rule : VolumeRule) (apart : ShortOrdersDoNotMeet) (list : IsOrderList orders) (ranges : AreOrders orders) (deal_ranges : AreDeals deals) (conforms : Conforms (rule_of_volume the_rule) orders deals) where
     abbrev P : ℕ
     P = above_short_bids orders traded_by (length orders)
 
     both : Matching orders deals × Fair orders deals
-    both = conforms-fair the_rule orders deals asks conforms
+    both = conforms-fair the_rule orders deals conforms
 
     is-above : IsAbove orders deals (length orders) P
     is-above = above-is (length orders) (omega arith)
@@ -161,7 +155,7 @@ module _ (orders : List Order) (deals : List Deal) (traded_by : List ℕ) (total
         let low = ltb-true (limit_at orders i) P parts.1 in
         let q = full Sell i s (λ short. elim is-above.reached [
           | inl none ↦ absurd (omega arith)
-          | inr some ↦ let less = apart the_rule orders deals asks ranges deal_ranges conforms some.0 i (is-short orders deals Buy some.0 some.2) (is-short orders deals Sell i short) in let e = some.3 in absurd (omega arith)
+          | inr some ↦ let less = apart the_rule orders deals ranges deal_ranges conforms some.0 i (is-short orders deals Buy some.0 some.2) (is-short orders deals Sell i short) in let e = some.3 in absurd (omega arith)
         ]) in
         omega (arith, share-own orders deals Sell i s.of_side))) in
         omega (arith, le, indexed (offered_below P) orders, side-volume orders deals both.0.kept Sell)
@@ -208,7 +202,7 @@ module _ (orders : List Order) (deals : List Deal) (traded_by : List ℕ) (total
       | inr some ↦ let priced = (ranges some.0 missing_order some.1).priced in let e = some.3 in omega arith
     ]
 
-    pub least-uniform : IsLeastPrice rule.Uniform orders (volume deals) P
+    pub least-uniform : IsLeastPrice of_volume.Uniform orders (volume deals) P
     least-uniform = record {
       holds = (in-range, (demand-most, supply-most));
       none_below = λ q lt shows. elim is-above.reached [
@@ -218,12 +212,9 @@ module _ (orders : List Order) (deals : List Deal) (traded_by : List ℕ) (total
     }
 
 -- the price that is written is the least
-pub least-is : MaximumReachesLeastCut → ShortOrdersDoNotMeet → (the_rule : Rule) (orders : List Order) (deals : List Deal) (traded_by : List ℕ) (price : ℕ) → asks_for_greatest the_rule ≡ true
-    → IsOrderList orders → AreOrders orders → AreDeals deals → Conforms the_rule orders deals → AreTotals orders deals traded_by → IsPriceOf the_rule orders traded_by price
+pub least-is : MaximumReachesLeastCut → ShortOrdersDoNotMeet → (the_rule : VolumeRule) (orders : List Order) (deals : List Deal) (traded_by : List ℕ) (price : ℕ)
+    → IsOrderList orders → AreOrders orders → AreDeals deals → Conforms (rule_of_volume the_rule) orders deals → AreTotals orders deals traded_by → IsPriceOf the_rule orders traded_by price
     → IsLeastPrice the_rule orders (volume deals) price
-least-is reaches apart rule.Matching orders deals traded_by price asks list ranges deal_ranges conforms totals is = absurd (cc)
-least-is reaches apart rule.Fair orders deals traded_by price asks list ranges deal_ranges conforms totals is = absurd (cc)
-least-is reaches apart rule.Uniform orders deals traded_by price asks list ranges deal_ranges conforms totals is =
-    subst (IsLeastPrice rule.Uniform orders (volume deals)) (sym is) (least-uniform orders deals traded_by totals rule.Uniform apart asks list ranges deal_ranges conforms)
-least-is reaches apart rule.Maximum orders deals traded_by price asks list ranges deal_ranges conforms totals is = least-maximum reaches orders deals price list ranges conforms is
-least-is reaches apart rule.Continuous orders deals traded_by price asks list ranges deal_ranges conforms totals is = absurd (cc)
+least-is reaches apart of_volume.Uniform orders deals traded_by price list ranges deal_ranges conforms totals is =
+    subst (IsLeastPrice of_volume.Uniform orders (volume deals)) (sym is) (least-uniform orders deals traded_by totals of_volume.Uniform apart list ranges deal_ranges conforms)
+least-is reaches apart of_volume.Maximum orders deals traded_by price list ranges deal_ranges conforms totals is = least-maximum reaches orders deals price list ranges conforms is

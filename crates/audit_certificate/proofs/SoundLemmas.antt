@@ -2,8 +2,8 @@
 use Rattle.std.proofs.Common.{◌≡◌, ◌≤◌, ◌<◌, ◌+◌, ℕ, suc, List, length, Option, None, Some, refl, sym, ◌∙◌, arith, inl, inr, subst}
 use Rattle.std.specs.Prelude.{IsSomeAnd, min}
 use Rattle.std.proofs.lemmas.Bool.{cases_eq, cases_lt}
-use Rattle.audit_base.specs.declared.terms.Rule.{Rule}
-use Rattle.audit_base.specs.declared.terms.Rule.TheVariants as rule
+use Rattle.audit_base.specs.declared.terms.VolumeRule.{VolumeRule}
+use Rattle.audit_base.specs.declared.terms.VolumeRule.TheVariants as of_volume
 use Rattle.audit_base.specs.declared.terms.Side.{Side}
 use Rattle.audit_base.specs.declared.terms.Side.TheVariants.{Buy, Sell}
 use Rattle.audit_base.specs.declared.orders.Order.{Order}
@@ -14,6 +14,7 @@ use Rattle.audit_base.specs.Deals.{traded, volume}
 use Rattle.audit_base.specs.Calls.{Matching, Fair, Greatest, GreatestUniform}
 use Rattle.audit_base.specs.Bounds.{demand, supply, supply_below}
 use Rattle.audit_base.specs.Rules.{Conforms}
+use Rattle.audit_base.specs.RuleKinds.{rule_of_volume}
 use Rattle.audit_base.proofs.PriorityLemmas.{Better-onward, Better-total}
 use Rattle.audit_base.proofs.VolumeLemmas.{demand-falls, supply-under}
 use Rattle.call_laws.specs.Optimum.{OnePriceIsBounded}
@@ -26,7 +27,7 @@ begins-some : (Test : List ℕ → Type 0) (line : Option (List ℕ)) → IsSome
 begins-some Test None begins = absurd begins
 begins-some Test (Some text) begins = (text, begins)
 
-module _ (cuts : CutBoundsVolume) (bounded : OnePriceIsBounded) (the_rule : Rule) (symbol : List ℕ) (orders : List Order) (deals : List Deal) (bytes : List ℕ) (list : IsOrderList orders) (agrees : Agrees the_rule symbol orders deals bytes) where
+module _ (cuts : CutBoundsVolume) (bounded : OnePriceIsBounded) (the_rule : VolumeRule) (symbol : List ℕ) (orders : List Order) (deals : List Deal) (bytes : List ℕ) (list : IsOrderList orders) (agrees : Agrees the_rule symbol orders deals bytes) where
   head : (text : List ℕ) × IsHeadLine the_rule symbol orders deals text
   head = begins-some (IsHeadLine the_rule symbol orders deals) (ended_line (behind_lines 0 bytes)) (agrees 1 (omega arith))
 
@@ -71,16 +72,13 @@ module _ (cuts : CutBoundsVolume) (bounded : OnePriceIsBounded) (the_rule : Rule
         | inr ge ↦ let falls = demand-falls orders q one.price ge in omega arith
       ]
 
-sound-by : (the_rule : Rule) (orders : List Order) (deals : List Deal) (reached q : ℕ) → reached ≡ volume deals → Matching orders deals → Fair orders deals
+sound-by : (the_rule : VolumeRule) (orders : List Order) (deals : List Deal) (reached q : ℕ) → reached ≡ volume deals → Matching orders deals → Fair orders deals
     → OnePriceIfUniform the_rule deals → ShowsBound the_rule orders reached q
     → ((p : ℕ) → demand orders p + supply_below orders p ≡ volume deals → Greatest orders deals)
     → ((p : ℕ) → demand orders p ≤ volume deals → supply_below orders p ≤ volume deals → GreatestUniform orders deals)
-    → Conforms the_rule orders deals
-sound-by rule.Matching orders deals reached q e m f one shows g u = absurd shows
-sound-by rule.Fair orders deals reached q e m f one shows g u = absurd shows
-sound-by rule.Uniform orders deals reached q e m f one shows g u = record { matching = m; fair = f; one_price = one; greatest = u q (omega (arith, e, shows.0)) (omega (arith, e, shows.1)) }
-sound-by rule.Maximum orders deals reached q e m f one shows g u = record { matching = m; fair = f; greatest = g q (shows ∙ e) }
-sound-by rule.Continuous orders deals reached q e m f one shows g u = absurd shows
+    → Conforms (rule_of_volume the_rule) orders deals
+sound-by of_volume.Uniform orders deals reached q e m f one shows g u = record { matching = m; fair = f; one_price = one; greatest = u q (omega (arith, e, shows.0)) (omega (arith, e, shows.1)) }
+sound-by of_volume.Maximum orders deals reached q e m f one shows g u = record { matching = m; fair = f; greatest = g q (shows ∙ e) }
 
 pub soundness : CutBoundsVolume → OnePriceIsBounded → CertificateSoundness
 soundness cuts bounded the_rule symbol orders deals bytes list agrees =

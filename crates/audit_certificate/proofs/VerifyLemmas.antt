@@ -1,57 +1,59 @@
 -- From what each step says to the certificate.
 use Rattle.std.proofs.Common.{◌≡◌, ℕ, zero, suc, ◌+◌, ◌-◌, ◌<◌, ◌≤◌, List, length, get_or, true, Option, None, Some, Result, Ok, Err, refl, sym, ap, ◌∙◌, arith, subst, inl, inr}
 use Rattle.std.proofs.lemmas.Bool.{cases_eq, cases_lt}
-use Rattle.std.specs.Prelude.{IsTrue, IfOk, IsSomeAnd, IsErrAnd}
+use Rattle.std.specs.Prelude.{IfOk, IsSomeAnd, IsOkAnd, IsErrAnd, MatchResult}
 use Rattle.audit_base.specs.declared.terms.Rule.{Rule}
-use Rattle.audit_base.specs.declared.terms.Rule.TheVariants as rule
+use Rattle.audit_base.specs.declared.terms.VolumeRule.{VolumeRule}
+use Rattle.audit_base.specs.declared.terms.VolumeRule.TheVariants as of_volume
 use Rattle.audit_base.specs.declared.terms.Side.TheVariants.{Buy, Sell}
 use Rattle.audit_base.specs.declared.orders.Order.{Order}
 use Rattle.audit_base.specs.declared.orders.Deal.{Deal}
 use Rattle.audit_base.specs.Orders.{IsOrderList}
-use Rattle.audit_base.specs.Deals.{volume}
-use Rattle.short_order.specs.Totals.{AreTotals}
-use Rattle.audit_base.specs.Rules.{Conforms}
-use Rattle.call_laws.specs.Laws.{asks_for_greatest}
-use Rattle.audit_certificate.specs.Laws.{CertificateSoundness}
+use Rattle.audit_base.specs.Deals.{volume, AreTotals}
+use Rattle.audit_base.specs.RuleKinds.{asks_for_greatest, rule_of_volume, volume_rule}
 use Rattle.audit_certificate.specs.declared.faults.VerifyFault.{VerifyFault}
 use Rattle.audit_certificate.specs.declared.faults.VerifyFault.TheVariants.{No, Memory}
 use Rattle.audit_certificate.specs.Texts.{head_text}
 use Rattle.audit_certificate.specs.Lines.{behind_line, behind_lines, BeginsWith, ended_line}
-use Rattle.audit_certificate.specs.Agreement.{IsHeadLine, IsBoundLine, IsLastLine, IsOrderAt, LinePasses, LinesPassBefore, Agrees, AgreesUnderNone, IsFirstRefused}
+use Rattle.audit_certificate.specs.Agreement.{IsHeadLine, IsBoundLine, IsLastLine, IsOrderAt, LinePasses, LinesPassBefore, Agrees, AgreesUnder, AgreesUnderNone, IsFirstRefused}
 use Rattle.audit_certificate.specs.Answers.{IfRefused}
 use Rattle.audit_certificate.specs.Steps.{IsRefusedHead, IsRefusedBound, IsRefusedLast, IsBehindHead, IsBehindBound, IsBehindLast}
 use Rattle.audit_certificate.specs.OrderLines.{AllOrderLines, IsRefusedOrder}
 use Rattle.audit_certificate.proofs.LineLemmas.{behind-both}
 
+-- The rule of the lines, as one of the five.
+
+-- what follows of the one is known of the other
+pub as_rule : (made : Result VolumeRule VerifyFault) (result : Result Rule VerifyFault) (P : VolumeRule → Type 0) (Q : Rule → Type 0) → MatchResult made (λ r. IsOkAnd result (λ the_rule. the_rule ≡ rule_of_volume r)) (λ e. result ≡ Err e)
+    → ((r : VolumeRule) → P r → Q (rule_of_volume r)) → IfOk made P → IfOk result Q
+as_rule (Ok r) (Ok the_rule) P Q same follows is = subst Q (sym same) (follows r is)
+as_rule (Ok r) (Err e) P Q same follows is = tt
+as_rule (Err e) result P Q same follows is = subst (λ (x : Result Rule VerifyFault). IfOk x Q) (sym same) tt
+
+-- and so of a line that is refused
+pub as_refused : (made : Result VolumeRule VerifyFault) (result : Result Rule VerifyFault) (P Q : ℕ → Type 0) → MatchResult made (λ r. IsOkAnd result (λ the_rule. the_rule ≡ rule_of_volume r)) (λ e. result ≡ Err e)
+    → ((number : ℕ) → P number → Q number) → IfRefused made P → IfRefused result Q
+as_refused (Ok r) (Ok the_rule) P Q same follows is = tt
+as_refused (Ok r) (Err e) P Q same follows is = absurd same
+as_refused (Err (No number)) result P Q same follows is = subst (λ (x : Result Rule VerifyFault). IfRefused x Q) (sym same) (follows number is)
+as_refused (Err Memory) result P Q same follows is = subst (λ (x : Result Rule VerifyFault). IfRefused x Q) (sym same) tt
+
+-- it is one that asks for the greatest volume
+pub asks : (r : VolumeRule) → asks_for_greatest (rule_of_volume r) ≡ true
+asks of_volume.Uniform = refl
+asks of_volume.Maximum = refl
+
+pub agrees-under : (r : VolumeRule) (symbol : List ℕ) (orders : List Order) (deals : List Deal) (bytes : List ℕ) → Agrees r symbol orders deals bytes → AgreesUnder (rule_of_volume r) symbol orders deals bytes
+agrees-under of_volume.Uniform symbol orders deals bytes agrees = agrees
+agrees-under of_volume.Maximum symbol orders deals bytes agrees = agrees
+
 -- where a line is refused the certificate agrees under no rule
-refused-none : (symbol : List ℕ) (orders : List Order) (deals : List Deal) (bytes : List ℕ) (number : ℕ) → IsFirstRefused symbol orders deals bytes number → AgreesUnderNone symbol orders deals bytes
-refused-none symbol orders deals bytes number refused the_rule agrees =
-    refused.fails the_rule (λ before lt. agrees before (let inside = refused.inside in omega arith)) (agrees number refused.inside)
-
-pub refused_under_none : {T : Type 0} (result : Result T VerifyFault) (symbol : List ℕ) (orders : List Order) (deals : List Deal) (bytes : List ℕ)
-    → IfRefused result (IsFirstRefused symbol orders deals bytes) → IfRefused result (λ _. AgreesUnderNone symbol orders deals bytes)
-refused_under_none (Ok value) symbol orders deals bytes refused = tt
-refused_under_none (Err (No number)) symbol orders deals bytes refused = refused-none symbol orders deals bytes number refused
-refused_under_none (Err Memory) symbol orders deals bytes refused = tt
-
--- a certificate that agrees has a rule that asks for a greatest volume
-agrees-asks : (r : Rule) (symbol : List ℕ) (orders : List Order) (deals : List Deal) (bytes : List ℕ) → Agrees r symbol orders deals bytes → IsTrue (asks_for_greatest r)
-agrees-asks r symbol orders deals bytes agrees = named (ended_line (behind_lines 0 bytes)) (agrees 1 (omega arith))
+pub refused-none : (symbol : List ℕ) (orders : List Order) (deals : List Deal) (bytes : List ℕ) (number : ℕ) → IsFirstRefused symbol orders deals bytes number → AgreesUnderNone symbol orders deals bytes
+refused-none symbol orders deals bytes number refused the_rule = none (volume_rule the_rule)
   where
-    named : (line : Option (List ℕ)) → IsSomeAnd line (IsHeadLine r symbol orders deals) → IsTrue (asks_for_greatest r)
-    named None begins = absurd begins
-    named (Some text) begins = begins.asks
-
-pub agreed_asks : {E : Type 0} (result : Result Rule E) (symbol : List ℕ) (orders : List Order) (deals : List Deal) (bytes : List ℕ)
-    → IfOk result (λ r. Agrees r symbol orders deals bytes) → IfOk result (λ r. IsTrue (asks_for_greatest r))
-agreed_asks (Ok r) symbol orders deals bytes agrees = agrees-asks r symbol orders deals bytes agrees
-agreed_asks (Err e) symbol orders deals bytes agrees = tt
-
--- and its deals conform
-pub agreed_conforms : {E : Type 0} (result : Result Rule E) (symbol : List ℕ) (orders : List Order) (deals : List Deal) (bytes : List ℕ) → CertificateSoundness → IsOrderList orders
-    → IfOk result (λ r. Agrees r symbol orders deals bytes) → IfOk result (λ r. Conforms r orders deals)
-agreed_conforms (Ok r) symbol orders deals bytes sound list agrees = sound r symbol orders deals bytes list agrees
-agreed_conforms (Err e) symbol orders deals bytes sound list agrees = tt
+    none : (found : Option VolumeRule) → IsSomeAnd found (λ r. Agrees r symbol orders deals bytes) → ⊥
+    none None agrees = agrees
+    none (Some r) agrees = refused.fails r (λ before lt. agrees before (let inside = refused.inside in omega arith)) (agrees number refused.inside)
 
 -- a refusal that is handed on keeps its number
 pub handed-on : {T U : Type 0} (made : Result T VerifyFault) (e : VerifyFault) (result : Result U VerifyFault) (P Q : ℕ → Type 0) → made ≡ Err e → IfRefused made P → IsErrAnd result (λ f. f ≡ e) → ((number : ℕ) → P number → Q number) → IfRefused result Q
@@ -63,41 +65,32 @@ handed-on {T = T} made Memory (Err g) P Q made_is p is f = subst (λ (x : Verify
 
 -- Heads name one rule only.
 
-heads-apart : (symbol : List ℕ) → head_text rule.Uniform symbol ≡ head_text rule.Maximum symbol → ⊥
+heads-apart : (symbol : List ℕ) → head_text of_volume.Uniform symbol ≡ head_text of_volume.Maximum symbol → ⊥
 heads-apart symbol e = let differ : ◌≡◌ {A = ℕ} 117 109 = ap (λ (t : List ℕ). get_or t 12 0) e in absurd (omega arith)
 
--- two rules that ask for a greatest volume and have one head are one
-head-once : (a b : Rule) (symbol text : List ℕ) → asks_for_greatest a ≡ true → asks_for_greatest b ≡ true → text ≡ head_text a symbol → text ≡ head_text b symbol → a ≡ b
-head-once rule.Uniform rule.Uniform symbol text x y e f = refl
-head-once rule.Maximum rule.Maximum symbol text x y e f = refl
-head-once rule.Uniform rule.Maximum symbol text x y e f = absurd (heads-apart symbol (sym e ∙ f))
-head-once rule.Maximum rule.Uniform symbol text x y e f = absurd (heads-apart symbol (sym f ∙ e))
-head-once rule.Matching b symbol text x y e f = absurd (cc)
-head-once rule.Fair b symbol text x y e f = absurd (cc)
-head-once rule.Continuous b symbol text x y e f = absurd (cc)
-head-once rule.Uniform rule.Matching symbol text x y e f = absurd (cc)
-head-once rule.Uniform rule.Fair symbol text x y e f = absurd (cc)
-head-once rule.Uniform rule.Continuous symbol text x y e f = absurd (cc)
-head-once rule.Maximum rule.Matching symbol text x y e f = absurd (cc)
-head-once rule.Maximum rule.Fair symbol text x y e f = absurd (cc)
-head-once rule.Maximum rule.Continuous symbol text x y e f = absurd (cc)
+-- two rules that have one head are one
+head-once : (a b : VolumeRule) (symbol text : List ℕ) → text ≡ head_text a symbol → text ≡ head_text b symbol → a ≡ b
+head-once of_volume.Uniform of_volume.Uniform symbol text e f = refl
+head-once of_volume.Maximum of_volume.Maximum symbol text e f = refl
+head-once of_volume.Uniform of_volume.Maximum symbol text e f = absurd (heads-apart symbol (sym e ∙ f))
+head-once of_volume.Maximum of_volume.Uniform symbol text e f = absurd (heads-apart symbol (sym f ∙ e))
 
 begins-once : (P Q : List ℕ → Type 0) (C : Type 0) (found : Option (List ℕ)) → ((text : List ℕ) → P text → Q text → C) → IsSomeAnd found P → IsSomeAnd found Q → C
 begins-once P Q C None both p q = absurd p
 begins-once P Q C (Some text) both p q = both text p q
 
-one-rule : (a b : Rule) (symbol : List ℕ) (orders : List Order) (deals : List Deal) (bytes : List ℕ) → BeginsWith (IsHeadLine a symbol orders deals) bytes → BeginsWith (IsHeadLine b symbol orders deals) bytes → a ≡ b
+one-rule : (a b : VolumeRule) (symbol : List ℕ) (orders : List Order) (deals : List Deal) (bytes : List ℕ) → BeginsWith (IsHeadLine a symbol orders deals) bytes → BeginsWith (IsHeadLine b symbol orders deals) bytes → a ≡ b
 one-rule a b symbol orders deals bytes p q = begins-once (IsHeadLine a symbol orders deals) (IsHeadLine b symbol orders deals) (a ≡ b) (ended_line bytes)
-    (λ text x y. head-once a b symbol text x.asks y.asks x.text_is y.text_is) p q
+    (λ text x y. head-once a b symbol text x.text_is y.text_is) p q
 
 -- One line after another.
 
 module _ (symbol : List ℕ) (orders : List Order) (deals : List Deal) (bytes : List ℕ) where
-  none-before : (r : Rule) → LinesPassBefore r symbol orders deals bytes 1
+  none-before : (r : VolumeRule) → LinesPassBefore r symbol orders deals bytes 1
   none-before r zero lt = tt
   none-before r (suc n) lt = absurd (omega arith)
 
-  one-more : (r : Rule) (n : ℕ) → LinesPassBefore r symbol orders deals bytes n → LinePasses r symbol orders deals bytes n → LinesPassBefore r symbol orders deals bytes (suc n)
+  one-more : (r : VolumeRule) (n : ℕ) → LinesPassBefore r symbol orders deals bytes n → LinePasses r symbol orders deals bytes n → LinesPassBefore r symbol orders deals bytes (suc n)
   one-more r n before here k lt = elim (cases_eq k n) [
     | inl e ↦ subst (LinePasses r symbol orders deals bytes) (sym e) here
     | inr ne ↦ before k (omega (arith, ne))
@@ -107,13 +100,13 @@ module _ (symbol : List ℕ) (orders : List Order) (deals : List Deal) (bytes : 
   pub refused-head : (number : ℕ) → IsRefusedHead symbol orders deals bytes number → IsFirstRefused symbol orders deals bytes number
   unfolding behind_lines
   refused-head number refused = subst (IsFirstRefused symbol orders deals bytes) (sym refused.number_is) (record {
-    some = rule.Uniform;
-    passed = none-before rule.Uniform;
+    some = of_volume.Uniform;
+    passed = none-before of_volume.Uniform;
     fails = λ r before here. refused.fails r here;
     inside = omega arith;
   })
 
-  module _ (r : Rule) (rest1 : List ℕ) (head : IsBehindHead symbol orders deals bytes r rest1) where
+  module _ (r : VolumeRule) (rest1 : List ℕ) (head : IsBehindHead symbol orders deals bytes r rest1) where
     passes1 : LinePasses r symbol orders deals bytes 1
     unfolding behind_lines
     passes1 = head.begins
@@ -134,7 +127,7 @@ module _ (symbol : List ℕ) (orders : List Order) (deals : List Deal) (bytes : 
       passed = before;
       fails = λ other other_before here.
           let same : other ≡ r = one-rule other r symbol orders deals bytes (other_before 1 late) head.begins in
-          fails (subst (λ (x : Rule). LinePasses x symbol orders deals bytes number) same here);
+          fails (subst (λ (x : VolumeRule). LinePasses x symbol orders deals bytes number) same here);
       inside = inside;
     }
 

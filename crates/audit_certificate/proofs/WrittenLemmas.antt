@@ -1,24 +1,26 @@
 -- The lines of a text that is written are read again, and the text agrees.
-use Rattle.std.proofs.Common.{◌≡◌, ◌≤◌, ◌<◌, ◌+◌, ◌-◌, ◌^◌, ℕ, zero, suc, List, [], ◌∷◌, ◌++◌, length, take, Bool, true, false, Option, None, Some, refl, sym, ap, ◌∙◌, arith, subst, append_assoc}
-use Rattle.std.specs.Prelude.{IsSomeAnd, ⊤, not, nat_lt, nat_le, ◌==◌, ◌&&◌, decimal, codes, option_map}
+use Rattle.std.proofs.Common.{◌≡◌, ◌≤◌, ◌<◌, ◌+◌, ◌-◌, ◌^◌, ◌/◌, ◌%◌, ℕ, zero, suc, List, [], ◌∷◌, ◌++◌, length, take, Bool, true, false, Option, None, Some, refl, sym, ap, ◌∙◌, arith, subst, append_assoc}
+use Rattle.std.specs.Prelude.{IsSomeAnd, not, nat_lt, nat_le, ◌==◌, ◌&&◌, decimal, codes, option_map}
 use Rattle.std.specs.List.{list_all, position, position_or_len}
 use Rattle.std.specs.Cmp.{first_so, second_so}
+use Rattle.std.specs.Fmt.{digit_glyph, digits, digits_onto}
 use Rattle.std.proofs.Math.Seq.{take-append_seam, drop-append-add}
-use Rattle.std.proofs.lemmas.Bool.{and_from, cond-true, lt-ltb, leb-true, ne_eqb}
+use Rattle.std.proofs.lemmas.Bool.{and_from, cond-true, cond_both, lt-ltb, leb-true, ne_eqb}
 use Rattle.std.proofs.lemmas.List.{length-append}
 use Rattle.std.proofs.lemmas.List.Folds.{list_all-append}
-use Rattle.audit_base.specs.declared.terms.Rule.{Rule}
-use Rattle.audit_base.specs.declared.terms.Rule.TheVariants as rule
+use Rattle.audit_base.specs.declared.terms.VolumeRule.{VolumeRule}
+use Rattle.audit_base.specs.declared.terms.VolumeRule.TheVariants as of_volume
 use Rattle.audit_base.specs.declared.terms.Side.{Side}
 use Rattle.audit_base.specs.declared.terms.Side.TheVariants.{Buy, Sell}
 use Rattle.audit_base.specs.declared.orders.Order.{Order}
 use Rattle.audit_base.specs.declared.orders.Deal.{Deal}
 use Rattle.audit_base.specs.Names.{is_name, is_name_byte}
 use Rattle.audit_base.specs.Numbers.{price_text}
+use Rattle.audit_base.specs.RuleKinds.{rule_of_volume}
 use Rattle.audit_base.specs.Words.{rule_word}
 use Rattle.audit_base.specs.Orders.{place_at, quantity_at}
 use Rattle.audit_base.specs.Deals.{traded, volume}
-use Rattle.audit_base.proofs.UnquotedLemmas.{decimal_is_unquoted, price_is_unquoted}
+use Rattle.audit_base.proofs.UnquotedLemmas.{price_is_unquoted}
 use Rattle.audit_certificate.specs.Texts.{head_text, bound_text, last_words, place_or_none, last_text, order_text}
 use Rattle.audit_certificate.specs.Lines.{is_line_end, ended_line, behind_size, behind_line, behind_lines, BeginsWith}
 use Rattle.audit_certificate.specs.Agreement.{IsHeadLine, IsBoundLine, IsLastOf, IsLastLine, IsOrderLine, IsOrderAt, ShowsBound, Agrees, order_lines, certificate_text}
@@ -45,8 +47,18 @@ one-name : (text : List ℕ) → list_all is_name_byte text ≡ true → IsOneLi
 one-name [] are = refl
 one-name (c ∷ text) are = and_from _ _ (name_byte-plain c (first_so (is_name_byte c) (list_all is_name_byte text) are)) (one-name text (second_so (is_name_byte c) (list_all is_name_byte text) are))
 
-one-decimal : (number : ℕ) → number < 10 ^ 64 → IsOneLine (decimal number)
-one-decimal number small = one-name (decimal number) (decimal_is_unquoted number small)
+one-digits : (most number : ℕ) (behind : List ℕ) → IsOneLine behind → IsOneLine (digits_onto most 10 false number behind)
+one-digits zero number behind are = are
+one-digits (suc most) number behind are =
+    let more : IsOneLine (digit_glyph false (number % 10) ∷ behind) = and_from _ _ (glyph (number % 10)) are in
+    cond_both (number / 10 == 0) _ _ IsOneLine (λ _. more) (λ _. one-digits most (number / 10) (digit_glyph false (number % 10) ∷ behind) more)
+  where
+    glyph : (d : ℕ) → is_plain (digit_glyph false d) ≡ true
+    glyph d = cond_both (nat_lt d 10) (48 + d) (87 + d) (λ c. is_plain c ≡ true) (λ _. ap not (ne_eqb (48 + d) 10 (λ e. absurd (omega arith)))) (λ _. ap not (ne_eqb (87 + d) 10 (λ e. absurd (omega arith))))
+
+one-decimal : (number : ℕ) → IsOneLine (decimal number)
+unfolding digits
+one-decimal number = one-digits 64 number [] refl
 
 first_end : (text rest : List ℕ) → IsOneLine text → position_or_len is_line_end (text ++ 10 ∷ rest) ≡ length text
 first_end [] rest are = refl
@@ -78,36 +90,29 @@ begins-written Test text rest bytes are is passes = subst (λ (line : Option (Li
 
 -- The texts of the lines.
 
-abbrev pub IsSmall : Option ℕ → Type 0
-IsSmall None = ⊤
-IsSmall (Some n) = n < 10 ^ 64
-
-one-head : (r : Rule) (symbol : List ℕ) → is_name symbol ≡ true → IsOneLine (head_text r symbol)
-one-head r symbol named = one-append (codes "certificate," ++ rule_word r) (44 ∷ symbol) (one-append (codes "certificate,") (rule_word r) refl (word r)) (and_from _ _ refl (one-name symbol (second_so (nat_le 1 (length symbol) && nat_le (length symbol) 64) (list_all is_name_byte symbol) named)))
+one-head : (r : VolumeRule) (symbol : List ℕ) → is_name symbol ≡ true → IsOneLine (head_text r symbol)
+one-head r symbol named = one-append (codes "certificate," ++ rule_word (rule_of_volume r)) (44 ∷ symbol) (one-append (codes "certificate,") (rule_word (rule_of_volume r)) refl (word r)) (and_from _ _ refl (one-name symbol (second_so (nat_le 1 (length symbol) && nat_le (length symbol) 64) (list_all is_name_byte symbol) named)))
   where
-    word : (r : Rule) → IsOneLine (rule_word r)
-    word rule.Matching = refl
-    word rule.Fair = refl
-    word rule.Uniform = refl
-    word rule.Maximum = refl
-    word rule.Continuous = refl
+    word : (r : VolumeRule) → IsOneLine (rule_word (rule_of_volume r))
+    word of_volume.Uniform = refl
+    word of_volume.Maximum = refl
 
-one-bound : (price reached : ℕ) → price ≤ 10 ^ 18 → reached < 10 ^ 64 → IsOneLine (bound_text price reached)
-one-bound price reached most small = one-append (codes "bound," ++ price_text price) (44 ∷ decimal reached) (one-append (codes "bound,") (price_text price) refl (one-name (price_text price) (price_is_unquoted price most))) (and_from _ _ refl (one-decimal reached small))
+one-bound : (price reached : ℕ) → price ≤ 10 ^ 18 → IsOneLine (bound_text price reached)
+one-bound price reached most = one-append (codes "bound," ++ price_text price) (44 ∷ decimal reached) (one-append (codes "bound,") (price_text price) refl (one-name (price_text price) (price_is_unquoted price most))) (and_from _ _ refl (one-decimal reached))
 
-one-last : (side : Side) (place : Option ℕ) → IsSmall place → IsOneLine (last_text side place)
-one-last side place small = one-append (last_words side) (place_or_none place) (words side) (place_is place small)
+one-last : (side : Side) (place : Option ℕ) → IsOneLine (last_text side place)
+one-last side place = one-append (last_words side) (place_or_none place) (words side) (place_is place)
   where
     words : (side : Side) → IsOneLine (last_words side)
     words Buy = refl
     words Sell = refl
 
-    place_is : (place : Option ℕ) → IsSmall place → IsOneLine (place_or_none place)
-    place_is None small = refl
-    place_is (Some n) small = one-decimal n small
+    place_is : (place : Option ℕ) → IsOneLine (place_or_none place)
+    place_is None = refl
+    place_is (Some n) = one-decimal n
 
-one-order : (place number : ℕ) → place < 10 ^ 64 → number < 10 ^ 64 → IsOneLine (order_text place number)
-one-order place number small few = one-append (codes "order," ++ decimal place) (44 ∷ decimal number) (one-append (codes "order,") (decimal place) refl (one-decimal place small)) (and_from _ _ refl (one-decimal number few))
+one-order : (place number : ℕ) → IsOneLine (order_text place number)
+one-order place number = one-append (codes "order," ++ decimal place) (44 ∷ decimal number) (one-append (codes "order,") (decimal place) refl (one-decimal place)) (and_from _ _ refl (one-decimal number))
 
 -- The lines of the orders.
 
@@ -115,14 +120,9 @@ order-cons : (orders : List Order) (deals : List Deal) (from count : ℕ)
     → order_lines orders deals from (suc count) ≡ order_text (place_at orders from) (traded deals from) ++ 10 ∷ order_lines orders deals (from + 1) count
 order-cons orders deals from count = append_assoc (order_text (place_at orders from) (traded deals from)) (10 ∷ []) (order_lines orders deals (from + 1) count)
 
--- numbers of places and quantities have few digits
-pub record AreSmall (orders : List Order) (deals : List Deal) : Type 0 where
-  pub places : (i : ℕ) → i < length orders → place_at orders i < 10 ^ 64
-  pub numbers : (i : ℕ) → i < length orders → traded deals i < 10 ^ 64
-
-module _ (orders : List Order) (deals : List Deal) (small : AreSmall orders deals) where
-  one-at : (i : ℕ) → i < length orders → IsOneLine (order_text (place_at orders i) (traded deals i))
-  one-at i lt = one-order (place_at orders i) (traded deals i) (small.places i lt) (small.numbers i lt)
+module _ (orders : List Order) (deals : List Deal) where
+  one-at : (i : ℕ) → IsOneLine (order_text (place_at orders i) (traded deals i))
+  one-at i = one-order (place_at orders i) (traded deals i)
 
   -- behind the first k of them are those from k on
   behind-orders : (k n from : ℕ) → from + n ≤ length orders → k ≤ n → behind_lines k (order_lines orders deals from n) ≡ order_lines orders deals (from + k) (n - k)
@@ -133,7 +133,7 @@ module _ (orders : List Order) (deals : List Deal) (small : AreSmall orders deal
       let a : from + 1 + k ≡ from + suc k = omega arith in
       let b : n - k ≡ suc n - suc k = omega arith in
       behind-first k (order_lines orders deals from (suc n))
-      ∙ ap (behind_lines k) (ap behind_line (order-cons orders deals from n) ∙ line-behind (order_text (place_at orders from) (traded deals from)) (order_lines orders deals (from + 1) n) (one-at from (omega arith)))
+      ∙ ap (behind_lines k) (ap behind_line (order-cons orders deals from n) ∙ line-behind (order_text (place_at orders from) (traded deals from)) (order_lines orders deals (from + 1) n) (one-at from))
       ∙ behind-orders k n (from + 1) (omega arith) (omega arith)
       ∙ (λ i. order_lines orders deals (a i) (b i))
 
@@ -144,7 +144,7 @@ module _ (orders : List Order) (deals : List Deal) (small : AreSmall orders deal
       record {
         line = λ lt.
             let more : length orders - k ≡ suc (length orders - k - 1) = omega arith in
-            begins-written (IsOrderLine orders deals k) (order_text (place_at orders k) (traded deals k)) (order_lines orders deals (k + 1) (length orders - k - 1)) rest (one-at k lt)
+            begins-written (IsOrderLine orders deals k) (order_text (place_at orders k) (traded deals k)) (order_lines orders deals (k + 1) (length orders - k - 1)) rest (one-at k)
             (at ∙ ap (order_lines orders deals k) more ∙ order-cons orders deals k (length orders - k - 1))
             (record { within = within k lt; text_is = refl });
         no_more = λ e. let none : length orders - k ≡ 0 = omega arith in at ∙ ap (order_lines orders deals k) none;
@@ -164,20 +164,16 @@ four-lines a b c d r =
     one front line rest = append_assoc front (line ++ 10 ∷ []) rest ∙ ap (λ (t : List ℕ). front ++ t) (append_assoc line (10 ∷ []) rest)
 
 -- what a certificate has to have to agree
-pub record IsAgreeable (the_rule : Rule) (symbol : List ℕ) (orders : List Order) (deals : List Deal) (price : ℕ) (bid ask : Option ℕ) : Type 0 where
+pub record IsAgreeable (the_rule : VolumeRule) (symbol : List ℕ) (orders : List Order) (deals : List Deal) (price : ℕ) (bid ask : Option ℕ) : Type 0 where
   pub named : is_name symbol ≡ true
-  pub small : AreSmall orders deals
-  pub volume_small : volume deals < 10 ^ 64
   pub head : IsHeadLine the_rule symbol orders deals (head_text the_rule symbol)
   pub in_range : price ≤ 10 ^ 18
   pub shows : ShowsBound the_rule orders (volume deals) price
   pub last_bid : IsLastOf orders deals Buy bid
   pub last_ask : IsLastOf orders deals Sell ask
-  pub bid_small : IsSmall (option_map (place_at orders) bid)
-  pub ask_small : IsSmall (option_map (place_at orders) ask)
   pub within : (i : ℕ) → i < length orders → traded deals i ≤ quantity_at orders i
 
-module _ (the_rule : Rule) (symbol : List ℕ) (orders : List Order) (deals : List Deal) (price : ℕ) (bid ask : Option ℕ) (is : IsAgreeable the_rule symbol orders deals price bid ask) where
+module _ (the_rule : VolumeRule) (symbol : List ℕ) (orders : List Order) (deals : List Deal) (price : ℕ) (bid ask : Option ℕ) (is : IsAgreeable the_rule symbol orders deals price bid ask) where
   abbrev bytes : List ℕ
   bytes = certificate_text the_rule symbol orders deals price bid ask
 
@@ -205,24 +201,24 @@ module _ (the_rule : Rule) (symbol : List ℕ) (orders : List Order) (deals : Li
 
   rest2 : behind_lines 2 bytes ≡ bid_line ++ 10 ∷ (ask_line ++ 10 ∷ rest)
   unfolding behind_lines
-  rest2 = ap behind_line rest1 ∙ line-behind bound_line (bid_line ++ 10 ∷ (ask_line ++ 10 ∷ rest)) (one-bound price (volume deals) is.in_range is.volume_small)
+  rest2 = ap behind_line rest1 ∙ line-behind bound_line (bid_line ++ 10 ∷ (ask_line ++ 10 ∷ rest)) (one-bound price (volume deals) is.in_range)
 
   rest3 : behind_lines 3 bytes ≡ ask_line ++ 10 ∷ rest
   unfolding behind_lines
-  rest3 = ap behind_line rest2 ∙ line-behind bid_line (ask_line ++ 10 ∷ rest) (one-last Buy (option_map (place_at orders) bid) is.bid_small)
+  rest3 = ap behind_line rest2 ∙ line-behind bid_line (ask_line ++ 10 ∷ rest) (one-last Buy (option_map (place_at orders) bid))
 
   rest4 : behind_lines 4 bytes ≡ rest
   unfolding behind_lines
-  rest4 = ap behind_line rest3 ∙ line-behind ask_line rest (one-last Sell (option_map (place_at orders) ask) is.ask_small)
+  rest4 = ap behind_line rest3 ∙ line-behind ask_line rest (one-last Sell (option_map (place_at orders) ask))
 
   pub agrees-written : Agrees the_rule symbol orders deals bytes
   unfolding behind_lines
   agrees-written zero le = tt
   agrees-written (suc zero) le = begins-written (IsHeadLine the_rule symbol orders deals) head_line (bound_line ++ 10 ∷ (bid_line ++ 10 ∷ (ask_line ++ 10 ∷ rest))) bytes (one-head the_rule symbol is.named) whole is.head
-  agrees-written (suc (suc zero)) le = begins-written (IsBoundLine the_rule orders (volume deals)) bound_line (bid_line ++ 10 ∷ (ask_line ++ 10 ∷ rest)) (behind_lines 1 bytes) (one-bound price (volume deals) is.in_range is.volume_small) rest1
+  agrees-written (suc (suc zero)) le = begins-written (IsBoundLine the_rule orders (volume deals)) bound_line (bid_line ++ 10 ∷ (ask_line ++ 10 ∷ rest)) (behind_lines 1 bytes) (one-bound price (volume deals) is.in_range) rest1
       (record { price = price; in_range = is.in_range; text_is = refl; shows = is.shows })
-  agrees-written (suc (suc (suc zero))) le = begins-written (IsLastLine orders deals Buy) bid_line (ask_line ++ 10 ∷ rest) (behind_lines 2 bytes) (one-last Buy (option_map (place_at orders) bid) is.bid_small) rest2
+  agrees-written (suc (suc (suc zero))) le = begins-written (IsLastLine orders deals Buy) bid_line (ask_line ++ 10 ∷ rest) (behind_lines 2 bytes) (one-last Buy (option_map (place_at orders) bid)) rest2
       (record { last = bid; is_last = is.last_bid; text_is = refl })
-  agrees-written (suc (suc (suc (suc zero)))) le = begins-written (IsLastLine orders deals Sell) ask_line rest (behind_lines 3 bytes) (one-last Sell (option_map (place_at orders) ask) is.ask_small) rest3
+  agrees-written (suc (suc (suc (suc zero)))) le = begins-written (IsLastLine orders deals Sell) ask_line rest (behind_lines 3 bytes) (one-last Sell (option_map (place_at orders) ask)) rest3
       (record { last = ask; is_last = is.last_ask; text_is = refl })
-  agrees-written (suc (suc (suc (suc (suc k))))) le = order-passes orders deals is.small is.within k (omega arith) (behind_lines (4 + k) bytes) (sym (behind-both 4 k bytes) ∙ ap (behind_lines k) rest4)
+  agrees-written (suc (suc (suc (suc (suc k))))) le = order-passes orders deals is.within k (omega arith) (behind_lines (4 + k) bytes) (sym (behind-both 4 k bytes) ∙ ap (behind_lines k) rest4)

@@ -1,9 +1,10 @@
 -- When a certificate agrees with an order list and deals: what each of its lines has to meet. An order
 -- takes part where no record cancels it.
-use Rattle.std.specs.Prelude.{◌≡◌, ◌≤◌, ◌<◌, ◌+◌, ◌^◌, ℕ, zero, suc, List, [], ◌∷◌, ◌++◌, Option, None, Some, All, IsTrue, ⊤, length, option_map}
+use Rattle.std.specs.Prelude.{◌≡◌, ◌≤◌, ◌<◌, ◌+◌, ◌^◌, ℕ, zero, suc, List, [], ◌∷◌, ◌++◌, Option, None, Some, All, IsSomeAnd, ⊤, length, option_map}
 use Rattle.std.specs.List.{flat_map, range_with_len}
 use Rattle.audit_base.specs.declared.terms.Rule.{Rule}
-use Rattle.audit_base.specs.declared.terms.Rule.TheVariants as rule
+use Rattle.audit_base.specs.declared.terms.VolumeRule.{VolumeRule}
+use Rattle.audit_base.specs.declared.terms.VolumeRule.TheVariants as of_volume
 use Rattle.audit_base.specs.declared.terms.Side.{Side}
 use Rattle.audit_base.specs.declared.terms.Side.TheVariants.{Buy, Sell}
 use Rattle.audit_base.specs.declared.orders.Order.{Order}
@@ -14,29 +15,21 @@ use Rattle.audit_base.specs.Priority.{Better}
 use Rattle.audit_base.specs.Deals.{traded, volume}
 use Rattle.audit_base.specs.Calls.{Keeps, OnePrice}
 use Rattle.audit_base.specs.Bounds.{demand, supply_below}
-use Rattle.call_laws.specs.Laws.{asks_for_greatest}
+use Rattle.audit_base.specs.RuleKinds.{volume_rule}
 use Rattle.audit_certificate.specs.Texts.{head_text, bound_text, last_text, order_text}
 use Rattle.audit_certificate.specs.Lines.{behind_lines, BeginsWith}
-
--- places are numbers of 32 bits
-abbrev pub ArePlaced : List Order → Type 0
-ArePlaced orders = All (λ o. o.place < 2 ^ 32) orders
 
 -- Line 1.
 
 -- under `uniform` all prices are equal
-abbrev pub OnePriceIfUniform : Rule → List Deal → Type 0
-OnePriceIfUniform rule.Uniform deals = OnePrice deals
-OnePriceIfUniform rule.Matching deals = ⊤
-OnePriceIfUniform rule.Fair deals = ⊤
-OnePriceIfUniform rule.Maximum deals = ⊤
-OnePriceIfUniform rule.Continuous deals = ⊤
+abbrev pub OnePriceIfUniform : VolumeRule → List Deal → Type 0
+OnePriceIfUniform of_volume.Uniform deals = OnePrice deals
+OnePriceIfUniform of_volume.Maximum deals = ⊤
 
--- the rule is `uniform` or `maximum`, the symbol is that of the orders, and each deal is between a bid
--- and an ask that take part, at a price within both limits
-pub record IsHeadLine (the_rule : Rule) (symbol : List ℕ) (orders : List Order)
+-- the line has the rule, `uniform` or `maximum`, and the symbol of the orders, and each deal is
+-- between a bid and an ask that take part, at a price within both limits
+pub record IsHeadLine (the_rule : VolumeRule) (symbol : List ℕ) (orders : List Order)
     (deals : List Deal) (text : List ℕ) : Type 0 where
-  pub asks : IsTrue (asks_for_greatest the_rule)
   pub text_is : text ≡ head_text the_rule symbol
   pub kept : All (Keeps orders) deals
   pub one_price : OnePriceIfUniform the_rule deals
@@ -45,17 +38,14 @@ pub record IsHeadLine (the_rule : Rule) (symbol : List ℕ) (orders : List Order
 
 -- a price shows that no volume is greater: under `maximum` the demand there and the asks below it are
 -- together this volume, under `uniform` neither of the two is above it
-abbrev pub ShowsBound : Rule → List Order → ℕ → ℕ → Type 0
-ShowsBound rule.Maximum orders reached price =
+abbrev pub ShowsBound : VolumeRule → List Order → ℕ → ℕ → Type 0
+ShowsBound of_volume.Maximum orders reached price =
     demand orders price + supply_below orders price ≡ reached
-ShowsBound rule.Uniform orders reached price =
+ShowsBound of_volume.Uniform orders reached price =
     (demand orders price ≤ reached) × (supply_below orders price ≤ reached)
-ShowsBound rule.Matching orders reached price = ⊥
-ShowsBound rule.Fair orders reached price = ⊥
-ShowsBound rule.Continuous orders reached price = ⊥
 
 -- the line has the volume, and a price from 0 to 10^18 that shows it
-pub record IsBoundLine (the_rule : Rule) (orders : List Order) (reached : ℕ)
+pub record IsBoundLine (the_rule : VolumeRule) (orders : List Order) (reached : ℕ)
     (text : List ℕ) : Type 0 where
   pub price : ℕ
   pub in_range : price ≤ 10 ^ 18
@@ -104,7 +94,7 @@ pub record IsOrderAt (orders : List Order) (deals : List Deal) (index : ℕ)
 
 -- the line with this number, from 1, passes. The number behind the last order is that of a line too
 -- many, which passes where it isn't there
-abbrev pub LinePasses : Rule → List ℕ → List Order → List Deal → List ℕ → ℕ → Type 0
+abbrev pub LinePasses : VolumeRule → List ℕ → List Order → List Deal → List ℕ → ℕ → Type 0
 LinePasses the_rule symbol orders deals bytes zero = ⊤
 LinePasses the_rule symbol orders deals bytes (suc zero) =
     BeginsWith (IsHeadLine the_rule symbol orders deals) (behind_lines 0 bytes)
@@ -118,18 +108,23 @@ LinePasses the_rule symbol orders deals bytes (suc (suc (suc (suc (suc index))))
     IsOrderAt orders deals index (behind_lines (4 + index) bytes)
 
 -- Agrees: each line passes, and there are no more and no fewer
-abbrev pub Agrees : Rule → List ℕ → List Order → List Deal → List ℕ → Type 0
+abbrev pub Agrees : VolumeRule → List ℕ → List Order → List Deal → List ℕ → Type 0
 Agrees the_rule symbol orders deals bytes =
     (number : ℕ) → number ≤ 5 + length orders
     → LinePasses the_rule symbol orders deals bytes number
 
+-- the same of one of the five rules, which has to be one that asks for the greatest volume
+abbrev pub AgreesUnder : Rule → List ℕ → List Order → List Deal → List ℕ → Type 0
+AgreesUnder the_rule symbol orders deals bytes =
+    IsSomeAnd (volume_rule the_rule) (λ r. Agrees r symbol orders deals bytes)
+
 -- there is no rule under which the certificate agrees
 abbrev pub AgreesUnderNone : List ℕ → List Order → List Deal → List ℕ → Type 0
 AgreesUnderNone symbol orders deals bytes =
-    (the_rule : Rule) → Agrees the_rule symbol orders deals bytes → ⊥
+    (the_rule : Rule) → AgreesUnder the_rule symbol orders deals bytes → ⊥
 
 -- the lines before this one pass under a rule
-abbrev pub LinesPassBefore : Rule → List ℕ → List Order → List Deal → List ℕ → ℕ → Type 0
+abbrev pub LinesPassBefore : VolumeRule → List ℕ → List Order → List Deal → List ℕ → ℕ → Type 0
 LinesPassBefore the_rule symbol orders deals bytes number =
     (before : ℕ) → before < number → LinePasses the_rule symbol orders deals bytes before
 
@@ -137,9 +132,9 @@ LinesPassBefore the_rule symbol orders deals bytes number =
 -- some rule, and under each rule under which they do this one does not
 pub record IsFirstRefused (symbol : List ℕ) (orders : List Order) (deals : List Deal)
     (bytes : List ℕ) (number : ℕ) : Type 0 where
-  pub some : Rule
+  pub some : VolumeRule
   pub passed : LinesPassBefore some symbol orders deals bytes number
-  pub fails : (the_rule : Rule) → LinesPassBefore the_rule symbol orders deals bytes number
+  pub fails : (the_rule : VolumeRule) → LinesPassBefore the_rule symbol orders deals bytes number
       → LinePasses the_rule symbol orders deals bytes number → ⊥
   pub inside : number ≤ 5 + length orders
 
@@ -152,7 +147,7 @@ order_lines orders deals from count =
     (range_with_len from count)
 
 -- all lines of a certificate, of a price and the last orders of both sides that trade
-abbrev pub certificate_text : Rule → List ℕ → List Order → List Deal → ℕ → Option ℕ → Option ℕ
+abbrev pub certificate_text : VolumeRule → List ℕ → List Order → List Deal → ℕ → Option ℕ → Option ℕ
     → List ℕ
 certificate_text the_rule symbol orders deals price bid ask =
     head_text the_rule symbol ++ 10 ∷ []
@@ -162,12 +157,12 @@ certificate_text the_rule symbol orders deals price bid ask =
     ++ order_lines orders deals 0 (length orders)
 
 -- a price from 0 to 10^18 that passes line 2, and none below it does
-abbrev pub IsLeastPrice : Rule → List Order → ℕ → ℕ → Type 0
+abbrev pub IsLeastPrice : VolumeRule → List Order → ℕ → ℕ → Type 0
 IsLeastPrice the_rule orders reached price =
     IsLeast (λ q. (q ≤ 10 ^ 18) × ShowsBound the_rule orders reached q) price
 
 -- the certificate of these orders and deals: it has the least price
-pub record IsCertificate (the_rule : Rule) (symbol : List ℕ) (orders : List Order)
+pub record IsCertificate (the_rule : VolumeRule) (symbol : List ℕ) (orders : List Order)
     (deals : List Deal) (text : List ℕ) : Type 0 where
   pub price : ℕ
   pub bid : Option ℕ
@@ -176,3 +171,8 @@ pub record IsCertificate (the_rule : Rule) (symbol : List ℕ) (orders : List Or
   pub last_bid : IsLastOf orders deals Buy bid
   pub last_ask : IsLastOf orders deals Sell ask
   pub text_is : text ≡ certificate_text the_rule symbol orders deals price bid ask
+
+-- the same of one of the five rules, which has to be one that asks for the greatest volume
+abbrev pub IsCertificateUnder : Rule → List ℕ → List Order → List Deal → List ℕ → Type 0
+IsCertificateUnder the_rule symbol orders deals text =
+    IsSomeAnd (volume_rule the_rule) (λ r. IsCertificate r symbol orders deals text)

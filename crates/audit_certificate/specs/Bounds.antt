@@ -1,8 +1,8 @@
 -- How line 2 is read, and the price that is written.
 use Rattle.std.specs.Prelude.{◌≡◌, ℕ, zero, suc, ◌+◌, ◌^◌, ◌==◌, ◌&&◌, nat_lt, max, Bool, List, Option, None, Some, slice_index, take, drop, length, if◌then◌else◌}
 use Rattle.std.specs.List.{position}
-use Rattle.audit_base.specs.declared.terms.Rule.{Rule}
-use Rattle.audit_base.specs.declared.terms.Rule.TheVariants as rule
+use Rattle.audit_base.specs.declared.terms.VolumeRule.{VolumeRule}
+use Rattle.audit_base.specs.declared.terms.VolumeRule.TheVariants as of_volume
 use Rattle.audit_base.specs.declared.terms.Side.TheVariants.{Buy}
 use Rattle.audit_base.specs.declared.orders.Order.{Order}
 use Rattle.audit_base.specs.Numbers.{price_form}
@@ -49,11 +49,8 @@ pub record IsLeastCutPrice (orders : List Order) (price : ℕ) : Type 0 where
   pub volume : ℕ
   pub least : IsLeastCut orders (record { price = price; volume = volume })
 
--- under `maximum` the price of the least cut, else that above the short bids
-abbrev pub IsPriceOf : Rule → List Order → List ℕ → ℕ → Type 0
-IsPriceOf rule.Maximum orders traded price = IsLeastCutPrice orders price
-IsPriceOf rule.Uniform orders traded price = price ≡ above_short_bids orders traded (length orders)
-IsPriceOf rule.Matching orders traded price = price ≡ above_short_bids orders traded (length orders)
-IsPriceOf rule.Fair orders traded price = price ≡ above_short_bids orders traded (length orders)
-IsPriceOf rule.Continuous orders traded price =
+-- under `maximum` the price of the least cut, under `uniform` that above the short bids
+abbrev pub IsPriceOf : VolumeRule → List Order → List ℕ → ℕ → Type 0
+IsPriceOf of_volume.Maximum orders traded price = IsLeastCutPrice orders price
+IsPriceOf of_volume.Uniform orders traded price =
     price ≡ above_short_bids orders traded (length orders)

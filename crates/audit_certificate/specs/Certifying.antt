@@ -1,6 +1,6 @@
 -- The text that is written, by what is counted.
 use Rattle.std.specs.Prelude.{ℕ, List, [], ◌∷◌, ◌++◌, length, option_map}
-use Rattle.audit_base.specs.declared.terms.Rule.{Rule}
+use Rattle.audit_base.specs.declared.terms.VolumeRule.{VolumeRule}
 use Rattle.audit_base.specs.declared.terms.Side.{Side}
 use Rattle.audit_base.specs.declared.terms.Side.TheVariants.{Buy, Sell}
 use Rattle.audit_base.specs.declared.orders.Order.{Order}
@@ -11,7 +11,7 @@ use Rattle.audit_certificate.specs.LastOrders.{last_trading}
 use Rattle.audit_certificate.specs.OrderLines.{lines_upto}
 
 -- lines 1 and 2
-abbrev pub front_lines : Rule → List ℕ → ℕ → ℕ → List ℕ
+abbrev pub front_lines : VolumeRule → List ℕ → ℕ → ℕ → List ℕ
 front_lines rule symbol price reached =
     head_text rule symbol ++ 10 ∷ [] ++ (bound_text price reached ++ 10 ∷ [])
 
@@ -22,7 +22,7 @@ last_line orders traded side =
     last_text side (option_map (place_at orders) last) ++ 10 ∷ []
 
 -- all lines
-abbrev pub written_text : Rule → List ℕ → List Order → Counts → ℕ → List ℕ
+abbrev pub written_text : VolumeRule → List ℕ → List Order → Counts → ℕ → List ℕ
 written_text rule symbol orders counts price =
     front_lines rule symbol price counts.volume ++ last_line orders counts.traded.items Buy
     ++ last_line orders counts.traded.items Sell

@@ -5,7 +5,7 @@ use Rattle.audit_base.specs.declared.orders.Order.{Order}
 use Rattle.audit_base.specs.declared.orders.Deal.{Deal}
 use Rattle.audit_base.specs.Orders.{order_at, side_at, quantity_at, stands_on, IsOrderList}
 use Rattle.audit_base.specs.Priority.{better}
-use Rattle.short_order.specs.Totals.{AreTotals}
+use Rattle.audit_base.specs.Deals.{AreTotals}
 use Rattle.audit_certificate.specs.Agreement.{IsLastLine, IsOrderLine}
 
 -- the index is that of an order of the side

@@ -1,12 +1,12 @@
 -- What each step of the verification says of what is left of the text.
 use Rattle.std.specs.Prelude.{◌≡◌, ◌≤◌, ℕ, List, length}
-use Rattle.audit_base.specs.declared.terms.Rule.{Rule}
+use Rattle.audit_base.specs.declared.terms.VolumeRule.{VolumeRule}
 use Rattle.audit_base.specs.declared.terms.Side.{Side}
 use Rattle.audit_base.specs.declared.terms.Side.TheVariants.{Buy, Sell}
 use Rattle.audit_base.specs.declared.orders.Order.{Order}
 use Rattle.audit_base.specs.declared.orders.Deal.{Deal}
 use Rattle.audit_base.specs.Orders.{IsOrderList}
-use Rattle.short_order.specs.Totals.{AreTotals}
+use Rattle.audit_base.specs.Deals.{AreTotals}
 use Rattle.audit_certificate.specs.Lines.{behind_line, BeginsWith}
 use Rattle.audit_certificate.specs.Agreement.{IsHeadLine, IsBoundLine, IsLastLine}
 
@@ -17,21 +17,22 @@ pub record IsBehind (Test : List ℕ → Type 0) (bytes rest : List ℕ) : Type 
   pub shorter : length rest ≤ length bytes
 
 -- line 1 passes under this rule, or under none
-abbrev pub IsBehindHead : List ℕ → List Order → List Deal → List ℕ → Rule → List ℕ → Type 0
+abbrev pub IsBehindHead : List ℕ → List Order → List Deal → List ℕ → VolumeRule → List ℕ → Type 0
 IsBehindHead symbol orders deals bytes the_rule rest =
     IsBehind (IsHeadLine the_rule symbol orders deals) bytes rest
 
 pub record IsRefusedHead (symbol : List ℕ) (orders : List Order) (deals : List Deal)
     (bytes : List ℕ) (number : ℕ) : Type 0 where
   pub number_is : number ≡ 1
-  pub fails : (the_rule : Rule) → BeginsWith (IsHeadLine the_rule symbol orders deals) bytes → ⊥
+  pub fails : (the_rule : VolumeRule)
+      → BeginsWith (IsHeadLine the_rule symbol orders deals) bytes → ⊥
 
 -- line 2 passes, or not
-abbrev pub IsBehindBound : Rule → List Order → ℕ → List ℕ → List ℕ → Type 0
+abbrev pub IsBehindBound : VolumeRule → List Order → ℕ → List ℕ → List ℕ → Type 0
 IsBehindBound the_rule orders reached bytes rest =
     IsBehind (IsBoundLine the_rule orders reached) bytes rest
 
-pub record IsRefusedBound (the_rule : Rule) (orders : List Order) (reached : ℕ)
+pub record IsRefusedBound (the_rule : VolumeRule) (orders : List Order) (reached : ℕ)
     (bytes : List ℕ) (number : ℕ) : Type 0 where
   pub number_is : number ≡ 2
   pub fails : BeginsWith (IsBoundLine the_rule orders reached) bytes → ⊥

@@ -1,14 +1,16 @@
 -- The texts of a certificate's lines. The codes of `,` and LF are 44 and 10. Numbers are canonical.
 use Rattle.std.specs.Prelude.{ℕ, List, ◌∷◌, ◌++◌, Option, None, Some, codes, decimal}
-use Rattle.audit_base.specs.declared.terms.Rule.{Rule}
+use Rattle.audit_base.specs.declared.terms.VolumeRule.{VolumeRule}
 use Rattle.audit_base.specs.declared.terms.Side.{Side}
 use Rattle.audit_base.specs.declared.terms.Side.TheVariants.{Buy, Sell}
 use Rattle.audit_base.specs.Numbers.{price_text}
+use Rattle.audit_base.specs.RuleKinds.{rule_of_volume}
 use Rattle.audit_base.specs.Words.{rule_word}
 
 -- line 1: `certificate,RULE,SYMBOL`
-abbrev pub head_text : Rule → List ℕ → List ℕ
-head_text rule symbol = codes "certificate," ++ rule_word rule ++ 44 ∷ symbol
+abbrev pub head_text : VolumeRule → List ℕ → List ℕ
+head_text rule symbol =
+    codes "certificate," ++ rule_word (rule_of_volume rule) ++ 44 ∷ symbol
 
 -- line 2: `bound,PRICE,VOLUME`
 abbrev pub bound_text : ℕ → ℕ → List ℕ

@@ -1,8 +1,7 @@
 //! Line 2: a price that shows the volume to be the greatest.
-ghost use Rattle.std.specs.Prelude.{◌≡◌, ◌<◌, ◌≤◌, ◌↔◌, ◌^◌, ℕ, List, IfOk, IsTrue, OnOk, length};
+ghost use Rattle.std.specs.Prelude.{◌≡◌, ◌<◌, ◌≤◌, ◌↔◌, ◌^◌, ℕ, List, IfOk, IsTrue, length};
 ghost use Rattle.std.specs.List.{position};
-ghost use Rattle.audit_base.specs.Orders.{AreOrders, IsOrder};
-ghost use Rattle.audit_certificate.specs.Agreement.{ArePlaced, IsBoundLine, ShowsBound};
+ghost use Rattle.audit_certificate.specs.Agreement.{IsBoundLine, ShowsBound};
 ghost use Rattle.audit_certificate.specs.Bounds as bound;
 ghost use Rattle.audit_certificate.specs.Texts.{bound_text};
 
@@ -10,7 +9,7 @@ use super::texts::append_bound;
 use audit_base::faults::NoMemory;
 use audit_base::numbers::read_price;
 use audit_base::orders::Order;
-use audit_base::terms::{Rule, Side};
+use audit_base::terms::{Side, VolumeRule};
 use std::alloc::Global;
 use volume_bound::direct::{demand_at, supply_below};
 use volume_bound::extremes::least_cut;
@@ -19,16 +18,15 @@ use volume_bound::extremes::least_cut;
 const ABOVE_ALL_PRICES: u64 = 1_000_000_000_000_000_000;
 
 /// Whether the price shows that no volume is greater than this one.
-fn shows_bound(rule: Rule, orders: &[Order], volume: u128, price: u64) -> bool
+fn shows_bound(rule: VolumeRule, orders: &[Order], volume: u128, price: u64) -> bool
     requires { length orders.now < 2 ^ 32 }
     ensures { IsTrue result ↔ ShowsBound rule orders.now volume price }
 {
     let demand = demand_at(orders, price);
     let below = supply_below(orders, price);
     match rule {
-        Rule::Maximum => demand <= volume && volume - demand == below,
-        Rule::Uniform => demand <= volume && below <= volume,
-        Rule::Matching | Rule::Fair | Rule::Continuous => false,
+        VolumeRule::Maximum => demand <= volume && volume - demand == below,
+        VolumeRule::Uniform => demand <= volume && below <= volume,
     }
 }
 
@@ -91,7 +89,7 @@ fn is_bound_text(
 /// call uses anew.
 pub fn is_bound_line(
     alloc: Global,
-    rule: Rule,
+    rule: VolumeRule,
     orders: &[Order],
     volume: u128,
     line: &[u8],
@@ -112,14 +110,10 @@ pub fn is_bound_line(
 fn above_if_short(order: &Order, traded: u128) -> u64
     ensures same { result ≡ bound.above_if_short order.now traded }
     ensures in_range { result ≤ 10 ^ 18 }
-    ensures numbers { IsOrder order.now }
-    ensures place { order.now.place < 2 ^ 32 }
 {
-    let _place = order.place;
-    let limit = order.limit.units();
     let quantity = order.quantity.value();
     if order.stands_on(Side::Buy) && traded < u128::from(quantity) {
-        limit + 1
+        order.limit.units() + 1
     } else {
         0
     }
@@ -130,8 +124,6 @@ fn above_short_bids(orders: &[Order], traded: &[u128]) -> u64
     requires { length traded.now ≡ length orders.now }
     ensures same { result ≡ bound.above_short_bids orders.now traded.now (length orders.now) }
     ensures in_range { result ≤ 10 ^ 18 }
-    ensures numbers { AreOrders orders.now }
-    ensures places { ArePlaced orders.now }
 {
     let mut price = 0;
     for index in 0..orders.len() {
@@ -145,7 +137,7 @@ fn above_short_bids(orders: &[Order], traded: &[u128]) -> u64
 /// limit the demand is above the volume. Err only out of memory.
 pub fn least_price(
     alloc: Global,
-    rule: Rule,
+    rule: VolumeRule,
     orders: &[Order],
     traded: &[u128],
 ) -> Result<u64, NoMemory>
@@ -153,12 +145,9 @@ pub fn least_price(
     requires count { length traded.now ≡ length orders.now }
     ensures price { IfOk result (bound.IsPriceOf rule orders.now traded.now) }
     ensures in_range { IfOk result (λ price. price ≤ 10 ^ 18) }
-    ensures numbers { OnOk result (AreOrders orders.now) }
-    ensures places { OnOk result (ArePlaced orders.now) }
 {
-    let above = above_short_bids(orders, traded);
     match rule {
-        Rule::Maximum => Ok(least_cut(alloc, orders)?.price),
-        Rule::Uniform | Rule::Matching | Rule::Fair | Rule::Continuous => Ok(above),
+        VolumeRule::Maximum => Ok(least_cut(alloc, orders)?.price),
+        VolumeRule::Uniform => Ok(above_short_bids(orders, traded)),
     }
 }

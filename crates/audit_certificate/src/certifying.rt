@@ -3,8 +3,8 @@ ghost use Rattle.std.specs.Prelude.{◌≡◌, ◌<◌, ◌≤◌, ◌^◌, ◌+
 ghost use Rattle.audit_base.specs.Deals.{IsDealList};
 ghost use Rattle.audit_base.specs.Orders.{IsOrderList};
 ghost use Rattle.audit_base.specs.Rules.{Conforms};
-ghost use Rattle.call_laws.specs.Laws.{asks_for_greatest};
-ghost use Rattle.audit_certificate.specs.Agreement.{Agrees, IsCertificate};
+ghost use Rattle.audit_base.specs.RuleKinds.{asks_for_greatest};
+ghost use Rattle.audit_certificate.specs.Agreement.{AgreesUnder, IsCertificateUnder};
 ghost use Rattle.audit_certificate.specs.Certifying as spec;
 
 use super::bounds::least_price;
@@ -15,7 +15,8 @@ use super::texts::{append, append_bound, append_head, append_last};
 use audit_base::faults::NoMemory;
 use audit_base::names::Name;
 use audit_base::orders::{Deal, Order};
-use audit_base::terms::{Rule, Side};
+use audit_base::ranges::{deals_in_range, orders_in_range};
+use audit_base::terms::{Rule, Side, VolumeRule};
 use call_laws::laws::short_orders_do_not_meet;
 use call_laws::optimum::greatest_matching_reaches_the_least_cut;
 use std::alloc::Global;
@@ -40,7 +41,7 @@ fn append_last_line(
 /// Appends the first two lines.
 fn append_front(
     alloc: Global,
-    rule: Rule,
+    rule: VolumeRule,
     symbol: &Name,
     price: u64,
     volume: u128,
@@ -59,7 +60,7 @@ fn append_front(
 /// The lines of a certificate with this price.
 fn certificate_of(
     alloc: Global,
-    rule: Rule,
+    rule: VolumeRule,
     symbol: &Name,
     orders: &[Order],
     counts: &Counts,
@@ -92,15 +93,18 @@ pub fn certify(
     requires rule { IsTrue (asks_for_greatest rule) }
     requires conforms { Conforms rule orders.now deals.now }
     ensures certificate { IfOk result (λ text.
-        IsCertificate rule symbol.now orders.now deals.now text.items) }
+        IsCertificateUnder rule symbol.now orders.now deals.now text.items) }
     ensures agrees { IfOk result (λ text.
-        Agrees rule symbol.now orders.now deals.now text.items) }
+        AgreesUnder rule symbol.now orders.now deals.now text.items) }
 {
     // Laws that the answer rests on. They compute nothing.
     greatest_matching_reaches_the_least_cut();
     short_orders_do_not_meet();
-    // This call tells the proof the form that a name keeps.
+    // These calls tell the proof the ranges of the numbers and the form that a name keeps.
+    orders_in_range(orders);
+    deals_in_range(deals);
     let _ = symbol.bytes();
+    let rule = rule.volume_rule().unwrap();
     let counts = count(alloc, orders, deals)?;
     let price = least_price(alloc, rule, orders, &counts.traded)?;
     certificate_of(alloc, rule, symbol, orders, &counts, price)

@@ -1,10 +1,11 @@
 //! What each order trades, and the volume, in one pass over the deals.
-ghost use Rattle.std.specs.Prelude.{◌≡◌, ◌<◌, ◌+◌, ◌^◌, IfOk, OnOk, slice_index, slice_set, vec_len};
-ghost use Rattle.audit_base.specs.Deals.{IsDeal, IsDealList, AreDeals};
+ghost use Rattle.std.specs.Prelude.{◌≡◌, ◌<◌, ◌+◌, ◌^◌, IfOk, slice_index, slice_set, vec_len};
+ghost use Rattle.audit_base.specs.Deals.{IsDealList};
 ghost use Rattle.audit_certificate.specs.Counting.{AreCounts};
 
 use audit_base::faults::NoMemory;
 use audit_base::orders::{Deal, Order};
+use audit_base::ranges::deals_in_range;
 use std::alloc::Global;
 
 /// What deals come to.
@@ -26,25 +27,16 @@ fn add(traded: &mut Vec<u128>, index: usize, quantity: u64)
     traded[index] += u128::from(quantity);
 }
 
-/// The quantity of a deal, whose numbers are in their ranges, as their types say.
-fn quantity_of(deal: &Deal) -> u64
-    ensures same { result ≡ deal.now.quantity }
-    ensures numbers { IsDeal deal.now }
-{
-    let _price = deal.price.units();
-    deal.quantity.value()
-}
-
 /// What each order trades in the deals, and the volume. Err only out of memory.
 pub fn count(alloc: Global, orders: &[Order], deals: &[Deal]) -> Result<Counts, NoMemory>
     requires { IsDealList orders.now deals.now }
-    ensures counts { IfOk result (AreCounts orders.now deals.now) }
-    ensures numbers { OnOk result (AreDeals deals.now) }
+    ensures { IfOk result (AreCounts orders.now deals.now) }
 {
+    deals_in_range(deals);
     let mut traded = vec![in alloc; 0u128; orders.len()]?;
     let mut volume: u128 = 0;
     'deals: for deal in deals {
-        let quantity = quantity_of(deal);
+        let quantity = deal.quantity.value();
         add(&mut traded, deal.bid, quantity);
         add(&mut traded, deal.ask, quantity);
         volume += u128::from(quantity);

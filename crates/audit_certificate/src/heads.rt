@@ -11,7 +11,7 @@ use audit_base::faults::NoMemory;
 use audit_base::names::Name;
 use audit_base::numbers::Price;
 use audit_base::orders::{Deal, Order};
-use audit_base::terms::{Rule, Side};
+use audit_base::terms::{Side, VolumeRule};
 use std::alloc::Global;
 
 /// Whether a deal is between a bid and an ask that no record cancels, at a price within both limits.
@@ -51,7 +51,12 @@ fn have_one_price(deals: &[Deal]) -> bool
 }
 
 /// Whether the line is that of the rule and the symbol. `text` is a buffer that each call uses anew.
-fn names_rule(rule: Rule, symbol: &Name, line: &[u8], text: &mut Vec<u8>) -> Result<bool, NoMemory>
+fn names_rule(
+    rule: VolumeRule,
+    symbol: &Name,
+    line: &[u8],
+    text: &mut Vec<u8>,
+) -> Result<bool, NoMemory>
     ensures { IfOk result (λ named. IsTrue named ↔ (line.now ≡ head_text rule symbol.now)) }
 {
     text.clear();
@@ -60,25 +65,29 @@ fn names_rule(rule: Rule, symbol: &Name, line: &[u8], text: &mut Vec<u8>) -> Res
 }
 
 /// The rule that the line names beside the symbol.
-fn named_rule(symbol: &Name, line: &[u8], text: &mut Vec<u8>) -> Result<Option<Rule>, NoMemory>
+fn named_rule(
+    symbol: &Name,
+    line: &[u8],
+    text: &mut Vec<u8>,
+) -> Result<Option<VolumeRule>, NoMemory>
     ensures { IfOk result (IsNamedRule symbol.now line.now) }
 {
-    if names_rule(Rule::Uniform, symbol, line, text)? {
-        return Ok(Some(Rule::Uniform));
+    if names_rule(VolumeRule::Uniform, symbol, line, text)? {
+        return Ok(Some(VolumeRule::Uniform));
     }
-    if names_rule(Rule::Maximum, symbol, line, text)? {
-        return Ok(Some(Rule::Maximum));
+    if names_rule(VolumeRule::Maximum, symbol, line, text)? {
+        return Ok(Some(VolumeRule::Maximum));
     }
     Ok(None)
 }
 
 /// Whether the deals have one price, where the rule asks for one.
-fn prices_fit(rule: Rule, deals: &[Deal]) -> bool
+fn prices_fit(rule: VolumeRule, deals: &[Deal]) -> bool
     ensures { IsTrue result ↔ OnePriceIfUniform rule deals.now }
 {
     match rule {
-        Rule::Uniform => have_one_price(deals),
-        Rule::Matching | Rule::Fair | Rule::Maximum | Rule::Continuous => true,
+        VolumeRule::Uniform => have_one_price(deals),
+        VolumeRule::Maximum => true,
     }
 }
 
@@ -89,7 +98,7 @@ pub fn head_rule(
     deals: &[Deal],
     line: &[u8],
     text: &mut Vec<u8>,
-) -> Result<Option<Rule>, NoMemory>
+) -> Result<Option<VolumeRule>, NoMemory>
     requires { IsDealList orders.now deals.now }
     ensures { IfOk result (IsHeadAnswer symbol.now orders.now deals.now line.now) }
 {

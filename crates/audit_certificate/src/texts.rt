@@ -4,7 +4,7 @@ ghost use Rattle.audit_certificate.specs.Texts as text;
 
 use audit_base::faults::NoMemory;
 use audit_base::names::Name;
-use audit_base::terms::{Rule, Side};
+use audit_base::terms::{Side, VolumeRule};
 use audit_base::texts::{write_number, write_price};
 use std::alloc::Global;
 
@@ -18,11 +18,11 @@ pub fn append(bytes: &[u8], out: &mut Vec<u8>) -> Result<(), NoMemory>
 
 /// Appends `certificate,RULE,SYMBOL`.
 #[tactic(auto, using(std::proofs::Common::append_assoc))]
-pub fn append_head(rule: Rule, symbol: &Name, out: &mut Vec<u8>) -> Result<(), NoMemory>
+pub fn append_head(rule: VolumeRule, symbol: &Name, out: &mut Vec<u8>) -> Result<(), NoMemory>
     ensures { OnOk result (out.new.items ≡ out.old.items ++ text.head_text rule symbol.now) }
 {
     append(b"certificate,", out)?;
-    append(rule.word(), out)?;
+    append(rule.rule().word(), out)?;
     append(b",", out)?;
     append(symbol.bytes(), out)
 }

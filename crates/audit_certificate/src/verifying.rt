@@ -5,8 +5,8 @@ ghost use Rattle.audit_base.specs.Deals.{IsDealList};
 ghost use Rattle.audit_base.specs.Orders.{IsOrderList};
 ghost use Rattle.audit_base.specs.Rules.{Conforms};
 ghost use Rattle.audit_base.specs.Sizes.{longest_log};
-ghost use Rattle.call_laws.specs.Laws.{asks_for_greatest};
-ghost use Rattle.audit_certificate.specs.Agreement.{Agrees, AgreesUnderNone, IsFirstRefused};
+ghost use Rattle.audit_base.specs.RuleKinds.{asks_for_greatest};
+ghost use Rattle.audit_certificate.specs.Agreement.{Agrees, AgreesUnder, AgreesUnderNone, IsFirstRefused};
 ghost use Rattle.audit_certificate.specs.Answers.{IfRefused};
 ghost use Rattle.audit_certificate.specs.Steps as step;
 
@@ -21,7 +21,7 @@ use super::order_lines::check_order_lines;
 use audit_base::faults::NoMemory;
 use audit_base::names::Name;
 use audit_base::orders::{Deal, Order};
-use audit_base::terms::{Rule, Side};
+use audit_base::terms::{Rule, Side, VolumeRule};
 use std::alloc::Global;
 
 /// The rule under which line 1 passes, and what is behind the line.
@@ -31,7 +31,7 @@ fn check_head<'a>(
     deals: &[Deal],
     bytes: &'a [u8],
     text: &mut Vec<u8>,
-) -> Result<(Rule, &'a [u8]), VerifyFault>
+) -> Result<(VolumeRule, &'a [u8]), VerifyFault>
     requires { IsDealList orders.now deals.now }
     ensures passed { IfOk result (λ p.
         step.IsBehindHead symbol.now orders.now deals.now bytes.now p.0 p.1.now) }
@@ -50,7 +50,7 @@ fn check_head<'a>(
 /// What is behind line 2, where it passes.
 fn check_bound<'a>(
     alloc: Global,
-    rule: Rule,
+    rule: VolumeRule,
     orders: &[Order],
     volume: u128,
     bytes: &'a [u8],
@@ -113,7 +113,7 @@ fn check_lines(
     orders: &[Order],
     deals: &[Deal],
     bytes: &[u8],
-) -> Result<Rule, VerifyFault>
+) -> Result<VolumeRule, VerifyFault>
     requires order_list { IsOrderList orders.now }
     requires deal_list { IsDealList orders.now deals.now }
     requires small { length bytes.now ≤ longest_log }
@@ -145,7 +145,8 @@ pub fn verify(
     requires order_list { IsOrderList orders.now }
     requires deal_list { IsDealList orders.now deals.now }
     requires small { length bytes.now ≤ longest_log }
-    ensures agrees { IfOk result (λ rule. Agrees rule symbol.now orders.now deals.now bytes.now) }
+    ensures agrees { IfOk result
+        (λ rule. AgreesUnder rule symbol.now orders.now deals.now bytes.now) }
     ensures rule { IfOk result (λ rule. IsTrue (asks_for_greatest rule)) }
     ensures conforms { IfOk result (λ rule. Conforms rule orders.now deals.now) }
     ensures refused { IfRefused result (IsFirstRefused symbol.now orders.now deals.now bytes.now) }
@@ -154,5 +155,5 @@ pub fn verify(
 {
     // A law that the answer rests on. It computes nothing.
     certificate_soundness();
-    check_lines(alloc, symbol, orders, deals, bytes)
+    check_lines(alloc, symbol, orders, deals, bytes).map(VolumeRule::rule)
 }

@@ -1,6 +1,6 @@
 -- What was written as a certificate is verified over the same logs.
-use Rattle.std.proofs.Common.{◌≡◌, ◌∙◌, sym, ap, subst, refl, ⊎_elim, ℕ, false, List, [], ◌∷◌, length, Option, None, Some, Result, arith}
-use Rattle.std.specs.Prelude.{IsSomeAnd, IsTrue, MatchOption}
+use Rattle.std.proofs.Common.{◌≡◌, ◌∙◌, sym, ap, subst, refl, ⊎_elim, ℕ, List, [], ◌∷◌, length, Option, None, Some, Result}
+use Rattle.std.specs.Prelude.{MatchOption}
 use Rattle.audit_base.specs.declared.findings.Finding.{Finding}
 use Rattle.audit_base.specs.declared.orders.Deal.{Deal}
 use Rattle.audit_base.specs.declared.orders.Order.{Order}
@@ -13,44 +13,25 @@ use Rattle.audit_base.specs.Least.{first_of}
 use Rattle.audit_base.specs.Trades.{deals_of, unsound_trade}
 use Rattle.record_verdict.specs.Scopes.{call_scope, early_finding}
 use Rattle.audit_base.specs.Verdicts.{call_finding, log_finding, paired_trades, pairing_finding, IsRuleVerdict}
-use Rattle.audit_certificate.specs.Agreement.{Agrees, IsHeadLine}
-use Rattle.audit_certificate.specs.Lines.{behind_lines, ended_line}
+use Rattle.audit_certificate.specs.Agreement.{AgreesUnder}
 use Rattle.audit_report.specs.declared.statuses.Status.{Status}
 use Rattle.audit_report.specs.declared.statuses.Status.TheVariants as status
 use Rattle.audit_report.specs.declared.verdicts.Accepted.{Accepted}
 use Rattle.audit_report.specs.declared.verdicts.Verdict.{Verdict}
 use Rattle.audit_report.specs.declared.verdicts.Verdict.TheVariants as verdict
-use Rattle.call_laws.specs.Laws.{asks_for_greatest}
 use Rattle.record_verdict.specs.declared.questions.Question.{Question}
 use Rattle.audit_run.specs.Certificates.{IsCertificateOf, ReportsWith, Verifies, VerifiesRecords}
 use Rattle.record_verdict.specs.Judgements.{IsJudged, IsOutcome}
 use Rattle.audit_run.specs.Laws.{CertifiedIsVerified}
 use Rattle.log_verdict.specs.LogVerdicts.{IsLogVerdict, Log}
 
--- a certificate that agrees is of a rule that asks for a greatest volume
-asks : (the_rule : Rule) (symbol : List ℕ) (orders : List Order) (deals : List Deal) (text : List ℕ) → Agrees the_rule symbol orders deals text → IsTrue (asks_for_greatest the_rule)
-asks the_rule symbol orders deals text agrees = of_line (ended_line (behind_lines 0 text)) (agrees 1 (omega arith))
-  where
-    of_line : (line : Option (List ℕ)) → IsSomeAnd line (IsHeadLine the_rule symbol orders deals) → IsTrue (asks_for_greatest the_rule)
-    of_line (Some line) is = is.asks
-    of_line None is = absurd is
-
--- such rules admit the same orders
-same_call : (the_rule : Rule) (orders : List Order) → IsTrue (asks_for_greatest the_rule) → call_finding the_rule orders ≡ call_finding rule.Uniform orders
-same_call rule.Uniform orders is = refl
-same_call rule.Maximum orders is = refl
-same_call rule.Matching orders is = absurd (never is)
-  where
-    never : IsTrue false → ⊥
-    never e = cc
-same_call rule.Fair orders is = absurd (never is)
-  where
-    never : IsTrue false → ⊥
-    never e = cc
-same_call rule.Continuous orders is = absurd (never is)
-  where
-    never : IsTrue false → ⊥
-    never e = cc
+-- the rules of certificates admit the same orders
+same_call : (the_rule : Rule) (symbol : List ℕ) (orders : List Order) (deals : List Deal) (text : List ℕ) → AgreesUnder the_rule symbol orders deals text → call_finding the_rule orders ≡ call_finding rule.Uniform orders
+same_call rule.Uniform symbol orders deals text is = refl
+same_call rule.Maximum symbol orders deals text is = refl
+same_call rule.Matching symbol orders deals text is = absurd is
+same_call rule.Fair symbol orders deals text is = absurd is
+same_call rule.Continuous symbol orders deals text is = absurd is
 
 -- where records are accepted, nothing is found before the rule
 none_before : (q : Question) (entries : List OrderRecord) (paired : Result (List TradeRecord) Finding) (a : Accepted) → IsJudged q entries paired (verdict.Accepted a)
@@ -79,7 +60,7 @@ module _ (q : Question) (orders trades : Log) (certificate text : List ℕ) (the
   agreed a accepted is verified =
       let judged : IsJudged q is.entries is.paired (verdict.Accepted a) = rw (is.logs.records, is.logs.trades_are) at accepted in
       let none : log_finding q.rule q.symbol is.entries is.paired ≡ None = none_before q is.entries is.paired a judged in
-      let admits = same_call q.rule (order_list q.symbol is.entries) (asks q.rule q.symbol _ _ certificate is.agrees) in
+      let admits = same_call q.rule q.symbol (order_list q.symbol is.entries) _ certificate is.agrees in
       let same : early_finding (call_scope q.symbol) is.entries is.paired ≡ None =
       ap (λ (i : Option Finding). first_of (history_finding q.symbol is.entries ∷ i ∷ pairing_finding is.paired ∷ unsound_trade (order_list q.symbol is.entries) q.symbol (paired_trades is.paired) ∷ [])) (sym admits) ∙ none in
       let came : Verifies q.symbol (order_list q.symbol is.entries) (deals_of (order_list q.symbol is.entries) q.symbol (paired_trades is.paired)) certificate the_status text = rw same at verified in

@@ -1,5 +1,5 @@
 -- The command `verify`: the certificate is read after both logs.
-use Rattle.std.proofs.Common.{◌<◌, length, Option, ◌≡◌, ◌∙◌, sym, subst, refl, inl, inr, ⊎_elim, ℕ, ◌≤◌, true, false, List, [], ◌∷◌, Some, Result, Ok, Err, arith}
+use Rattle.std.proofs.Common.{◌<◌, length, Option, None, ◌≡◌, ◌⊎◌, ◌∙◌, sym, subst, refl, inl, inr, ⊎_elim, ℕ, ◌≤◌, true, false, List, [], ◌∷◌, Some, Result, Ok, Err, arith}
 use Rattle.std.specs.Prelude.{is_ok, IsSomeAnd, MatchResult}
 use Rattle.audit_base.specs.declared.faults.BadPlace.{BadPlace}
 use Rattle.audit_base.specs.declared.findings.Finding.{Finding}
@@ -8,7 +8,7 @@ use Rattle.audit_base.specs.declared.records.TradeRecord.{TradeRecord}
 use Rattle.audit_base.specs.declared.terms.Which.{Which}
 use Rattle.audit_base.specs.declared.terms.Which.TheVariants.{Orders, Trades}
 use Rattle.audit_report.specs.Lines.{read_fault_line, too_long_line}
-use Rattle.log_source.specs.Sources.{Slot}
+use Rattle.log_source.specs.Sources.{Slot, Rose}
 use Rattle.record_verdict.specs.declared.before_rule.BeforeRule.{BeforeRule}
 use Rattle.record_verdict.specs.declared.before_rule.BeforeRule.TheVariants as upto
 use Rattle.record_verdict.specs.declared.scopes.Scope.{Scope}
@@ -117,10 +117,11 @@ module _ (first second : Reading) (after : Continues first second) (later : Neve
       ends Trades = refl
 
   read_first : (step : Step) (bytes : List ℕ) → IsRead first step bytes → IsRead whole step bytes
-  read_first step bytes is = record { started = is.started; at_end = is.at_end; within = is.within; taken = is.taken; known = is.known }
+  read_first step bytes is = record { once = is.once; started = is.started; at_end = is.at_end; within = is.within; taken = is.taken; known = is.known }
 
   read_third : (bytes : List ℕ) → IsRead second third_step bytes → IsRead whole third_step bytes
   read_third bytes is = record {
+    once = is.once;
     started = is.started;
     at_end = is.at_end;
     within = subst (λ (n : ℕ). length bytes ≤ n) after.limit is.within;
@@ -176,11 +177,16 @@ module _ (first second : Reading) (after : Continues first second) (later : Neve
     }
 
     third_fault : IsReadFault second third_step → IsReadFault whole third_step
-    third_fault (inl rose) = inl rose
-    third_fault (inr (t, none)) = inr (sym after.tells ∙ t, sym (after.logs Trades certificate) ∙ none)
+    third_fault is = record { once = is.once; cause = by_cause is.cause }
+      where
+        by_cause : Rose third_step.before.faults third_step.after.faults ⊎ ((second.tells ≡ true) × (second.log_of Trades certificate ≡ None))
+            → Rose third_step.before.faults third_step.after.faults ⊎ ((whole.tells ≡ true) × (whole.log_of Trades certificate ≡ None))
+        by_cause (inl rose) = inl rose
+        by_cause (inr (t, none)) = inr (sym after.tells ∙ t, sym (after.logs Trades certificate) ∙ none)
 
     third_long : IsTooLong second third_step → IsTooLong whole third_step
     third_long is = record {
+      once = is.once;
       taken = subst (λ (n : ℕ). n < (second.after Trades).taken) after.limit is.taken;
       longer = λ t. subst (λ (n : ℕ). IsSomeAnd (first.log_of Trades certificate) (λ bytes. n < length bytes)) after.limit
           (subst (λ (o : Option (List ℕ)). IsSomeAnd o (λ bytes. second.limit < length bytes)) (after.logs Trades certificate) (is.longer (after.tells ∙ t)));

@@ -7,6 +7,7 @@ use Rattle.audit_base.specs.declared.records.OrderRecord.{OrderRecord}
 use Rattle.audit_base.specs.declared.records.TradeRecord.{TradeRecord}
 use Rattle.audit_base.specs.declared.terms.Rule.{Rule}
 use Rattle.audit_base.specs.declared.terms.Rule.TheVariants as rule
+use Rattle.audit_base.specs.declared.terms.VolumeRule.TheVariants as of_volume
 use Rattle.audit_base.specs.Bounds.{IsBound}
 use Rattle.audit_base.specs.CallOffences.{IsGreatestUnder}
 use Rattle.audit_base.specs.Deals.{volume, AreDeals}
@@ -55,18 +56,18 @@ module _ (laws : Laws) (orders : List Order) (list : IsOrderList orders) (regula
   bound-shown : (the_rule : Rule) (deals : List Deal) → AreDeals deals → IsExpected the_rule orders deals → Conforms the_rule orders deals
       → (bound : Option Cut) × IsBoundShown the_rule orders (volume deals) bound
   bound-shown rule.Uniform deals ranges is conforms =
-      let greatest : IsGreatestUnder rule.Uniform orders (volume deals) =
+      let greatest : IsGreatestUnder of_volume.Uniform orders (volume deals) =
       record { deals = deals; ranges = ranges; matching = conforms.matching; one_price = conforms.one_price; greatest = conforms.greatest; reached = refl } in
-      let same : is.most ≡ volume deals = one-greatest rule.Uniform orders is.most (volume deals) is.greatest greatest in
-      let shows : IsBound rule.Uniform orders (volume deals) is.bound = subst (λ (v : ℕ). IsBound rule.Uniform orders v is.bound) same is.is_bound in
+      let same : is.most ≡ volume deals = one-greatest of_volume.Uniform orders is.most (volume deals) is.greatest greatest in
+      let shows : IsBound of_volume.Uniform orders (volume deals) is.bound = subst (λ (v : ℕ). IsBound of_volume.Uniform orders v is.bound) same is.is_bound in
       (Some (record { price = is.bound; volume = volume deals }), record { volume_is = refl; shows = shows })
   bound-shown rule.Maximum deals ranges is conforms =
       let least = laws.least_cut orders in
       let known = laws.maximum orders least.0 list numbers least.1 in
-      let greatest : IsGreatestUnder rule.Maximum orders (volume deals) =
+      let greatest : IsGreatestUnder of_volume.Maximum orders (volume deals) =
       record { deals = deals; ranges = ranges; matching = conforms.matching; greatest = conforms.greatest; reached = refl } in
-      let same : least.0.volume ≡ volume deals = one-greatest rule.Maximum orders least.0.volume (volume deals) known.1 greatest in
-      let shows : IsBound rule.Maximum orders (volume deals) least.0.price = subst (λ (v : ℕ). IsBound rule.Maximum orders v least.0.price) same known.2 in
+      let same : least.0.volume ≡ volume deals = one-greatest of_volume.Maximum orders least.0.volume (volume deals) known.1 greatest in
+      let shows : IsBound of_volume.Maximum orders (volume deals) least.0.price = subst (λ (v : ℕ). IsBound of_volume.Maximum orders v least.0.price) same known.2 in
       (Some (record { price = least.0.price; volume = volume deals }), record { volume_is = refl; shows = shows })
   bound-shown rule.Continuous deals ranges is conforms = (None, refl)
   bound-shown rule.Matching deals ranges is conforms = absurd is
@@ -74,8 +75,8 @@ module _ (laws : Laws) (orders : List Order) (list : IsOrderList orders) (regula
 
   -- what they trade is all that conforming trades can
   only-these : (the_rule : Rule) (deals : List Deal) → AreDeals deals → Conforms the_rule orders deals → AreOnlyQuantities the_rule orders deals
-  only-these rule.Uniform deals ranges conforms = λ i lt. laws.quantities rule.Uniform orders deals refl list ranges conforms i
-  only-these rule.Maximum deals ranges conforms = λ i lt. laws.quantities rule.Maximum orders deals refl list ranges conforms i
+  only-these rule.Uniform deals ranges conforms = λ i lt. laws.quantities of_volume.Uniform orders deals list ranges conforms i
+  only-these rule.Maximum deals ranges conforms = λ i lt. laws.quantities of_volume.Maximum orders deals list ranges conforms i
   only-these rule.Continuous deals ranges conforms = laws.pairs orders deals list regular ranges conforms
   only-these rule.Matching deals ranges conforms = tt
   only-these rule.Fair deals ranges conforms = tt

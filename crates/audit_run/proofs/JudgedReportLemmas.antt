@@ -12,7 +12,7 @@ use Rattle.audit_base.specs.declared.terms.Which.TheVariants.{Orders, Trades}
 use Rattle.audit_base.specs.Histories.{order_list}
 use Rattle.audit_base.specs.Rules.{Conforms}
 use Rattle.audit_base.specs.Verdicts.{IsRuleVerdict}
-use Rattle.audit_certificate.specs.Agreement.{Agrees, IsCertificate}
+use Rattle.audit_certificate.specs.Agreement.{AgreesUnder, IsCertificateUnder}
 use Rattle.audit_report.specs.declared.verdicts.Accepted.{Accepted}
 use Rattle.audit_report.specs.declared.verdicts.Verdict.{Verdict}
 use Rattle.audit_report.specs.declared.verdicts.Verdict.TheVariants as verdict
@@ -97,10 +97,10 @@ certificate_of q orders trades resolved text have is =
       entries = have.entries;
       paired = have.paired;
       logs = have.logs;
-      certificate = subst (λ (ds : List Deal). IsCertificate q.rule q.symbol history ds text) have.sound.deals
-          (subst (λ (os : List Order). IsCertificate q.rule q.symbol os resolved.deals.items text) have.sound.orders is.certificate);
-      agrees = subst (λ (ds : List Deal). Agrees q.rule q.symbol history ds text) have.sound.deals
-          (subst (λ (os : List Order). Agrees q.rule q.symbol os resolved.deals.items text) have.sound.orders is.agrees);
+      certificate = subst (λ (ds : List Deal). IsCertificateUnder q.rule q.symbol history ds text) have.sound.deals
+          (subst (λ (os : List Order). IsCertificateUnder q.rule q.symbol os resolved.deals.items text) have.sound.orders is.certificate);
+      agrees = subst (λ (ds : List Deal). AgreesUnder q.rule q.symbol history ds text) have.sound.deals
+          (subst (λ (os : List Order). AgreesUnder q.rule q.symbol os resolved.deals.items text) have.sound.orders is.agrees);
     }
 
 -- the report of sound trades is that of `certify`

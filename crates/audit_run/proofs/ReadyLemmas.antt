@@ -30,7 +30,7 @@ module _ (r : Reading) (request : Request) (logs : List (List ℕ)) (tells : r.t
       let left = held-after r request [] stops.steps stops.logs logs tells stops.read held (stops.last.log, stops.last.name) stops.next in
       let next = held-next r request stops.logs left.0 (stops.last.log, stops.last.name) stops.next left.1 in
       ⊎_elim (λ rose. quiet stops.last.log (rose-in r.before stops.steps stops.last r.after stops.lead rose))
-      (λ none. held_there (r.log_of stops.last.log stops.last.name) next.0 next.1 none.1) stops.cause
+      (λ none. held_there (r.log_of stops.last.log stops.last.name) next.0 next.1 none.1) stops.cause.cause
 
   pub no_length : (line : Which → List ℕ) (text : List ℕ) → StopsAtLog IsTooLong line r request text → ⊥
   no_length line text stops =

@@ -253,9 +253,16 @@ pub expects-history : (the_rule : Rule) (symbol : List ℕ) (entries : List Orde
     → IsReportOf (verdict.Rejected finding) report → SaysReport (ExpectsOf the_rule symbol entries) report
 expects-history the_rule symbol entries finding report found made = expects-found the_rule symbol entries finding report (rw found refl) made
 
-pub expects-order : (the_rule : Rule) (symbol : List ℕ) (entries : List OrderRecord) (finding : Finding) (report : Report) → WellFormed symbol entries
+expects-order : (the_rule : Rule) (symbol : List ℕ) (entries : List OrderRecord) (finding : Finding) (report : Report) → WellFormed symbol entries
     → call_finding the_rule (order_list symbol entries) ≡ Some finding → IsReportOf (verdict.Rejected finding) report → SaysReport (ExpectsOf the_rule symbol entries) report
 expects-order the_rule symbol entries finding report formed found made = expects-found the_rule symbol entries finding report (rw (formed, found) refl) made
+
+-- as before, of orders that are those of the records, for a symbol that is the history's own
+pub expects-named : (the_rule : Rule) (symbol own : List ℕ) (entries : List OrderRecord) (orders : List Order) (finding : Finding) (report : Report) → symbol ≡ own → WellFormed own entries
+    → orders ≡ order_list own entries → call_finding the_rule orders ≡ Some finding → IsReportOf (verdict.Rejected finding) report → SaysReport (ExpectsOf the_rule symbol entries) report
+expects-named the_rule symbol own entries orders finding report same formed listed found made =
+    subst (λ (s : List ℕ). SaysReport (ExpectsOf the_rule s entries) report) (sym same)
+    (expects-order the_rule own entries finding report formed (subst (λ (l : List Order). call_finding the_rule l ≡ Some finding) listed found) made)
 
 pub expects-done : (the_rule : Rule) (symbol : List ℕ) (entries : List OrderRecord) (report : Report) → WellFormed symbol entries → call_finding the_rule (order_list symbol entries) ≡ None
     → report.status ≡ status.Accepted → IsExpectedLog the_rule symbol entries report.text.items → SaysReport (ExpectsOf the_rule symbol entries) report

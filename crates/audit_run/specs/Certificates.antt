@@ -12,7 +12,7 @@ use Rattle.audit_base.specs.Rules.{Conforms}
 use Rattle.audit_base.specs.Trades.{deals_of}
 use Rattle.record_verdict.specs.Scopes.{early_finding, call_scope}
 use Rattle.audit_base.specs.Verdicts.{paired_trades}
-use Rattle.audit_certificate.specs.Agreement.{Agrees, AgreesUnderNone, IsCertificate, IsFirstRefused}
+use Rattle.audit_certificate.specs.Agreement.{AgreesUnder, AgreesUnderNone, IsCertificateUnder, IsFirstRefused}
 use Rattle.audit_report.specs.declared.statuses.Status.{Status}
 use Rattle.audit_report.specs.declared.statuses.Status.TheVariants as status
 use Rattle.audit_report.specs.declared.verdicts.Verdict.{Verdict}
@@ -28,9 +28,9 @@ pub record IsCertificateOf (q : Question) (orders trades : Log) (text : List ℕ
   pub paired : Result (List TradeRecord) Finding
   pub logs : HaveRecords orders trades entries paired
   pub certificate : let history = order_list q.symbol entries in
-      IsCertificate q.rule q.symbol history (deals_of history q.symbol (paired_trades paired)) text
+      IsCertificateUnder q.rule q.symbol history (deals_of history q.symbol (paired_trades paired)) text
   pub agrees : let history = order_list q.symbol entries in
-      Agrees q.rule q.symbol history (deals_of history q.symbol (paired_trades paired)) text
+      AgreesUnder q.rule q.symbol history (deals_of history q.symbol (paired_trades paired)) text
 
 -- what `audit` reports of a verdict, with a text of this kind in the place of the accepted text
 abbrev pub ReportsWith : (List ℕ → Type 0) → Verdict → Status → List ℕ → Type 0
@@ -49,7 +49,7 @@ pub record IsCertifyReport (q : Question) (orders trades : Log) (status : Status
 pub record IsVerified (symbol : List ℕ) (orders : List Order) (deals : List Deal)
     (certificate : List ℕ) (the_status : Status) (text : List ℕ) : Type 0 where
   pub the_rule : Rule
-  pub agrees : Agrees the_rule symbol orders deals certificate
+  pub agrees : AgreesUnder the_rule symbol orders deals certificate
   pub conforms : Conforms the_rule orders deals
   pub status_is : the_status ≡ status.Accepted
   pub text_is : text ≡ verified_line the_rule symbol (volume deals)

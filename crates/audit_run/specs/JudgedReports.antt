@@ -1,6 +1,6 @@
 -- What is reported of two logs by what they come to before the rule is looked at.
 use Rattle.std.specs.Prelude.{◌≡◌, List, ℕ, Bool}
-use Rattle.audit_certificate.specs.Agreement.{Agrees, IsCertificate}
+use Rattle.audit_certificate.specs.Agreement.{AgreesUnder, IsCertificateUnder}
 use Rattle.audit_report.specs.declared.statuses.Status.{Status}
 use Rattle.audit_report.specs.declared.verdicts.Verdict.{Verdict}
 use Rattle.session_audit.specs.declared.phases.Phase.{Phase}
@@ -48,8 +48,8 @@ pub record IsLineReport (status : Status) (line : List ℕ) (report : Report) : 
 -- The text is the certificate of these deals, which agrees.
 pub record IsDealsCertificate (q : Question) (resolved : ResolvedTrades)
     (text : List ℕ) : Type 0 where
-  pub certificate : IsCertificate q.rule q.symbol resolved.history resolved.deals.items text
-  pub agrees : Agrees q.rule q.symbol resolved.history resolved.deals.items text
+  pub certificate : IsCertificateUnder q.rule q.symbol resolved.history resolved.deals.items text
+  pub agrees : AgreesUnder q.rule q.symbol resolved.history resolved.deals.items text
 
 -- the report is that of the verdict on these deals, with their certificate in the place of the accepted text
 abbrev pub IsCertified : Question → ResolvedTrades → Verdict → Report → Type 0

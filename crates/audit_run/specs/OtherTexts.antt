@@ -12,7 +12,10 @@ use Rattle.audit_base.specs.declared.terms.Rule.{Rule}
 use Rattle.audit_base.specs.declared.terms.Rule.TheVariants as rule
 use Rattle.audit_base.specs.declared.terms.Which.{Which}
 use Rattle.audit_base.specs.declared.terms.Which.TheVariants.{Orders, Trades}
+use Rattle.audit_base.specs.declared.terms.VolumeRule.{VolumeRule}
+use Rattle.audit_base.specs.declared.terms.VolumeRule.TheVariants as of_volume
 use Rattle.audit_base.specs.Bounds.{IsBound}
+use Rattle.audit_base.specs.RuleKinds.{rule_of_volume}
 use Rattle.audit_base.specs.Deals.{volume}
 use Rattle.audit_base.specs.Expected.{IsExpected, trades_of_deals}
 use Rattle.audit_base.specs.Histories.{history_finding, order_list}
@@ -100,13 +103,14 @@ IsConvertReport Trades log status text =
     (λ bad. IsRefused (Malformed Trades bad) status text)
 
 -- The line says of the Expected trades of a call how many there are, their volume, and its bound.
-pub record IsCallLine (the_rule : Rule) (orders : List Order) (line : List ℕ) : Type 0 where
+pub record IsCallLine (the_rule : VolumeRule) (orders : List Order)
+    (line : List ℕ) : Type 0 where
   pub deals : List Deal
-  pub expected : IsExpected the_rule orders deals
+  pub expected : IsExpected (rule_of_volume the_rule) orders deals
   pub bound : Cut
   pub volume_is : bound.volume ≡ volume deals
   pub shows : IsBound the_rule orders (volume deals) bound.price
-  pub line_is : line ≡ call_line the_rule (length deals) bound
+  pub line_is : line ≡ call_line (rule_of_volume the_rule) (length deals) bound
 
 -- The line says of the Expected trades of continuous trading how many there are, and their volume.
 pub record IsContinuousLine (orders : List Order) (line : List ℕ) : Type 0 where
@@ -120,8 +124,8 @@ pub record IsSummaryOf (orders : List Order) (start count : ℕ) (text : List �
   pub uniform : List ℕ
   pub maximum : List ℕ
   pub continuous : List ℕ
-  pub uniform_is : IsCallLine rule.Uniform orders uniform
-  pub maximum_is : IsCallLine rule.Maximum orders maximum
+  pub uniform_is : IsCallLine of_volume.Uniform orders uniform
+  pub maximum_is : IsCallLine of_volume.Maximum orders maximum
   pub continuous_is : IsContinuousLine orders continuous
   pub text_is : text ≡ generated_line start count ++ uniform ++ maximum ++ continuous
 

@@ -1,6 +1,6 @@
 //! The report of each command. A command is an arm of `report_on`.
 ghost use Rattle.std.specs.Prelude.{◌≡◌, IsTrue};
-ghost use Rattle.call_laws.specs.Laws.{asks_for_greatest};
+ghost use Rattle.audit_base.specs.RuleKinds.{asks_for_greatest};
 ghost use Rattle.log_source.specs.Sources.{longest_log};
 ghost use Rattle.log_verdict.specs.BothLogs.{HaveOneLimit, StaysWithin};
 ghost use Rattle.audit_run.specs.Deciding.{audit_of, certify_of, DecidesReport};
@@ -42,6 +42,7 @@ fn report_audit<F: Shelf>(
         (audit_of question.now orders.now trades.now) result }
     ensures within { StaysWithin (reading_by orders.now F.Shelf shelf.old shelf.new) result }
 {
+    // A match and no `?`, as in `verdict_on`.
     match verdict_on(alloc, shelf, question, orders, trades) {
         Ok(verdict) => Ok(verdict_report(alloc, &verdict)?),
         Err(stop) => Err(stop),
@@ -70,6 +71,7 @@ fn report_certify<F: Shelf>(
         symbol: *symbol,
         table: false,
     };
+    // A match and no `?`, as in `verdict_on`.
     match read_both(alloc, shelf, &question.scope(), orders, trades) {
         Ok(reached) => Ok(certify_report(alloc, &question, &reached)?),
         Err(stop) => Err(stop),

@@ -4,6 +4,7 @@ ghost use Rattle.audit_base.specs.declared.records.OrderRecord.{OrderRecord};
 ghost use Rattle.audit_base.specs.declared.terms.Which.{Which};
 ghost use Rattle.audit_base.specs.Deals.{IsDealList};
 ghost use Rattle.audit_base.specs.Expected.{IsExpected};
+ghost use Rattle.audit_base.specs.RuleKinds.{has_table};
 ghost use Rattle.audit_base.specs.Histories.{Regular};
 ghost use Rattle.audit_base.specs.Orders.{AreOrders, HaveOwnKeys, IsOrderList};
 ghost use Rattle.audit_base.specs.Rules.{Conforms};
@@ -18,13 +19,13 @@ ghost use Rattle.audit_run.specs.Expecting.{IsConformingLog, IsLogOfOrders};
 ghost use Rattle.audit_run.specs.OtherTexts.{ExpectsOf, IsExpectReport};
 ghost use Rattle.audit_run.specs.Reporting.{DecidesLog, SaysReport};
 ghost use Rattle.log_verdict.specs.Steps.{reading_by, KeepsLogs};
-ghost use Rattle.command_words.specs.WordForms as words;
 
 use super::reports::{Report, done_report, finding_report, report_without};
 use audit_base::faults::NoMemory;
 use audit_base::names::Name;
 use audit_base::orders::{Deal, Order};
-use audit_base::terms::{Rule, Which};
+use audit_base::ranges::trades_in_range;
+use audit_base::terms::{Rule, VolumeRule, Which};
 use call_laws::existence::extremes_exist;
 use call_laws::laws::only_quantities;
 use call_laws::optimum::maximum_trades_are_expected;
@@ -40,25 +41,24 @@ use log_verdict::stops::Stop;
 use maximum_audit::expecting::greatest_matching;
 use record_verdict::judging::call_finding;
 use record_verdict::laws::sound_trades_are_judged;
-use record_verdict::ranges::each_in_range;
 use std::alloc::Global;
 use std::marker::Brand;
 use uniform_audit::expecting::expected_uniform;
 
 /// The Expected trades of a rule that has such.
 fn expected_deals(alloc: Global, rule: Rule, orders: &[Order]) -> Result<Vec<Deal>, NoMemory>
-    requires rule { IsTrue (words.has_table rule) }
+    requires rule { IsTrue (has_table rule) }
     requires order_list { IsOrderList orders.now }
     requires regular { Regular orders.now }
     ensures expected { IfOk result (λ deals. IsExpected rule orders.now deals.items) }
     ensures conforms { IfOk result (λ deals. Conforms rule orders.now deals.items) }
     ensures deal_list { IfOk result (λ deals. IsDealList orders.now deals.items) }
 {
-    match rule {
-        Rule::Uniform => expected_uniform(alloc, orders),
-        Rule::Maximum => greatest_matching(alloc, orders),
-        Rule::Continuous => continuous_matching(alloc, orders),
-        Rule::Matching | Rule::Fair => unreachable!(),
+    // The rule that determines quantities and is none of these two is continuous trading.
+    match rule.volume_rule() {
+        Some(VolumeRule::Uniform) => expected_uniform(alloc, orders),
+        Some(VolumeRule::Maximum) => greatest_matching(alloc, orders),
+        None => continuous_matching(alloc, orders),
     }
 }
 
@@ -69,14 +69,14 @@ fn conforming_log(
     symbol: &Name,
     orders: &[Order],
 ) -> Result<Vec<u8>, NoMemory>
-    requires rule { IsTrue (words.has_table rule) }
+    requires rule { IsTrue (has_table rule) }
     requires order_list { IsOrderList orders.now }
     requires regular { Regular orders.now }
     ensures { IfOk result (λ text. IsConformingLog rule symbol.now orders.now text.items) }
 {
     let deals = expected_deals(alloc, rule, orders)?;
     let trades = trades_of_deals(alloc, orders, &deals, symbol)?;
-    each_in_range(&trades);
+    trades_in_range(&trades);
     let mut text = Vec::new(alloc);
     write_trades(alloc, &trades, &mut text)?;
     Ok(text)
@@ -89,7 +89,7 @@ fn expected_log(
     symbol: &Name,
     orders: &[Order],
 ) -> Result<Vec<u8>, NoMemory>
-    requires rule { IsTrue (words.has_table rule) }
+    requires rule { IsTrue (has_table rule) }
     requires order_list { IsOrderList orders.now }
     requires regular { Regular orders.now }
     requires numbers { AreOrders orders.now }
@@ -114,7 +114,7 @@ fn report_records<S: AuditedSymbol>(
     symbol: &Name,
     draft: HistoryDraft<S>,
 ) -> Result<Report, NoMemory>
-    requires rule { IsTrue (words.has_table rule) }
+    requires rule { IsTrue (has_table rule) }
     requires symbol { symbol.now ≡ S.symbol }
     requires place { HasPlace (IsHistoryDraft S.symbol) draft }
     ensures { IfOk result (λ report. (entries : List OrderRecord)
@@ -140,7 +140,7 @@ fn report_about<S: AuditedSymbol, F: Shelf>(
     symbol: &Name,
     orders: &Source<'_>,
 ) -> Result<Report, Stop>
-    requires rule { IsTrue (words.has_table rule) }
+    requires rule { IsTrue (has_table rule) }
     requires limit { orders.now.limit ≤ longest_read }
     requires symbol { symbol.now ≡ S.symbol }
     ensures logs { KeepsLogs F.Shelf shelf.old shelf.new }
@@ -166,7 +166,7 @@ pub(crate) fn report_expect<F: Shelf>(
     symbol: &Name,
     orders: &Source<'_>,
 ) -> Result<Report, Stop>
-    requires rule { IsTrue (words.has_table rule) }
+    requires rule { IsTrue (has_table rule) }
     requires limit { orders.now.limit ≤ longest_read }
     ensures logs { KeepsLogs F.Shelf shelf.old shelf.new }
     ensures only { TouchesOnly (reading_by orders.now F.Shelf shelf.old shelf.new) Which.Orders }

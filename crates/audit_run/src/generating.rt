@@ -1,7 +1,7 @@
 //! The command `generate`: a log of any length that is the same at each run, and what its Expected trades
 //! come to.
 ghost use Rattle.std.specs.Prelude.{◌≡◌, ◌<◌, ◌^◌, IfOk, OnOk, length};
-ghost use Rattle.audit_base.specs.declared.terms.Rule.TheVariants as rule;
+ghost use Rattle.audit_base.specs.declared.terms.VolumeRule.TheVariants as of_volume;
 ghost use Rattle.audit_base.specs.Histories.{Regular};
 ghost use Rattle.audit_base.specs.Orders.{IsOrderList};
 ghost use Rattle.log_maker.specs.Generator.{IsCount, IsStart, generated_orders, generated_records};
@@ -54,7 +54,7 @@ fn count_of(deals: &[Deal]) -> u32
 fn append_uniform(alloc: Global, orders: &[Order], out: &mut Vec<u8>) -> Result<(), NoMemory>
     requires { IsOrderList orders.now }
     ensures { OnOk result
-        (AddsLine (IsCallLine rule.Uniform orders.now) out.old.items out.new.items) }
+        (AddsLine (IsCallLine of_volume.Uniform orders.now) out.old.items out.new.items) }
 {
     // Laws that the answer rests on. They compute nothing.
     uniform_optimum();
@@ -68,7 +68,7 @@ fn append_uniform(alloc: Global, orders: &[Order], out: &mut Vec<u8>) -> Result<
 fn append_maximum(alloc: Global, orders: &[Order], out: &mut Vec<u8>) -> Result<(), NoMemory>
     requires { IsOrderList orders.now }
     ensures { OnOk result
-        (AddsLine (IsCallLine rule.Maximum orders.now) out.old.items out.new.items) }
+        (AddsLine (IsCallLine of_volume.Maximum orders.now) out.old.items out.new.items) }
 {
     // Laws that the answer rests on. They compute nothing.
     greatest_matching_reaches_the_least_cut();

@@ -1,6 +1,6 @@
 //! The report of `certify`, by what two logs come to before the rule is looked at.
 ghost use Rattle.std.specs.Prelude.{IfOk, IsTrue};
-ghost use Rattle.call_laws.specs.Laws.{asks_for_greatest};
+ghost use Rattle.audit_base.specs.RuleKinds.{asks_for_greatest};
 ghost use Rattle.audit_run.specs.JudgedReports.{IsCertified, ReportsCertify};
 ghost use Rattle.audit_report.specs.Texts.{IsVerdictInRange};
 ghost use Rattle.record_verdict.specs.Stages.{IsJudgedDeals};

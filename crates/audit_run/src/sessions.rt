@@ -110,6 +110,7 @@ pub(crate) fn report_session<F: Shelf>(
         symbol: *symbol,
         admission: Admission::All,
     };
+    // A match and no `?`, as in `verdict_on`.
     match read_both(alloc, shelf, &scope, orders, trades) {
         Ok(reached) => Ok(session_report(alloc, symbol, phases, table, &reached)?),
         Err(stop) => Err(stop),

@@ -144,6 +144,7 @@ pub(crate) fn report_verify<F: Shelf>(
         symbol: *symbol,
         admission: Admission::Resting,
     };
+    // A match and no `?`, as in `verdict_on`.
     match read_both(alloc, shelf, &scope, orders, trades) {
         Ok(reached) => {
             if reached.is_malformed() {

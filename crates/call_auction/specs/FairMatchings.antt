@@ -5,11 +5,10 @@ use Rattle.std.specs.Option.{option_or}
 use Rattle.audit_base.specs.declared.orders.Order.{Order}
 use Rattle.audit_base.specs.declared.orders.Deal.{Deal}
 use Rattle.audit_base.specs.declared.findings.Finding.{Finding}
-use Rattle.audit_base.specs.Deals.{volume}
+use Rattle.audit_base.specs.Deals.{AreTotals, volume}
 use Rattle.audit_base.specs.Calls.{Matching, Fair, OnePrice}
 use Rattle.audit_base.specs.CallOffences.{matching_offence, fair_offence}
 use Rattle.rank_order.specs.Sides.{AreRanked}
-use Rattle.short_order.specs.Totals.{AreTotals}
 use Rattle.call_auction.specs.declared.fair_matchings.FairMatching.{FairMatching}
 
 -- the offence of the first two parts, if there is one

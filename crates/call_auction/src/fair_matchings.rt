@@ -1,11 +1,12 @@
 //! Whether deals are a fair matching: the first two parts of every rule of a call but `matching`.
 ghost use Rattle.std.specs.Prelude.{IfOk};
 ghost use Rattle.audit_base.specs.Orders.{IsOrderList};
-ghost use Rattle.audit_base.specs.Deals.{IsDeal, IsDealList, AreDeals};
+ghost use Rattle.audit_base.specs.Deals.{IsDealList, AreDeals};
 ghost use Rattle.call_auction.specs.FairMatchings.{IsFairMatching, IsFairMatchingOffence};
 ghost use Rattle.matching_core.specs.Answers.{IfFound};
 
 use audit_base::orders::{Deal, Order};
+use audit_base::ranges::deals_in_range;
 use fairness::checking::check_fair;
 use matching_core::checking::check_matching;
 use matching_core::outcomes::CheckFault;
@@ -20,23 +21,6 @@ pub struct FairMatching {
     pub totals: Totals,
     /// The orders that no record cancels, each side from the best to the worst.
     pub sides: RankedSides,
-}
-
-/// A deal's numbers are in their ranges, as their types say. Nothing is computed.
-fn deal_in_range(deal: &Deal)
-    ensures { IsDeal deal.now }
-{
-    let _quantity = deal.quantity.value();
-    let _price = deal.price.units();
-}
-
-/// The numbers of all deals are in their ranges, as their types say. Nothing is computed.
-fn deals_in_range(deals: &[Deal])
-    ensures { AreDeals deals.now }
-{
-    for deal in deals {
-        deal_in_range(deal);
-    }
 }
 
 /// The totals of deals that are a fair matching (under `uniform` one of one price), and the ranks of both

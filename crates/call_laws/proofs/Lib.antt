@@ -12,3 +12,4 @@ pub mod ShortLemmas
 pub mod SufficeLemmas
 pub mod UniformLemmas
 pub mod UnitLemmas
+pub mod VolumeLemmas

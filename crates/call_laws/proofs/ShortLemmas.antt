@@ -7,8 +7,9 @@ use Rattle.std.proofs.lemmas.List.Elements.{All-push, All-map}
 use Rattle.std.proofs.lemmas.Bool.{cases_Bool, cases_eq, cases_lt, and_parts, and_from, or_from, or_left, ne_eqb, cond-false, lt-ltb, ltb-true}
 use Rattle.audit_base.specs.declared.terms.Side.{Side}
 use Rattle.audit_base.specs.declared.terms.Side.TheVariants.{Buy, Sell}
-use Rattle.audit_base.specs.declared.terms.Rule.{Rule}
-use Rattle.audit_base.specs.declared.terms.Rule.TheVariants as rule
+use Rattle.audit_base.specs.declared.terms.VolumeRule.{VolumeRule}
+use Rattle.audit_base.specs.declared.terms.VolumeRule.TheVariants as of_volume
+use Rattle.audit_base.specs.RuleKinds.{rule_of_volume}
 use Rattle.audit_base.specs.declared.orders.Order.{Order}
 use Rattle.audit_base.specs.declared.orders.Deal.{Deal}
 use Rattle.audit_base.specs.Sums.{sum_below}
@@ -20,9 +21,9 @@ use Rattle.audit_base.specs.Rules.{Conforms}
 use Rattle.audit_base.specs.CallOffences.{is_short, best_short}
 use Rattle.audit_base.proofs.LeastLemmas.{none_some}
 use Rattle.audit_base.proofs.OrderLemmas.{same_side-is, test-stands, stands-test}
-use Rattle.audit_base.proofs.PriorityLemmas.{outranks-better, best-exists}
+use Rattle.audit_base.proofs.PriorityLemmas.{outranks-better, best-exists, best-is}
 use Rattle.audit_base.proofs.DealLemmas.{part-bid, part-ask}
-use Rattle.call_laws.specs.Laws.{asks_for_greatest, ShortOrdersDoNotMeet, LesserVolumeLeavesShortOrders}
+use Rattle.call_laws.specs.Laws.{ShortOrdersDoNotMeet, LesserVolumeLeavesShortOrders}
 use Rattle.call_laws.proofs.FairLemmas.{trades-stands, side-volume, share, share-own}
 
 -- what the test on a short order says
@@ -135,17 +136,14 @@ module _ (orders : List Order) (deals : List Deal) (m : Matching orders deals) (
 
 -- where the volume is the greatest, short orders don't meet
 pub short-apart : ShortOrdersDoNotMeet
-short-apart r orders deals asks orders_range ranges c i k b a = elim (cases_lt (limit_at orders i) (limit_at orders k)) [
+short-apart r orders deals orders_range ranges c i k b a = elim (cases_lt (limit_at orders i) (limit_at orders k)) [
   | inl lt ↦ lt
-  | inr meet ↦ absurd (meeting r asks c (short-is orders deals Buy i b) (short-is orders deals Sell k a) meet)
+  | inr meet ↦ absurd (meeting r c (short-is orders deals Buy i b) (short-is orders deals Sell k a) meet)
 ]
   where
-    meeting : (r : Rule) → asks_for_greatest r ≡ true → Conforms r orders deals → IsShort orders deals Buy i → IsShort orders deals Sell k → limit_at orders k ≤ limit_at orders i → ⊥
-    meeting rule.Matching asks c bid ask meet = absurd (cc)
-    meeting rule.Fair asks c bid ask meet = absurd (cc)
-    meeting rule.Uniform asks c bid ask meet = not-greatest_uniform orders deals c.matching c.fair orders_range ranges i k bid ask meet c.greatest
-    meeting rule.Maximum asks c bid ask meet = not-greatest orders deals c.matching c.fair orders_range ranges i k bid ask meet c.greatest
-    meeting rule.Continuous asks c bid ask meet = absurd (cc)
+    meeting : (r : VolumeRule) → Conforms (rule_of_volume r) orders deals → IsShort orders deals Buy i → IsShort orders deals Sell k → limit_at orders k ≤ limit_at orders i → ⊥
+    meeting of_volume.Uniform c bid ask meet = not-greatest_uniform orders deals c.matching c.fair orders_range ranges i k bid ask meet c.greatest
+    meeting of_volume.Maximum c bid ask meet = not-greatest orders deals c.matching c.fair orders_range ranges i k bid ask meet c.greatest
 
 -- of two sums, the greater has a greater term
 greater-term : (f g : ℕ → ℕ) (n : ℕ) → sum_below f n < sum_below g n → (k : ℕ) × (k < n) × (f k < g k)
@@ -172,6 +170,13 @@ lesser-short orders deals others m n lt side =
           let most = n.within k r.1 in
           (k, record { stands = subst (λ s. Stands orders s k) sided (trades-stands orders others n.kept k (omega arith)); below = omega arith })
     ]
+
+-- the best short order of a side stands on it
+pub best-stands : (orders : List Order) (deals : List Deal) (side : Side) (i : ℕ) → best_short orders deals side ≡ Some i → Stands orders side i
+unfolding best_short
+best-stands orders deals side i e =
+    let b = best-is orders (is_short orders deals side) i e in
+    test-stands orders side i b.inside (and_parts _ _ b.passes).0
 
 -- so each side has a best short order
 pub lesser-best : (orders : List Order) (deals others : List Deal) → Matching orders deals → Matching orders others → volume deals < volume others

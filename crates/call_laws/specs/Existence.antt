@@ -1,8 +1,10 @@
 -- That a call always has an answer, as statements: an extreme over all prices, a list of deals that
 -- conforms, and one verdict.
-use Rattle.std.specs.Prelude.{◌≡◌, ◌≢◌, ◌<◌, ◌^◌, ℕ, List, All, Option, Result, length, IsTrue}
+use Rattle.std.specs.Prelude.{◌≡◌, ◌<◌, ◌^◌, ℕ, List, All, Option, Result, length}
 use Rattle.audit_base.specs.declared.terms.Rule.{Rule}
-use Rattle.audit_base.specs.declared.terms.Rule.TheVariants as rule
+use Rattle.audit_base.specs.declared.terms.CallRule.{CallRule}
+use Rattle.audit_base.specs.declared.terms.VolumeRule.{VolumeRule}
+use Rattle.audit_base.specs.RuleKinds.{rule_of_call, rule_of_volume}
 use Rattle.audit_base.specs.declared.orders.Order.{Order}
 use Rattle.audit_base.specs.declared.orders.Deal.{Deal}
 use Rattle.audit_base.specs.declared.orders.Cut.{Cut}
@@ -12,7 +14,6 @@ use Rattle.audit_base.specs.Deals.{NamesOrders, AreDeals}
 use Rattle.audit_base.specs.Bounds.{IsLeastCut, IsBestUniform}
 use Rattle.audit_base.specs.Rules.{Conforms, Only}
 use Rattle.audit_base.specs.Expected.{IsExpected}
-use Rattle.call_laws.specs.Laws.{asks_for_greatest}
 use Rattle.audit_base.specs.Verdicts.{paired_trades, IsRuleVerdict, IsVerdict}
 use Rattle.audit_base.specs.Histories.{order_list}
 use Rattle.audit_base.specs.Trades.{AreTrades}
@@ -29,35 +30,34 @@ GreatestExecutableVolumeExists = (orders : List Order) → (c : Cut) × IsBestUn
 
 -- under each rule of a call some list of deals conforms
 abbrev pub ConformingListExists : Type 0
-ConformingListExists = (the_rule : Rule) (orders : List Order) → the_rule ≢ rule.Continuous
+ConformingListExists = (the_rule : CallRule) (orders : List Order)
     → IsOrderList orders → AreOrders orders
-    → (deals : List Deal) × AreDeals deals × Conforms the_rule orders deals
+    → (deals : List Deal) × AreDeals deals × Conforms (rule_of_call the_rule) orders deals
 
 -- under a rule that asks for a greatest volume there are Expected trades
 abbrev pub ExpectedTradesExist : Type 0
-ExpectedTradesExist = (the_rule : Rule) (orders : List Order) → IsTrue (asks_for_greatest the_rule)
+ExpectedTradesExist = (the_rule : VolumeRule) (orders : List Order)
     → IsOrderList orders → AreOrders orders
-    → (deals : List Deal) × IsExpected the_rule orders deals
+    → (deals : List Deal) × IsExpected (rule_of_volume the_rule) orders deals
 
 -- and each order has a due
 abbrev pub DuesExist : Type 0
-DuesExist = (the_rule : Rule) (orders : List Order) → IsTrue (asks_for_greatest the_rule)
-    → IsOrderList orders → AreOrders orders → (i : ℕ) → (due : ℕ) × Only the_rule orders i due
+DuesExist = (the_rule : VolumeRule) (orders : List Order) → IsOrderList orders → AreOrders orders
+    → (i : ℕ) → (due : ℕ) × Only (rule_of_volume the_rule) orders i due
 
 -- under each rule of a call every list of deals conforms or has a first offence
 abbrev pub RuleVerdictExists : Type 0
-RuleVerdictExists = (the_rule : Rule) (orders : List Order) (deals : List Deal) (count : ℕ)
-    → the_rule ≢ rule.Continuous → IsOrderList orders → AreOrders orders
-    → All (NamesOrders orders) deals → AreDeals deals
-    → (verdict : Option Finding) × IsRuleVerdict the_rule orders deals count verdict
+RuleVerdictExists = (the_rule : CallRule) (orders : List Order) (deals : List Deal) (count : ℕ)
+    → IsOrderList orders → AreOrders orders → All (NamesOrders orders) deals → AreDeals deals
+    → (verdict : Option Finding) × IsRuleVerdict (rule_of_call the_rule) orders deals count verdict
 
 -- under each rule of a call two logs that have been read have a verdict
 abbrev pub VerdictExists : Type 0
-VerdictExists = (the_rule : Rule) (symbol : List ℕ) (entries : List OrderRecord)
-    (trades : Result (List TradeRecord) Finding) → the_rule ≢ rule.Continuous
+VerdictExists = (the_rule : CallRule) (symbol : List ℕ) (entries : List OrderRecord)
+    (trades : Result (List TradeRecord) Finding)
     → length entries < 2 ^ 32 → AreOrders (order_list symbol entries)
     → AreTrades (paired_trades trades)
-    → (verdict : Option Finding) × IsVerdict the_rule symbol entries trades verdict
+    → (verdict : Option Finding) × IsVerdict (rule_of_call the_rule) symbol entries trades verdict
 
 -- under each of the five rules they have at most one
 abbrev pub VerdictIsTheOnlyOne : Type 0

@@ -1,25 +1,17 @@
 -- The laws of a call auction, as statements.
-use Rattle.std.specs.Prelude.{◌≡◌, ◌≢◌, ◌<◌, ℕ, Bool, true, false, IsTrue, List, None}
+use Rattle.std.specs.Prelude.{◌≡◌, ◌≢◌, ◌<◌, ℕ, IsTrue, List, None}
 use Rattle.audit_base.specs.declared.terms.Side.{Side}
 use Rattle.audit_base.specs.declared.terms.Side.TheVariants.{Buy, Sell}
-use Rattle.audit_base.specs.declared.terms.Rule.{Rule}
-use Rattle.audit_base.specs.declared.terms.Rule.TheVariants as rule
+use Rattle.audit_base.specs.declared.terms.VolumeRule.{VolumeRule}
 use Rattle.audit_base.specs.declared.orders.Order.{Order}
 use Rattle.audit_base.specs.declared.orders.Deal.{Deal}
 use Rattle.audit_base.specs.Orders.{limit_at, Stands, IsOrderList, AreOrders}
 use Rattle.audit_base.specs.Deals.{traded, volume, AreDeals}
 use Rattle.audit_base.specs.Calls.{Matching, Fair}
+use Rattle.audit_base.specs.RuleKinds.{rule_of_volume}
 use Rattle.audit_base.specs.Rules.{Conforms, Only}
 use Rattle.audit_base.specs.CallOffences.{is_short, best_short}
 use Rattle.audit_base.specs.Units.{due_by_rank}
-
--- the rules of a call that ask for a greatest volume
-abbrev pub asks_for_greatest : Rule → Bool
-asks_for_greatest rule.Matching = false
-asks_for_greatest rule.Fair = false
-asks_for_greatest rule.Uniform = true
-asks_for_greatest rule.Maximum = true
-asks_for_greatest rule.Continuous = false
 
 -- a fair matching fills its volume by rank: an order trades what the better ones leave of the volume,
 -- up to its quantity
@@ -38,9 +30,8 @@ FairVolumeFixes = (orders : List Order) (first second : List Deal) → IsOrderLi
 -- where the volume is the greatest that the rule allows, the limits of a short bid and a short ask
 -- don't meet
 abbrev pub ShortOrdersDoNotMeet : Type 0
-ShortOrdersDoNotMeet = (the_rule : Rule) (orders : List Order) (deals : List Deal)
-    → IsTrue (asks_for_greatest the_rule) → AreOrders orders → AreDeals deals
-    → Conforms the_rule orders deals
+ShortOrdersDoNotMeet = (the_rule : VolumeRule) (orders : List Order) (deals : List Deal)
+    → AreOrders orders → AreDeals deals → Conforms (rule_of_volume the_rule) orders deals
     → (bid ask : ℕ) → IsTrue (is_short orders deals Buy bid)
     → IsTrue (is_short orders deals Sell ask)
     → limit_at orders bid < limit_at orders ask
@@ -54,14 +45,13 @@ LesserVolumeLeavesShortOrders = (orders : List Order) (deals others : List Deal)
 -- under a rule that asks for a greatest volume, what an order trades in one conforming list of deals is
 -- its due
 abbrev pub OnlyQuantities : Type 0
-OnlyQuantities = (the_rule : Rule) (orders : List Order) (deals : List Deal)
-    → IsTrue (asks_for_greatest the_rule) → IsOrderList orders → AreDeals deals
-    → Conforms the_rule orders deals → (i : ℕ) → Only the_rule orders i (traded deals i)
+OnlyQuantities = (the_rule : VolumeRule) (orders : List Order) (deals : List Deal)
+    → IsOrderList orders → AreDeals deals → Conforms (rule_of_volume the_rule) orders deals
+    → (i : ℕ) → Only (rule_of_volume the_rule) orders i (traded deals i)
 
 -- so its due is what the better ones leave of the volume that conforms, up to its quantity
 abbrev pub DueByRank : Type 0
-DueByRank = (the_rule : Rule) (orders : List Order) (deals : List Deal)
-    → IsTrue (asks_for_greatest the_rule) → IsOrderList orders → AreDeals deals
-    → Conforms the_rule orders deals → (v : ℕ) → volume deals ≡ v
-    → (side : Side) (i : ℕ) → Stands orders side i
-    → Only the_rule orders i (due_by_rank orders side v i)
+DueByRank = (the_rule : VolumeRule) (orders : List Order) (deals : List Deal)
+    → IsOrderList orders → AreDeals deals → Conforms (rule_of_volume the_rule) orders deals
+    → (v : ℕ) → volume deals ≡ v → (side : Side) (i : ℕ) → Stands orders side i
+    → Only (rule_of_volume the_rule) orders i (due_by_rank orders side v i)

@@ -3,7 +3,7 @@ use Rattle.std.specs.Prelude.{◌≡◌, ◌≤◌, ◌<◌, ◌^◌, ℕ, List,
 use Rattle.audit_base.specs.declared.orders.Order.{Order}
 use Rattle.audit_base.specs.declared.orders.Deal.{Deal}
 use Rattle.audit_base.specs.declared.orders.Cut.{Cut}
-use Rattle.audit_base.specs.declared.terms.Rule.TheVariants as rule
+use Rattle.audit_base.specs.declared.terms.VolumeRule.TheVariants as of_volume
 use Rattle.audit_base.specs.Orders.{IsOrderList, AreOrders}
 use Rattle.audit_base.specs.Deals.{volume, AreDeals}
 use Rattle.audit_base.specs.Calls.{Matching, ConformsUniform, ConformsMaximum, IsGreatestVolume, IsGreatestUniformVolume}
@@ -30,7 +30,7 @@ abbrev pub UniformTradesAreExpected : Type 0
 UniformTradesAreExpected = (orders : List Order) (c : Cut)
     → IsOrderList orders → AreOrders orders → IsBestUniform orders c
     → IsExpectedUniform orders (uniform_deals orders c.volume c.price)
-    × IsGreatestUniformVolume orders c.volume × IsBound rule.Uniform orders c.volume c.price
+    × IsGreatestUniformVolume orders c.volume × IsBound of_volume.Uniform orders c.volume c.price
 
 -- the pairs of units conform to `maximum` and reach the least cut
 abbrev pub MaximumReachesLeastCut : Type 0
@@ -46,7 +46,7 @@ abbrev pub MaximumTradesAreExpected : Type 0
 MaximumTradesAreExpected = (orders : List Order) (c : Cut)
     → IsOrderList orders → AreOrders orders → IsLeastCut orders c
     → IsExpectedMaximum orders (maximum_deals orders c.volume)
-    × IsGreatestVolume orders c.volume × IsBound rule.Maximum orders c.volume c.price
+    × IsGreatestVolume orders c.volume × IsBound of_volume.Maximum orders c.volume c.price
 
 -- under `uniform` both sides have units enough for the greatest volume, and its bound is below 10^18
 abbrev pub UniformUnitsSuffice : Type 0

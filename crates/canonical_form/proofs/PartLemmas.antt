@@ -1,20 +1,21 @@
 -- How one part more changes the shares.
-use Rattle.std.proofs.Common.{◌≡◌, ◌<◌, ◌≤◌, ◌⊎◌, ◌+◌, ◌-◌, ◌*◌, ◌^◌, ℕ, zero, suc, List, [], ◌∷◌, ◌++◌, length, Bool, true, false, cond, refl, sym, ap, ◌∙◌, arith, inl, inr, subst, All, AllPairs, get_or, take, sum_by, is_lt, IsSorted, IsPermutation, add-one}
+use Rattle.std.proofs.Common.{◌≡◌, ◌<◌, ◌≤◌, ◌+◌, ◌-◌, ℕ, List, [], ◌∷◌, ◌++◌, length, map, Bool, true, false, cond, refl, sym, ap, ◌∙◌, arith, inl, inr, subst, All, AllPairs, take, sum_by, is_lt, IsSorted, IsPermutation}
 use Rattle.std.specs.Prelude.{◌==◌, ◌&&◌}
 use Rattle.std.specs.Cmp.{IsStrictWeakOrder}
-use Rattle.std.proofs.lemmas.Bool.{cases_Bool, cases_lt, cases_eq, and_parts, eqb-true, eq-eqb, and_from, both_ways, cond-true, cond-false}
+use Rattle.std.proofs.lemmas.Bool.{cases_lt, and_parts, eqb-true, eq-eqb, and_from, both_ways}
 use Rattle.std.proofs.lemmas.Bool.Decides.{nat_tests}
 use Rattle.std.proofs.lemmas.Cmp.{nat_cmp_total, on_total, then_total}
-use Rattle.std.proofs.lemmas.List.Elements.{All-nil, All-cons, All-head, All-tail, All-push, All-weaker}
-use Rattle.std.proofs.lemmas.List.Sorted.{sorted_far, ranks_by, All-permutation, sum_by-IsPermutation}
+use Rattle.std.proofs.lemmas.List.Elements.{All-nil, All-map, All-head, All-tail, All-push, All-weaker}
+use Rattle.std.proofs.lemmas.List.Sorted.{sorted_far, ranks_by, length_permutation, All-permutation, sum_by-IsPermutation}
 use Rattle.std.proofs.lemmas.List.Sums.{sum_by-cons, sum_by-append, sum_by_more}
-use Rattle.std.proofs.lemmas.List.{take_all, length_push}
+use Rattle.std.proofs.lemmas.List.{take_all, length-map}
+use Rattle.std.proofs.lemmas.List.Folds.{fold-map}
 use Rattle.audit_base.proofs.SumLemmas.{AllPairs-head, AllPairs-tail, AllPairs-cons}
 use Rattle.audit_base.specs.declared.orders.Deal.{Deal}
-use Rattle.audit_base.specs.Deals.{deal_at, missing_deal, pair}
+use Rattle.audit_base.specs.Deals.{AreDeals}
 use Rattle.canonical_form.specs.declared.parts.Part.{Part}
 use Rattle.canonical_form.specs.declared.shares.Share.{Share}
-use Rattle.canonical_form.specs.Parts.{part_cmp, part_of_pair, share_of_pair, share_of, is_of_pair, next_share, shares_before, missing_part, part_at, AreMade, AreMerged, AreParts, HaveParts, IsPartOfDeal, part_of_deal, parts_upto}
+use Rattle.canonical_form.specs.Parts.{part_cmp, part_of_pair, share_of_pair, share_of, is_of_pair, next_share, shares_before, missing_part, part_at, AreMade, AreMerged, AreParts, IsPartOfDeal, part_of_deal}
 use Rattle.canonical_form.specs.Shares.{StandsBefore}
 
 -- the pair of one part, and the pair of a later one, in order
@@ -150,35 +151,11 @@ pub merged-none : (parts : List Part) (shares : List Share) → length parts ≡
 merged-none [] shares e none = subst (AreMerged []) (sym none) (record { sums = λ bid ask. refl; some = All-nil (λ (t : Share). 0 < t.quantity); ascending = λ i j d lt below. absurd (omega arith) })
 merged-none (p ∷ ps) shares e none = absurd (omega arith)
 
--- The parts of all deals.
-module _ (deals : List Deal) where
-  upto-each : (n : ℕ) → HaveParts deals n → All IsPartOfDeal (parts_upto deals n)
-  upto-each zero have = All-nil IsPartOfDeal
-  upto-each (suc n) have = All-push IsPartOfDeal (parts_upto deals n) (part_of_deal (deal_at deals n)) (upto-each n (λ i lt. have i (omega arith))) (have n (omega arith))
-
-  upto-sums : (bid ask n : ℕ) → n ≤ length deals → sum_by (part_of_pair bid ask) (parts_upto deals n) ≡ pair (take n deals) bid ask
-  upto-sums bid ask zero inside = refl
-  upto-sums bid ask (suc n) inside =
-      let rest = upto-sums bid ask n (omega arith) in
-      let more = sum_by-append (part_of_pair bid ask) (parts_upto deals n) (part_of_deal (deal_at deals n) ∷ []) in
-      let one = sum_by-cons (part_of_pair bid ask) (part_of_deal (deal_at deals n)) [] in
-      let next = sum_by_more (λ (d : Deal). cond ((d.bid == bid) && (d.ask == ask)) d.quantity 0) deals n missing_deal (omega arith) in
-      let same : pair (take (n + 1) deals) bid ask ≡ pair (take (suc n) deals) bid ask = ap (λ (m : ℕ). pair (take m deals) bid ask) (add-one n) in
-      omega arith
-
-  upto-count : (n : ℕ) → length (parts_upto deals n) ≡ n
-  upto-count zero = refl
-  upto-count (suc n) = omega (arith, upto-count n, length_push (parts_upto deals n) (part_of_deal (deal_at deals n)))
-
-  pub sorted-parts : (parts from : List Part) → from ≡ parts_upto deals (length deals) → HaveParts deals (length deals) → IsPermutation from parts → (length parts ≡ length deals) × All IsPartOfDeal parts × AreParts deals parts
-  sorted-parts parts from is have moved =
-      let moved' : IsPermutation (parts_upto deals (length deals)) parts = subst (λ (xs : List Part). IsPermutation xs parts) is moved in
-      let ones = sum_by-IsPermutation (λ (p : Part). 1) (parts_upto deals (length deals)) parts moved' in (
-        omega (arith, ones, count parts, count (parts_upto deals (length deals)), upto-count (length deals)),
-        All-permutation IsPartOfDeal (parts_upto deals (length deals)) parts moved' (upto-each (length deals) have),
-        λ bid ask. sum_by-IsPermutation (part_of_pair bid ask) (parts_upto deals (length deals)) parts moved' ∙ upto-sums bid ask (length deals) (omega arith) ∙ ap (λ (ds : List Deal). pair ds bid ask) (take_all (length deals) deals (omega arith)),
-      )
-    where
-      count : (xs : List Part) → sum_by (λ (p : Part). 1) xs ≡ length xs
-      count [] = refl
-      count (x ∷ xs) = omega (arith, count xs, sum_by-cons (λ (p : Part). 1) x xs)
+-- the parts of all deals, in another order
+pub sorted-parts : (deals : List Deal) (from parts : List Part) → from ≡ map part_of_deal deals → AreDeals deals → IsPermutation from parts → (length parts ≡ length deals) × All IsPartOfDeal parts × AreParts deals parts
+sorted-parts deals from parts is ranges moved =
+    let moved' : IsPermutation (map part_of_deal deals) parts = subst (λ (xs : List Part). IsPermutation xs parts) is moved in (
+      length_permutation (map part_of_deal deals) parts moved' ∙ length-map deals part_of_deal,
+      All-permutation IsPartOfDeal (map part_of_deal deals) parts moved' (All-map IsPartOfDeal part_of_deal deals (λ k d lt. let r = ranges k d lt in record { some = r.some; most = r.most })),
+      λ bid ask. sum_by-IsPermutation (part_of_pair bid ask) (map part_of_deal deals) parts moved' ∙ fold-map (λ (n : ℕ) (p : Part). n + part_of_pair bid ask p) part_of_deal 0 deals,
+    )

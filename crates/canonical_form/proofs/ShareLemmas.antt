@@ -1,11 +1,10 @@
 -- From what the shares trade with each pair to the share of each pair.
-use Rattle.std.proofs.Common.{◌≡◌, ◌<◌, ◌⊎◌, ◌+◌, ℕ, List, [], ◌∷◌, length, Bool, true, false, cond, refl, sym, ap, ◌∙◌, arith, inl, inr, subst, All, AllPairs, get_or, sum_by, Result, Ok, Err}
+use Rattle.std.proofs.Common.{◌≡◌, ◌<◌, ℕ, List, [], ◌∷◌, refl, sym, ◌∙◌, arith, inl, inr, subst, All, AllPairs, get_or, sum_by, Result, Ok, Err}
 use Rattle.std.specs.Prelude.{◌==◌, ◌&&◌, Contains, IfOk}
 use Rattle.std.proofs.lemmas.Bool.{cases_Bool, and_parts, and_from, and_left, and_right, eqb-true, eq-eqb, ne_eqb, cond-true, cond-false}
 use Rattle.std.proofs.lemmas.List.Elements.{All-nil, All-cons}
 use Rattle.std.proofs.lemmas.List.Sums.{sum_by-cons}
 use Rattle.audit_base.specs.declared.orders.Deal.{Deal}
-use Rattle.audit_base.specs.Deals.{pair}
 use Rattle.audit_base.proofs.SumLemmas.{sum_by-none, AllPairs-head, AllPairs-tail, Contains-front, Contains-behind}
 use Rattle.canonical_form.specs.declared.parts.Part.{Part}
 use Rattle.canonical_form.specs.declared.shares.Share.{Share}

@@ -1,7 +1,6 @@
 -- The trade records of deals, read again.
-use Rattle.std.proofs.Common.{◌≡◌, ◌<◌, ◌≤◌, ◌+◌, ◌^◌, ℕ, zero, suc, List, [], ◌∷◌, ◌++◌, length, take, get_or, map, Bool, true, false, Option, Some, None, refl, sym, ap, ◌∙◌, arith, inl, inr, All, AllPairs, subst}
-use Rattle.std.specs.Prelude.{◌&&◌, filter, unwrap_or, EachIndex, decimal, nat_le}
-use Rattle.std.specs.List.{list_all}
+use Rattle.std.proofs.Common.{◌≡◌, ◌<◌, ◌≤◌, ◌+◌, ◌^◌, ℕ, zero, suc, List, [], ◌∷◌, ◌++◌, length, take, get_or, map, Bool, true, false, Option, Some, None, refl, sym, ap, ◌∙◌, arith, inl, inr, subst}
+use Rattle.std.specs.Prelude.{◌&&◌, filter, unwrap_or, decimal}
 use Rattle.std.specs.List.{enumerate_from}
 use Rattle.std.specs.Option.{option_or}
 use Rattle.std.proofs.lemmas.Bool.{cases_Bool, and_from, and_parts, cond-true, le-leb}
@@ -18,15 +17,15 @@ use Rattle.audit_base.specs.declared.records.TradeRecord.{TradeRecord}
 use Rattle.audit_base.specs.declared.orders.Order.{Order}
 use Rattle.audit_base.specs.declared.orders.Deal.{Deal}
 use Rattle.audit_base.specs.Orders.{order_at, side_at, same_name, same_side, same_key, on_side_with_key, missing_order, HaveOwnKeys}
-use Rattle.audit_base.specs.Deals.{deal_at, missing_deal, AreDeals, NamesOrders, IsDealList}
-use Rattle.audit_base.specs.Trades.{trades_of, missing_trade, trade_at, trade_place, IsTrade, AreTrades, duplicate_trade, unknown_order, unsound_trade, Sound, deal_of, deals_of}
+use Rattle.audit_base.specs.Deals.{deal_at, missing_deal, AreDeals, IsDealList}
+use Rattle.audit_base.specs.Trades.{trades_of, missing_trade, trade_at, IsTrade, AreTrades, duplicate_trade, unknown_order, unsound_trade, Sound, deal_of, deals_of}
 use Rattle.audit_base.specs.declared.terms.Rule.TheVariants as rule
 use Rattle.audit_base.specs.Expected.{pair_deals, trade_of_deal, trades_of_deals}
 use Rattle.audit_base.proofs.PairDealLemmas.{pair_deals-are}
-use Rattle.audit_base.proofs.LeastLemmas.{option_or-none, least-none, with-at, with-none}
-use Rattle.audit_base.proofs.OrderLemmas.{is-same_side, same_side-is}
+use Rattle.audit_base.proofs.LeastLemmas.{least-none, with-at, with-none}
+use Rattle.audit_base.proofs.OrderLemmas.{is-same_side}
 use Rattle.audit_base.proofs.HistoryLemmas.{same_key-is, is-same_key}
-use Rattle.audit_base.proofs.OffenceLemmas.{get_or-default, none-only}
+use Rattle.audit_base.proofs.OffenceLemmas.{get_or-default}
 use Rattle.canonical_form.specs.Trades.{ExpectedHavePlaces, HavePlacesFromOne, TradesAreSound, TradesGiveTheirDeals, TradesHaveRanges}
 
 -- where each member passes the test, all are left

@@ -1,9 +1,9 @@
 -- The parts that deals add to shares.
-use Rattle.std.specs.Prelude.{◌≡◌, ◌<◌, ◌≤◌, ◌+◌, ◌^◌, ℕ, zero, suc, Bool, ◌==◌, ◌&&◌, List, [], ◌∷◌, ◌++◌, All, AllPairs, sum_by, take, slice_index_or, ◌*◌, if◌then◌else◌}
+use Rattle.std.specs.Prelude.{◌≡◌, ◌<◌, ◌≤◌, ◌+◌, ◌^◌, ℕ, Bool, ◌==◌, ◌&&◌, List, [], ◌∷◌, ◌++◌, All, AllPairs, sum_by, take, slice_index_or, ◌*◌, if◌then◌else◌}
 use Rattle.std.specs.Ordering.{nat_cmp, ordering_then}
 use Rattle.std.specs.declared.cmp.Ordering.{Ordering}
 use Rattle.audit_base.specs.declared.orders.Deal.{Deal}
-use Rattle.audit_base.specs.Deals.{deal_at, pair}
+use Rattle.audit_base.specs.Deals.{pair}
 use Rattle.canonical_form.specs.declared.parts.Part.{Part}
 use Rattle.canonical_form.specs.declared.shares.Share.{Share}
 use Rattle.canonical_form.specs.Shares.{StandsBefore}
@@ -31,17 +31,9 @@ pub record IsPartOfDeal (p : Part) : Type 0 where
   pub some : 0 < p.quantity
   pub most : p.quantity ≤ 10 ^ 12
 
--- the part of a deal, and those of the first n deals, in log order
+-- the part of a deal
 abbrev pub part_of_deal : Deal → Part
 part_of_deal d = record { bid = d.bid; ask = d.ask; quantity = d.quantity }
-
-abbrev pub parts_upto : List Deal → ℕ → List Part
-parts_upto deals zero = []
-parts_upto deals (suc n) = parts_upto deals n ++ part_of_deal (deal_at deals n) ∷ []
-
--- the first n deals have such quantities
-abbrev pub HaveParts : List Deal → ℕ → Type 0
-HaveParts deals n = (i : ℕ) → i < n → IsPartOfDeal (part_of_deal (deal_at deals i))
 
 -- the parts trade with each pair what the deals do
 abbrev pub AreParts : List Deal → List Part → Type 0

@@ -1,9 +1,10 @@
 //! The deals by their bid and their ask.
-ghost use Rattle.std.specs.Prelude.{◌≡◌, All, IfOk, length, IsSorted};
-ghost use Rattle.canonical_form.specs.Parts.{AreParts, HaveParts, IsPartOfDeal, part_cmp, parts_upto};
+ghost use Rattle.std.specs.Prelude.{◌≡◌, All, IfOk, length, map, IsSorted};
+ghost use Rattle.canonical_form.specs.Parts.{AreParts, IsPartOfDeal, part_cmp, part_of_deal};
 
 use audit_base::faults::NoMemory;
 use audit_base::orders::Deal;
+use audit_base::ranges::deals_in_range;
 use std::alloc::Global;
 
 /// What one deal trades, by its bid and its ask.
@@ -16,11 +17,10 @@ pub struct Part {
 
 /// The parts of the deals, in log order.
 fn collect_parts(alloc: Global, deals: &[Deal]) -> Result<Vec<Part>, NoMemory>
-    ensures parts { IfOk result (λ parts. parts.items ≡ parts_upto deals.now (length deals.now)) }
-    ensures each { IfOk result (λ parts. HaveParts deals.now (length deals.now)) }
+    ensures { IfOk result (λ parts. parts.items ≡ map part_of_deal deals.now) }
 {
     let mut parts = Vec::with_capacity(alloc, deals.len())?;
-    for (index, deal) in deals.iter().enumerate() {
+    for deal in deals {
         let part = Part {
             bid: deal.bid,
             ask: deal.ask,
@@ -38,6 +38,7 @@ pub fn sort_parts(alloc: Global, deals: &[Deal]) -> Result<Vec<Part>, NoMemory>
     ensures sums { IfOk result (λ parts. AreParts deals.now parts.items) }
     ensures sorted { IfOk result (λ parts. IsSorted part_cmp parts.items) }
 {
+    deals_in_range(deals);
     let mut parts = collect_parts(alloc, deals)?;
     parts.sort()?;
     Ok(parts)

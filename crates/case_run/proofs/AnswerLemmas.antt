@@ -12,9 +12,9 @@ use Rattle.case_keeper.specs.declared.case.Filter.{Filter}
 use Rattle.case_keeper.specs.declared.casebook.Filed.TheVariants.{Kept, Known}
 use Rattle.case_run.specs.Play.{list_turn, show_turn, verdict_turn}
 use Rattle.std.specs.Prelude.{IfSome}
-use Rattle.case_run.specs.Runs.{IsCause, ReadsBadLog}
+use Rattle.case_run.specs.Calls.{IsCause, IsUntouched, ReadsBadLog, ReadsGoodLogs}
 use Rattle.case_run.specs.Statuses.{ends_run}
-use Rattle.case_run.specs.Turns.{AnswersBook, AnswersCommand, FilesVerdict, HasVerdictStatus, IsAnswerStatus, IsKeeperCause, IsLogHalt, JudgesLogs, ReadsMalformed, StaysWithin}
+use Rattle.case_run.specs.Turns.{AnswersBook, AnswersCommand, AsksBookFor, FilesVerdict, HasVerdictStatus, IsAnswerStatus, IsKeeperCause, IsLogHalt, JudgesLogs, ReadsFor, StaysWithin}
 use Rattle.case_run.specs.declared.answers.Answer.{Answer}
 use Rattle.case_run.specs.declared.commands.Command.{Command}
 use Rattle.case_run.specs.declared.commands.Command.TheVariants as command
@@ -48,46 +48,61 @@ not_bad status.Memory goes is = cc
 not_bad status.KeeperFault goes is = cc
 
 module _ (r : Reading) (book_old book_new : KeeperState) where
-  keeper_cause : (the_command : Command) (why : Halt) → IsKeeperCause book_old book_new why → IsCause r book_old book_new the_command why
-  keeper_cause the_command (halt.ReadFault log) is = absurd is
-  keeper_cause the_command (halt.TooLong log) is = absurd is
-  keeper_cause the_command halt.KeeperFault is = is
-  keeper_cause the_command halt.Memory is = tt
+  keeper_cause : (the_command : Command) (why : Halt) → (why ≡ halt.KeeperFault → ReadsGoodLogs r the_command) → IsKeeperCause book_old book_new why → IsCause r book_old book_new the_command why
+  keeper_cause the_command (halt.ReadFault log) read is = absurd is
+  keeper_cause the_command (halt.TooLong log) read is = absurd is
+  keeper_cause the_command halt.KeeperFault read is = (read refl, is)
+  keeper_cause the_command halt.Memory read is = tt
 
-  pub answers_list : (filter : Filter) (result : Result Answer Halt) → AnswersBook (λ cases. list_turn cases filter) book_old book_new result → AnswersCommand r book_old book_new (command.List filter) result
-  answers_list filter (Ok answer) is = record {
+  pub answers_list : IsUntouched r → (filter : Filter) (result : Result Answer Halt) → AnswersBook (λ cases. list_turn cases filter) book_old book_new result → AnswersCommand r book_old book_new (command.List filter) result
+  answers_list alone filter (Ok answer) is = record {
     known = λ cases tells book. record { turn = list_turn cases filter; is = refl; has = is.known cases book };
     status_is = answers_going answer.status is.goes_on;
     bad = λ e. absurd (not_bad answer.status is.goes_on e);
+    good = λ e. alone;
   }
-  answers_list filter (Err why) is = record { cause = keeper_cause (command.List filter) why is.cause; stays = is.stays }
+  answers_list alone filter (Err why) is = record { cause = keeper_cause (command.List filter) why (λ e. alone) is.cause; stays = is.stays }
 
-  pub answers_show : (label : List ℕ) (result : Result Answer Halt) → AnswersBook (λ cases. show_turn cases label) book_old book_new result → AnswersCommand r book_old book_new (command.Show label) result
-  answers_show label (Ok answer) is = record {
+  pub answers_show : IsUntouched r → (label : List ℕ) (result : Result Answer Halt) → AnswersBook (λ cases. show_turn cases label) book_old book_new result → AnswersCommand r book_old book_new (command.Show label) result
+  answers_show alone label (Ok answer) is = record {
     known = λ cases tells book. record { turn = show_turn cases label; is = refl; has = is.known cases book };
     status_is = answers_going answer.status is.goes_on;
     bad = λ e. absurd (not_bad answer.status is.goes_on e);
+    good = λ e. alone;
   }
-  answers_show label (Err why) is = record { cause = keeper_cause (command.Show label) why is.cause; stays = is.stays }
+  answers_show alone label (Err why) is = record { cause = keeper_cause (command.Show label) why (λ e. alone) is.cause; stays = is.stays }
 
   verdict_answers : (v : Verdict) (s : CaseStatus) → HasVerdictStatus v s → IsAnswerStatus s
   verdict_answers (verdict.Accepted accepted) s is = answers_going s is
   verdict_answers (verdict.Rejected finding) s is = answers_going s is
   verdict_answers (verdict.Malformed log bad) s is = subst IsAnswerStatus (sym is) tt
 
-  verdict_bad : (wanted : Filing) (v : Verdict) (s : CaseStatus) → HasVerdictStatus v s → ReadsMalformed r wanted v → s ≡ status.Malformed → ReadsBadLog r (command.File wanted)
+  verdict_bad : (wanted : Filing) (v : Verdict) (s : CaseStatus) → HasVerdictStatus v s → ReadsFor r wanted v → s ≡ status.Malformed → ReadsBadLog r (command.File wanted)
   verdict_bad wanted (verdict.Accepted accepted) s is bad e = absurd (not_bad s is e)
   verdict_bad wanted (verdict.Rejected finding) s is bad e = absurd (not_bad s is e)
   verdict_bad wanted (verdict.Malformed log place) s is bad e = (log, bad)
+
+  verdict_good : (wanted : Filing) (v : Verdict) (s : CaseStatus) → HasVerdictStatus v s → ReadsFor r wanted v → (s ≡ status.Malformed → ⊥) → ReadsGoodLogs r (command.File wanted)
+  verdict_good wanted (verdict.Accepted accepted) s is read ne = read
+  verdict_good wanted (verdict.Rejected finding) s is read ne = read
+  verdict_good wanted (verdict.Malformed log place) s is read ne = absurd (ne is)
+
+  -- the book is asked only after both logs were read
+  asked_good : (wanted : Filing) (v : Verdict) (why : Halt) → ReadsFor r wanted v → AsksBookFor v why → why ≡ halt.KeeperFault → ReadsGoodLogs r (command.File wanted)
+  asked_good wanted (verdict.Accepted accepted) why read asks e = read
+  asked_good wanted (verdict.Rejected finding) why read asks e = read
+  asked_good wanted (verdict.Malformed log place) why read asks e = absurd (cc)
 
   -- a verdict that was filed
   pub answers_file : (wanted : Filing) (v : Verdict) (result : Result Answer Halt) → JudgesLogs r wanted v → FilesVerdict book_old book_new wanted v result → AnswersCommand r book_old book_new (command.File wanted) result
   answers_file wanted v (Ok answer) judges is = record {
     known = λ cases tells book. record { turn = verdict_turn cases wanted v; is = (v, judges.on tells, refl); has = is.known cases book };
     status_is = verdict_answers v answer.status is.status_is;
-    bad = verdict_bad wanted v answer.status is.status_is judges.bad;
+    bad = verdict_bad wanted v answer.status is.status_is judges.read;
+    good = verdict_good wanted v answer.status is.status_is judges.read;
   }
-  answers_file wanted v (Err why) judges is = record { cause = keeper_cause (command.File wanted) why is.cause; stays = is.stays }
+  answers_file wanted v (Err why) judges is =
+      record { cause = keeper_cause (command.File wanted) why (asked_good wanted v why judges.read is.1) is.0.cause; stays = is.0.stays }
 
 -- there was no verdict to file
 pub halts_file : (r : Reading) (book : KeeperState) (wanted : Filing) (why : Halt) → IsLogHalt r wanted why → AnswersCommand r book book (command.File wanted) (Err why)

@@ -10,13 +10,16 @@ use Rattle.log_source.specs.Sinks.{SinkState, Stays}
 use Rattle.log_source.specs.Sources.{Rose}
 use Rattle.case_run.specs.Commands.{all_there, command_of, commands_of, is_then, with_next}
 use Rattle.case_run.specs.Lines.{usage_line}
-use Rattle.case_run.specs.Runs.{AnswersLength, AnswersReady, Call, IsCaseRun, Runs, RunsCommands, WritesUsage, call_of}
+use Rattle.case_run.specs.Calls.{Call, call_of}
+use Rattle.case_run.specs.Runs.{AnswersLength, AnswersReady, IsCaseRun, Runs, RunsCommands, WritesUsage}
+use Rattle.case_run.specs.Traces.{end_of, known_of, start_of}
 use Rattle.case_run.specs.Turns.{KeepsAll}
 use Rattle.case_run.specs.Writing.{Writes}
 use Rattle.case_run.specs.declared.commands.Command.{Command}
 use Rattle.case_run.specs.declared.statuses.CaseStatus.{CaseStatus}
 use Rattle.case_run.specs.declared.statuses.CaseStatus.TheVariants as status
 use Rattle.case_run.proofs.ReadyLemmas.{ready_answers}
+use Rattle.case_run.proofs.RunLemmas.{ends_here, goes_none}
 
 -- words are at least one part, so they never ask for no command
 pub some_command : (words : List (List ℕ)) → commands_of words ≡ Some [] → ⊥
@@ -100,16 +103,6 @@ module _ {S : Type 0} (shelf : Shelf S) (asked : Option (List Command)) where
       runs : (o : Option (List Command)) → (o ≡ Some [] → ⊥) → Runs call o status.Memory
       runs None some = (refl, record { slots = λ log. refl; book = refl })
       runs (Some []) some = absurd (some refl)
-      runs (Some (c ∷ commands)) some = record {
-        before = [];
-        last = c;
-        rest = commands;
-        split = refl;
-        cause = tt;
-        left = λ cases tells. record {
-          end = record { cases = cases; text = []; status = status.Done };
-          play = refl;
-          goes_on = refl;
-          leaves = record { cases_are = tells.book; wrote = Appends-nil sink.wrote };
-        };
-      }
+      runs (Some (c ∷ commands)) some =
+          ends_here (known_of call.shelf) (start_of call) (start_of call) (end_of call) [] c status.Done (goes_none (known_of call.shelf) (start_of call)) commands status.Memory refl
+          (record { cause = tt; left = λ cases tells. record { cases_are = tells.book; wrote = Appends-nil sink.wrote } })

@@ -5,8 +5,10 @@ use Rattle.std.specs.Io.KnownBytes.{Appends}
 use Rattle.log_verdict.specs.Steps.{Reading}
 use Rattle.case_keeper.specs.Keepers.{KeeperState}
 use Rattle.log_source.specs.Sinks.{SinkState, AppendsPart}
-use Rattle.case_run.specs.Runs.{AnswersLength, Call, ReadsBadLog, call_of, halt_line}
-use Rattle.case_run.specs.Turns.{IsAnswerStatus, IsAnswered, IsCut, IsHalted, IsTaken, StaysWithin, TakesTurn, TellsHalt}
+use Rattle.case_run.specs.Calls.{Call, ReadsBadLog, ReadsGoodLogs, call_of, halt_line}
+use Rattle.case_run.specs.Runs.{AnswersLength}
+use Rattle.case_run.specs.Traces.{IsCut, IsTaken, TakesTurn, TellsHalt}
+use Rattle.case_run.specs.Turns.{IsAnswerStatus, IsAnswered, IsHalted, StaysWithin}
 use Rattle.case_run.specs.Writing.{Writes, WritesFront, WritesHalt}
 use Rattle.case_run.specs.declared.answers.Answer.{Answer}
 use Rattle.case_run.specs.declared.commands.Command.{Command}
@@ -48,18 +50,18 @@ module _ (r : Reading) (sink_old sink_new : SinkState) (book_old book_new : Keep
   -- an answer that was written, whole or in part
   pub turn_of_answer : (answer : Answer) (result : CaseStatus) → IsAnswered r book_old book_new the_command answer → Writes sink_old sink_new answer.status answer.text.items result → TakesTurn call the_command result
   turn_of_answer answer result is (inr front) = rw front.answer_is (cut answer result is front)
-  turn_of_answer answer result is (inl all) = rw all.answer_is (by_status answer.status is.status_is (taken answer is all.wrote) is.bad)
+  turn_of_answer answer result is (inl all) = rw all.answer_is (by_status answer.status is.status_is (taken answer is all.wrote) is.bad is.good)
     where
-      by_status : (s : CaseStatus) → IsAnswerStatus s → IsTaken call the_command s → (s ≡ status.Malformed → ReadsBadLog r the_command) → TakesTurn call the_command s
-      by_status status.Done answers took bad = took
-      by_status status.Refused answers took bad = took
-      by_status status.Malformed answers took bad = (took, bad refl)
-      by_status status.Usage answers took bad = absurd answers
-      by_status status.ReadFault answers took bad = absurd answers
-      by_status status.WriteFault answers took bad = absurd answers
-      by_status status.TooLong answers took bad = absurd answers
-      by_status status.Memory answers took bad = absurd answers
-      by_status status.KeeperFault answers took bad = absurd answers
+      by_status : (s : CaseStatus) → IsAnswerStatus s → IsTaken call the_command s → (s ≡ status.Malformed → ReadsBadLog r the_command) → ((s ≡ status.Malformed → ⊥) → ReadsGoodLogs r the_command) → TakesTurn call the_command s
+      by_status status.Done answers took bad good = (took, good (λ e. cc))
+      by_status status.Refused answers took bad good = (took, good (λ e. cc))
+      by_status status.Malformed answers took bad good = (took, bad refl)
+      by_status status.Usage answers took bad good = absurd answers
+      by_status status.ReadFault answers took bad good = absurd answers
+      by_status status.WriteFault answers took bad good = absurd answers
+      by_status status.TooLong answers took bad good = absurd answers
+      by_status status.Memory answers took bad good = absurd answers
+      by_status status.KeeperFault answers took bad good = absurd answers
 
   tells_halt : (why : Halt) → IsHalted r book_old book_new the_command why → Appends sink_old.wrote sink_new.wrote (halt_line why) → TellsHalt call the_command why
   tells_halt why is wrote = record {

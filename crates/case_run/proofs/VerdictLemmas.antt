@@ -25,8 +25,9 @@ use Rattle.log_verdict.specs.LogVerdicts.{log_in, order_log, trade_log, IsLogVer
 use Rattle.log_verdict.specs.Steps.{Reading, Step, IsRead}
 use Rattle.record_verdict.specs.declared.questions.Question.{Question}
 use Rattle.record_verdict.specs.Judgements.{question, IsJudged, IsOutcome}
-use Rattle.case_run.specs.Runs.{IsStarted, OfLog, name_in}
-use Rattle.case_run.specs.Turns.{halt_of_stop, IsLogHalt, JudgesLogs, ReadsMalformed, StaysWithin}
+use Rattle.case_run.specs.Calls.{IsStarted, OfLog, ReadsGoodLogs, name_in}
+use Rattle.case_run.specs.Turns.{halt_of_stop, IsLogHalt, JudgesLogs, ReadsFor, StaysWithin}
+use Rattle.case_run.specs.declared.commands.Command.TheVariants as command
 use Rattle.case_run.specs.declared.commands.Filing.{Filing}
 
 -- a verdict on records is no bad place
@@ -76,14 +77,14 @@ module _ (r : Reading) (wanted : Filing) (orders trades : Source) (first : Names
       has_trades = λ good. absurd (no_good (order_log wanted.form bytes) bad (orders_say bytes (Err bad) says) good);
       is = rw (orders_say bytes (Err bad) says) is;
     };
-    bad = subst (ReadsMalformed r wanted) (sym is) (record { bytes = bytes; read = read_orders bytes read; holds = ap is_ok (orders_say bytes (Err bad) says) });
+    read = subst (ReadsFor r wanted) (sym is) (record { bytes = bytes; read = read_orders bytes read; holds = ap is_ok (orders_say bytes (Err bad) says) });
   }
 
   -- and where it is in its grammar
   module _ (v : Verdict) (one two : List ℕ) (entries : List OrderRecord) (read_one : IsRead r (step_of r Orders orders.name.now) one) (read_two : IsRead r (step_of r Trades trades.name.now) two)
       (says : order_log orders.form one ≡ Ok entries) where
-    judges : ReadsMalformed r wanted v → IsLogVerdict asked (log_in wanted.form one) (log_in wanted.form two) v → JudgesLogs r wanted v
-    judges bad is = record {
+    judges : ReadsFor r wanted v → IsLogVerdict asked (log_in wanted.form one) (log_in wanted.form two) v → JudgesLogs r wanted v
+    judges read is = record {
       on = λ tells. record {
         orders = one;
         trades = two;
@@ -91,19 +92,25 @@ module _ (r : Reading) (wanted : Filing) (orders trades : Source) (first : Names
         has_trades = λ good. (read_trades two read_two).known tells;
         is = is;
       };
-      bad = bad;
+      read = read;
     }
 
-    not_bad : (v : Verdict) (paired : Result (List TradeRecord) Finding) → IsJudged asked entries paired v → ReadsMalformed r wanted v
-    not_bad (verdict.Accepted accepted) paired is = tt
-    not_bad (verdict.Rejected finding) paired is = tt
-    not_bad (verdict.Malformed log bad) paired is = absurd (judged_sound asked entries paired log bad is)
+    good : (paired : Result (List TradeRecord) Finding) → trade_log trades.form two ≡ Ok paired → ReadsGoodLogs r (command.File wanted)
+    good paired said = (
+      record { bytes = one; read = read_orders one read_one; holds = rw (orders_say one (Ok entries) says) refl },
+      record { bytes = two; read = read_trades two read_two; holds = rw (trades_say two (Ok paired) said) refl },
+    )
+
+    not_bad : (v : Verdict) (paired : Result (List TradeRecord) Finding) → trade_log trades.form two ≡ Ok paired → IsJudged asked entries paired v → ReadsFor r wanted v
+    not_bad (verdict.Accepted accepted) paired said is = good paired said
+    not_bad (verdict.Rejected finding) paired said is = good paired said
+    not_bad (verdict.Malformed log bad) paired said is = absurd (judged_sound asked entries paired log bad is)
 
     of_trades : (said : Result (Result (List TradeRecord) Finding) BadPlace) → trade_log trades.form two ≡ said
         → MatchResult said (λ paired. IsJudged asked entries paired v) (λ bad. v ≡ verdict.Malformed Trades bad) → JudgesLogs r wanted v
-    of_trades (Ok paired) said is = judges (not_bad v paired is) (rw (orders_say one (Ok entries) says, trades_say two (Ok paired) said) is)
+    of_trades (Ok paired) said is = judges (not_bad v paired said is) (rw (orders_say one (Ok entries) says, trades_say two (Ok paired) said) is)
     of_trades (Err bad) said is =
-        judges (subst (ReadsMalformed r wanted) (sym is) (record { bytes = two; read = read_trades two read_two; holds = ap is_ok (trades_say two (Err bad) said) }))
+        judges (subst (ReadsFor r wanted) (sym is) (record { bytes = two; read = read_trades two read_two; holds = ap is_ok (trades_say two (Err bad) said) }))
         (rw (orders_say one (Ok entries) says, trades_say two (Err bad) said) is)
 
   -- the verdict on both logs is that on the logs of the filing

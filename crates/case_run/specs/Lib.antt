@@ -2,6 +2,8 @@
 -- leaves of the cases; the same over the casebook that a path names; Play; the commands and their words;
 -- the lines and the statuses.
 pub mod Runs
+pub mod Traces
+pub mod Calls
 pub mod Books
 pub mod Openers
 pub mod Play

@@ -15,11 +15,13 @@ use Rattle.log_source.specs.declared.shelf.Shelf.{Ghosts as Shelf}
 use Rattle.log_source.specs.Sinks.{SinkState, AppendsPart, MayFail, Stays}
 use Rattle.case_run.specs.Play.{Turn, IsTurn, IsVerdictOn, verdict_turn}
 use Rattle.log_source.specs.Sources.{Rose}
-use Rattle.case_run.specs.Runs.{Call, call_of, HasCause, IsBadLog, IsCause, IsPlayed, Leaves, OfLog, ReadsBadLog, Tells, halt_line, name_in}
+use Rattle.case_run.specs.Calls.{call_of, IsBadLog, IsCause, OfLog, ReadsBadLog, ReadsGoodLogs, name_in}
+use Rattle.case_run.specs.Traces.{GoesTo, end_of, known_of, start_of}
 use Rattle.log_verdict.specs.Steps.{IsReadFault, IsTooLong}
 use Rattle.case_run.specs.Statuses.{ends_run}
 use Rattle.case_run.specs.declared.answers.Answer.{Answer}
 use Rattle.case_run.specs.declared.commands.Command.{Command}
+use Rattle.case_run.specs.declared.commands.Command.TheVariants as command
 use Rattle.case_run.specs.declared.commands.Filing.{Filing}
 use Rattle.case_run.specs.declared.halts.Halt.{Halt}
 use Rattle.case_run.specs.declared.halts.Halt.TheVariants as halt
@@ -37,17 +39,18 @@ halt_of_stop (stop.ReadFault log) = halt.ReadFault log
 halt_of_stop (stop.TooLong log) = halt.TooLong log
 halt_of_stop stop.Memory = halt.Memory
 
--- a log of the filing was read to its end and is not in its grammar, where the verdict says so
-abbrev pub ReadsMalformed : Reading → Filing → Verdict → Type 0
-ReadsMalformed r wanted (verdict.Accepted accepted) = Unit {0}
-ReadsMalformed r wanted (verdict.Rejected finding) = Unit {0}
-ReadsMalformed r wanted (verdict.Malformed log bad) =
+-- the logs of the filing were read to their end, and are in their grammar, or the one that the verdict
+-- names is not
+abbrev pub ReadsFor : Reading → Filing → Verdict → Type 0
+ReadsFor r wanted (verdict.Accepted accepted) = ReadsGoodLogs r (command.File wanted)
+ReadsFor r wanted (verdict.Rejected finding) = ReadsGoodLogs r (command.File wanted)
+ReadsFor r wanted (verdict.Malformed log bad) =
     IsReadAs r log (name_in wanted log) (IsBadLog log wanted.form)
 
 -- The verdict is that on the two logs of the filing.
 pub record JudgesLogs (r : Reading) (wanted : Filing) (the_verdict : Verdict) : Type 0 where
   pub on : r.tells ≡ true → IsVerdictOn r.log_of wanted the_verdict
-  pub bad : ReadsMalformed r wanted the_verdict
+  pub read : ReadsFor r wanted the_verdict
 
 -- why there is no verdict on the two logs of a filing
 abbrev pub IsLogHalt : Reading → Filing → Halt → Type 0
@@ -115,9 +118,16 @@ pub record IsVerdictTurn (wanted : Filing) (the_verdict : Verdict) (old new : Ke
       → HasTurn (verdict_turn cases wanted the_verdict) new answer
   pub status_is : HasVerdictStatus the_verdict answer.status
 
+-- the book is asked only for a verdict on logs that are in their grammar
+abbrev pub AsksBookFor : Verdict → Halt → Type 0
+AsksBookFor (verdict.Accepted accepted) why = Unit {0}
+AsksBookFor (verdict.Rejected finding) why = Unit {0}
+AsksBookFor (verdict.Malformed log bad) why = why ≡ halt.Memory
+
 abbrev pub FilesVerdict : KeeperState → KeeperState → Filing → Verdict → Result Answer Halt → Type 0
 FilesVerdict old new wanted the_verdict result =
-    MatchResult result (IsVerdictTurn wanted the_verdict old new) (IsKeeperHalt old new)
+    MatchResult result (IsVerdictTurn wanted the_verdict old new)
+    (λ why. IsKeeperHalt old new why × AsksBookFor the_verdict why)
 
 -- the statuses of an answer
 abbrev pub IsAnswerStatus : CaseStatus → Type 0
@@ -145,6 +155,7 @@ pub record IsAnswered (r : Reading) (book_old book_new : KeeperState) (the_comma
       → IsAnswer r.log_of cases the_command book_new answer
   pub status_is : IsAnswerStatus answer.status
   pub bad : answer.status ≡ status.Malformed → ReadsBadLog r the_command
+  pub good : answer.status ≢ status.Malformed → ReadsGoodLogs r the_command
 
 -- The command was halted for a cause, and no case was changed.
 pub record IsHalted (r : Reading) (book_old book_new : KeeperState) (the_command : Command)
@@ -158,59 +169,6 @@ AnswersCommand r book_old book_new the_command result =
     MatchResult result (IsAnswered r book_old book_new the_command)
     (IsHalted r book_old book_new the_command)
 
--- The turn of the command was written, and the book has its cases.
-pub record LeavesTurn (call : Call) (the_command : Command) (answer : CaseStatus)
-    (cases : List Case) : Type 0 where
-  pub turn : Turn
-  pub is : IsTurn call.shelf.log_of cases the_command turn
-  pub status_is : turn.status ≡ answer
-  pub leaves : Leaves call turn.cases turn.text
-
-abbrev pub IsTaken : Call → Command → CaseStatus → Type 0
-IsTaken call the_command answer =
-    (cases : List Case) → Tells call cases → LeavesTurn call the_command answer cases
-
--- The command was halted, and the line of its cause was written.
-pub record TellsHalt (call : Call) (the_command : Command) (why : Halt) : Type 0 where
-  pub cause : HasCause call the_command why
-  pub left : (cases : List Case) → Tells call cases → Leaves call cases (halt_line why)
-
--- A proper prefix of the turn's text was written, and the book has its cases.
-pub record CutsTurn (call : Call) (the_command : Command) (cases : List Case) : Type 0 where
-  pub turn : Turn
-  pub is : IsTurn call.shelf.log_of cases the_command turn
-  pub cases_are : call.book_new.cases ≡ Some turn.cases
-  pub wrote : AppendsPart call.sink_old.wrote call.sink_new.wrote turn.text
-
--- A proper prefix of the line of a halt was written, and no case was changed.
-pub record CutsLine (call : Call) (the_command : Command) (cases : List Case) : Type 0 where
-  pub why : Halt
-  pub told : why ≢ halt.Memory
-  pub cause : HasCause call the_command why
-  pub cases_are : call.book_new.cases ≡ Some cases
-  pub wrote : AppendsPart call.sink_old.wrote call.sink_new.wrote (halt_line why)
-
--- The sink's faults rose while the command was answered.
-pub record IsCut (call : Call) (the_command : Command) : Type 0 where
-  pub cause : MayFail call.sink_old call.sink_new
-  pub left : (cases : List Case) → Tells call cases
-      → CutsTurn call the_command cases ⊎ CutsLine call the_command cases
-
--- what one command does, by its status
-abbrev pub TakesTurn : Call → Command → CaseStatus → Type 0
-TakesTurn call the_command status.Done = IsTaken call the_command status.Done
-TakesTurn call the_command status.Refused = IsTaken call the_command status.Refused
-TakesTurn call the_command status.Malformed =
-    IsTaken call the_command status.Malformed × ReadsBadLog call.shelf the_command
-TakesTurn call the_command status.ReadFault =
-    (log : Which) × TellsHalt call the_command (halt.ReadFault log)
-TakesTurn call the_command status.TooLong =
-    (log : Which) × TellsHalt call the_command (halt.TooLong log)
-TakesTurn call the_command status.Memory = TellsHalt call the_command halt.Memory
-TakesTurn call the_command status.KeeperFault = TellsHalt call the_command halt.KeeperFault
-TakesTurn call the_command status.WriteFault = IsCut call the_command
-TakesTurn call the_command status.Usage = ⊥
-
 -- What any call leaves: the shelf has what it had; no count of faults falls; the sink is of the same kind.
 pub record KeepsAll {S : Type 0} (shelf : Shelf S) (old new : S) (sink_old sink_new : SinkState)
     (book_old book_new : KeeperState) : Type 0 where
@@ -219,12 +177,11 @@ pub record KeepsAll {S : Type 0} (shelf : Shelf S) (old new : S) (sink_old sink_
   pub sink : Stays sink_old sink_new
   pub book : book_old.faults ≤ book_new.faults
 
--- The commands done so far are Play's, and none of them ended the run.
+-- The commands so far were done, and both slots stay within the limit.
 pub record IsGoing {S : Type 0} (shelf : Shelf S) (commands : List Command) (old now : S)
     (sink_old sink_now : SinkState) (book_old book_now : KeeperState)
     (answer : CaseStatus) : Type 0 where
-  pub played : IsPlayed (call_of (reading shelf old now) sink_old sink_now book_old book_now)
-      commands answer
-  pub goes_on : ends_run answer ≡ false
+  pub goes : let call = call_of (reading shelf old now) sink_old sink_now book_old book_now in
+      GoesTo (known_of call.shelf) (start_of call) commands (end_of call) answer
   pub within : BeginsWithin (reading shelf old now) → EndsWithin (reading shelf old now)
   pub stays : KeepsAll shelf old now sink_old sink_now book_old book_now

@@ -6,8 +6,10 @@ ghost use Rattle.audit_report.specs.Texts.{IsVerdictInRange};
 ghost use Rattle.log_verdict.specs.Steps.{reading, KeepsLogs, NeverFall};
 ghost use Rattle.case_run.specs.Lines.{case_line, known_line};
 ghost use Rattle.case_run.specs.Play as spec;
-ghost use Rattle.case_run.specs.Runs.{call_of, AnswersLength};
-ghost use Rattle.case_run.specs.Turns.{AnswersBook, AnswersCommand, FilesVerdict, KeepsAll, StaysWithin, TakesTurn};
+ghost use Rattle.case_run.specs.Calls.{call_of};
+ghost use Rattle.case_run.specs.Runs.{AnswersLength};
+ghost use Rattle.case_run.specs.Traces.{TakesTurn};
+ghost use Rattle.case_run.specs.Turns.{AnswersBook, AnswersCommand, FilesVerdict, KeepsAll, StaysWithin};
 
 use super::commands::{Command, Filing};
 use super::halts::Halt;
@@ -177,6 +179,7 @@ fn file<F: Shelf, B: Keeper>(
         (B.state book.old) (B.state book.new) (Command.File filing.now) result }
     ensures within { StaysWithin (reading F.Shelf shelf.old shelf.new) result }
 {
+    // A match and no `?`, as in `verdict_on`.
     match verdict_of(alloc, seed, filing, shelf) {
         Ok(verdict) => file_verdict(alloc, filing, &verdict, book),
         Err(halt) => Err(halt),

@@ -4,7 +4,8 @@ ghost use Rattle.std.specs.String.{string_bytes};
 ghost use Rattle.log_verdict.specs.Steps.{reading};
 ghost use Rattle.case_run.specs.Commands.{commands_of};
 ghost use Rattle.case_run.specs.Laws.{OnePlay};
-ghost use Rattle.case_run.specs.Runs.{call_of, AnswersLength, IsCaseRun, RunsCommands};
+ghost use Rattle.case_run.specs.Calls.{call_of};
+ghost use Rattle.case_run.specs.Runs.{AnswersLength, IsCaseRun, RunsCommands};
 ghost use Rattle.case_run.specs.Turns.{KeepsAll};
 
 use super::answers::take_turn;

@@ -7,6 +7,7 @@ use Rattle.audit_base.specs.Least.{first_of, only_if}
 use Rattle.session_audit.specs.declared.phases.PhaseKind.{PhaseKind}
 use Rattle.session_audit.specs.declared.phases.PhaseKind.TheVariants as kind
 use Rattle.session_audit.specs.declared.phases.Phase.{Phase}
+use Rattle.session_audit.specs.Phases.{last_place}
 use Rattle.command_words.specs.WordForms.{is_word, number_upto}
 
 -- the byte that joins parts
@@ -29,7 +30,7 @@ kind_named word = first_of (only_if (is_word word (codes "uniform")) kind.Unifor
 
 -- FIRST is from 1 to 4,294,967,295, in digits of which the first is no zero
 abbrev pub first_named : List ℕ → Option ℕ
-first_named word = if slice_index word 0 == 48 then None else number_upto 4294967295 word
+first_named word = if slice_index word 0 == 48 then None else number_upto last_place word
 
 -- the phase of a KIND and a FIRST, where both are there
 abbrev pub phase_with : Option PhaseKind → Option ℕ → Option Phase

@@ -1,5 +1,5 @@
 -- What single words of a command line are. The code of `-` is 45.
-use Rattle.std.specs.Prelude.{ℕ, Bool, true, false, not, ◌==◌, ◌&&◌, Option, List, [], ◌∷◌, length, slice_index, slice_index_or, codes, nat_le, option_and_then}
+use Rattle.std.specs.Prelude.{ℕ, Bool, not, ◌==◌, ◌&&◌, Option, List, [], ◌∷◌, length, slice_index, slice_index_or, codes, nat_le, option_and_then}
 use Rattle.std.specs.Cmp.Lexicographic.{pointwise}
 use Rattle.audit_base.specs.Digits.{digits_form}
 use Rattle.audit_base.specs.Least.{first_of, only_if}
@@ -58,12 +58,3 @@ form_named word = first_of (only_if (is_word word (codes "csv")) Csv
 abbrev pub number_upto : ℕ → List ℕ → Option ℕ
 number_upto most word =
     option_and_then (λ n. only_if (nat_le 1 n && nat_le n most) n) (digits_form 10 word)
-
--- the rules whose quantities are determined: a table of them may be asked for, and they have Expected
--- trades
-abbrev pub has_table : Rule → Bool
-has_table rule.Matching = false
-has_table rule.Fair = false
-has_table rule.Uniform = true
-has_table rule.Maximum = true
-has_table rule.Continuous = true

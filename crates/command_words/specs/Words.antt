@@ -2,7 +2,7 @@
 -- definition a command.
 use Rattle.std.specs.Prelude.{ℕ, Bool, not, ◌==◌, ◌&&◌, ◌||◌, ◌+◌, Option, None, Some, option_and_then, is_none, List, [], ◌∷◌, length, drop, codes, nat_le, if◌then◌else◌, IsTrue}
 use Rattle.audit_base.specs.Least.{first_of, only_if}
-use Rattle.call_laws.specs.Laws.{asks_for_greatest}
+use Rattle.audit_base.specs.RuleKinds.{asks_for_greatest, has_table}
 use Rattle.log_maker.specs.Generator.{IsCount, IsStart}
 use Rattle.session_audit.specs.Phases.{ArePhases}
 use Rattle.command_words.specs.declared.options.Options.{Options}
@@ -10,7 +10,7 @@ use Rattle.command_words.specs.declared.requests.Request.{Request}
 use Rattle.command_words.specs.declared.requests.Request.TheVariants.{Audit, Expect, Convert, Generate, Certify, Verify, Session}
 use Rattle.command_words.specs.Options.{options_in, or_csv}
 use Rattle.command_words.specs.PhaseWords.{phases_named}
-use Rattle.command_words.specs.WordForms.{form_named, has_table, is_path, is_word, log_named, number_upto, rule_named, symbol_named, word_at}
+use Rattle.command_words.specs.WordForms.{form_named, is_path, is_word, log_named, number_upto, rule_named, symbol_named, word_at}
 
 -- what is made of an answer, where there is one
 abbrev pub given : {A B : Type 0} → Option A → (A → Option B) → Option B

@@ -1,4 +1,6 @@
 //! What a program is started with: the words of its command line, and a seed for its hashes.
+ghost use Rattle.seeded_hash.specs.Seeds.{IsOfTwoNumbers};
+
 use audit_base::faults::NoMemory;
 use seeded_hash::seed::HashSeed;
 use std::env;
@@ -24,6 +26,11 @@ pub fn words_of<R: Env + AllocGlobal>(rt: &R) -> Result<Vec<String>, NoMemory> {
 
 /// A seed that whoever made the logs did not know. Where the system gives no random bytes it is the fixed
 /// one: the answer is the same, and only logs that were made for that seed are slow.
-pub fn seed_of(source: &impl RandomSource) -> HashSeed {
-    HashSeed::random(source).unwrap_or(HashSeed::fixed())
+pub fn seed_of(source: &impl RandomSource) -> HashSeed
+    ensures { IsOfTwoNumbers result }
+{
+    match HashSeed::random(source) {
+        Ok(seed) => seed,
+        Err(_) => HashSeed::fixed(),
+    }
 }

@@ -9,8 +9,7 @@ use super::paths::path_of;
 use super::phase_words::phases_named;
 use super::requests::Request;
 use super::word_forms::{
-    form_named, has_certificate, has_table, is_path, is_word, log_named, number_upto, rule_named,
-    symbol_named, word_at,
+    form_named, is_path, is_word, log_named, number_upto, rule_named, symbol_named, word_at,
 };
 use audit_base::faults::NoMemory;
 use audit_base::names::Name;
@@ -56,7 +55,7 @@ pub(crate) fn audit_request(alloc: Global, words: &[String]) -> Result<Option<Re
     let Some((symbol, options)) = symbol_and_options(word_at(words, 2), &words[5..]) else {
         return Ok(None);
     };
-    if options.table && !has_table(rule) {
+    if options.table && !rule.has_table() {
         return Ok(None);
     }
     let orders = path_of(alloc, word_at(words, 3))?;
@@ -87,7 +86,7 @@ pub(crate) fn expect_request(alloc: Global, words: &[String]) -> Result<Option<R
     let Some((symbol, options)) = symbol_and_options(word_at(words, 2), &words[4..]) else {
         return Ok(None);
     };
-    if !has_table(rule) || options.trades_form.is_some() || options.table {
+    if !rule.has_table() || options.trades_form.is_some() || options.table {
         return Ok(None);
     }
     let orders = path_of(alloc, word_at(words, 3))?;
@@ -146,7 +145,7 @@ pub(crate) fn certify_request(alloc: Global, words: &[String]) -> Result<Option<
     let Some((symbol, options)) = symbol_and_options(word_at(words, 2), &words[5..]) else {
         return Ok(None);
     };
-    if !has_certificate(rule) || options.table {
+    if !rule.asks_for_greatest() || options.table {
         return Ok(None);
     }
     let orders = path_of(alloc, word_at(words, 3))?;

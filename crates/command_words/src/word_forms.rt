@@ -1,7 +1,6 @@
 //! What single words of a command line are. Nothing here takes memory.
 ghost use Rattle.std.specs.Prelude.{◌≡◌, ◌<◌, ◌≤◌, length, map, IfSome};
 ghost use Rattle.std.specs.String.{string_bytes};
-ghost use Rattle.call_laws.specs.Laws.{asks_for_greatest};
 ghost use Rattle.command_words.specs.WordForms as spec;
 
 use audit_base::digits::read_digits;
@@ -108,24 +107,4 @@ pub(crate) fn number_upto(word: &str, most: u32) -> Option<u32>
         return Some(number as u32);
     }
     None
-}
-
-/// Whether a table of quantities may be asked for: the rule determines them, and has Expected trades.
-pub(crate) fn has_table(rule: Rule) -> bool
-    ensures { result ≡ spec.has_table rule }
-{
-    match rule {
-        Rule::Matching | Rule::Fair => false,
-        Rule::Uniform | Rule::Maximum | Rule::Continuous => true,
-    }
-}
-
-/// Whether a certificate may be asked for: the rule asks for a greatest volume.
-pub(crate) fn has_certificate(rule: Rule) -> bool
-    ensures { result ≡ asks_for_greatest rule }
-{
-    match rule {
-        Rule::Uniform | Rule::Maximum => true,
-        Rule::Matching | Rule::Fair | Rule::Continuous => false,
-    }
 }

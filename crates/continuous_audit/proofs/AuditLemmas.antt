@@ -8,7 +8,7 @@ use Rattle.audit_base.specs.declared.terms.Side.TheVariants.{Buy, Sell}
 use Rattle.audit_base.specs.declared.orders.Order.{Order}
 use Rattle.audit_base.specs.declared.orders.Deal.{Deal}
 use Rattle.audit_base.specs.Orders.{place_at, IsOrderList}
-use Rattle.audit_base.specs.Deals.{names, traded, part_of, IsDealList}
+use Rattle.audit_base.specs.Deals.{AreTotals, names, traded, part_of, IsDealList}
 use Rattle.audit_base.specs.Continuous.{cause, traded_before}
 use Rattle.audit_base.specs.ContinuousRules.{ConformsAt, ConformsContinuous}
 use Rattle.audit_base.proofs.OrderLemmas.{place-rises}
@@ -143,10 +143,10 @@ module _ (m : Market) (is : IsMarket m) where
     pub last-conforms : ConformsContinuous orders deals
     last-conforms = end-conforms q (below-ready (length orders) refl) ready.calm
 
-    pub last-count : length state.numbers.running.traded.items ≡ length orders
-    last-count = ready.known.running.totals.count
-
-    pub last-traded : (x : ℕ) → x < length orders → number_in state.numbers.running.traded.items x ≡ traded deals x
-    last-traded x lt =
-        let t = traded-at orders is.list deals is.deal_list m.causes.now is.causes q (length orders) state.numbers.running.at state.numbers.running.traded.items ready.known.running.split ready.known.running.totals (λ k inside below. below-ready (length orders) refl k inside) (λ k inside le. absurd (omega arith)) in
-        t.is x lt ∙ all-traded q (below-ready (length orders) refl) x
+    pub last-totals : AreTotals orders deals state.numbers.running.traded.items
+    last-totals = record {
+      count = ready.known.running.totals.count;
+      each = λ x lt.
+          let t = traded-at orders is.list deals is.deal_list m.causes.now is.causes q (length orders) state.numbers.running.at state.numbers.running.traded.items ready.known.running.split ready.known.running.totals (λ k inside below. below-ready (length orders) refl k inside) (λ k inside le. absurd (omega arith)) in
+          t.is x lt ∙ all-traded q (below-ready (length orders) refl) x;
+    }

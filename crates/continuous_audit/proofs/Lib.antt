@@ -1,6 +1,5 @@
 pub mod AuditLemmas
 pub mod BooksLemmas
-pub mod BreachLemmas
 pub mod CauseLemmas
 pub mod ChainLemmas
 pub mod DealingLemmas
@@ -20,6 +19,7 @@ pub mod RestLemmas
 pub mod ScanLemmas
 pub mod ExpectingLemmas
 pub mod FillLemmas
+pub mod FlawLemmas
 pub mod SpreadLemmas
 pub mod StandLemmas
 pub mod RecordLemmas

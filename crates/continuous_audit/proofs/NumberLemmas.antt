@@ -8,7 +8,7 @@ use Rattle.audit_base.specs.declared.orders.Order.{Order}
 use Rattle.audit_base.specs.declared.orders.Deal.{Deal}
 use Rattle.audit_base.specs.Orders.{place_at, IsOrderList}
 use Rattle.audit_base.specs.Deals.{IsDealList}
-use Rattle.audit_base.specs.Continuous.{traded_before, before_of, entered_of, size_of, left_after}
+use Rattle.audit_base.specs.Continuous.{traded_before, before_of, size_of, left_after}
 use Rattle.audit_base.proofs.OrderLemmas.{place-rises}
 use Rattle.audit_base.proofs.OffenceLemmas.{get_or-default}
 use Rattle.continuous_audit.specs.declared.causes.Cause.{Cause}
@@ -19,7 +19,7 @@ use Rattle.continuous_audit.specs.Progress.{AreNumbers}
 use Rattle.continuous_audit.specs.Causes.{AreCauses, cause_of, causes_upto, running_total}
 use Rattle.continuous_audit.specs.Chains.{AreClosed, IsClosed, IsOpenSheet, IsOpening, flag_in}
 use Rattle.continuous_audit.specs.Records.{AreBefore, AreLeft, AreSizes, AreTraded, ConformsBelow}
-use Rattle.continuous_audit.specs.Scans.{AreSmall, AreRunningTotals, IsKnown, IsRefreshed, IsSplitAt, missing_cause, number_in, order_in}
+use Rattle.continuous_audit.specs.Scans.{AreSmall, AreRunningTotals, IsRefreshed, IsSplitAt, missing_cause, number_in, order_in}
 use Rattle.continuous_audit.proofs.CauseLemmas.{cause-inside, running-before}
 use Rattle.continuous_audit.proofs.RefreshLemmas.{refreshed-after}
 
@@ -67,15 +67,6 @@ module _ (orders : List Order) (deals : List Deal) (n : ℕ) (n_inside : n < len
       | inr ne ↦ get_or-set_other {A = ℕ} sizes n x z 0 ne ∙ old.is x (omega (arith, ne))
     ];
   })
-
-  pub known : (entered : Bool) (sheet : Sheet) → entered ≡ entered_of orders deals n → AreSizes orders deals (suc n) sheet.sizes.items → AreLeft orders deals n (place_at orders n) sheet.left.items → IsKnown orders deals n entered sheet
-  known entered sheet arrived z l = record {
-    sizes_count = z.count;
-    left_count = l.count;
-    arrived = arrived;
-    size_is = λ x le. z.is x (omega arith);
-    left_is = l.is;
-  }
 
 module _ (orders : List Order) (list : IsOrderList orders) (deals : List Deal) (deal_list : IsDealList orders deals) (causes : List Cause) (are : AreCauses orders deals causes) where
   few-causes : length causes ≤ length deals

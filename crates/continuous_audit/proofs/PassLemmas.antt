@@ -8,18 +8,19 @@ use Rattle.audit_base.specs.Orders.{missing_order, order_at, place_at, side_at, 
 use Rattle.audit_base.specs.Priority.{better}
 use Rattle.audit_base.specs.Deals.{deal_at, missing_deal, IsDealList}
 use Rattle.audit_base.specs.Continuous.{cause, resting, incoming, traded_before}
-use Rattle.audit_base.specs.ContinuousOffences.{priority_finding, priority_of, shown_after}
-use Rattle.audit_base.specs.Shows.{at_deal, show_order}
+use Rattle.audit_base.specs.ContinuousOffences.{priority_finding, shown_after}
+use Rattle.audit_base.specs.Flaws.{finding_of}
 use Rattle.audit_base.proofs.LeastLemmas.{least-none, least-at}
 use Rattle.audit_base.proofs.OffenceLemmas.{get_or-default}
 use Rattle.order_book.specs.declared.books.Resting.{Resting}
 use Rattle.order_book.specs.Books.{first}
 use Rattle.continuous_audit.specs.declared.causes.Cause.{Cause}
-use Rattle.continuous_audit.specs.Breaches.{outranked_finding}
 use Rattle.continuous_audit.specs.Causes.{AreCauses, cause_of}
+use Rattle.continuous_audit.specs.Flaws.{priority_flaw}
 use Rattle.continuous_audit.specs.Holding.{IsFilledInFront, resting_left, resting_left_after}
 use Rattle.continuous_audit.specs.Scans.{IsSplitAt, deal_in, missing_cause, order_in}
 use Rattle.continuous_audit.proofs.CauseLemmas.{incoming-cause}
+use Rattle.continuous_audit.proofs.FlawLemmas.{upto-n}
 use Rattle.continuous_audit.proofs.RecordLemmas.{IsOfCause, ends, priority-away, priority-clear, priority-found}
 
 module _ (orders : List Order) (list : IsOrderList orders) (deals : List Deal) (deal_list : IsDealList orders deals) (causes : List Cause) (are : AreCauses orders deals causes) (n : ℕ) (n_inside : n < length orders)
@@ -58,6 +59,15 @@ module _ (orders : List Order) (list : IsOrderList orders) (deals : List Deal) (
       let e = ends orders list deals deal_list.named n n_inside (deal_at deals (deal_in causes i)) (deal_list.named (deal_in causes i) missing_deal of.inside) of.at in
       ap (side_at orders) e.1.resting_is ∙ e.1.of_side
 
+  -- and is an earlier one
+  pub resting-upto : (i : ℕ) → start ≤ i → i < end → resting orders (deal_at deals (deal_in causes i)) ≤ n
+  resting-upto i from below =
+      let of = of-cause i from below in
+      let e = ends orders list deals deal_list.named n n_inside (deal_at deals (deal_in causes i)) (deal_list.named (deal_in causes i) missing_deal of.inside) of.at in
+      let le = upto-n orders list n n_inside e.0 e.1.inside (let l = e.1.earlier in omega arith) in
+      let same = e.1.resting_is in
+      omega arith
+
   module _ (h : Resting) (zs : List Resting) (s : IsFilledInFront orders (other_side (side_at orders n)) (resting_left orders (traded_before orders deals) p) (resting_left_after orders deals p) (h ∷ zs)) where
     clear-at : (at : ℕ) → at ≤ end → ((i : ℕ) → start ≤ i → i < at → better (order_at orders h.index) (order_at orders (resting orders (deal_at deals (deal_in causes i)))) ≡ false)
         → (j : ℕ) → j < length deals → ((i : ℕ) → start ≤ i → i < end → deal_in causes i ≡ j → i < at) → priority_finding orders deals p j ≡ None
@@ -75,8 +85,7 @@ module _ (orders : List Order) (list : IsOrderList orders) (deals : List Deal) (
 
     pub pass-found : (at : ℕ) → start ≤ at → at < end → ((i : ℕ) → start ≤ i → i < at → better (order_at orders h.index) (order_at orders (resting orders (deal_at deals (deal_in causes i)))) ≡ false)
         → better (order_at orders h.index) (order_at orders (resting orders (deal_at deals (deal_in causes at)))) ≡ true
-        → least_answer (priority_finding orders deals p) (length deals) ≡ Some (at_deal (priority_of (side_at orders (resting orders (deal_at deals (deal_in causes at))))) (deal_at deals (deal_in causes at))
-        (show_order orders (shown_after orders deals p) h.index) (show_order orders (shown_after orders deals p) (resting orders (deal_at deals (deal_in causes at)))))
+        → least_answer (priority_finding orders deals p) (length deals) ≡ Some (finding_of orders (priority_flaw orders (shown_after orders deals p) (deal_at deals (deal_in causes at)) h.index))
     pass-found at from below under over =
         let of = of-cause at from below in
         let k = deal_in causes at in
@@ -110,14 +119,14 @@ pub pass-found-first : (orders : List Order) (list : IsOrderList orders) (deals 
     → IsFilledInFront orders (other_side (side_at orders n)) (resting_left orders (traded_before orders deals) (place_at orders n)) (resting_left_after orders deals (place_at orders n)) ys
     → (at : ℕ) → start ≤ at → at < end → ((i : ℕ) → start ≤ i → i < at → better (order_at orders best.index) (order_at orders (resting orders (deal_at deals (deal_in causes i)))) ≡ false)
     → better (order_at orders best.index) (order_at orders (resting orders (deal_at deals (deal_in causes at)))) ≡ true
-    → least_answer (priority_finding orders deals (place_at orders n)) (length deals) ≡ Some (outranked_finding orders (shown_after orders deals (place_at orders n)) (deal_at deals (deal_in causes at)) best.index)
+    → least_answer (priority_finding orders deals (place_at orders n)) (length deals) ≡ Some (finding_of orders (priority_flaw orders (shown_after orders deals (place_at orders n)) (deal_at deals (deal_in causes at)) best.index))
 pass-found-first orders list deals deal_list causes are n n_inside start end within split later best [] e s at from below under t = absurd (cc)
 pass-found-first orders list deals deal_list causes are n n_inside start end within split later best (h ∷ zs) e s at from below under t =
     let is : best ≡ h = cc in
     pass-found orders list deals deal_list causes are n n_inside start end within split later h zs s at from below
     (λ i from below. subst (λ (x : Resting). better (order_at orders x.index) (order_at orders (resting orders (deal_at deals (deal_in causes i)))) ≡ false) is (under i from below))
     (subst (λ (x : Resting). better (order_at orders x.index) (order_at orders (resting orders (deal_at deals (deal_in causes at)))) ≡ true) is t)
-    ∙ ap (λ (x : Resting). Some (outranked_finding orders (shown_after orders deals (place_at orders n)) (deal_at deals (deal_in causes at)) x.index)) (sym is)
+    ∙ ap (λ (x : Resting). Some (finding_of orders (priority_flaw orders (shown_after orders deals (place_at orders n)) (deal_at deals (deal_in causes at)) x.index))) (sym is)
 
 -- the order that the code reads of the deal of a cause
 pub resting-read : (orders : List Order) (deals : List Deal) (causes : List Cause) (are : AreCauses orders deals causes) (at : ℕ) → at < length causes → (d : Deal) → d ≡ get_or deals (deal_in causes at) d → (r : ℕ) → r ≡ resting orders d → r < length orders

@@ -13,7 +13,8 @@ use Rattle.audit_base.specs.Priority.{better, best}
 use Rattle.audit_base.specs.Deals.{names, deal_at, missing_deal, NamesOrders}
 use Rattle.audit_base.specs.Continuous.{cause, resting, incoming, traded_before, traded_at, uncancelled_before, size}
 use Rattle.audit_base.specs.ContinuousRules.{ConformsAt}
-use Rattle.audit_base.specs.ContinuousOffences.{conservation_finding, waits_ahead, priority_of, priority_finding, spread_finding, shown_after, finding_at_place}
+use Rattle.audit_base.specs.ContinuousOffences.{conservation_finding, waits_ahead, priority_finding, spread_finding, shown_after, finding_at_place}
+use Rattle.audit_base.specs.Shows.{priority_of}
 use Rattle.audit_base.specs.Shows.{at_deal, show_order, show_found}
 use Rattle.audit_base.proofs.SumLemmas.{some_part}
 use Rattle.audit_base.proofs.OrderLemmas.{same_place, place-rises, not_both_sides, side-other}

@@ -1,5 +1,5 @@
 -- The deals of one record, one after another.
-use Rattle.std.proofs.Common.{◌≡◌, ◌≢◌, ◌<◌, ◌≤◌, ◌+◌, ◌-◌, ◌^◌, ◌⊎◌, ℕ, List, [], ◌∷◌, length, option_map, Bool, true, false, Some, None, refl, sym, ap, ◌∙◌, arith, inl, inr, subst, get_or, take, add-one}
+use Rattle.std.proofs.Common.{◌≡◌, ◌≢◌, ◌<◌, ◌≤◌, ◌+◌, ◌-◌, ◌^◌, ◌⊎◌, ℕ, List, [], ◌∷◌, length, option_map, Bool, true, false, cond, Option, Some, None, IfSome, refl, sym, ap, ◌∙◌, arith, inl, inr, subst, get_or, take, add-one}
 use Rattle.std.specs.Prelude.{nat_lt, not, ◌==◌, ◌&&◌, slice_set}
 use Rattle.std.proofs.lemmas.List.{length-set, get_or-set_same, get_or-set_other}
 use Rattle.std.proofs.lemmas.List.Sums.{sum_by_more}
@@ -8,29 +8,32 @@ use Rattle.std.proofs.lemmas.Bool.Decides.{nat_tests}
 use Rattle.audit_base.specs.declared.orders.Order.{Order}
 use Rattle.audit_base.specs.declared.orders.Deal.{Deal}
 use Rattle.audit_base.specs.declared.findings.Finding.{Finding}
+use Rattle.audit_base.specs.declared.flaws.TradedOrder.{TradedOrder}
+use Rattle.audit_base.specs.declared.flaws.Evidence.{Evidence}
+use Rattle.audit_base.specs.declared.flaws.Evidence.TheVariants.{Inactive, Limit, Quantity}
 use Rattle.audit_base.specs.declared.terms.Side.TheVariants.{Buy, Sell}
 use Rattle.audit_base.specs.Least.{least_answer, first_of, only_if}
 use Rattle.audit_base.specs.Orders.{missing_order, order_at, place_at, side_at, is_rests, IsOrderList}
-use Rattle.audit_base.specs.Deals.{names, deal_at, missing_deal, part_of, NamesOrders, IsDealList}
+use Rattle.audit_base.specs.Deals.{is_within, names, deal_at, missing_deal, part_of, NamesOrders, IsDealList}
 use Rattle.audit_base.specs.Continuous.{cause, resting, incoming, traded_before, traded_at, entered_of, size_of, rests, size, uncancelled_before}
 use Rattle.audit_base.specs.CallOffences.{keeps_limits}
+use Rattle.audit_base.specs.Flaws.{IsInside, finding_of}
 use Rattle.audit_base.specs.ContinuousOffences.{continuous_inactive, continuous_off_limit, over_size, traded_upto, shown_upto, conservation_finding}
 use Rattle.audit_base.proofs.OrderLemmas.{not_both_sides}
 use Rattle.audit_base.proofs.LeastLemmas.{least-none, least-at}
 use Rattle.audit_base.proofs.OffenceLemmas.{get_or-default}
 use Rattle.continuous_audit.specs.declared.causes.Cause.{Cause}
+use Rattle.continuous_audit.specs.declared.checking.Account.{Account}
 use Rattle.continuous_audit.specs.declared.checking.Accounts.{Accounts}
 use Rattle.continuous_audit.specs.declared.checking.Coming.{Coming}
 use Rattle.continuous_audit.specs.declared.sheet.Sheet.{Sheet}
-use Rattle.continuous_audit.specs.Breaches.{IsDealBreach, IsDealUpto, rule_finding}
 use Rattle.continuous_audit.specs.Causes.{AreCauses, cause_of, running_total}
-use Rattle.continuous_audit.specs.Scans.{AreRunningTotals, IsKnown, IsSplitAt, deal_in, missing_cause, number_in, order_in}
-use Rattle.continuous_audit.specs.declared.breaches.DealRule.{DealRule}
-use Rattle.continuous_audit.specs.declared.breaches.DealRule.TheVariants.{Resting, Entered, Limits, Size}
+use Rattle.continuous_audit.specs.Flaws.{traded_order}
+use Rattle.continuous_audit.specs.Records.{IsKnown}
+use Rattle.continuous_audit.specs.Scans.{AreRunningTotals, IsSplitAt, deal_in, missing_cause, number_in, order_in}
 use Rattle.continuous_audit.specs.DealFindings as by_deal
-use Rattle.continuous_audit.proofs.BreachLemmas.{upto-n, deal-upto}
+use Rattle.continuous_audit.proofs.FlawLemmas.{IsDealUpto, upto-n, deal-upto}
 use Rattle.continuous_audit.proofs.CauseLemmas.{incoming-cause, running-upto}
-use Rattle.continuous_audit.proofs.NumberLemmas.{running-small}
 use Rattle.continuous_audit.proofs.RecordLemmas.{ends}
 
 -- an order that rests before p, from what is left of it
@@ -47,14 +50,43 @@ waits-is orders past p r left earlier e =
     rw (e, now) (wait-bools (is_rests (order_at orders r).life) (uncancelled_before (order_at orders r).cancelled p) (size orders past r) (past p r))
 
 -- the first rule that is broken, and its finding
-first-broken : (f : DealRule → Finding) (r e w b a : Bool) → first_of (first_of (only_if (not r) (f Resting) ∷ only_if (not e) (f Entered) ∷ []) ∷ only_if (not w) (f Limits) ∷ only_if b (f (Size Buy)) ∷ only_if a (f (Size Sell)) ∷ [])
-    ≡ option_map f (by_deal.first_broken r e w b a)
-first-broken f false e w b a = refl
-first-broken f true false w b a = refl
-first-broken f true true false b a = refl
-first-broken f true true true true a = refl
-first-broken f true true true false true = refl
-first-broken f true true true false false = refl
+abbrev first_broken : TradedOrder → TradedOrder → TradedOrder → TradedOrder → Bool → Bool → Bool → Bool → Bool → Option Evidence
+first_broken resting incoming bid ask r e w b a = first_of (only_if (not r) (Inactive resting) ∷ only_if (not e) (Inactive incoming) ∷ only_if (not w) (Limit bid ask) ∷ only_if b (Quantity Buy bid) ∷ only_if a (Quantity Sell ask) ∷ [])
+
+first-broken : (f : Evidence → Finding) (resting incoming bid ask : TradedOrder) (r e w b a : Bool)
+    → first_of (first_of (only_if (not r) (f (Inactive resting)) ∷ only_if (not e) (f (Inactive incoming)) ∷ []) ∷ only_if (not w) (f (Limit bid ask)) ∷ only_if b (f (Quantity Buy bid)) ∷ only_if a (f (Quantity Sell ask)) ∷ [])
+    ≡ option_map f (first_broken resting incoming bid ask r e w b a)
+first-broken f resting incoming bid ask false e w b a = refl
+first-broken f resting incoming bid ask true false w b a = refl
+first-broken f resting incoming bid ask true true false b a = refl
+first-broken f resting incoming bid ask true true true true a = refl
+first-broken f resting incoming bid ask true true true false true = refl
+first-broken f resting incoming bid ask true true true false false = refl
+
+-- of two accounts that are shown as two orders, that which a test picks is shown as the one that it picks
+shown-picked : (shown : ℕ → ℕ) (t : Bool) (x y : Account) (i j : ℕ) → x.shown ≡ traded_order shown i → y.shown ≡ traded_order shown j → (cond t x y).shown ≡ traded_order shown (cond t i j)
+shown-picked shown true x y i j first second = first
+shown-picked shown false x y i j first second = second
+
+-- the orders of the first rule that is broken are in the list
+broken-inside : (orders : List Order) (resting incoming bid ask : TradedOrder) (r e w b a : Bool) → resting.index < length orders → incoming.index < length orders → bid.index < length orders → ask.index < length orders
+    → IfSome (first_broken resting incoming bid ask r e w b a) (IsInside orders)
+broken-inside orders resting incoming bid ask false e w b a rest come buys sells = rest
+broken-inside orders resting incoming bid ask true false w b a rest come buys sells = come
+broken-inside orders resting incoming bid ask true true false b a rest come buys sells = (buys, sells)
+broken-inside orders resting incoming bid ask true true true true a rest come buys sells = buys
+broken-inside orders resting incoming bid ask true true true false true rest come buys sells = sells
+broken-inside orders resting incoming bid ask true true true false false rest come buys sells = tt
+
+picked-inside : (n : ℕ) (t : Bool) (x y : Account) → x.shown.index < n → y.shown.index < n → (cond t x y).shown.index < n
+picked-inside n true x y first second = first
+picked-inside n false x y first second = second
+
+evidence-inside : (orders : List Order) (d : Deal) (bid ask : Order) (coming : Coming) (known : Accounts) → known.bid.shown.index < length orders → known.ask.shown.index < length orders → IfSome (by_deal.deal_evidence d bid ask coming known) (IsInside orders)
+evidence-inside orders d bid ask coming known buys sells =
+    let earlier = nat_lt bid.place ask.place in
+    broken-inside orders (by_deal.resting_account bid ask known).shown (by_deal.incoming_account bid ask known).shown known.bid.shown known.ask.shown (by_deal.resting_waits bid ask coming.place known) coming.entered (is_within bid ask d) (by_deal.is_over known.bid) (by_deal.is_over known.ask)
+    (picked-inside (length orders) earlier known.bid known.ask buys sells) (picked-inside (length orders) earlier known.ask known.bid sells buys) buys sells
 
 module _ (orders : List Order) (list : IsOrderList orders) (deals : List Deal) (deal_list : IsDealList orders deals) (causes : List Cause) (are : AreCauses orders deals causes) (n : ℕ) (n_inside : n < length orders) where
   abbrev p : ℕ
@@ -63,13 +95,21 @@ module _ (orders : List Order) (list : IsOrderList orders) (deals : List Deal) (
   abbrev past : ℕ → ℕ → ℕ
   past = traded_before orders deals
 
+  -- the finding that evidence at a deal is
+  abbrev pub finding_by : Deal → Evidence → Finding
+  finding_by d e = finding_of orders (record { place = d.place; evidence = e })
+
   -- the finding at a deal of this cause, by the first rule that it breaks
   finding-is : (k : ℕ) → cause orders (deal_at deals k) ≡ p → conservation_finding orders deals p k
-      ≡ option_map (rule_finding orders (shown_upto orders deals p k) (deal_at deals k)) (by_deal.first_broken (rests orders past p (resting orders (deal_at deals k))) (entered_of orders deals (incoming orders (deal_at deals k))) (keeps_limits orders (deal_at deals k))
+      ≡ option_map (finding_by (deal_at deals k)) (first_broken (traded_order (shown_upto orders deals p k) (resting orders (deal_at deals k))) (traded_order (shown_upto orders deals p k) (incoming orders (deal_at deals k)))
+      (traded_order (shown_upto orders deals p k) (deal_at deals k).bid) (traded_order (shown_upto orders deals p k) (deal_at deals k).ask)
+      (rests orders past p (resting orders (deal_at deals k))) (entered_of orders deals (incoming orders (deal_at deals k))) (keeps_limits orders (deal_at deals k))
       (nat_lt (size_of orders deals (deal_at deals k).bid) (traded_upto orders deals p k (deal_at deals k).bid)) (nat_lt (size_of orders deals (deal_at deals k).ask) (traded_upto orders deals p k (deal_at deals k).ask)))
   unfolding continuous_inactive continuous_off_limit over_size
   finding-is k at = cond-true (cause orders (deal_at deals k) == p) _ None (eq-eqb _ _ at)
-      ∙ first-broken (rule_finding orders (shown_upto orders deals p k) (deal_at deals k)) (rests orders past p (resting orders (deal_at deals k))) (entered_of orders deals (incoming orders (deal_at deals k))) (keeps_limits orders (deal_at deals k))
+      ∙ first-broken (finding_by (deal_at deals k)) (traded_order (shown_upto orders deals p k) (resting orders (deal_at deals k))) (traded_order (shown_upto orders deals p k) (incoming orders (deal_at deals k)))
+      (traded_order (shown_upto orders deals p k) (deal_at deals k).bid) (traded_order (shown_upto orders deals p k) (deal_at deals k).ask)
+      (rests orders past p (resting orders (deal_at deals k))) (entered_of orders deals (incoming orders (deal_at deals k))) (keeps_limits orders (deal_at deals k))
       (nat_lt (size_of orders deals (deal_at deals k).bid) (traded_upto orders deals p k (deal_at deals k).bid)) (nat_lt (size_of orders deals (deal_at deals k).ask) (traded_upto orders deals p k (deal_at deals k).ask))
 
   module _ (entered : Bool) (sheet : Sheet) (known : IsKnown orders deals n entered sheet) (at : ℕ) (lt : at < length causes) (of : order_in causes at ≡ n) where
@@ -117,28 +157,33 @@ module _ (orders : List Order) (list : IsOrderList orders) (deals : List Deal) (
               let t : nat_lt (place_at orders d.bid) (place_at orders d.ask) ≡ true = lt-ltb _ _ less in
               let r_is : d.bid ≡ resting orders d = sym (cond-true _ d.bid d.ask t) in
               let earlier : place_at orders d.bid < p = omega (arith, cause_here) in
-              cond-true _ _ _ t ∙ waits-is orders past p d.bid (number_in sheet.left.items d.bid) earlier (known.left_is d.bid (below-n d.bid named_here.bid_inside earlier)) ∙ ap (rests orders past p) r_is
+              cond-true _ _ _ t ∙ waits-is orders past p d.bid (number_in sheet.left.items d.bid) earlier (known.left.is d.bid (below-n d.bid named_here.bid_inside earlier)) ∙ ap (rests orders past p) r_is
           | inr le ↦
               let f : nat_lt (place_at orders d.bid) (place_at orders d.ask) ≡ false = le-ltb _ _ le in
               let r_is : d.ask ≡ resting orders d = sym (cond-false _ d.bid d.ask f) in
               let earlier : place_at orders d.ask < p = subst (λ x. place_at orders x < p) (sym (r_is ∙ e.1.resting_is)) e.1.earlier in
-              cond-false _ _ _ f ∙ waits-is orders past p d.ask (number_in sheet.left.items d.ask) earlier (known.left_is d.ask (below-n d.ask named_here.ask_inside earlier)) ∙ ap (rests orders past p) r_is
+              cond-false _ _ _ f ∙ waits-is orders past p d.ask (number_in sheet.left.items d.ask) earlier (known.left.is d.ask (below-n d.ask named_here.ask_inside earlier)) ∙ ap (rests orders past p) r_is
         ]
 
     checked : (bt at' : ℕ) → bt ≡ running_total deals causes (at + 1) d.bid → at' ≡ running_total deals causes (at + 1) d.ask
-        → conservation_finding orders deals p k ≡ option_map (rule_finding orders (shown_upto orders deals p k) d)
-        (by_deal.broken_rule d (order_at orders d.bid) (order_at orders d.ask) (record { place = p; entered = entered }) (accounts bt at'))
+        → conservation_finding orders deals p k ≡ option_map (finding_by d)
+        (by_deal.deal_evidence d (order_at orders d.bid) (order_at orders d.ask) (record { place = p; entered = entered }) (accounts bt at'))
     checked bt at' bt_is at_is =
+        let shown = shown_upto orders deals p k in
         let tb : bt ≡ traded_upto orders deals p k d.bid = bt_is ∙ running_here d.bid in
         let ta : at' ≡ traded_upto orders deals p k d.ask = at_is ∙ running_here d.ask in
-        let zb = known.size_is d.bid here-upto.bid_upto in
-        let za = known.size_is d.ask here-upto.ask_upto in
+        let zb = known.sizes.is d.bid (let le = here-upto.bid_upto in omega arith) in
+        let za = known.sizes.is d.ask (let le = here-upto.ask_upto in omega arith) in
+        let before_bid = known.before.is d.bid (let le = here-upto.bid_upto in omega arith) in
+        let before_ask = known.before.is d.ask (let le = here-upto.ask_upto in omega arith) in
+        let bid : (accounts bt at').bid.shown ≡ traded_order shown d.bid = λ i. record { index = d.bid; traded = tb i + before_bid i } in
+        let ask : (accounts bt at').ask.shown ≡ traded_order shown d.ask = λ i. record { index = d.ask; traded = ta i + before_ask i } in
+        let earlier = nat_lt (place_at orders d.bid) (place_at orders d.ask) in
+        let rest = shown-picked shown earlier (accounts bt at').bid (accounts bt at').ask d.bid d.ask bid ask in
+        let come = shown-picked shown earlier (accounts bt at').ask (accounts bt at').bid d.ask d.bid ask bid in
         let a : entered ≡ entered_of orders deals (incoming orders d) = known.arrived ∙ ap (entered_of orders deals) (sym incoming_here) in
         finding-is k cause_here
-        ∙ sym (λ i. option_map (rule_finding orders (shown_upto orders deals p k) d) (by_deal.first_broken (waits-here bt at' i) (a i) (keeps_limits orders d) (nat_lt (zb i) (tb i)) (nat_lt (za i) (ta i))))
-
-    pub traded-here : (traded : List ℕ) → AreRunningTotals orders deals causes (at + 1) traded → (x : ℕ) → x < length orders → number_in traded x ≡ traded_upto orders deals p k x
-    traded-here traded run x inside = run.sums x inside ∙ running_here x
+        ∙ sym (λ i. option_map (finding_by d) (first_broken (rest i) (come i) (bid i) (ask i) (waits-here bt at' i) (a i) (keeps_limits orders d) (nat_lt (zb i) (tb i)) (nat_lt (za i) (ta i))))
 
   -- deals of other causes have no finding, and those of this one stand among its causes
   module _ (start at : ℕ) (split : IsSplitAt causes n start) (clean : (i : ℕ) → start ≤ i → i < at → conservation_finding orders deals p (deal_in causes i) ≡ None) where
@@ -270,8 +315,7 @@ module _ (orders : List Order) (list : IsOrderList orders) (deals : List Deal) (
 
   pub finding-read : (of : order_in causes at ≡ n) (coming : Coming) (sheet : Sheet) (known : IsKnown orders deals n coming.entered sheet) (own bid ask : Order) → own ≡ get_or orders n own → bid ≡ get_or orders d.bid bid → ask ≡ get_or orders d.ask ask → coming.place ≡ own.place
       → (accounts : Accounts) (bt at' : ℕ) → accounts.bid ≡ by_deal.account_of sheet d.bid bt → accounts.ask ≡ by_deal.account_of sheet d.ask at' → bt ≡ get_or xs d.bid 0 + q → at' ≡ get_or xs d.ask 0 + q
-      → conservation_finding orders deals (place_at orders n) (deal_in causes at) ≡ option_map (rule_finding orders (shown_upto orders deals (place_at orders n) (deal_in causes at)) (deal_at deals (deal_in causes at)))
-      (by_deal.broken_rule d bid ask coming accounts)
+      → conservation_finding orders deals (place_at orders n) (deal_in causes at) ≡ option_map (finding_by orders list deals deal_list causes are n n_inside d) (by_deal.deal_evidence d bid ask coming accounts)
   finding-read of coming sheet known own bid ask own_read bid_read ask_read p_is accounts bt at' b_is a_is bt_is at_is =
       let e = deal_at deals (deal_in causes at) in
       let place : coming.place ≡ place_at orders n = p_is ∙ ap (λ (o : Order). o.place) (own_read ∙ get_or-default orders n own missing_order n_inside) in
@@ -282,16 +326,10 @@ module _ (orders : List Order) (list : IsOrderList orders) (deals : List Deal) (
       let tb = bt_is ∙ bid-now orders deals causes at lt xs run d d_is named q q_is (omega arith) ∙ ap (λ (x : Deal). running_total deals causes (at + 1) x.bid) d_is in
       let ta = at_is ∙ ask-now orders deals causes at lt xs run d d_is named q q_is (omega arith) ∙ ap (λ (x : Deal). running_total deals causes (at + 1) x.ask) d_is in
       checked orders list deals deal_list causes are n n_inside coming.entered sheet known at lt of bt at' tb ta
-      ∙ sym (λ i. option_map (rule_finding orders (shown_upto orders deals (place_at orders n) (deal_in causes at)) e) (by_deal.broken_rule (d_is i) (b i) (a i) (record { place = place i; entered = coming.entered }) (record { bid = kb i; ask = ka i })))
+      ∙ sym (λ i. option_map (finding_by orders list deals deal_list causes are n n_inside (d_is i)) (by_deal.deal_evidence (d_is i) (b i) (a i) (record { place = place i; entered = coming.entered }) (record { bid = kb i; ask = ka i })))
 
--- the breach at the cause that the code has come to, after its deal is added
-pub breach-read : (orders : List Order) (list : IsOrderList orders) (deals : List Deal) (deal_list : IsDealList orders deals) (causes : List Cause) (are : AreCauses orders deals causes) (n : ℕ) (n_inside : n < length orders)
-    (entered : Bool) (sheet : Sheet) (known : IsKnown orders deals n entered sheet) (start at : ℕ) (split : IsSplitAt causes n start) (clean : (i : ℕ) → start ≤ i → i < at → conservation_finding orders deals (place_at orders n) (deal_in causes i) ≡ None)
-    (lt : at < length causes) (of : order_in causes at ≡ n) (rule : DealRule) → conservation_finding orders deals (place_at orders n) (deal_in causes at) ≡ Some (rule_finding orders (shown_upto orders deals (place_at orders n) (deal_in causes at)) (deal_at deals (deal_in causes at)) rule)
-    → (traded : List ℕ) → AreRunningTotals orders deals causes (at + 1) traded → IsDealBreach orders deals n traded (record { deal = deal_in causes at; rule = rule })
-breach-read orders list deals deal_list causes are n n_inside entered sheet known start at split clean lt of rule here traded run = record {
-  upto = here-upto orders list deals deal_list causes are n n_inside entered sheet known at lt of;
-  small = running-small orders list deals deal_list causes are (at + 1) traded run;
-  traded_is = traded-here orders list deals deal_list causes are n n_inside entered sheet known at lt of traded run;
-  shown = first-finding orders list deals deal_list causes are n n_inside start at split clean _ lt of here;
-}
+  -- the orders that it shows are in the list
+  pub inside-read : (bid ask : Order) (coming : Coming) (sheet : Sheet) (accounts : Accounts) (bt at' : ℕ) → accounts.bid ≡ by_deal.account_of sheet d.bid bt → accounts.ask ≡ by_deal.account_of sheet d.ask at' → IfSome (by_deal.deal_evidence d bid ask coming accounts) (IsInside orders)
+  inside-read bid ask coming sheet accounts bt at' b_is a_is = evidence-inside orders d bid ask coming accounts
+      (subst (λ (x : Account). x.shown.index < length orders) (sym b_is) named.bid_inside)
+      (subst (λ (x : Account). x.shown.index < length orders) (sym a_is) named.ask_inside)

@@ -14,6 +14,7 @@ use Rattle.audit_base.specs.Deals.{NamesOrders}
 use Rattle.audit_base.specs.Expected.{limits_meet}
 use Rattle.audit_base.specs.Continuous.{traded_before, uncancelled_before, left_after}
 use Rattle.audit_base.specs.ContinuousOffences.{spread_finding, shown_after}
+use Rattle.audit_base.specs.Flaws.{finding_of}
 use Rattle.audit_base.specs.Shows.{found, show_found}
 use Rattle.audit_base.proofs.LeastLemmas.{none_some}
 use Rattle.audit_base.proofs.OrderLemmas.{side-other}
@@ -22,7 +23,8 @@ use Rattle.order_book.specs.Books.{first}
 use Rattle.continuous_audit.specs.declared.books.Books.{Books}
 use Rattle.continuous_audit.specs.Books.{BooksHold, HoldBelow, books_with, list_of, without_own}
 use Rattle.continuous_audit.specs.Holding.{Holds, IsApart, ask_of, bid_of, is_active, meets_first, resting_left}
-use Rattle.continuous_audit.specs.Spreads.{is_active_with, spread_by, stays_with}
+use Rattle.continuous_audit.specs.Flaws.{spread_after, spread_by, traded_order}
+use Rattle.continuous_audit.specs.Spreads.{is_active_with, stays_with}
 use Rattle.continuous_audit.proofs.HoldLemmas.{hold-same}
 use Rattle.continuous_audit.proofs.BooksLemmas.{side-holds, after-entry, no-entry}
 use Rattle.continuous_audit.proofs.RecordLemmas.{resting_left-own}
@@ -61,7 +63,7 @@ module _ (orders : List Order) (list : IsOrderList orders) (deals : List Deal) (
         let same : h ≡ x = cc in
         found-head h zs (e ∙ ap (λ (y : Resting). y ∷ zs) (sym same)) t m
 
-    shown-by : (t : Side) (j : ℕ) → spread_by t (order_at orders n) (order_at orders j) (shown_after orders deals p n) (shown_after orders deals p j)
+    shown-by : (t : Side) (j : ℕ) → finding_of orders (record { place = p; evidence = spread_by t (traded_order (shown_after orders deals p) n) (traded_order (shown_after orders deals p) j) })
         ≡ found property.Spread which.Orders p (show_found orders (shown_after orders deals p) (Some (bid_of t n j))) (show_found orders (shown_after orders deals p) (Some (ask_of t n j)))
     shown-by Buy j = refl
     shown-by Sell j = refl
@@ -97,13 +99,12 @@ module _ (orders : List Order) (list : IsOrderList orders) (deals : List Deal) (
         pub clear-read : (is_active_with own l && limits_meet own.side own.limit h.limit) ≡ false → spread_finding orders deals p ≡ None
         clear-read f = clear-test (sym test-read ∙ f)
 
-        pub found-read : (is_active_with own l && limits_meet own.side own.limit h.limit) ≡ true → (other : Order) → other ≡ order_at orders h.index → (a c : ℕ) → a ≡ shown_after orders deals p n → c ≡ shown_after orders deals p h.index
-            → spread_finding orders deals p ≡ Some (spread_by own.side own other a c)
-        found-read t other other_is a c a_is c_is =
+        pub found-read : (is_active_with own l && limits_meet own.side own.limit h.limit) ≡ true → spread_finding orders deals p ≡ Some (finding_of orders (spread_after orders deals n h.index))
+        found-read t =
             let parts = and_parts (is_active_with own l) (limits_meet own.side own.limit h.limit) t in
             let now : is_active orders past n ≡ true = sym active-read ∙ parts.0 in
             let meet : limits_meet s (limit_at orders n) h.limit ≡ true = sym (λ i. limits_meet (own_is i).side (own_is i).limit h.limit) ∙ parts.1 in
-            found-first ys h refl head-is now meet ∙ sym (ap Some ((λ i. spread_by (own_is i).side (own_is i) (other_is i) (a_is i) (c_is i)) ∙ shown-by s h.index))
+            found-first ys h refl head-is now meet ∙ sym (ap Some (shown-by s h.index))
 
 module _ (orders : List Order) (list : IsOrderList orders) (deals : List Deal) (named : All (NamesOrders orders) deals) (n : ℕ) (n_inside : n < length orders) (b : Books) (hold : BooksHold orders (without_own orders deals n) b)
     (own : Order) (own_is : own ≡ order_at orders n) (l : ℕ) (l_is : l ≡ left_after orders deals (place_at orders n) n) where

@@ -1,10 +1,10 @@
 -- What the audit answers.
-use Rattle.std.specs.Prelude.{◌≡◌, ◌<◌, ℕ, List, None, length, slice_index_or}
+use Rattle.std.specs.Prelude.{◌≡◌, ℕ, List, None}
 use Rattle.audit_base.specs.declared.terms.Rule.TheVariants as rule
 use Rattle.audit_base.specs.declared.orders.Order.{Order}
 use Rattle.audit_base.specs.declared.orders.Deal.{Deal}
 use Rattle.audit_base.specs.declared.findings.Finding.{Finding}
-use Rattle.audit_base.specs.Deals.{pair, traded, volume}
+use Rattle.audit_base.specs.Deals.{AreTotals, pair, volume}
 use Rattle.audit_base.specs.Histories.{Regular}
 use Rattle.audit_base.specs.Rules.{OnlyPair}
 use Rattle.audit_base.specs.ContinuousRules.{ConformsContinuous}
@@ -17,8 +17,7 @@ use Rattle.matching_core.specs.declared.outcomes.Outcome.TheVariants as outcome
 -- pair trades is the only quantity that the rule allows it
 pub record IsConforming (orders : List Order) (deals : List Deal) (reached : Reached) : Type 0 where
   pub conforms : ConformsContinuous orders deals
-  pub count : length reached.traded.0 ≡ length orders
-  pub totals : (i : ℕ) → i < length orders → slice_index_or reached.traded.0 i 0 ≡ traded deals i
+  pub totals : AreTotals orders deals reached.traded.0
   pub volume_is : reached.traded.1 ≡ volume deals
   pub no_bound : reached.bound ≡ None
   pub only : Regular orders → (bid ask : ℕ)

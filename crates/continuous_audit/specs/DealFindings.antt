@@ -1,18 +1,18 @@
--- The first rule that a deal breaks, from what is known of its orders.
-use Rattle.std.specs.Prelude.{◌-◌, ℕ, Bool, ◌&&◌, not, nat_lt, List, [], ◌∷◌, Option, slice_index_or, if◌then◌else◌}
+-- What is wrong with a deal by itself, from what is known of its orders.
+use Rattle.std.specs.Prelude.{◌+◌, ◌-◌, ℕ, Bool, ◌&&◌, not, nat_lt, List, [], ◌∷◌, Option, slice_index_or, if◌then◌else◌}
 use Rattle.audit_base.specs.declared.terms.Side.TheVariants.{Buy, Sell}
 use Rattle.audit_base.specs.declared.orders.Order.{Order}
 use Rattle.audit_base.specs.declared.orders.Deal.{Deal}
+use Rattle.audit_base.specs.declared.flaws.Evidence.{Evidence}
+use Rattle.audit_base.specs.declared.flaws.Evidence.TheVariants.{Inactive, Limit, Quantity}
 use Rattle.audit_base.specs.Least.{first_of, only_if}
-use Rattle.audit_base.specs.CallOffences.{is_within}
 use Rattle.audit_base.specs.Orders.{order_at}
+use Rattle.audit_base.specs.Deals.{is_within}
 use Rattle.audit_base.specs.Continuous.{is_own_place}
-use Rattle.continuous_audit.specs.declared.breaches.DealRule.{DealRule}
 use Rattle.continuous_audit.specs.declared.checking.Account.{Account}
 use Rattle.continuous_audit.specs.declared.checking.Accounts.{Accounts}
 use Rattle.continuous_audit.specs.declared.checking.Coming.{Coming}
 use Rattle.continuous_audit.specs.declared.sheet.Sheet.{Sheet}
-use Rattle.continuous_audit.specs.declared.breaches.DealRule.TheVariants.{Resting, Entered, Limits, Size}
 pub use Rattle.audit_base.specs.Orders.{is_rests}
 pub use Rattle.audit_base.specs.Continuous.{uncancelled_before}
 
@@ -25,22 +25,32 @@ abbrev pub resting_waits : Order → Order → ℕ → Accounts → Bool
 resting_waits bid ask p known =
     if nat_lt bid.place ask.place then waits bid p known.bid.left else waits ask p known.ask.left
 
+-- the account of the earlier one, which rested, and that of the later one, which came
+abbrev pub resting_account : Order → Order → Accounts → Account
+resting_account bid ask known = if nat_lt bid.place ask.place then known.bid else known.ask
+
+abbrev pub incoming_account : Order → Order → Accounts → Account
+incoming_account bid ask known = if nat_lt bid.place ask.place then known.ask else known.bid
+
+-- an order trades more than its Size
+abbrev pub is_over : Account → Bool
+is_over account = nat_lt account.size account.traded
+
 -- the first rule that a deal breaks: 7 its resting order rests, and its incoming one entered; 8 its price
 -- is within the limits; 10 and 11 neither order trades more than its Size
-abbrev pub first_broken : Bool → Bool → Bool → Bool → Bool → Option DealRule
-first_broken rests entered within bid_over ask_over = first_of
-    (only_if (not rests) Resting ∷ only_if (not entered) Entered ∷ only_if (not within) Limits
-    ∷ only_if bid_over (Size Buy) ∷ only_if ask_over (Size Sell) ∷ [])
-
--- the same, from what its bid and its ask have traded and had left
-abbrev pub broken_rule : Deal → Order → Order → Coming → Accounts → Option DealRule
-broken_rule d bid ask coming known =
-    first_broken (resting_waits bid ask coming.place known) coming.entered (is_within bid ask d)
-    (nat_lt known.bid.size known.bid.traded) (nat_lt known.ask.size known.ask.traded)
+abbrev pub deal_evidence : Deal → Order → Order → Coming → Accounts → Option Evidence
+deal_evidence d bid ask coming known = first_of
+    (only_if (not (resting_waits bid ask coming.place known))
+    (Inactive (resting_account bid ask known).shown)
+    ∷ only_if (not coming.entered) (Inactive (incoming_account bid ask known).shown)
+    ∷ only_if (not (is_within bid ask d)) (Limit known.bid.shown known.ask.shown)
+    ∷ only_if (is_over known.bid) (Quantity Buy known.bid.shown)
+    ∷ only_if (is_over known.ask) (Quantity Sell known.ask.shown) ∷ [])
 
 -- what is known of the order at an index that has traded so much
 abbrev pub account_of : Sheet → ℕ → ℕ → Account
 account_of sheet i traded = record {
+  shown = record { index = i; traded = traded + slice_index_or sheet.before.items i 0 };
   traded = traded;
   size = slice_index_or sheet.sizes.items i 0;
   left = slice_index_or sheet.left.items i 0;

@@ -2,12 +2,12 @@
 pub mod Audits
 -- What private functions pass on.
 pub mod Books
-pub mod Breaches
 pub mod Causes
 pub mod Chains
 pub mod DealFindings
 pub mod Endings
 pub mod Fills
+pub mod Flaws
 pub mod Holding
 pub mod Markets
 pub mod Matching

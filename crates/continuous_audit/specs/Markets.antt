@@ -1,5 +1,6 @@
 -- The orders and the deals of an audit, and what is known of them at a record.
 use Rattle.std.specs.Prelude.{◌≡◌, ◌<◌, ℕ, List, None}
+use Rattle.audit_base.specs.declared.orders.Deal.{Deal}
 use Rattle.audit_base.specs.Orders.{IsOrderList, other_side, place_at, side_at}
 use Rattle.audit_base.specs.Deals.{IsDealList, deal_at}
 use Rattle.audit_base.specs.Continuous.{resting, traded_before}
@@ -39,9 +40,12 @@ abbrev pub AreRefreshed : Market → ℕ → RunningTotals → List ℕ → List
 AreRefreshed m start running sizes old new = IsRefreshed m.deals.now m.causes.now start running.at
     sizes running.traded.items old new
 
--- the resting order of the deal of the cause at an index
+-- the deal of the cause at an index, and its resting order
+abbrev pub caused_at : Market → ℕ → Deal
+caused_at m i = deal_at m.deals.now (deal_in m.causes.now i)
+
 abbrev pub resting_at : Market → ℕ → ℕ
-resting_at m i = resting m.orders.now (deal_at m.deals.now (deal_in m.causes.now i))
+resting_at m i = resting m.orders.now (caused_at m i)
 
 -- an order that stands before the one at n in the order list, and is of the other side
 pub record IsOpposite (m : Market) (n : ℕ) (r : Resting) : Type 0 where

@@ -33,6 +33,8 @@ pub record HasDealt (m : Market) (n : ℕ) (numbers : Numbers) : Type 0 where
   pub split : IsSplitAt m.causes.now n numbers.start
   pub from : numbers.start ≤ numbers.running.at
   pub known : AreNumbersAfter m n numbers
+  pub traded : AreTraded m.orders.now m.deals.now (suc (place_at m.orders.now n))
+      numbers.running.traded.items
 
 -- before the order at n comes, at place q
 pub record IsReady (m : Market) (n q : ℕ) (state : State) : Type 0 where
@@ -43,11 +45,8 @@ pub record IsReady (m : Market) (n q : ℕ) (state : State) : Type 0 where
 
 -- after the deals of the order at n, which show no finding
 pub record IsAfterDeals (m : Market) (n : ℕ) (state : State) : Type 0 where
-  pub conserved : IsConserved m n
+  pub dealt : HasDealt m n state.numbers
   pub ranked : priority_at m.orders.now m.deals.now n ≡ None
-  pub known : AreNumbersAfter m n state.numbers
-  pub traded : AreTraded m.orders.now m.deals.now (suc (place_at m.orders.now n))
-      state.numbers.running.traded.items
   pub holds : HoldAfterDeals m.orders.now m.deals.now n state.standing.books
   pub dropped : AreDropped m.endings.now state.standing.start (place_at m.orders.now n)
 

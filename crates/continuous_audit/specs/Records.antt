@@ -1,13 +1,14 @@
 -- What is known at a record, over the orders and the deals.
-use Rattle.std.specs.Prelude.{◌≡◌, ◌<◌, ◌≤◌, ◌^◌, ℕ, List, Option, length}
+use Rattle.std.specs.Prelude.{◌≡◌, ◌<◌, ◌≤◌, ◌^◌, ℕ, suc, Bool, List, Option, length}
 use Rattle.audit_base.specs.declared.orders.Order.{Order}
 use Rattle.audit_base.specs.declared.orders.Deal.{Deal}
 use Rattle.audit_base.specs.declared.findings.Finding.{Finding}
 use Rattle.audit_base.specs.Orders.{place_at}
-use Rattle.audit_base.specs.Continuous.{traded_before, before_of, size_of, left_before}
+use Rattle.audit_base.specs.Continuous.{traded_before, before_of, entered_of, size_of, left_before}
 use Rattle.audit_base.specs.ContinuousRules.{ConformsAt}
 use Rattle.audit_base.specs.Least.{least_answer}
 use Rattle.audit_base.specs.ContinuousOffences.{conservation_finding, priority_finding}
+use Rattle.continuous_audit.specs.declared.sheet.Sheet.{Sheet}
 use Rattle.continuous_audit.specs.Holding.{IsApart}
 use Rattle.continuous_audit.specs.Chains.{AreBounded}
 use Rattle.continuous_audit.specs.Scans.{AreSmall, number_in}
@@ -40,6 +41,15 @@ pub record AreLeft (orders : List Order) (deals : List Deal) (m q : ℕ)
     (left : List ℕ) : Type 0 where
   pub count : length left ≡ length orders
   pub is : (x : ℕ) → x < m → number_in left x ≡ left_before orders deals q x
+
+-- before the deals of the order at n: whether it entered, Before and Size of each order up to it, and what
+-- is left of the earlier ones
+pub record IsKnown (orders : List Order) (deals : List Deal) (n : ℕ) (entered : Bool)
+    (sheet : Sheet) : Type 0 where
+  pub arrived : entered ≡ entered_of orders deals n
+  pub before : AreBefore orders deals (suc n) sheet.before.items
+  pub sizes : AreSizes orders deals (suc n) sheet.sizes.items
+  pub left : AreLeft orders deals n (place_at orders n) sheet.left.items
 
 -- what each order has traded before place q
 pub record AreTraded (orders : List Order) (deals : List Deal) (q : ℕ)

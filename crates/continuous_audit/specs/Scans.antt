@@ -1,12 +1,9 @@
--- What is known of the orders so far, and where the deals of an order begin.
-use Rattle.std.specs.Prelude.{◌≡◌, ◌<◌, ◌≤◌, ◌-◌, ◌*◌, ◌^◌, ◌⊎◌, ℕ, suc, Bool, false, List, Option, None, Some, length, slice_index_or}
+-- What the first deals come to, and where the deals of an order begin.
+use Rattle.std.specs.Prelude.{◌≡◌, ◌<◌, ◌≤◌, ◌-◌, ◌*◌, ◌^◌, ◌⊎◌, ℕ, suc, false, List, Option, None, Some, length, slice_index_or}
 use Rattle.audit_base.specs.declared.orders.Order.{Order}
 use Rattle.audit_base.specs.declared.orders.Deal.{Deal}
-use Rattle.audit_base.specs.Orders.{place_at}
 use Rattle.audit_base.specs.Deals.{names, deal_at}
-use Rattle.audit_base.specs.Continuous.{entered_of, size_of, left_before}
 use Rattle.continuous_audit.specs.declared.causes.Cause.{Cause}
-use Rattle.continuous_audit.specs.declared.sheet.Sheet.{Sheet}
 use Rattle.continuous_audit.specs.Causes.{running_total}
 
 -- the number at an index of a list
@@ -22,17 +19,6 @@ order_in causes i = (slice_index_or causes i missing_cause).order
 
 abbrev pub deal_in : List Cause → ℕ → ℕ
 deal_in causes i = (slice_index_or causes i missing_cause).deal
-
--- before the deals of the order at n: Size of each order up to it, what is left of the earlier ones, and
--- whether it entered
-pub record IsKnown (orders : List Order) (deals : List Deal) (n : ℕ) (entered : Bool)
-    (sheet : Sheet) : Type 0 where
-  pub sizes_count : length sheet.sizes.items ≡ length orders
-  pub left_count : length sheet.left.items ≡ length orders
-  pub arrived : entered ≡ entered_of orders deals n
-  pub size_is : (x : ℕ) → x ≤ n → number_in sheet.sizes.items x ≡ size_of orders deals x
-  pub left_is : (x : ℕ) → x < n
-      → number_in sheet.left.items x ≡ left_before orders deals (place_at orders n) x
 
 -- what each order has traded in the first causes
 pub record AreRunningTotals (orders : List Order) (deals : List Deal) (causes : List Cause)

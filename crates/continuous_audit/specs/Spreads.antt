@@ -1,17 +1,10 @@
 -- An order after its own record, where so much is left of it.
-use Rattle.std.specs.Prelude.{◌≡◌, ℕ, suc, Bool, ◌&&◌, nat_lt, List, Some, All}
-use Rattle.audit_base.specs.declared.terms.Side.{Side}
-use Rattle.audit_base.specs.declared.terms.Side.TheVariants.{Buy, Sell}
-use Rattle.audit_base.specs.declared.terms.Which.TheVariants as which
+use Rattle.std.specs.Prelude.{◌≡◌, ℕ, suc, Bool, ◌&&◌, nat_lt, List, All}
 use Rattle.audit_base.specs.declared.orders.Order.{Order}
 use Rattle.audit_base.specs.declared.orders.Deal.{Deal}
-use Rattle.audit_base.specs.declared.findings.Property.TheVariants as property
-use Rattle.audit_base.specs.declared.findings.Finding.{Finding}
-use Rattle.audit_base.specs.declared.findings.Shown.TheVariants as shown
 use Rattle.audit_base.specs.Orders.{place_at, is_rests}
 use Rattle.audit_base.specs.Continuous.{left_after, uncancelled_before}
 use Rattle.audit_base.specs.Deals.{NamesOrders}
-use Rattle.audit_base.specs.Shows.{found, with_traded}
 use Rattle.continuous_audit.specs.declared.books.Books.{Books}
 use Rattle.continuous_audit.specs.Books.{HoldWithoutOwn}
 
@@ -29,10 +22,3 @@ pub record IsAfterOwn (orders : List Order) (deals : List Deal) (n own_left : �
   pub named : All (NamesOrders orders) deals
   pub left_is : own_left ≡ left_after orders deals (place_at orders n) n
   pub holds : HoldWithoutOwn orders deals n b
-
--- the finding at a record of an order of a side that meets another one
-abbrev pub spread_by : Side → Order → Order → ℕ → ℕ → Finding
-spread_by Buy o other a b = found property.Spread which.Orders o.place
-    (Some (shown.Order (with_traded o a))) (Some (shown.Order (with_traded other b)))
-spread_by Sell o other a b = found property.Spread which.Orders o.place
-    (Some (shown.Order (with_traded other b))) (Some (shown.Order (with_traded o a)))

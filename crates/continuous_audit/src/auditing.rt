@@ -1,7 +1,7 @@
 //! Whether deals conform to the rule of continuous trading.
-ghost use Rattle.std.specs.Prelude.{◌≡◌, IfOk};
+ghost use Rattle.std.specs.Prelude.{IfOk};
 ghost use Rattle.audit_base.specs.Orders.{IsOrderList};
-ghost use Rattle.audit_base.specs.Deals.{AreDeals, IsDealList, volume};
+ghost use Rattle.audit_base.specs.Deals.{IsDealList};
 ghost use Rattle.continuous_audit.specs.Audits.{IsAudited};
 
 use super::causes::sort_causes;
@@ -10,23 +10,11 @@ use super::market::Market;
 use super::state::State;
 use audit_base::faults::NoMemory;
 use audit_base::orders::{Deal, Order};
+use audit_base::ranges::deals_in_range;
 use continuous_laws::laws::continuous_uniqueness;
 use matching_core::outcomes::{Outcome, Reached};
-use matching_core::totals::Totals;
+use matching_core::totals::{Totals, volume_of};
 use std::alloc::Global;
-
-/// The quantities of the deals, added.
-fn volume_of(deals: &[Deal]) -> u128
-    ensures total { result ≡ volume deals.now }
-    ensures numbers { AreDeals deals.now }
-{
-    let mut total: u128 = 0;
-    for (index, deal) in deals.iter().enumerate() {
-        let _price = deal.price.units();
-        total += deal.quantity.value() as u128;
-    }
-    total
-}
 
 /// The audit of the rule of continuous trading. Conforms exactly where it holds, unless it is out of memory: with
 /// what each order traded, and the volume. Else Broken has the first offence: an order that is inactive, a limit, a
@@ -40,8 +28,9 @@ pub fn audit_continuous(
     requires deal_list { IsDealList orders.now deals.now }
     ensures { IfOk result (IsAudited orders.now deals.now) }
 {
-    // A law that the answer rests on. It computes nothing.
+    // A law and the ranges that the answer rests on. They compute nothing.
     continuous_uniqueness();
+    deals_in_range(deals);
     let volume = volume_of(deals);
     let causes = sort_causes(alloc, orders, deals)?;
     let endings = sort_endings(alloc, orders)?;

@@ -2,7 +2,7 @@
 ghost use Rattle.std.specs.Prelude.{◌≡◌};
 ghost use Rattle.continuous_audit.specs.DealFindings as by_deal;
 
-use super::breaches::DealRule;
+use audit_base::flaws::{Evidence, TradedOrder};
 use audit_base::orders::{Deal, Order};
 use audit_base::terms::Side;
 
@@ -26,12 +26,23 @@ pub fn waits(order: &Order, place: u32, left: u64) -> bool
 /// What is known of one of a deal's orders.
 #[derive(Clone, Copy, Debug)]
 pub struct Account {
+    /// The order as a flaw shows it: with what it has traded, and its Before added.
+    pub shown: TradedOrder,
     /// What it has traded up to the deal.
     pub traded: u128,
     /// Its Size.
     pub size: u64,
     /// What was left of it before the record.
     pub left: u64,
+}
+
+impl Account {
+    /// Whether it trades more than its Size.
+    fn is_over(self) -> bool
+        ensures { result ≡ by_deal.is_over self }
+    {
+        (self.size as u128) < self.traded
+    }
 }
 
 /// What is known of both orders of a deal.
@@ -59,48 +70,52 @@ fn resting_waits(bid: &Order, ask: &Order, place: u32, known: Accounts) -> bool
     }
 }
 
-/// The first rule that a deal breaks, from whether it keeps each of them.
-fn first_broken(
-    rests: bool,
-    entered: bool,
-    within: bool,
-    bid_over: bool,
-    ask_over: bool,
-) -> Option<DealRule>
-    ensures { result ≡ by_deal.first_broken rests entered within bid_over ask_over }
+/// The account of the earlier one of a bid and an ask that trade, which rested.
+fn resting_account(bid: &Order, ask: &Order, known: Accounts) -> Account
+    ensures { result ≡ by_deal.resting_account bid.now ask.now known }
 {
-    if !rests {
-        return Some(DealRule::Resting);
+    if bid.place < ask.place {
+        known.bid
+    } else {
+        known.ask
     }
-    if !entered {
-        return Some(DealRule::Entered);
-    }
-    if !within {
-        return Some(DealRule::Limits);
-    }
-    if bid_over {
-        return Some(DealRule::Size(Side::Buy));
-    }
-    if ask_over {
-        return Some(DealRule::Size(Side::Sell));
-    }
-    None
 }
 
-/// The first rule that a deal breaks, from what is known of its orders. A finding has hundreds of bytes, and most
-/// deals have none, so none is made here.
-pub fn broken_rule(
+/// The account of the later one, which came.
+fn incoming_account(bid: &Order, ask: &Order, known: Accounts) -> Account
+    ensures { result ≡ by_deal.incoming_account bid.now ask.now known }
+{
+    if bid.place < ask.place {
+        known.ask
+    } else {
+        known.bid
+    }
+}
+
+/// What is wrong with a deal by itself, from what is known of its orders: the first rule that it breaks.
+pub fn deal_evidence(
     deal: &Deal,
     bid: &Order,
     ask: &Order,
     coming: Coming,
     known: Accounts,
-) -> Option<DealRule>
-    ensures { result ≡ by_deal.broken_rule deal.now bid.now ask.now coming known }
+) -> Option<Evidence>
+    ensures { result ≡ by_deal.deal_evidence deal.now bid.now ask.now coming known }
 {
-    let rests = resting_waits(bid, ask, coming.place, known);
-    let within = deal.is_within(bid, ask);
-    let bid_over = (known.bid.size as u128) < known.bid.traded;
-    let ask_over = (known.ask.size as u128) < known.ask.traded;
-    first_broken(rests, coming.entered, within, bid_over, ask_over)
+    if !resting_waits(bid, ask, coming.place, known) {
+        return Some(Evidence::Inactive(resting_account(bid, ask, known).shown));
+    }
+    if !coming.entered {
+        return Some(Evidence::Inactive(incoming_account(bid, ask, known).shown));
+    }
+    if !deal.is_within(bid, ask) {
+        return Some(Evidence::Limit(known.bid.shown, known.ask.shown));
+    }
+    if known.bid.is_over() {
+        return Some(Evidence::Quantity(Side::Buy, known.bid.shown));
+    }
+    if known.ask.is_over() {
+        return Some(Evidence::Quantity(Side::Sell, known.ask.shown));
+    }
+    None
 }

@@ -16,14 +16,15 @@ use super::pairs::{number_pairs, sort_pairs};
 use super::sheet::Sheet;
 use audit_base::faults::NoMemory;
 use audit_base::orders::{Deal, Order};
+use matching_core::totals::zeros;
 use std::alloc::Global;
 
 /// Nothing has traded before the first of so many orders.
 fn no_trades(alloc: Global, count: usize) -> Result<TradesSoFar, NoMemory>
     ensures { IfOk result (AreAtFirst count) }
 {
+    let traded = zeros(alloc, count)?;
     let sheet = Sheet::new(alloc, count)?;
-    let traded = vec![in alloc; 0u128; count]?;
     Ok(TradesSoFar {
         traded,
         sheet,

@@ -5,17 +5,7 @@ ghost use Rattle.continuous_audit.specs.Scans.{HasDeals, number_in};
 
 use super::market::Market;
 use super::scanning::RunningTotals;
-
-/// What is left of a size of which so much has traded.
-pub fn left_of(size: u64, traded: u128) -> u64
-    ensures { result ≡ size - traded }
-{
-    if traded < size as u128 {
-        size - traded as u64
-    } else {
-        0
-    }
-}
+use matching_core::totals::left_of;
 
 /// What is left of an order.
 pub fn left_at(sizes: &[u64], traded: &[u128], order: usize) -> u64

@@ -3,7 +3,6 @@
 
 pub mod auditing;
 mod books;
-mod breaches;
 mod causes;
 mod chains;
 mod checking;

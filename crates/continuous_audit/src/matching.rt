@@ -11,7 +11,7 @@ ghost use Rattle.continuous_audit.specs.Scans.{number_in};
 use super::books::{Books, Standing};
 use super::endings::Ending;
 use super::fills::{Fill, take_fills};
-use super::leaving::{left_of, set_amount};
+use super::leaving::set_amount;
 use super::opening::open_order;
 use super::pairs::{Pair, push_pairs};
 use super::sheet::Sheet;
@@ -19,6 +19,7 @@ use super::spreading::enter_own;
 use audit_base::faults::NoMemory;
 use audit_base::orders::Order;
 use audit_base::terms::Side;
+use matching_core::totals::left_of;
 
 /// What the Expected trades so far come to: what is known of the orders, by their indices, the books, and the pairs
 /// that have traded.

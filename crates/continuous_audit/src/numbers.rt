@@ -1,18 +1,19 @@
 //! What the deals of the records so far come to.
-ghost use Rattle.std.specs.Prelude.{◌≡◌, ◌<◌, ◌-◌, Some, None, IfOk, length, slice_set, vec_len};
-ghost use Rattle.continuous_audit.specs.declared.breaches.Breach.{Breach as ABreach};
-ghost use Rattle.continuous_audit.specs.Breaches.{Breaks};
+ghost use Rattle.std.specs.Prelude.{◌≡◌, ◌<◌, ◌-◌, None, IfOk, length, slice_set, vec_len};
+ghost use Rattle.continuous_audit.specs.Flaws.{HasShown, IsFindingOf, shown_in, traded_order};
 ghost use Rattle.continuous_audit.specs.Markets.{ConformsBefore, IsMarket};
 ghost use Rattle.continuous_audit.specs.Progress.{AreAtStart, AreNumbersFor, HasDealt};
+ghost use Rattle.continuous_audit.specs.Records.{conservation_at};
 ghost use Rattle.continuous_audit.specs.Scans.{number_in};
 
-use super::breaches::Breach;
 use super::leaving::{left_at, refresh_left, set_amount};
 use super::market::Market;
 use super::opening::open_order;
 use super::scanning::{RunningTotals, check_deals};
 use super::sheet::Sheet;
 use audit_base::faults::NoMemory;
+use audit_base::flaws::{Flaw, TradedOrder};
+use matching_core::totals::zeros;
 use std::alloc::Global;
 
 /// What is known of the orders, and where the deals of the last one begin among the causes.
@@ -29,7 +30,7 @@ impl Numbers {
         ensures { IfOk result (AreAtStart count) }
     {
         let sheet = Sheet::new(alloc, count)?;
-        let traded = vec![in alloc; 0u128; count]?;
+        let traded = zeros(alloc, count)?;
         let running = RunningTotals { traded, at: 0 };
         Ok(Numbers {
             sheet,
@@ -38,22 +39,33 @@ impl Numbers {
         })
     }
 
+    /// An order as a flaw shows it: with what it has traded, and its Before added.
+    pub fn shown(&self, order: usize) -> TradedOrder
+        requires { HasShown self.now order }
+        ensures { result ≡ traded_order (shown_in self.now) order }
+    {
+        TradedOrder {
+            index: order,
+            traded: self.running.traded[order] + self.sheet.before[order],
+        }
+    }
+
     /// Adds what the deals of the order at `order` trade and leave, up to the first that breaks a rule.
-    pub fn deal_order(&mut self, market: &Market<'_>, order: usize) -> Option<Breach>
+    pub fn deal_order(&mut self, market: &Market<'_>, order: usize) -> Option<Flaw>
         requires market { IsMarket market.now }
         requires order { order < length market.now.orders.now }
         requires conforms { ConformsBefore market.now order }
         requires known { AreNumbersFor market.now order self.old }
-        ensures found { (breach : ABreach) → result ≡ Some breach
-            → Breaks market.now order self.new breach }
+        ensures found { IsFindingOf market.now.orders.now result
+            (conservation_at market.now.orders.now market.now.deals.now order) }
         ensures dealt { result ≡ None → HasDealt market.now order self.new }
     {
         let opening = open_order(market.orders, &self.running.traded, &self.sheet, order);
         self.sheet.note(order, &opening);
         self.start = self.running.at;
         let entered = opening.entered;
-        if let Some(breach) = check_deals(market, &self.sheet, order, entered, &mut self.running) {
-            return Some(Breach::Deal(breach));
+        if let Some(flaw) = check_deals(market, &self.sheet, order, entered, &mut self.running) {
+            return Some(flaw);
         }
         let sheet = &mut self.sheet;
         refresh_left(

@@ -9,6 +9,7 @@ use super::fills::Fill;
 use audit_base::faults::NoMemory;
 use audit_base::numbers::{Price, Quantity};
 use audit_base::orders::{Deal, Order};
+use audit_base::ranges::deals_in_range;
 use audit_base::terms::Side;
 use std::alloc::Global;
 
@@ -65,17 +66,14 @@ pub fn sort_pairs(pairs: &mut Vec<Pair>) -> Result<(), NoMemory>
 fn resting_limit(orders: &[Order], bid: usize, ask: usize) -> Price
     requires bid { bid < length orders.now }
     requires ask { ask < length orders.now }
-    ensures same { result ≡ resting_limit orders.now bid ask }
-    ensures priced { result < 10 ^ 18 }
+    ensures { result ≡ resting_limit orders.now bid ask }
 {
     let (bid, ask) = (&orders[bid], &orders[ask]);
-    let limit = if bid.place < ask.place {
+    if bid.place < ask.place {
         bid.limit
     } else {
         ask.limit
-    };
-    let _units = limit.units();
-    limit
+    }
 }
 
 /// The quantity of a pair.
@@ -108,5 +106,6 @@ pub fn number_pairs(alloc: Global, orders: &[Order], pairs: &[Pair]) -> Result<V
         };
         deals.push(deal)?;
     }
+    deals_in_range(&deals);
     Ok(deals)
 }

@@ -4,17 +4,17 @@ ghost use Rattle.audit_base.specs.Orders.{order_at, place_at, side_at};
 ghost use Rattle.audit_base.specs.Priority.{better};
 ghost use Rattle.order_book.specs.declared.books.Resting.{Resting as RestingOrder};
 ghost use Rattle.order_book.specs.Books.{first};
-ghost use Rattle.continuous_audit.specs.declared.breaches.Breach.{Breach as ABreach};
 ghost use Rattle.continuous_audit.specs.Books.{HoldAfterDeals, HoldAt};
-ghost use Rattle.continuous_audit.specs.Breaches.{IsBreachUpto, IsFirstPassed};
-ghost use Rattle.continuous_audit.specs.Markets.{IsFilledAgainst, IsMarket, IsOpposite, resting_at};
+ghost use Rattle.continuous_audit.specs.Flaws.{HasShown, IsFindingOf, priority_flaw, shown_in};
+ghost use Rattle.continuous_audit.specs.Markets.{IsFilledAgainst, IsMarket, IsOpposite, caused_at, resting_at};
 ghost use Rattle.continuous_audit.specs.Progress.{HasDealt};
+ghost use Rattle.continuous_audit.specs.Records.{priority_at};
 
 use super::books::Books;
-use super::breaches::Breach;
 use super::causes::resting_of;
 use super::market::Market;
 use super::numbers::Numbers;
+use audit_base::flaws::{Evidence, Flaw};
 use order_book::books::Resting;
 use rank_order::comparing::better;
 
@@ -34,27 +34,48 @@ fn outranks(market: &Market<'_>, over: usize, at: usize) -> bool
     better(&orders[over], &orders[index])
 }
 
+/// The flaw of the deal of a cause, which passes over the order at `over`.
+fn priority_flaw(market: &Market<'_>, numbers: &Numbers, over: usize, at: usize) -> Flaw
+    requires market { IsMarket market.now }
+    requires at { at < length market.now.causes.now }
+    requires over { HasShown numbers.now over }
+    requires resting { HasShown numbers.now (resting_at market.now at) }
+    ensures { result ≡ priority_flaw market.now.orders.now (shown_in numbers.now)
+        (caused_at market.now at) over }
+{
+    let (orders, deals, causes) = (market.orders, market.deals, market.causes);
+    let deal = &deals[causes[at].deal];
+    let index = resting_of(orders, deal);
+    let (side, first, second) = (
+        orders[index].side,
+        numbers.shown(over),
+        numbers.shown(index),
+    );
+    Flaw {
+        place: deal.place,
+        evidence: Evidence::Priority(side, first, second),
+    }
+}
+
 /// The first deal of the order at `order` whose resting order the best order outranks.
 fn check_priority(
     market: &Market<'_>,
     order: usize,
     numbers: &Numbers,
     best: Resting,
-) -> Option<Breach>
+) -> Option<Flaw>
     requires market { IsMarket market.now }
     requires order { order < length market.now.orders.now }
     requires dealt { HasDealt market.now order numbers.now }
     requires best { IsOpposite market.now order best }
-    ensures passed { (ys : List RestingOrder) → first ys ≡ Some best
-        → IsFilledAgainst market.now order ys → IsFirstPassed market.now order result }
-    ensures upto { (breach : ABreach) → result ≡ Some breach
-        → IsBreachUpto market.now.deals.now order breach }
+    ensures { (ys : List RestingOrder) → first ys ≡ Some best
+        → IsFilledAgainst market.now order ys → IsFindingOf market.now.orders.now result
+        (priority_at market.now.orders.now market.now.deals.now order) }
 {
     let over = best.index;
     for at in numbers.start..numbers.running.at {
         if outranks(market, over, at) {
-            let deal = market.causes[at].deal;
-            return Some(Breach::Outranked { deal, over });
+            return Some(priority_flaw(market, numbers, over, at));
         }
     }
     None
@@ -67,15 +88,14 @@ pub fn pass_deals(
     order: usize,
     numbers: &Numbers,
     books: &mut Books,
-) -> Option<Breach>
+) -> Option<Flaw>
     requires market { IsMarket market.now }
     requires order { order < length market.now.orders.now }
     requires dealt { HasDealt market.now order numbers.now }
     requires books { HoldAt market.now.orders.now market.now.deals.now
         (place_at market.now.orders.now order) books.old }
-    ensures passed { IsFirstPassed market.now order result }
-    ensures upto { (breach : ABreach) → result ≡ Some breach
-        → IsBreachUpto market.now.deals.now order breach }
+    ensures found { IsFindingOf market.now.orders.now result
+        (priority_at market.now.orders.now market.now.deals.now order) }
     ensures holds { result ≡ None
         → HoldAfterDeals market.now.orders.now market.now.deals.now order books.new }
 {

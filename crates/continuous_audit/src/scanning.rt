@@ -1,14 +1,13 @@
 //! The deals of one record, one after another.
-ghost use Rattle.std.specs.Prelude.{◌≡◌, ◌≤◌, ◌<◌, suc, None, Some, length};
-ghost use Rattle.continuous_audit.specs.declared.breaches.DealBreach.{DealBreach as ADealBreach};
-ghost use Rattle.continuous_audit.specs.Breaches.{IsDealBreach};
-ghost use Rattle.continuous_audit.specs.Markets.{HaveTraded, IsConserved, IsMarket};
-ghost use Rattle.continuous_audit.specs.Scans.{IsKnown};
+ghost use Rattle.std.specs.Prelude.{◌≡◌, ◌≤◌, ◌<◌, suc, None, length};
+ghost use Rattle.continuous_audit.specs.Flaws.{IsFindingOf};
+ghost use Rattle.continuous_audit.specs.Markets.{HaveTraded, IsMarket};
+ghost use Rattle.continuous_audit.specs.Records.{IsKnown, conservation_at};
 
-use super::breaches::DealBreach;
-use super::checking::{Accounts, Coming, broken_rule};
+use super::checking::{Accounts, Coming, deal_evidence};
 use super::market::Market;
 use super::sheet::Sheet;
+use audit_base::flaws::Flaw;
 use matching_core::checking::add_deal;
 
 /// What each order has traded in the first deals, by their causes.
@@ -26,17 +25,15 @@ pub fn check_deals(
     order: usize,
     entered: bool,
     running: &mut RunningTotals,
-) -> Option<DealBreach>
+) -> Option<Flaw>
     requires market { IsMarket market.now }
     requires order { order < length market.now.orders.now }
     requires known { IsKnown market.now.orders.now market.now.deals.now order entered sheet.now }
     requires traded { HaveTraded market.now order running.old }
     ensures traded { result ≡ None → HaveTraded market.now (suc order) running.new }
     ensures from { result ≡ None → running.old.at ≤ running.new.at }
-    ensures conserved { result ≡ None → IsConserved market.now order }
-    ensures found { (breach : ADealBreach) → result ≡ Some breach
-        → IsDealBreach market.now.orders.now market.now.deals.now order running.new.traded.items
-        breach }
+    ensures found { IsFindingOf market.now.orders.now result
+        (conservation_at market.now.orders.now market.now.deals.now order) }
 {
     let (orders, deals, causes) = (market.orders, market.deals, market.causes);
     let coming = Coming {
@@ -56,11 +53,10 @@ pub fn check_deals(
             bid: sheet.account(deal.bid, bid_traded),
             ask: sheet.account(deal.ask, ask_traded),
         };
-        if let Some(rule) = broken_rule(deal, &orders[deal.bid], &orders[deal.ask], coming, known) {
-            return Some(DealBreach {
-                deal: cause.deal,
-                rule,
-            });
+        let (bid, ask) = (&orders[deal.bid], &orders[deal.ask]);
+        if let Some(evidence) = deal_evidence(deal, bid, ask, coming, known) {
+            let place = deal.place;
+            return Some(Flaw { place, evidence });
         }
         running.at += 1;
     }

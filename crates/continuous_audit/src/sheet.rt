@@ -1,5 +1,5 @@
 //! What is known of each order, by its index.
-ghost use Rattle.std.specs.Prelude.{◌≡◌, ◌<◌, IfOk, vec_len};
+ghost use Rattle.std.specs.Prelude.{◌≡◌, ◌<◌, ◌+◌, ◌^◌, IfOk, vec_len};
 ghost use Rattle.continuous_audit.specs.Chains.{flag_in};
 ghost use Rattle.continuous_audit.specs.DealFindings.{account_of};
 ghost use Rattle.continuous_audit.specs.Scans.{number_in};
@@ -8,6 +8,8 @@ ghost use Rattle.continuous_audit.specs.Sheets.{IsBlank, IsNoted};
 use super::checking::Account;
 use super::opening::Opening;
 use audit_base::faults::NoMemory;
+use audit_base::flaws::TradedOrder;
+use matching_core::totals::zeros;
 use std::alloc::Global;
 
 /// What is known of each order that has come, by its index.
@@ -26,7 +28,7 @@ impl Sheet {
         ensures { IfOk result (IsBlank count) }
     {
         Ok(Sheet {
-            before: vec![in alloc; 0u128; count]?,
+            before: zeros(alloc, count)?,
             closed: vec![in alloc; false; count]?,
             sizes: vec![in alloc; 0u64; count]?,
             left: vec![in alloc; 0u64; count]?,
@@ -47,11 +49,18 @@ impl Sheet {
 
     /// What is known of an order that has traded so much.
     pub fn account(&self, order: usize, traded: u128) -> Account
+        requires before { order < vec_len self.now.before }
         requires size { order < vec_len self.now.sizes }
         requires left { order < vec_len self.now.left }
+        requires fits { traded + number_in self.now.before.items order < 2 ^ 128 }
         ensures { result ≡ account_of self.now order traded }
     {
+        let shown = TradedOrder {
+            index: order,
+            traded: traded + self.before[order],
+        };
         Account {
+            shown,
             traded,
             size: self.sizes[order],
             left: self.left[order],

@@ -5,13 +5,16 @@ ghost use Rattle.audit_base.specs.Orders.{IsOrderList, place_at};
 ghost use Rattle.audit_base.specs.Continuous.{traded_before};
 ghost use Rattle.audit_base.specs.Expected.{limits_meet};
 ghost use Rattle.audit_base.specs.ContinuousOffences.{spread_finding};
+ghost use Rattle.audit_base.specs.Flaws.{finding_of};
 ghost use Rattle.continuous_audit.specs.Books.{HoldAfter, HoldBelow, resting_count};
-ghost use Rattle.continuous_audit.specs.Breaches.{met_after};
+ghost use Rattle.continuous_audit.specs.Flaws.{HasShown, shown_in, spread_after, spread_by, spread_flaw};
 ghost use Rattle.continuous_audit.specs.Holding.{IsApart};
 ghost use Rattle.continuous_audit.specs.Spreads.{IsAfterOwn, is_active_with, stays_with};
 
 use super::books::Books;
+use super::numbers::Numbers;
 use audit_base::faults::NoMemory;
+use audit_base::flaws::{Evidence, Flaw, TradedOrder};
 use audit_base::numbers::Price;
 use audit_base::orders::Order;
 use audit_base::terms::Side;
@@ -60,7 +63,8 @@ pub fn spread_of(orders: &[Order], order: usize, left: u64, books: &Books) -> Op
     ensures finding { (deals : List ADeal) → IsAfterOwn orders.now deals order left books.now
         → IsApart orders.now (traded_before orders.now deals) (place_at orders.now order)
         → spread_finding orders.now deals (place_at orders.now order)
-        ≡ option_map (met_after orders.now deals order) result }
+        ≡ option_map (λ other. finding_of orders.now (spread_after orders.now deals order other))
+        result }
     ensures upto { (other : ℕ) → result ≡ Some other → other ≤ order }
 {
     let own = &orders[order];
@@ -72,6 +76,30 @@ pub fn spread_of(orders: &[Order], order: usize, left: u64, books: &Books) -> Op
             Some(best.index)
         }
         None => None,
+    }
+}
+
+/// What shows that an order of a side and another one meet.
+fn spread_by(side: Side, own: TradedOrder, other: TradedOrder) -> Evidence
+    ensures { result ≡ spread_by side own other }
+{
+    match side {
+        Side::Buy => Evidence::Spread(own, other),
+        Side::Sell => Evidence::Spread(other, own),
+    }
+}
+
+/// The flaw of the record of the order at `order`, which meets the one at `other`.
+pub fn spread_flaw(orders: &[Order], numbers: &Numbers, order: usize, other: usize) -> Flaw
+    requires order { order < length orders.now }
+    requires own { HasShown numbers.now order }
+    requires other { HasShown numbers.now other }
+    ensures { result ≡ spread_flaw orders.now (shown_in numbers.now) order other }
+{
+    let own = &orders[order];
+    Flaw {
+        place: own.place,
+        evidence: spread_by(own.side, numbers.shown(order), numbers.shown(other)),
     }
 }
 

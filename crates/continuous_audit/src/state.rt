@@ -1,20 +1,18 @@
 //! The state of an audit from one record to the next.
-ghost use Rattle.std.specs.Prelude.{◌≡◌, ◌<◌, suc, None, Some, Ok, IfOk, length};
-ghost use Rattle.audit_base.specs.declared.findings.Finding.{Finding as AFinding};
+ghost use Rattle.std.specs.Prelude.{◌≡◌, ◌<◌, suc, None, Ok, IfOk, IfSome, length};
 ghost use Rattle.audit_base.specs.ContinuousOffences.{IsContinuousOffence};
-ghost use Rattle.continuous_audit.specs.declared.breaches.Breach.{Breach as ABreach};
-ghost use Rattle.continuous_audit.specs.Breaches.{Breaks};
+ghost use Rattle.continuous_audit.specs.Flaws.{IsFlawAt};
 ghost use Rattle.continuous_audit.specs.Markets.{IsMarket};
 ghost use Rattle.continuous_audit.specs.Progress.{IsAfterDeals, IsFirstState, IsReadyFor, IsReadyNext};
 
 use super::books::Standing;
-use super::breaches::{Breach, breach_finding};
 use super::market::Market;
 use super::numbers::Numbers;
 use super::passing::pass_deals;
-use super::spreading::{enter_own, spread_of};
+use super::spreading::{enter_own, spread_flaw, spread_of};
 use audit_base::faults::NoMemory;
 use audit_base::findings::Finding;
+use audit_base::flaws::Flaw;
 use std::alloc::Global;
 
 /// What is known before an order comes: the numbers of the earlier ones, and what of them rests.
@@ -37,61 +35,56 @@ impl State {
     }
 
     /// What the deals of the order at `order` do to the numbers and the books, or how they break a rule first.
-    fn trade(&mut self, market: &Market<'_>, order: usize) -> Option<Breach>
+    fn trade(&mut self, market: &Market<'_>, order: usize) -> Option<Flaw>
         requires market { IsMarket market.now }
         requires order { order < length market.now.orders.now }
         requires ready { IsReadyFor market.now order self.old }
-        ensures found { (breach : ABreach) → result ≡ Some breach
-            → Breaks market.now order self.new.numbers breach }
+        ensures found { IfSome result (IsFlawAt market.now order) }
         ensures after_deals { result ≡ None → IsAfterDeals market.now order self.new }
     {
-        if let Some(breach) = self.numbers.deal_order(market, order) {
-            return Some(breach);
+        if let Some(flaw) = self.numbers.deal_order(market, order) {
+            return Some(flaw);
         }
         pass_deals(market, order, &self.numbers, &mut self.standing.books)
     }
 
-    /// The record of the order at `order`: how it breaks a rule if it does, with the numbers as they are there, and
-    /// else what is known before the next order.
-    fn audit_record(
-        &mut self,
-        market: &Market<'_>,
-        order: usize,
-    ) -> Result<Option<Breach>, NoMemory>
+    /// The record of the order at `order`: how it breaks a rule if it does, and else what is known before the next
+    /// order.
+    fn audit_record(&mut self, market: &Market<'_>, order: usize) -> Result<Option<Flaw>, NoMemory>
         requires market { IsMarket market.now }
         requires order { order < length market.now.orders.now }
         requires ready { IsReadyFor market.now order self.old }
-        ensures found { (breach : ABreach) → result ≡ Ok (Some breach)
-            → Breaks market.now order self.new.numbers breach }
+        ensures found { IfOk result (λ flaw. IfSome flaw (IsFlawAt market.now order)) }
         ensures ready { result ≡ Ok None → IsReadyNext market.now (suc order) self.new }
     {
-        if let Some(breach) = self.trade(market, order) {
-            return Ok(Some(breach));
+        if let Some(flaw) = self.trade(market, order) {
+            return Ok(Some(flaw));
         }
         let (orders, endings) = (market.orders, market.endings);
         let standing = &mut self.standing;
         standing.drop_own(orders, endings, order);
         let left = self.numbers.sheet.left[order];
         if let Some(other) = spread_of(orders, order, left, &standing.books) {
-            return Ok(Some(Breach::Crossed(other)));
+            return Ok(Some(spread_flaw(orders, &self.numbers, order, other)));
         }
         enter_own(orders, order, left, &mut standing.books)?;
         standing.drop_before_next(orders, endings, order);
         Ok(None)
     }
 
-    /// Goes over the records of the orders, up to the first finding.
+    /// Goes over the records of the orders, up to the first that breaks a rule: the one flaw that is made a finding.
     pub fn first_offence(&mut self, market: &Market<'_>) -> Result<Option<Finding>, NoMemory>
         requires market { IsMarket market.now }
         requires ready { IsReadyNext market.now 0 self.old }
-        ensures found { (finding : AFinding) → result ≡ Ok (Some finding)
-            → IsContinuousOffence market.now.orders.now market.now.deals.now finding }
+        ensures found { IfOk result (λ finding. IfSome finding
+            (IsContinuousOffence market.now.orders.now market.now.deals.now)) }
         ensures done { result ≡ Ok None
             → IsReadyNext market.now (length market.now.orders.now) self.new }
     {
         for order in 0..market.orders.len() {
-            if let Some(breach) = self.audit_record(market, order)? {
-                return Ok(Some(breach_finding(market, order, &self.numbers, breach)));
+            // Taken apart, since a proof does not carry a whole flaw across the call.
+            if let Some(Flaw { place, evidence }) = self.audit_record(market, order)? {
+                return Ok(Some(Flaw { place, evidence }.finding(market.orders)));
             }
         }
         Ok(None)

@@ -1,9 +1,8 @@
 //! The lines of written logs: the header, and the line of a record.
-ghost use Rattle.std.specs.Prelude.{◌≡◌, ℕ, List, IfOk, IsTrue, OnOk, Some, decimal, length, map};
+ghost use Rattle.std.specs.Prelude.{◌≡◌, ℕ, List, IfOk, IsTrue, OnOk, Some, length, map};
 ghost use Rattle.std.specs.List.{list_all};
 ghost use Rattle.audit_base.specs.Names.{is_name_byte};
-ghost use Rattle.audit_base.specs.Numbers.{price_form, price_text, quantity_form};
-ghost use Rattle.audit_base.specs.Stamps.{stamp_form, stamp_text};
+ghost use Rattle.audit_base.specs.Numbers.{price_form, price_text};
 ghost use Rattle.csv_logs.specs.Written.{order_fields, side_text, kind_text, limit_text};
 ghost use Rattle.csv_logs.specs.WrittenLines.{IsAtLine, IsLineOf, IsOrderLine, WritesLine, have_name_bytes, cancel_order, new_order, replace_order};
 
@@ -11,12 +10,11 @@ use crate::entries::LogEntry;
 use crate::orders::Head;
 use audit_base::columns::columns;
 use audit_base::faults::NoMemory;
+use audit_base::field_texts::{price_text, quantity_text, stamp_text};
 use audit_base::names::Name;
 use audit_base::numbers::{Price, Quantity};
 use audit_base::records::{OrderRecord, TradeRecord, Traded};
-use audit_base::stamps::Stamp;
 use audit_base::terms::{Life, Side, Which};
-use audit_base::texts::{write_number, write_price, write_stamp};
 use csv::Writer;
 use std::alloc::Global;
 use std::io::Write;
@@ -34,36 +32,6 @@ fn write_row<W: Write + Drop>(writer: &mut Writer<W>, fields: &[&[u8]]) -> Resul
         Ok(()) => Ok(()),
         Err(_) => Err(NoMemory),
     }
-}
-
-fn stamp_bytes(alloc: Global, stamp: Stamp) -> Result<Vec<u8>, NoMemory>
-    ensures text { IfOk result (λ text. text.items ≡ stamp_text stamp) }
-    ensures unquoted { IsTrue (list_all is_name_byte (stamp_text stamp)) }
-    ensures again { stamp_form (stamp_text stamp) ≡ Some stamp }
-{
-    let mut text = Vec::new(alloc);
-    write_stamp(alloc, stamp, &mut text)?;
-    Ok(text)
-}
-
-fn quantity_bytes(alloc: Global, quantity: Quantity) -> Result<Vec<u8>, NoMemory>
-    ensures text { IfOk result (λ text. text.items ≡ decimal quantity) }
-    ensures unquoted { IsTrue (list_all is_name_byte (decimal quantity)) }
-    ensures again { quantity_form (decimal quantity) ≡ Some quantity }
-{
-    let mut text = Vec::new(alloc);
-    write_number(alloc, u128::from(quantity.value()), &mut text)?;
-    Ok(text)
-}
-
-fn price_bytes(alloc: Global, price: Price) -> Result<Vec<u8>, NoMemory>
-    ensures text { IfOk result (λ text. text.items ≡ price_text price) }
-    ensures unquoted { IsTrue (list_all is_name_byte (price_text price)) }
-    ensures again { price_form (price_text price) ≡ Some price }
-{
-    let mut text = Vec::new(alloc);
-    write_price(alloc, price.units(), &mut text)?;
-    Ok(text)
 }
 
 fn side_bytes(side: Side) -> &'static [u8]
@@ -90,7 +58,7 @@ fn limit_bytes(alloc: Global, life: Life, price: Price) -> Result<Vec<u8>, NoMem
     ensures unquoted { IsTrue (list_all is_name_byte (limit_text life price)) }
     ensures again { price_form (price_text price) ≡ Some price }
 {
-    let text = price_bytes(alloc, price)?;
+    let text = price_text(alloc, price)?;
     match life {
         Life::Rests | Life::Immediate => Ok(text),
         Life::Market => Ok(Vec::new(alloc)),
@@ -130,8 +98,8 @@ fn write_new<W: Write + Drop>(
         OnOk result (WritesLine W.contents writer.old writer.new row) }
     ensures line { OnOk result (IsOrderLine (new_order head terms life)) }
 {
-    let time = stamp_bytes(alloc, head.time)?;
-    let quantity = quantity_bytes(alloc, terms.quantity)?;
+    let time = stamp_text(alloc, head.time)?;
+    let quantity = quantity_text(alloc, terms.quantity)?;
     let price = limit_bytes(alloc, life, terms.price)?;
     let row: [&[u8]; 9] = [
         kind_bytes(life),
@@ -159,7 +127,7 @@ fn write_cancel<W: Write + Drop>(
         OnOk result (WritesLine W.contents writer.old writer.new row) }
     ensures line { OnOk result (IsOrderLine (cancel_order head target)) }
 {
-    let time = stamp_bytes(alloc, head.time)?;
+    let time = stamp_text(alloc, head.time)?;
     let row: [&[u8]; 9] = [
         b"X",
         head.key.firm.bytes(),
@@ -187,9 +155,9 @@ fn write_replace<W: Write + Drop>(
         OnOk result (WritesLine W.contents writer.old writer.new row) }
     ensures line { OnOk result (IsOrderLine (replace_order head terms target)) }
 {
-    let time = stamp_bytes(alloc, head.time)?;
-    let quantity = quantity_bytes(alloc, terms.quantity)?;
-    let price = price_bytes(alloc, terms.price)?;
+    let time = stamp_text(alloc, head.time)?;
+    let quantity = quantity_text(alloc, terms.quantity)?;
+    let price = price_text(alloc, terms.price)?;
     let row: [&[u8]; 9] = [
         b"R",
         head.key.firm.bytes(),
@@ -240,9 +208,9 @@ impl LogLine for TradeRecord {
         alloc: Global,
         writer: &mut Writer<W>,
     ) -> Result<(), NoMemory> {
-        let time = stamp_bytes(alloc, self.time)?;
-        let quantity = quantity_bytes(alloc, self.quantity)?;
-        let price = price_bytes(alloc, self.price)?;
+        let time = stamp_text(alloc, self.time)?;
+        let quantity = quantity_text(alloc, self.quantity)?;
+        let price = price_text(alloc, self.price)?;
         let row: [&[u8]; 9] = [
             self.trade.bytes(),
             &time,

@@ -12,19 +12,19 @@ use Rattle.audit_base.specs.declared.findings.Finding.{Finding}
 use Rattle.audit_base.specs.Least.{only_if}
 use Rattle.audit_base.specs.Orders.{order_at, quantity_at, stands_on, Stands, IsOrderList}
 use Rattle.audit_base.specs.Priority.{better, Better}
-use Rattle.audit_base.specs.Deals.{deal_at, missing_deal, part_of, traded}
+use Rattle.audit_base.specs.Deals.{deal_at, missing_deal, part_of, traded, AreDeals, AreTotals}
 use Rattle.audit_base.specs.Calls.{Matching, Fair}
-use Rattle.audit_base.specs.ContinuousOffences.{priority_of}
 use Rattle.audit_base.specs.CallOffences.{is_short, best_short, is_outranked_by_short, bid_passed_over, ask_passed_over}
-use Rattle.audit_base.specs.Shows.{at_deal, show_order, show_found}
+use Rattle.audit_base.specs.Shows.{at_deal, show_order, show_found, priority_of}
+use Rattle.audit_base.specs.Flaws.{finding_of}
+use Rattle.audit_base.specs.declared.flaws.Flaw.{Flaw}
+use Rattle.audit_base.specs.declared.flaws.Evidence.TheVariants.{Priority}
 use Rattle.audit_base.proofs.LeastLemmas.{any-at, any-none, option_or-cases}
 use Rattle.audit_base.proofs.OrderLemmas.{test-stands}
 use Rattle.audit_base.proofs.OffenceLemmas.{get_or-default}
 use Rattle.audit_base.proofs.DealLemmas.{part-bid, part-ask}
 use Rattle.audit_base.proofs.PriorityLemmas.{IsBest, best-is, best-exists, Better-total, Better-onward}
-use Rattle.short_order.specs.Totals.{AreTotals}
-use Rattle.fairness.specs.declared.passing.Outranked.{Outranked}
-use Rattle.fairness.specs.Passing.{order_of_deal, outranked_at, unfair_at, finding_of}
+use Rattle.fairness.specs.Passing.{order_of_deal, traded_order, outranked_at, unfair_at}
 
 some-none : {X : Type 0} (o : Option X) (x : X) → o ≡ None → o ≡ Some x → ⊥
 some-none None x e f = cc
@@ -104,14 +104,14 @@ module _ (orders : List Order) (deals : List Deal) (numbers : List ℕ) (list : 
   shown-same i lt = ap (λ (n : ℕ). show_order orders (λ k. n) i) (totals.each i lt)
 
   passed-defined : (side : Side) (short : Option ℕ) → short ≡ best_short orders deals side → (d : Deal) → Stands orders side (order_of_deal side d)
-      → option_map (finding_of orders numbers d) (outranked_at orders side short d) ≡ defined side d
+      → option_map (finding_of orders) (outranked_at orders numbers side short d) ≡ defined side d
   passed-defined side None e d s = rw (none-passed orders deals side (sym e) (order_of_deal side d)) refl
   passed-defined side (Some b) e d s =
-      map-only (finding_of orders numbers d) (better (order_at orders b) (order_at orders (order_of_deal side d))) (record { side = side; short = b; own = order_of_deal side d })
+      map-only (finding_of orders) (better (order_at orders b) (order_at orders (order_of_deal side d))) (record { place = d.place; evidence = Priority side (traded_order numbers b) (traded_order numbers (order_of_deal side d)) })
       ∙ rw (best-passes orders deals side list b (sym e) (order_of_deal side d), ← e, shown-same b (short-best orders deals side b (sym e)).inside, shown-same (order_of_deal side d) s.inside) refl
 
   not-fair : (side : Side) (short : Option ℕ) → short ≡ best_short orders deals side → (k : ℕ) → k < length deals → 0 < (deal_at deals k).quantity → Stands orders side (order_of_deal side (deal_at deals k))
-      → (o : Outranked) → outranked_at orders side short (deal_at deals k) ≡ Some o → Fair orders deals → ⊥
+      → (o : Flaw) → outranked_at orders numbers side short (deal_at deals k) ≡ Some o → Fair orders deals → ⊥
   not-fair side None e k lt some s o found fair = cc
   not-fair side (Some b) e k lt some s o found fair =
       let best = short-best orders deals side b (sym e) in
@@ -126,23 +126,22 @@ module _ (orders : List Order) (deals : List Deal) (numbers : List ℕ) (list : 
     d_is : d ≡ deal_at deals k
     d_is = is ∙ get_or-default deals k d missing_deal lt
 
-    pub unfair-is : option_map (finding_of orders numbers d) (unfair_at orders bid ask d) ≡ unfair orders deals k
+    pub unfair-is : option_map (finding_of orders) (unfair_at orders numbers bid ask d) ≡ unfair orders deals k
     unfolding bid_passed_over ask_passed_over
     unfair-is =
         let kept = matching.kept k missing_deal lt in
         let here : Deal = deal_at deals k in
-        let made = finding_of orders numbers here in
-        let bids : option_map made (outranked_at orders Buy bid here) ≡ bid_passed_over orders deals k = passed-defined Buy bid bid_is here kept.bid_stands in
-        let asks : option_map made (outranked_at orders Sell ask here) ≡ ask_passed_over orders deals k = passed-defined Sell ask ask_is here kept.ask_stands in
-        ap (λ (x : Deal). option_map (finding_of orders numbers x) (unfair_at orders bid ask x)) d_is
-        ∙ map-or made (outranked_at orders Buy bid here) (outranked_at orders Sell ask here) ∙ (λ i. option_or (bids i) (asks i))
+        let bids : option_map (finding_of orders) (outranked_at orders numbers Buy bid here) ≡ bid_passed_over orders deals k = passed-defined Buy bid bid_is here kept.bid_stands in
+        let asks : option_map (finding_of orders) (outranked_at orders numbers Sell ask here) ≡ ask_passed_over orders deals k = passed-defined Sell ask ask_is here kept.ask_stands in
+        ap (λ (x : Deal). option_map (finding_of orders) (unfair_at orders numbers bid ask x)) d_is
+        ∙ map-or (finding_of orders) (outranked_at orders numbers Buy bid here) (outranked_at orders numbers Sell ask here) ∙ (λ i. option_or (bids i) (asks i))
 
     -- where it finds something, the deals aren't fair
-    pub unfair-breaks : (o : Outranked) → unfair_at orders bid ask d ≡ Some o → 0 < d.quantity → Fair orders deals → ⊥
-    unfair-breaks o found some fair =
+    pub unfair-breaks : (o : Flaw) → unfair_at orders numbers bid ask d ≡ Some o → AreDeals deals → Fair orders deals → ⊥
+    unfair-breaks o found ranges fair =
         let kept = matching.kept k missing_deal lt in
-        let here : unfair_at orders bid ask (deal_at deals k) ≡ Some o = ap (unfair_at orders bid ask) (sym d_is) ∙ found in
-        let positive : 0 < (deal_at deals k).quantity = subst (λ (e : Deal). 0 < e.quantity) d_is some in
+        let here : unfair_at orders numbers bid ask (deal_at deals k) ≡ Some o = ap (unfair_at orders numbers bid ask) (sym d_is) ∙ found in
+        let positive = (ranges k missing_deal lt).some in
         elim (option_or-cases _ _ o here) [
           | inl bids ↦ not-fair Buy bid bid_is k lt positive kept.bid_stands o bids fair
           | inr asks ↦ not-fair Sell ask ask_is k lt positive kept.ask_stands o asks.1 fair

@@ -1,43 +1,36 @@
--- The findings 12 and 13 of one deal, from the best short order of each side.
-use Rattle.std.specs.Prelude.{ℕ, ◌<◌, List, Option, None, Some, length, slice_index}
+-- What is wrong with one deal by the findings 12 and 13, from the best short order of each side.
+use Rattle.std.specs.Prelude.{ℕ, List, Option, None, Some, slice_index}
 use Rattle.std.specs.Option.{option_or}
 use Rattle.audit_base.specs.declared.terms.Side.{Side}
 use Rattle.audit_base.specs.declared.terms.Side.TheVariants.{Buy, Sell}
 use Rattle.audit_base.specs.declared.orders.Order.{Order}
 use Rattle.audit_base.specs.declared.orders.Deal.{Deal}
-use Rattle.audit_base.specs.declared.findings.Finding.{Finding}
+use Rattle.audit_base.specs.declared.flaws.TradedOrder.{TradedOrder}
+use Rattle.audit_base.specs.declared.flaws.Evidence.TheVariants.{Priority}
+use Rattle.audit_base.specs.declared.flaws.Flaw.{Flaw}
 use Rattle.audit_base.specs.Least.{only_if}
 use Rattle.audit_base.specs.Orders.{order_at}
 use Rattle.audit_base.specs.Priority.{better}
-use Rattle.audit_base.specs.Shows.{at_deal, show_order}
-use Rattle.audit_base.specs.ContinuousOffences.{priority_of}
-use Rattle.fairness.specs.declared.passing.Outranked.{Outranked}
 
 -- the deal's order of a side
 abbrev pub order_of_deal : Side → Deal → ℕ
 order_of_deal Buy d = d.bid
 order_of_deal Sell d = d.ask
 
--- the deal's order of a side, where the best short order of the side outranks it
-abbrev pub outranked_at : List Order → Side → Option ℕ → Deal → Option Outranked
-outranked_at orders side None d = None
-outranked_at orders side (Some short) d =
+-- the order at an index, with what it trades
+abbrev pub traded_order : List ℕ → ℕ → TradedOrder
+traded_order traded i = record { index = i; traded = slice_index traded i }
+
+-- the best short order of a side outranks the deal's order of the side
+abbrev pub outranked_at : List Order → List ℕ → Side → Option ℕ → Deal → Option Flaw
+outranked_at orders traded side None d = None
+outranked_at orders traded side (Some short) d =
     let own = order_of_deal side d in
+    let evidence = Priority side (traded_order traded short) (traded_order traded own) in
     only_if (better (order_at orders short) (order_at orders own))
-    (record { side = side; short = short; own = own })
+    (record { place = d.place; evidence = evidence })
 
 -- this of the bids, or else of the asks
-abbrev pub unfair_at : List Order → Option ℕ → Option ℕ → Deal → Option Outranked
-unfair_at orders bid ask d =
-    option_or (outranked_at orders Buy bid d) (outranked_at orders Sell ask d)
-
--- both are orders of the list
-pub record IsInside (orders : List Order) (o : Outranked) : Type 0 where
-  pub short : o.short < length orders
-  pub own : o.own < length orders
-
--- the finding of a deal with such an order: the two, with what they trade
-abbrev pub finding_of : List Order → List ℕ → Deal → Outranked → Finding
-finding_of orders traded d o =
-    let shown = show_order orders (slice_index traded) in
-    at_deal (priority_of o.side) d (shown o.short) (shown o.own)
+abbrev pub unfair_at : List Order → List ℕ → Option ℕ → Option ℕ → Deal → Option Flaw
+unfair_at orders traded bid ask d =
+    option_or (outranked_at orders traded Buy bid d) (outranked_at orders traded Sell ask d)

@@ -4,14 +4,14 @@ ghost use Rattle.std.specs.Result.{result_err};
 ghost use Rattle.audit_base.specs.declared.terms.Side.TheVariants.{Buy, Sell};
 ghost use Rattle.audit_base.specs.Orders.{IsOrderList};
 ghost use Rattle.audit_base.specs.Priority.{IsRanked};
-ghost use Rattle.audit_base.specs.Deals.{IsDealList};
+ghost use Rattle.audit_base.specs.Deals.{AreTotals, IsDealList};
 ghost use Rattle.audit_base.specs.Calls.{Matching, Fair};
 ghost use Rattle.audit_base.specs.CallOffences.{fair_offence};
-ghost use Rattle.short_order.specs.Totals.{AreTotals};
 
 use super::passing::unfair_at;
 use audit_base::findings::Finding;
 use audit_base::orders::{Deal, Order};
+use audit_base::ranges::deals_in_range;
 use short_order::searching::best_short;
 
 /// Whether a matching is fair: an order that is better by price-time priority than one that trades is
@@ -37,11 +37,12 @@ pub fn check_fair(
     ensures offence { result_err result ≡ fair_offence orders.now deals.now }
     ensures fair { IsOk result ↔ Fair orders.now deals.now }
 {
+    deals_in_range(deals);
     let short_bid = best_short(orders, bids, traded);
     let short_ask = best_short(orders, asks, traded);
     for deal in deals {
-        if let Some(outranked) = unfair_at(orders, short_bid, short_ask, deal) {
-            return Err(outranked.finding(orders, traded, deal));
+        if let Some(flaw) = unfair_at(orders, traded, short_bid, short_ask, deal) {
+            return Err(flaw.finding(orders));
         }
     }
     Ok(())

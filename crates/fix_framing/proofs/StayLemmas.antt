@@ -11,14 +11,14 @@ use Rattle.std.proofs.lemmas.Bool.Decides.{Decides-eqb}
 use Rattle.std.proofs.lemmas.Slice.Eq.{starts_is}
 use Rattle.fix_framing.specs.declared.frames.FrameFault.{FrameFault}
 use Rattle.fix_framing.specs.declared.frames.FrameFault.TheVariants.{Truncated}
-use Rattle.fix_framing.specs.Frames.{header, length_digits, body_size, body_place, trailer_place, trailer_of, may_begin, begins_otherwise, ends_in_header, has_long_length, ends_in_length, has_bad_length, ends_in_body, is_trailer, has_bad_sum, frame_fault}
+use Rattle.fix_framing.specs.Frames.{header, length_digits, body_size, body_place, trailer_place, trailer_of, may_begin, begins_otherwise, ends_in_header, has_long_length, ends_in_length, has_bad_length, ends_in_body, is_trailer, has_bad_sum, frame_fault, longest_frame}
 use Rattle.fix_framing.proofs.LengthLemmas.{count_of, length-length_digits}
 use Rattle.fix_framing.proofs.TestLemmas.{FaultCase, FaultCase-from_some, some-from_FaultCase, first, second, third, fourth, fifth, sixth, seventh, eighth}
 use Rattle.fix_framing.proofs.FrameLemmas.{length-header}
 use Rattle.fix_framing.proofs.MessageLemmas.{begins-header, begins-with}
 
--- a text that is Truncated has at most 12 + 9 + 1 + 1,048,576 + 6 bytes
-bound-by_case : (r : List ℕ) → FaultCase r Truncated → length r ≤ 1048604
+-- a text that is Truncated is shorter than the longest message
+bound-by_case : (r : List ℕ) → FaultCase r Truncated → length r < longest_frame
 bound-by_case r (first h1 is) = absurd (cc)
 bound-by_case r (second h1 h2 is) = let few = ltb-true (length r) 12 h2 in omega arith
 bound-by_case r (third h1 h2 h3 is) = absurd (cc)
@@ -34,7 +34,7 @@ bound-by_case r (sixth h1 h2 h3 h4 h5 h6 is) =
 bound-by_case r (seventh h1 h2 h3 h4 h5 h6 h7 is) = absurd (cc)
 bound-by_case r (eighth h1 h2 h3 h4 h5 h6 h7 h8 is) = absurd (cc)
 
-pub Truncated-bound : (r : List ℕ) → frame_fault r ≡ Some Truncated → length r ≤ 1048604
+pub Truncated-bound : (r : List ℕ) → frame_fault r ≡ Some Truncated → length r < longest_frame
 Truncated-bound r cut = bound-by_case r (FaultCase-from_some r Truncated cut)
 
 -- the front that passes, in a longer text

@@ -35,6 +35,11 @@ pub record IsFrame (text body : List ℕ) : Type 0 where
   pub three : IsTrue (is_digits 3 3 sum_digits)
   pub summed : digits_value 10 sum_digits ≡ sum (before_checksum length_digits body) % 256
 
+-- the number of bytes of the longest message: 12 of the header, 9 digits of the body's length, SOH,
+-- 1,048,576 of the body, and 7 of the checksum field
+abbrev pub longest_frame : ℕ
+longest_frame = 12 + 9 + 1 + longest_body + 7
+
 -- Below r is what is left of a log, from the place on where a message is to begin.
 
 -- the digits that follow the header

@@ -7,7 +7,7 @@ use Rattle.fix_framing.specs.declared.framer.Step.TheVariants.{Whole, Wait, Faul
 use Rattle.fix_framing.specs.declared.frames.FrameFault.{FrameFault}
 use Rattle.fix_framing.specs.declared.frames.FrameFault.TheVariants.{Truncated}
 use Rattle.fix_framing.specs.Breaks.{is_break, after_breaks}
-use Rattle.fix_framing.specs.Frames.{IsFrame, frame_fault}
+use Rattle.fix_framing.specs.Frames.{IsFrame, frame_fault, longest_frame}
 
 -- the bytes that the framer holds
 abbrev pub held : Framer → List ℕ
@@ -99,12 +99,12 @@ abbrev pub IsUnfinished : Framer → Type 0
 IsUnfinished framer =
     IsTrue (list_all is_break (unframed framer)) ⊎ (frame_fault (next_text framer) ≡ Some Truncated)
 
--- After it the framer holds at most 1,048,604 bytes, and they end with the last byte fed, where
--- anything is unframed but CR and LF
+-- After it the framer holds fewer bytes than the longest message has, and they end with the last
+-- byte fed, where anything is unframed but CR and LF
 pub record Waits (old new : Framer) : Type 0 where
   pub unfinished : IsUnfinished old
   pub keeps : Keeps old new
-  pub bound : length (held new) ≤ 1048604
+  pub bound : length (held new) < longest_frame
   pub text : next_text new ≡ next_text old
   pub last : (fed : List ℕ) (frames : List (List ℕ)) → StandsFor old fed frames
       → ¬ IsTrue (list_all is_break (unframed old)) → (0 < length (held new))

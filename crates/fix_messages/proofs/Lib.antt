@@ -4,10 +4,7 @@ pub mod FeedLemmas
 pub mod BodyLemmas
 pub mod ReadingLemmas
 pub mod SizeLemmas
-pub mod PairLemmas
-pub mod FewLemmas
 pub mod WrittenLemmas
 pub mod MeaningLemmas
 pub mod AgainLemmas
 pub mod PricedLemmas
-pub mod FirstLemmas

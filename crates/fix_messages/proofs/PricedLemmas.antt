@@ -4,9 +4,7 @@ use Rattle.std.specs.Prelude.{⊤, IfOk, IfSome, codes, ◌||◌}
 use Rattle.std.specs.List.{All}
 use Rattle.std.proofs.lemmas.Bool.{cases_Bool}
 use Rattle.std.proofs.lemmas.List.Elements.{All-cons, All-nil}
-use Rattle.audit_base.specs.Moments.{Moment}
 use Rattle.audit_base.specs.Numbers.{market_price}
-use Rattle.audit_base.specs.declared.names.Key.{Key}
 use Rattle.audit_base.specs.declared.records.OrderRecord.{OrderRecord}
 use Rattle.audit_base.specs.declared.records.OrderRecord.TheVariants as record_of
 use Rattle.audit_base.specs.declared.terms.Life.{Life}
@@ -16,12 +14,13 @@ use Rattle.audit_base.specs.declared.faults.BadPlace.{BadPlace}
 use Rattle.audit_base.specs.declared.faults.Reason.{Reason}
 use Rattle.fix_fields.specs.Grammar.{TagValue, begins_with_type}
 use Rattle.fix_framing.specs.declared.frames.FrameFault.{FrameFault}
+use Rattle.fix_messages.specs.declared.heads.Head.{Head}
 use Rattle.fix_messages.specs.declared.meanings.MessageFault.{MessageFault}
 use Rattle.fix_messages.specs.declared.orders.Limits.{Limits}
 use Rattle.fix_messages.specs.declared.orders.Limits.TheVariants as limits
-use Rattle.fix_messages.specs.Rows.{◌>>=◌, absent_at, flag_at, is_copy, is_word, name_at, only, price_at, quantity_at, side_at, stamp_at, supported, type_of, word_at}
-use Rattle.fix_messages.specs.OrderTables.{cancel, entry, life_at, life_by, life_form, life_if, limit_at, limits_at, new_order, order_by, order_meaning, price_by, replacement, resting_at}
-use Rattle.fix_messages.specs.Bodies.{body_says, order_entry, order_said, reasoned, says_of}
+use Rattle.fix_messages.specs.Rows.{◌>>=◌, head_at, is_copy, is_word, name_at, only, price_at, quantity_at, side_at, supported, type_at, type_of}
+use Rattle.fix_messages.specs.OrderTables.{cancel, entry, life_at, life_by, life_form, life_if, limit_at, limits_at, new_order, order_by, order_entry, price_by, replacement, resting_at, unconditional}
+use Rattle.fix_messages.specs.Bodies.{body_says, reasoned, says_of}
 use Rattle.fix_messages.specs.BodyFields.{split_of}
 use Rattle.fix_messages.specs.Logs.{Item, after_item, item_says, items_from, read_items, read_log, with_first}
 use Rattle.audit_base.specs.Histories.{HasMarketPrice}
@@ -57,69 +56,49 @@ life-no_market tag fields = behind IsNoMarket (only tag fields) (life_if tag) (i
 new-priced : (fields : List TagValue) → IfOk (new_order fields) HasMarketPrice
 unfolding new_order
 new-priced fields =
-    behind HasMarketPrice (word_at (codes "D") 35 fields) _ (λ _.
-    behind HasMarketPrice (flag_at 43 fields) _ (λ _.
-    behind HasMarketPrice (name_at 49 fields) _ (λ firm.
-    behind HasMarketPrice (name_at 11 fields) _ (λ id.
-    behind HasMarketPrice (stamp_at 60 fields) _ (λ time.
-    behind HasMarketPrice (name_at 55 fields) _ (λ symbol.
+    behind HasMarketPrice (type_at (codes "D") fields) _ (λ _. behind HasMarketPrice (head_at 49 fields) _ (λ head.
     behind HasMarketPrice (side_at 54 fields) _ (λ side.
     behind HasMarketPrice (quantity_at 38 fields) _ (λ quantity.
     behind HasMarketPrice (limits_at 40 fields) _ (λ chosen.
-    by-limits chosen (record { firm = firm; id = id }) time symbol side quantity fields)))))))))
+    by-limits chosen head side quantity fields)))))
   where
-    by-limits : (chosen : Limits) (key : Key) (time : Moment) (symbol : List ℕ) (side : Side) (quantity : ℕ) (fields : List TagValue)
-        → IfOk (price_by chosen side 44 fields >>= (λ price. life_at 59 fields >>= (λ l. absent_at 110 fields >>= (λ _. absent_at 111 fields >>= (λ _. Ok (record_of.New key time symbol side quantity price (life_by chosen l))))))) HasMarketPrice
-    by-limits limits.Limit key time symbol side quantity fields =
+    by-limits : (chosen : Limits) (head : Head) (side : Side) (quantity : ℕ) (fields : List TagValue)
+        → IfOk (price_by chosen side 44 fields >>= (λ price. life_at 59 fields >>= (λ l. unconditional fields >>= (λ _. Ok (record_of.New head.key head.time head.symbol side quantity price (life_by chosen l)))))) HasMarketPrice
+    by-limits limits.Limit head side quantity fields =
         behind HasMarketPrice (price_at 44 fields) _ (λ price.
         behind-known IsNoMarket HasMarketPrice (life_at 59 fields) _ (life-no_market 59 fields) (λ l other.
-        behind HasMarketPrice (absent_at 110 fields) _ (λ _.
-        behind HasMarketPrice (absent_at 111 fields) _ (λ _. (λ e. absurd (other e))))))
-    by-limits limits.Market key time symbol side quantity fields =
+        behind HasMarketPrice (unconditional fields) _ (λ _. (λ e. absurd (other e)))))
+    by-limits limits.Market head side quantity fields =
         let IsMarket : ℕ → Type 0 = λ price. price ≡ market_price side in
         behind-known IsMarket HasMarketPrice (price_by limits.Market side 44 fields) _ (behind IsMarket (only 44 fields) (λ _. Ok (market_price side)) (λ _. refl)) (λ price is.
         behind HasMarketPrice (life_at 59 fields) _ (λ l.
-        behind HasMarketPrice (absent_at 110 fields) _ (λ _.
-        behind HasMarketPrice (absent_at 111 fields) _ (λ _. (λ e. is)))))
+        behind HasMarketPrice (unconditional fields) _ (λ _. (λ e. is))))
 
 cancel-priced : (fields : List TagValue) → IfOk (cancel fields) HasMarketPrice
 unfolding cancel
-cancel-priced fields =
-    behind HasMarketPrice (word_at (codes "F") 35 fields) _ (λ _.
-    behind HasMarketPrice (flag_at 43 fields) _ (λ _.
-    behind HasMarketPrice (name_at 49 fields) _ (λ _.
-    behind HasMarketPrice (name_at 11 fields) _ (λ _.
-    behind HasMarketPrice (stamp_at 60 fields) _ (λ _.
-    behind HasMarketPrice (name_at 55 fields) _ (λ _.
-    behind HasMarketPrice (name_at 41 fields) _ (λ _. tt)))))))
+cancel-priced fields = behind HasMarketPrice (type_at (codes "F") fields) _ (λ _. behind HasMarketPrice (head_at 49 fields) _ (λ _. behind HasMarketPrice (name_at 41 fields) _ (λ _. tt)))
 
 replace-priced : (fields : List TagValue) → IfOk (replacement fields) HasMarketPrice
 unfolding replacement
 replace-priced fields =
-    behind HasMarketPrice (word_at (codes "G") 35 fields) _ (λ _.
-    behind HasMarketPrice (flag_at 43 fields) _ (λ _.
-    behind HasMarketPrice (name_at 49 fields) _ (λ _.
-    behind HasMarketPrice (name_at 11 fields) _ (λ _.
-    behind HasMarketPrice (stamp_at 60 fields) _ (λ _.
-    behind HasMarketPrice (name_at 55 fields) _ (λ _.
+    behind HasMarketPrice (type_at (codes "G") fields) _ (λ _. behind HasMarketPrice (head_at 49 fields) _ (λ _.
     behind HasMarketPrice (name_at 41 fields) _ (λ _.
     behind HasMarketPrice (side_at 54 fields) _ (λ _.
     behind HasMarketPrice (quantity_at 38 fields) _ (λ _.
     behind HasMarketPrice (limit_at 40 fields) _ (λ _.
     behind HasMarketPrice (price_at 44 fields) _ (λ _.
     behind HasMarketPrice (resting_at 59 fields) _ (λ _.
-    behind HasMarketPrice (absent_at 110 fields) _ (λ _.
-    behind HasMarketPrice (absent_at 111 fields) _ (λ _. tt))))))))))))))
+    behind HasMarketPrice (unconditional fields) _ (λ _. tt)))))))))
 
 -- a record that the fields of a message mean has the price of its life
 abbrev IsPricedEntry : Option OrderRecord → Type 0
 IsPricedEntry entry = IfSome entry HasMarketPrice
 
-entry-priced : (order : Result OrderRecord MessageFault) → IfOk order HasMarketPrice → IfOk (order_said (entry order)) IsPricedEntry
+entry-priced : (order : Result OrderRecord MessageFault) → IfOk order HasMarketPrice → IfOk (entry order) IsPricedEntry
 entry-priced (Ok order) priced = priced
 entry-priced (Err why) priced = tt
 
-kind-priced : (type : List ℕ) (fields : List TagValue) → IfOk (order_said (order_by type fields)) IsPricedEntry
+kind-priced : (type : List ℕ) (fields : List TagValue) → IfOk (order_by type fields) IsPricedEntry
 kind-priced type fields = elim (cases_Bool (is_word (codes "D") type)) [
   | inl new ↦ rw new (entry-priced (new_order fields) (new-priced fields))
   | inr no_new ↦ elim (cases_Bool (is_word (codes "F") type)) [
@@ -132,7 +111,7 @@ kind-priced type fields = elim (cases_Bool (is_word (codes "D") type)) [
 ]
 
 pub meaning-priced : (fields : List TagValue) → IfOk (order_entry fields) (λ found. IfSome found HasMarketPrice)
-unfolding order_meaning
+unfolding order_entry
 meaning-priced fields = elim (cases_Bool (is_copy fields)) [
   | inl copy ↦ rw copy tt
   | inr other ↦ rw other (kind-priced (type_of fields) fields)

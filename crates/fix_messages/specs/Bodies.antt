@@ -1,39 +1,15 @@
 -- What the body of a message says, by what its fields mean in a kind of log.
-use Rattle.std.specs.Prelude.{◌≡◌, ◌⊎◌, ℕ, Option, Some, None, Result, Ok, Err, List, [], ◌∷◌, length, if◌then◌else◌}
+use Rattle.std.specs.Prelude.{◌≡◌, ◌⊎◌, ℕ, Option, Result, Ok, Err, List, [], ◌∷◌, length, if◌then◌else◌}
 use Rattle.audit_base.specs.declared.faults.Reason.{Reason}
 use Rattle.audit_base.specs.declared.faults.Reason.TheVariants as reason
-use Rattle.audit_base.specs.declared.records.OrderRecord.{OrderRecord}
 use Rattle.fix_fields.specs.Grammar.{TagValue, Fields, IsUnreadable, LacksType, begins_with_type, bytes_of}
 use Rattle.fix_messages.specs.declared.meanings.MessageFault.{MessageFault}
 use Rattle.fix_messages.specs.declared.meanings.MessageFault.TheVariants.{Missing, Repeated, Value, Unsupported}
-use Rattle.fix_messages.specs.declared.meanings.OrderMeaning.{OrderMeaning}
-use Rattle.fix_messages.specs.declared.meanings.OrderMeaning.TheVariants as order
-use Rattle.fix_messages.specs.declared.meanings.Report.{Report}
-use Rattle.fix_messages.specs.declared.meanings.ReportMeaning.{ReportMeaning}
-use Rattle.fix_messages.specs.declared.meanings.ReportMeaning.TheVariants as report
 use Rattle.fix_messages.specs.BodyFields.{split_of}
-use Rattle.fix_messages.specs.OrderTables.{order_meaning}
-use Rattle.fix_messages.specs.ReportTable.{report_meaning}
 
 -- what the fields of a message mean in a kind of log: a record, or nothing, or the first test that they fail
 abbrev pub Meaning : Type 0 → Type 0
 Meaning R = List TagValue → Result (Option R) MessageFault
-
-abbrev pub order_said : Result OrderMeaning MessageFault → Result (Option OrderRecord) MessageFault
-order_said (Ok order.Skip) = Ok None
-order_said (Ok (order.Entry entry)) = Ok (Some entry)
-order_said (Err fault) = Err fault
-
-abbrev pub order_entry : List TagValue → Result (Option OrderRecord) MessageFault
-order_entry fields = order_said (order_meaning fields)
-
-abbrev pub report_said : Result ReportMeaning MessageFault → Result (Option Report) MessageFault
-report_said (Ok report.Skip) = Ok None
-report_said (Ok (report.Entry entry)) = Ok (Some entry)
-report_said (Err fault) = Err fault
-
-abbrev pub report_entry : List TagValue → Result (Option Report) MessageFault
-report_entry fields = report_said (report_meaning fields)
 
 -- a message's fault as the reason of a bad place
 abbrev pub fault_reason : MessageFault → Reason

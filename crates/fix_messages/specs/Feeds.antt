@@ -1,12 +1,12 @@
 -- What a FIX feed stands for, and what it and the readers of whole logs answer.
 use Rattle.std.specs.Global.{Vec}
-use Rattle.std.specs.Prelude.{◌≡◌, ⊤, ℕ, ◌≤◌, MatchResult, Option, Some, None, Result, Ok, Err, List, [], ◌∷◌, ◌++◌, length}
+use Rattle.std.specs.Prelude.{◌≡◌, ⊤, ℕ, ◌<◌, ◌≤◌, MatchResult, Option, Some, None, Result, Ok, Err, List, [], ◌∷◌, ◌++◌, length}
 use Rattle.audit_base.specs.declared.faults.Reason.{Reason}
 use Rattle.audit_base.specs.declared.faults.BadPlace.{BadPlace}
 use Rattle.audit_base.specs.declared.faults.LogFault.{LogFault}
 use Rattle.audit_base.specs.declared.faults.LogFault.TheVariants as fault
 use Rattle.log_source.specs.Sources.{longest_read}
-use Rattle.fix_framing.specs.Frames.{body_of}
+use Rattle.fix_framing.specs.Frames.{body_of, longest_frame}
 use Rattle.fix_framing.specs.Framing as framing
 use Rattle.fix_framing.specs.declared.framer.Framer.{Framer}
 use Rattle.fix_messages.specs.declared.feeds.FixFeed.{FixFeed}
@@ -41,7 +41,7 @@ pub record IsOpen {R : Type 0} (has_taken : List R → Type 0) (meaning : Meanin
     (log : List ℕ)
     : Type 0 where
   pub reads : HasRead has_taken meaning framer log
-  pub short : length (framing.held framer) ≤ 1048604
+  pub short : length (framing.held framer) < longest_frame
 
 -- The log and every longer log that begins with it are bad at this place, and no bytes are held.
 pub record IsShut {R : Type 0} (meaning : Meaning R) (framer : Framer) (bad : BadPlace) (log : List ℕ) : Type 0 where

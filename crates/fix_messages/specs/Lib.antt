@@ -13,7 +13,6 @@ pub mod Feeds
 pub mod Pairings
 pub mod Written
 -- Part 2. What the private functions pass on to one another.
-pub mod Drafts
 pub mod Steps
 -- orders whose names stand in a message
 pub mod OrderTexts

@@ -12,8 +12,10 @@ use Rattle.fix_framing.specs.Breaks.{is_break}
 use Rattle.fix_framing.specs.Frames.{IsFrame, frame_fault, frame_size, body_of}
 use Rattle.fix_framing.specs.declared.frames.FrameFault.{FrameFault}
 use Rattle.fix_framing.specs.declared.frames.FrameFault.TheVariants.{Begin, Length, Truncated, Trailer, Checksum}
-use Rattle.fix_messages.specs.declared.meanings.Report.{Report}
-use Rattle.fix_messages.specs.Bodies.{Meaning, body_says, order_entry, report_entry}
+use Rattle.trade_reports.specs.declared.reports.Report.{Report}
+use Rattle.fix_messages.specs.Bodies.{Meaning, body_says}
+use Rattle.fix_messages.specs.OrderTables.{order_entry}
+use Rattle.fix_messages.specs.ReportTable.{report_entry}
 
 -- a fault of a frame as the reason of a bad place
 abbrev pub frame_reason : FrameFault → Reason

@@ -17,7 +17,7 @@ use Rattle.fix_framing.specs.Framing.{next_text, unframed}
 use Rattle.fix_framing.specs.declared.frames.FrameFault.TheVariants.{Truncated}
 use Rattle.fix_messages.specs.declared.meanings.MessageFault.{MessageFault}
 use Rattle.fix_messages.specs.declared.feeds.FixFeed.{FixFeed}
-use Rattle.fix_messages.specs.declared.writers.Head.{Head}
+use Rattle.fix_messages.specs.declared.heads.Head.{Head}
 use Rattle.fix_messages.specs.declared.writers.Terms.{Terms}
 use Rattle.fix_messages.specs.Bodies.{Meaning}
 use Rattle.fix_messages.specs.Feeds.{HasRead, StandsAt}

@@ -2,7 +2,7 @@
 -- around it.
 use Rattle.std.specs.Prelude.{ℕ, ◌<◌, ◌^◌, IsTrue, List, [], ◌∷◌, ◌++◌, codes, decimal}
 use Rattle.std.specs.List.{flat_map}
-use Rattle.audit_base.specs.Moments.{Moment}
+use Rattle.audit_base.specs.Moments.{Moment, end_of_time}
 use Rattle.audit_base.specs.Names.{is_name}
 use Rattle.audit_base.specs.Numbers.{is_quantity, price_text}
 use Rattle.audit_base.specs.Histories.{HasMarketPrice}
@@ -17,7 +17,8 @@ use Rattle.audit_base.specs.declared.terms.Side.{Side}
 use Rattle.audit_base.specs.declared.terms.Side.TheVariants as side
 use Rattle.fix_fields.specs.Grammar.{TagValue, bytes_of}
 use Rattle.fix_framing.specs.Frames.{frame_text}
-use Rattle.fix_messages.specs.declared.meanings.Report.{Report}
+use Rattle.trade_reports.specs.Reports.{report_to, reports_of}
+use Rattle.trade_reports.specs.declared.reports.Report.{Report}
 
 -- the field with this tag and value
 abbrev pub field : ℕ → List ℕ → TagValue
@@ -61,33 +62,6 @@ report_fields report =
     ∷ field 150 (codes "F") ∷ field 527 report.trade ∷ field 60 (stamp_text report.time) ∷ field 55 report.symbol
     ∷ field 54 (side_text report.side) ∷ field 32 (decimal report.quantity) ∷ field 31 (price_text report.price) ∷ []
 
--- one side's report of a trade
-abbrev pub report_to : Side → TradeRecord → Report
-report_to side.Buy trade =
-    record {
-      trade = trade.trade;
-      key = trade.buy;
-      time = trade.time;
-      symbol = trade.symbol;
-      side = side.Buy;
-      quantity = trade.quantity;
-      price = trade.price;
-    }
-report_to side.Sell trade =
-    record {
-      trade = trade.trade;
-      key = trade.sell;
-      time = trade.time;
-      symbol = trade.symbol;
-      side = side.Sell;
-      quantity = trade.quantity;
-      price = trade.price;
-    }
-
--- the two reports of a trade, the buyer's first
-abbrev pub reports_of : TradeRecord → List Report
-reports_of trade = report_to side.Buy trade ∷ report_to side.Sell trade ∷ []
-
 -- the message of an order, of a report, and the two messages of a trade
 abbrev pub order_text : OrderRecord → List ℕ
 order_text order = frame_text (bytes_of (order_fields order))
@@ -110,7 +84,7 @@ pub record IsHead (key : Key) (time : Moment) (symbol : List ℕ) : Type 0 where
   pub firm_form : IsTrue (is_name key.firm)
   pub id_form : IsTrue (is_name key.id)
   pub symbol_form : IsTrue (is_name symbol)
-  pub second_range : time.second < 326764800000
+  pub second_range : time.second < end_of_time
   pub nano_range : time.nano < 10 ^ 9
 
 -- A quantity and a price in their ranges.

@@ -49,7 +49,7 @@ pub trait FixEntry: Traded {
 }
 
 impl FixEntry for OrderRecord {
-    ghost use Rattle.fix_messages.specs.Bodies.{order_entry};
+    ghost use Rattle.fix_messages.specs.OrderTables.{order_entry};
     ghost use Rattle.audit_base.specs.Histories.{HasMarketPrice};
 
     ghost meaning = { order_entry };
@@ -71,7 +71,7 @@ impl FixEntry for OrderRecord {
 
 impl FixEntry for Report {
     ghost use Rattle.std.specs.Prelude.{⊤};
-    ghost use Rattle.fix_messages.specs.Bodies.{report_entry};
+    ghost use Rattle.fix_messages.specs.ReportTable.{report_entry};
 
     ghost meaning = { report_entry };
 

@@ -7,12 +7,14 @@ ghost use Rattle.audit_base.specs.declared.records.TradeRecord.{TradeRecord};
 ghost use Rattle.fix_fields.specs.Grammar.{Fields, bytes_of};
 ghost use Rattle.fix_messages.specs.Logs.{order_log, report_log};
 ghost use Rattle.fix_messages.specs.OrderTables.{order_meaning};
-ghost use Rattle.fix_messages.specs.Pairings.{pairing};
+ghost use Rattle.trade_reports.specs.Pairings.{pairing};
 ghost use Rattle.fix_messages.specs.ReportTable.{report_meaning};
-ghost use Rattle.fix_messages.specs.Written.{IsOrderInForm, IsReportInForm, IsTradeInForm, IsWritable, order_fields, orders_text, report_fields, reports_of, trades_text};
-ghost use Rattle.fix_messages.specs.declared.meanings.Report.{Report};
+ghost use Rattle.trade_reports.specs.Reports.{reports_of};
+ghost use Rattle.fix_messages.specs.Written.{IsOrderInForm, IsReportInForm, IsTradeInForm, IsWritable, order_fields, orders_text, report_fields, trades_text};
+ghost use Rattle.trade_reports.specs.declared.reports.Report.{Report};
 
 use crate::meanings::{OrderMeaning, ReportMeaning};
+use trade_reports::laws::reports_are_paired_again;
 
 /// The body that is written of an order is its fields, and these mean the order.
 pub fn written_orders_mean_themselves()
@@ -38,4 +40,6 @@ pub fn written_logs_are_read_again()
     ensures reports { (trades : List TradeRecord) → All IsTradeInForm trades
         → report_log (trades_text trades) ≡ Ok (flat_map reports_of trades) }
     ensures pairs { (trades : List TradeRecord) → pairing (flat_map reports_of trades) ≡ Ok trades }
-{}
+{
+    reports_are_paired_again();
+}

@@ -1,7 +1,8 @@
 //! Reading a log that is there as a whole.
 ghost use Rattle.std.specs.Prelude.{◌-◌, ◌<◌, ◌≤◌, ◌^◌, All, IfOk, length, vec_len};
 ghost use Rattle.audit_base.specs.Histories.{HasMarketPrice};
-ghost use Rattle.fix_messages.specs.Bodies.{order_entry, report_entry};
+ghost use Rattle.fix_messages.specs.OrderTables.{order_entry};
+ghost use Rattle.fix_messages.specs.ReportTable.{report_entry};
 ghost use Rattle.fix_messages.specs.Feeds.{IsReadAs};
 ghost use Rattle.fix_messages.specs.Logs.{read_log, order_log, report_log, IsOnlyReading};
 ghost use Rattle.log_source.specs.Collectors.{HasNineBytesEach};

@@ -1,31 +1,7 @@
 //! What one message means.
-use audit_base::names::{Key, Name};
-use audit_base::numbers::{Price, Quantity};
-use audit_base::records::{OrderRecord, Traded};
-use audit_base::stamps::Stamp;
-use audit_base::terms::Side;
+use audit_base::records::OrderRecord;
 use thiserror::Error;
-
-/// One side's report of a trade (message type 8, execution type F).
-#[derive(Clone, Copy, Debug, PartialEq, Eq)]
-pub struct Report {
-    /// Tag 527, which the two reports of a trade share.
-    pub trade: Name,
-    pub key: Key,
-    pub time: Stamp,
-    pub symbol: Name,
-    pub side: Side,
-    pub quantity: Quantity,
-    pub price: Price,
-}
-
-impl Traded for Report {
-    ghost symbol_of = { λ report. report.symbol };
-
-    fn symbol(&self) -> Name {
-        self.symbol
-    }
-}
+pub use trade_reports::reports::Report;
 
 /// What a message of an order log means.
 #[derive(Clone, Copy, Debug, PartialEq, Eq)]

@@ -2,11 +2,10 @@
 ghost use Rattle.std.specs.Prelude.{◌≡◌};
 ghost use Rattle.audit_base.specs.Histories.{symbol_of};
 
+use crate::heads::{Head, HeadText};
 use crate::name_text::NameText;
-use audit_base::names::Key;
 use audit_base::numbers::{Price, Quantity};
 use audit_base::records::OrderRecord;
-use audit_base::stamps::Stamp;
 use audit_base::terms::{Life, Side};
 use std::marker::Model;
 
@@ -34,10 +33,7 @@ pub(crate) enum OrderParts<'m> {
 /// Contracts see the record.
 #[derive(Drop)]
 pub(crate) struct OrderText<'m> {
-    pub(crate) firm: NameText<'m>,
-    pub(crate) id: NameText<'m>,
-    pub(crate) time: Stamp,
-    pub(crate) symbol: NameText<'m>,
+    pub(crate) head: HeadText<'m>,
     pub(crate) parts: OrderParts<'m>,
 }
 
@@ -47,17 +43,7 @@ impl<'m> Model for OrderText<'m> {
 
     ghost Value = { OrderRecord };
 
-    ghost view = { λ order.
-        order_of_text order.firm order.id order.time order.symbol order.parts };
-}
-
-fn key_of(firm: &NameText<'_>, id: &NameText<'_>) -> Key
-    ensures { result ≡ record { firm = firm.now; id = id.now } }
-{
-    Key {
-        firm: firm.name(),
-        id: id.name(),
-    }
+    ghost view = { λ order. order_of_text order.head order.parts };
 }
 
 impl<'m> OrderText<'m> {
@@ -65,16 +51,14 @@ impl<'m> OrderText<'m> {
     pub(crate) fn symbol(&self) -> &[u8]
         ensures { result.now ≡ symbol_of self.now }
     {
-        self.symbol.bytes()
+        self.head.symbol()
     }
 
     /// The record.
     pub(crate) fn record(&self) -> OrderRecord
         ensures { result ≡ self.now }
     {
-        let key = key_of(&self.firm, &self.id);
-        let time = self.time;
-        let symbol = self.symbol.name();
+        let Head { key, time, symbol } = self.head.head();
         match &self.parts {
             OrderParts::New {
                 side,

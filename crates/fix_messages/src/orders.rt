@@ -1,15 +1,14 @@
 //! The messages of an order log: new orders, cancels and replacements, by the table of each.
 ghost use Rattle.std.specs.Prelude.{◌≡◌};
 ghost use Rattle.fix_fields.specs.Ranges.{AreFieldsOf, all_shown};
-ghost use Rattle.fix_messages.specs.Bodies.{order_entry, order_said};
-ghost use Rattle.fix_messages.specs.OrderTables.{limits_form, limits_at, price_by, life_form, life_at, life_by, limit_form, limit_at, resting_form, resting_at, new_order, cancel, replacement, order_by, order_meaning};
+ghost use Rattle.fix_messages.specs.OrderTables.{limits_form, limits_at, price_by, life_form, life_at, life_by, limit_form, limit_at, resting_form, resting_at, unconditional, new_order, cancel, replacement, order_by, order_entry, order_meaning};
 
 use crate::meanings::{MessageFault, OrderMeaning};
 use crate::message::Message;
 use crate::order_texts::{OrderParts, OrderText};
 use crate::rows::{
-    absent_at, flag_at, is_copy, is_word, name_at, price_at, quantity_at, required, side_at,
-    stamp_at, supported, word_at,
+    absent_at, head_at, is_copy, is_word, name_at, price_at, quantity_at, required, side_at,
+    supported, type_at,
 };
 use audit_base::numbers::{Price, market_price};
 use audit_base::terms::{Life, Side};
@@ -124,37 +123,35 @@ fn resting_at(tag: u32, message: &Message<'_>) -> Result<(), MessageFault>
     }
 }
 
+/// No condition on the quantity: neither a least one (MinQty) nor a shown one (MaxFloor).
+#[inline(always)]
+fn unconditional(message: &Message<'_>) -> Result<(), MessageFault>
+    ensures { result ≡ unconditional message.now }
+{
+    absent_at(110, message)?;
+    absent_at(111, message)
+}
+
 /// Type D, a new order.
 #[tactic(auto, unfolding(crate::specs::OrderTables::new_order))]
 fn new_order<'m>(message: &'m Message<'_>) -> Result<OrderText<'m>, MessageFault>
     ensures { result ≡ new_order message.now }
 {
-    word_at(b"D", 35, message)?;
-    flag_at(43, message)?;
-    let firm = name_at(49, message)?;
-    let id = name_at(11, message)?;
-    let time = stamp_at(60, message)?;
-    let symbol = name_at(55, message)?;
+    type_at(b"D", message)?;
+    let head = head_at(49, message)?;
     let side = side_at(54, message)?;
     let quantity = quantity_at(38, message)?;
     let limits = limits_at(40, message)?;
     let price = price_by(limits, side, 44, message)?;
     let life = life_by(limits, life_at(59, message)?);
-    absent_at(110, message)?;
-    absent_at(111, message)?;
+    unconditional(message)?;
     let parts = OrderParts::New {
         side,
         quantity,
         price,
         life,
     };
-    Ok(OrderText {
-        firm,
-        id,
-        time,
-        symbol,
-        parts,
-    })
+    Ok(OrderText { head, parts })
 }
 
 /// Type F, a cancel.
@@ -162,21 +159,11 @@ fn new_order<'m>(message: &'m Message<'_>) -> Result<OrderText<'m>, MessageFault
 fn cancel<'m>(message: &'m Message<'_>) -> Result<OrderText<'m>, MessageFault>
     ensures { result ≡ cancel message.now }
 {
-    word_at(b"F", 35, message)?;
-    flag_at(43, message)?;
-    let firm = name_at(49, message)?;
-    let id = name_at(11, message)?;
-    let time = stamp_at(60, message)?;
-    let symbol = name_at(55, message)?;
+    type_at(b"F", message)?;
+    let head = head_at(49, message)?;
     let target = name_at(41, message)?;
     let parts = OrderParts::Cancel { target };
-    Ok(OrderText {
-        firm,
-        id,
-        time,
-        symbol,
-        parts,
-    })
+    Ok(OrderText { head, parts })
 }
 
 /// Type G, a replacement.
@@ -184,54 +171,29 @@ fn cancel<'m>(message: &'m Message<'_>) -> Result<OrderText<'m>, MessageFault>
 fn replacement<'m>(message: &'m Message<'_>) -> Result<OrderText<'m>, MessageFault>
     ensures { result ≡ replacement message.now }
 {
-    word_at(b"G", 35, message)?;
-    flag_at(43, message)?;
-    let firm = name_at(49, message)?;
-    let id = name_at(11, message)?;
-    let time = stamp_at(60, message)?;
-    let symbol = name_at(55, message)?;
+    type_at(b"G", message)?;
+    let head = head_at(49, message)?;
     let target = name_at(41, message)?;
     let side = side_at(54, message)?;
     let quantity = quantity_at(38, message)?;
     limit_at(40, message)?;
     let price = price_at(44, message)?;
     resting_at(59, message)?;
-    absent_at(110, message)?;
-    absent_at(111, message)?;
+    unconditional(message)?;
     let parts = OrderParts::Replace {
         target,
         side,
         quantity,
         price,
     };
-    Ok(OrderText {
-        firm,
-        id,
-        time,
-        symbol,
-        parts,
-    })
+    Ok(OrderText { head, parts })
 }
 
-fn order_by(kind: &[u8], message: &Message<'_>) -> Result<OrderMeaning, MessageFault>
-    ensures { result ≡ order_by kind.now message.now }
-{
-    if is_word(b"D", kind) {
-        Ok(OrderMeaning::Entry(new_order(message)?.record()))
-    } else if is_word(b"F", kind) {
-        Ok(OrderMeaning::Entry(cancel(message)?.record()))
-    } else if is_word(b"G", kind) {
-        Ok(OrderMeaning::Entry(replacement(message)?.record()))
-    } else {
-        Ok(OrderMeaning::Skip)
-    }
-}
-
-fn order_text_by<'m>(
+fn order_by<'m>(
     kind: &[u8],
     message: &'m Message<'_>,
 ) -> Result<Option<OrderText<'m>>, MessageFault>
-    ensures { result ≡ order_said (order_by kind.now message.now) }
+    ensures { result ≡ order_by kind.now message.now }
 {
     if is_word(b"D", kind) {
         Ok(Some(new_order(message)?))
@@ -246,7 +208,7 @@ fn order_text_by<'m>(
 
 /// The order that a message means, where it stands in the message, or nothing, or the first test that
 /// fails.
-#[tactic(auto, unfolding(crate::specs::OrderTables::order_meaning))]
+#[tactic(auto, unfolding(crate::specs::OrderTables::order_entry))]
 pub(crate) fn order_text<'m>(
     message: &'m Message<'_>,
 ) -> Result<Option<OrderText<'m>>, MessageFault>
@@ -255,22 +217,20 @@ pub(crate) fn order_text<'m>(
     if is_copy(message) {
         Ok(None)
     } else {
-        order_text_by(message.kind(), message)
+        order_by(message.kind(), message)
     }
 }
 
 /// What a message of an order log means, by its body and the fields that the body has: nothing, a
 /// record, or the first test that fails of the table of its type. It takes no memory.
-#[tactic(auto, unfolding(crate::specs::OrderTables::order_meaning))]
 pub fn order_of(body: &[u8], fields: &[Field]) -> Result<OrderMeaning, MessageFault>
     requires { AreFieldsOf body.now fields.now }
     ensures { result ≡ order_meaning (all_shown body.now fields.now) }
 {
     let mut notes = TagNotes::new();
     let message = Message::of(body, fields, &mut notes);
-    if is_copy(&message) {
-        Ok(OrderMeaning::Skip)
-    } else {
-        order_by(message.kind(), &message)
+    match order_text(&message)? {
+        Some(order) => Ok(OrderMeaning::Entry(order.record())),
+        None => Ok(OrderMeaning::Skip),
     }
 }

@@ -1,18 +1,16 @@
 //! The messages of a trade log: execution reports of a trade.
 ghost use Rattle.std.specs.Prelude.{◌≡◌};
 ghost use Rattle.fix_fields.specs.Ranges.{AreFieldsOf, all_shown};
-ghost use Rattle.fix_messages.specs.Bodies.{report_entry};
-ghost use Rattle.fix_messages.specs.ReportTable.{trade_report, is_other, is_passed_over, report_meaning};
+ghost use Rattle.fix_messages.specs.ReportTable.{trade_report, is_other, is_passed_over, report_entry, report_meaning};
 
+use crate::heads::{Head, HeadText};
 use crate::meanings::{MessageFault, Report, ReportMeaning};
 use crate::message::Message;
 use crate::name_text::NameText;
 use crate::rows::{
-    flag_at, is_copy, is_word, name_at, price_at, quantity_at, side_at, stamp_at, word_at,
+    head_at, is_copy, is_word, name_at, price_at, quantity_at, side_at, type_at, word_at,
 };
-use audit_base::names::Key;
 use audit_base::numbers::{Price, Quantity};
-use audit_base::stamps::Stamp;
 use audit_base::terms::Side;
 use fix_fields::field::Field;
 use fix_fields::notes::TagNotes;
@@ -23,25 +21,22 @@ use std::marker::Model;
 #[derive(Drop)]
 pub(crate) struct ReportText<'m> {
     trade: NameText<'m>,
-    firm: NameText<'m>,
-    id: NameText<'m>,
-    time: Stamp,
-    symbol: NameText<'m>,
+    head: HeadText<'m>,
     side: Side,
     quantity: Quantity,
     price: Price,
 }
 
 impl<'m> Model for ReportText<'m> {
-    ghost use Rattle.fix_messages.specs.declared.meanings.Report.{Report};
+    ghost use Rattle.trade_reports.specs.declared.reports.Report.{Report};
 
     ghost Value = { Report };
 
     ghost view = { λ text. record {
       trade = text.trade;
-      key = record { firm = text.firm; id = text.id };
-      time = text.time;
-      symbol = text.symbol;
+      key = text.head.key;
+      time = text.head.time;
+      symbol = text.head.symbol;
       side = text.side;
       quantity = text.quantity;
       price = text.price;
@@ -53,21 +48,19 @@ impl<'m> ReportText<'m> {
     pub(crate) fn symbol(&self) -> &[u8]
         ensures { result.now ≡ self.now.symbol }
     {
-        self.symbol.bytes()
+        self.head.symbol()
     }
 
     /// The record.
     pub(crate) fn record(&self) -> Report
         ensures { result ≡ self.now }
     {
+        let Head { key, time, symbol } = self.head.head();
         Report {
             trade: self.trade.name(),
-            key: Key {
-                firm: self.firm.name(),
-                id: self.id.name(),
-            },
-            time: self.time,
-            symbol: self.symbol.name(),
+            key,
+            time,
+            symbol,
             side: self.side,
             quantity: self.quantity,
             price: self.price,
@@ -80,23 +73,16 @@ impl<'m> ReportText<'m> {
 fn trade_report<'m>(message: &'m Message<'_>) -> Result<ReportText<'m>, MessageFault>
     ensures { result ≡ trade_report message.now }
 {
-    word_at(b"8", 35, message)?;
-    flag_at(43, message)?;
+    type_at(b"8", message)?;
     word_at(b"F", 150, message)?;
     let trade = name_at(527, message)?;
-    let firm = name_at(56, message)?;
-    let id = name_at(11, message)?;
-    let time = stamp_at(60, message)?;
-    let symbol = name_at(55, message)?;
+    let head = head_at(56, message)?;
     let side = side_at(54, message)?;
     let quantity = quantity_at(32, message)?;
     let price = price_at(31, message)?;
     Ok(ReportText {
         trade,
-        firm,
-        id,
-        time,
-        symbol,
+        head,
         side,
         quantity,
         price,
@@ -119,7 +105,7 @@ fn is_passed_over(message: &Message<'_>) -> bool
 
 /// The report that a message means, where it stands in the message, or nothing, or the first test that
 /// fails.
-#[tactic(auto, unfolding(crate::specs::ReportTable::report_meaning))]
+#[tactic(auto, unfolding(crate::specs::ReportTable::report_entry))]
 pub(crate) fn report_text<'m>(
     message: &'m Message<'_>,
 ) -> Result<Option<ReportText<'m>>, MessageFault>
@@ -134,16 +120,14 @@ pub(crate) fn report_text<'m>(
 
 /// What a message of a trade log means, by its body and the fields that the body has: nothing, a
 /// report of a trade, or the first test that fails of the table of a report. It takes no memory.
-#[tactic(auto, unfolding(crate::specs::ReportTable::report_meaning))]
 pub fn report_of(body: &[u8], fields: &[Field]) -> Result<ReportMeaning, MessageFault>
     requires { AreFieldsOf body.now fields.now }
     ensures { result ≡ report_meaning (all_shown body.now fields.now) }
 {
     let mut notes = TagNotes::new();
     let message = Message::of(body, fields, &mut notes);
-    if is_passed_over(&message) {
-        Ok(ReportMeaning::Skip)
-    } else {
-        Ok(ReportMeaning::Entry(trade_report(&message)?.record()))
+    match report_text(&message)? {
+        Some(report) => Ok(ReportMeaning::Entry(report.record())),
+        None => Ok(ReportMeaning::Skip),
     }
 }

@@ -1,27 +1,29 @@
 //! Writing logs: one message for an order, two for a trade. A value of a field is always the canonical
 //! text of what it says.
-ghost use Rattle.std.specs.Prelude.{◌≡◌, ◌<◌, ◌^◌, ◌∷◌, ◌++◌, [], IfOk, IsTrue, Ok, OnErr, OnOk, decimal, map};
+ghost use Rattle.std.specs.Prelude.{◌≡◌, ◌<◌, ◌^◌, ◌∷◌, ◌++◌, [], IfOk, IsTrue, Ok, OnErr, OnOk, map};
 ghost use Rattle.audit_base.specs.Names.{is_name};
-ghost use Rattle.audit_base.specs.Numbers.{is_quantity, price_text};
-ghost use Rattle.audit_base.specs.Stamps.{stamp_text};
+ghost use Rattle.audit_base.specs.Numbers.{is_quantity};
 ghost use Rattle.fix_fields.specs.Grammar.{bytes_of};
 ghost use Rattle.fix_messages.specs.Logs.{order_log, report_log};
-ghost use Rattle.fix_messages.specs.Pairings.{pairing};
+ghost use Rattle.trade_reports.specs.Pairings.{pairing};
 ghost use Rattle.fix_messages.specs.Steps.{are_short, cancel_order, new_order, replace_order, written};
 ghost use Rattle.audit_base.specs.Histories.{HasMarketPrice};
-ghost use Rattle.fix_messages.specs.Written.{IsHead, IsOrderInForm, IsReportInForm, IsTradeInForm, field, head_fields, limit_fields, order_fields, order_text, report_fields, report_text, report_to, reports_of, side_text, size_fields, trade_text};
+ghost use Rattle.trade_reports.specs.Reports.{reports_of};
+ghost use Rattle.fix_messages.specs.Written.{IsHead, IsOrderInForm, IsReportInForm, IsTradeInForm, field, head_fields, limit_fields, order_fields, order_text, report_fields, report_text, side_text, size_fields, trade_text};
 
+use crate::heads::Head;
 use crate::meanings::Report;
 use audit_base::faults::NoMemory;
-use audit_base::names::{Key, Name};
+use audit_base::field_texts::{price_text, quantity_text, stamp_text};
+use audit_base::names::Name;
 use audit_base::numbers::{Price, Quantity};
 use audit_base::records::{OrderRecord, TradeRecord};
-use audit_base::stamps::Stamp;
 use audit_base::terms::{Life, Side};
-use audit_base::texts::{write_number, write_price, write_stamp};
 use fix_fields::write::write_field;
 use fix_framing::writing::write_frame;
 use std::alloc::Global;
+use trade_reports::laws::reports_are_paired_again;
+use trade_reports::reports::report_to;
 
 /// Who an order goes to (tag 56), and who a report comes from (tag 49).
 const EXCHANGE: &[u8] = b"EXCHANGE";
@@ -45,42 +47,6 @@ fn write_fields(alloc: Global, fields: &[(u32, &[u8])], body: &mut Vec<u8>) -> R
     Ok(())
 }
 
-#[tactic(auto, using(crate::proofs::WrittenLemmas::stamp_is_name))]
-fn stamp_bytes(alloc: Global, stamp: Stamp) -> Result<Vec<u8>, NoMemory>
-    ensures text { IfOk result (λ text. text.items ≡ stamp_text stamp) }
-    ensures short { IfOk result (λ text. IsTrue (is_name text.items)) }
-    ensures second { stamp.second < 326764800000 }
-    ensures nano { stamp.nano < 10 ^ 9 }
-{
-    let Stamp { second, nano } = stamp;
-    prove!(second < 326_764_800_000 && nano < 1_000_000_000);
-    let mut text = Vec::new(alloc);
-    write_stamp(alloc, stamp, &mut text)?;
-    Ok(text)
-}
-
-#[tactic(auto, using(crate::proofs::WrittenLemmas::quantity_is_name))]
-fn quantity_bytes(alloc: Global, quantity: Quantity) -> Result<Vec<u8>, NoMemory>
-    ensures text { IfOk result (λ text. text.items ≡ decimal quantity) }
-    ensures short { IfOk result (λ text. IsTrue (is_name text.items)) }
-    ensures in_range { IsTrue (is_quantity quantity) }
-{
-    let mut text = Vec::new(alloc);
-    write_number(alloc, u128::from(quantity.value()), &mut text)?;
-    Ok(text)
-}
-
-#[tactic(auto, using(crate::proofs::WrittenLemmas::price_is_name))]
-fn price_bytes(alloc: Global, price: Price) -> Result<Vec<u8>, NoMemory>
-    ensures text { IfOk result (λ text. text.items ≡ price_text price) }
-    ensures short { IfOk result (λ text. IsTrue (is_name text.items)) }
-    ensures in_range { price < 10 ^ 18 }
-{
-    let mut text = Vec::new(alloc);
-    write_price(alloc, price.units(), &mut text)?;
-    Ok(text)
-}
-
 fn side_bytes(side: Side) -> &'static [u8]
     ensures text { result.now ≡ side_text side }
     ensures short { IsTrue (is_name result.now) }
@@ -89,14 +55,6 @@ fn side_bytes(side: Side) -> &'static [u8]
         Side::Buy => b"1",
         Side::Sell => b"2",
     }
-}
-
-/// What each message of an order log begins with.
-#[derive(Clone, Copy)]
-struct Head {
-    key: Key,
-    time: Stamp,
-    symbol: Name,
 }
 
 /// What an order asks for.
@@ -114,7 +72,7 @@ fn write_head(alloc: Global, kind: &[u8], head: &Head, body: &mut Vec<u8>) -> Re
         OnOk result (body.new.items ≡ body.old.items ++ bytes_of fields) }
     ensures in_form { OnOk result (IsHead head.now.key head.now.time head.now.symbol) }
 {
-    let time = stamp_bytes(alloc, head.time)?;
+    let time = stamp_text(alloc, head.time)?;
     let fields: [(u32, &[u8]); 6] = [
         (35, kind),
         (49, head.key.firm.bytes()),
@@ -132,7 +90,7 @@ fn write_size(alloc: Global, terms: &Terms, body: &mut Vec<u8>) -> Result<(), No
         OnOk result (body.new.items ≡ body.old.items ++ bytes_of fields) }
     ensures in_range { OnOk result (IsTrue (is_quantity terms.now.quantity)) }
 {
-    let quantity = quantity_bytes(alloc, terms.quantity)?;
+    let quantity = quantity_text(alloc, terms.quantity)?;
     let fields: [(u32, &[u8]); 2] = [(54, side_bytes(terms.side)), (38, &quantity)];
     write_fields(alloc, &fields, body)
 }
@@ -143,7 +101,7 @@ fn write_limit(alloc: Global, life: Life, price: Price, body: &mut Vec<u8>) -> R
         OnOk result (body.new.items ≡ body.old.items ++ bytes_of fields) }
     ensures in_range { OnOk result (price < 10 ^ 18) }
 {
-    let text = price_bytes(alloc, price)?;
+    let text = price_text(alloc, price)?;
     match life {
         Life::Rests => {
             let fields: [(u32, &[u8]); 2] = [(40, LIMIT), (44, &text)];
@@ -290,9 +248,9 @@ fn write_report_fields(alloc: Global, report: &Report, body: &mut Vec<u8>) -> Re
         OnOk result (body.new.items ≡ body.old.items ++ bytes_of fields) }
     ensures in_form { OnOk result (IsReportInForm report.now) }
 {
-    let time = stamp_bytes(alloc, report.time)?;
-    let quantity = quantity_bytes(alloc, report.quantity)?;
-    let price = price_bytes(alloc, report.price)?;
+    let time = stamp_text(alloc, report.time)?;
+    let quantity = quantity_text(alloc, report.quantity)?;
+    let price = price_text(alloc, report.price)?;
     let fields: [(u32, &[u8]); 11] = [
         (35, b"8"),
         (49, EXCHANGE),
@@ -319,25 +277,6 @@ fn write_report(alloc: Global, report: &Report, out: &mut Vec<u8>) -> Result<(),
     write_frame(alloc, &body, out)
 }
 
-/// One side's report of a trade.
-fn report_to(side: Side, trade: &TradeRecord) -> Report
-    ensures { result ≡ report_to side trade.now }
-{
-    let key = match side {
-        Side::Buy => trade.buy,
-        Side::Sell => trade.sell,
-    };
-    Report {
-        trade: trade.trade,
-        key,
-        time: trade.time,
-        symbol: trade.symbol,
-        side,
-        quantity: trade.quantity,
-        price: trade.price,
-    }
-}
-
 /// Both messages of a trade.
 fn trade_messages(alloc: Global, trade: &TradeRecord) -> Result<Vec<u8>, NoMemory>
     ensures text { IfOk result (λ text. text.items ≡ trade_text trade.now) }
@@ -359,6 +298,7 @@ pub fn write_trade(alloc: Global, trade: &TradeRecord, out: &mut Vec<u8>) -> Res
     ensures again { OnOk result (report_log (trade_text trade.now) ≡ Ok (reports_of trade.now)) }
     ensures paired { OnOk result (pairing (reports_of trade.now) ≡ Ok (trade.now ∷ [])) }
 {
+    reports_are_paired_again();
     let text = trade_messages(alloc, trade)?;
     out.extend_from_slice(&text)?;
     Ok(())

@@ -11,7 +11,7 @@ use Rattle.audit_base.specs.Orders.{same_key}
 use Rattle.audit_base.specs.Histories.{target_key, ends, record_at, key_at, earlier_with_key, target_of, duplicate_id, time_back, unknown_target, record_finding}
 use Rattle.instruction_history.specs.Draft.{finding_in}
 use Rattle.instruction_history.proofs.FirstLemmas.{least_answer-none, least_with-none, least_with-some, option_or-parts}
-use Rattle.instruction_history.proofs.KeyLemmas.{same_key-is, same_key-itself}
+use Rattle.audit_base.proofs.HistoryLemmas.{same_key-is, is-same_key}
 use Rattle.instruction_history.proofs.RecordLemmas.{Records, target-before}
 
 pub option_map-none : {A B : Type 0} (f : A → B) (o : Option A) → option_map f o ≡ None → o ≡ None
@@ -41,7 +41,7 @@ clean-distinct h clean i j less lt =
     least_with-none (λ k. same_key (key_at h k) (key_at h j)) j (option_map-none _ (earlier_with_key h j) (clean-at h clean j lt).duplicate) i less
 
 both_keys : (a b : Key) → a ≡ b → same_key a b ≡ false → ⊥
-both_keys a b e apart = let itself : same_key b b ≡ true = same_key-itself b in let other : same_key b b ≡ false = rw e at apart in cc
+both_keys a b e apart = let itself : same_key b b ≡ true = is-same_key b b refl in let other : same_key b b ≡ false = rw e at apart in cc
 
 -- two records of one key are one record
 pub clean-one : (h : Records) → finding_in h ≡ None → (i j : ℕ) → i < length h → j < length h → key_at h i ≡ key_at h j → i ≡ j

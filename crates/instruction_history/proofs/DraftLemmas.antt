@@ -52,9 +52,8 @@ pub size-more : (count : ℕ) (entries : List OrderRecord) (x : OrderRecord) →
 size-more count entries x is = simp length-append (omega (arith, is))
 
 -- a record of the symbol was taken, and its finding, if it has one, is kept
-pub known-next : (symbol : List ℕ) (entries : List OrderRecord) (x : OrderRecord) (count : ℕ) (old new : HistorySoFar) (before found after : Option Finding) → count ≡ length entries → before ≡ None → found ≡ after
-    → same_name (symbol_of x) symbol ≡ true → IsKnown (history symbol entries) old before → KnowsOneMore old new (count + 1) x found → IsKnown (history symbol (entries ++ x ∷ [])) new after
-known-next symbol entries x count old new before found after counted none kept same known takes =
+pub known-next : (symbol : List ℕ) (entries : List OrderRecord) (x : OrderRecord) (count : ℕ) (old new : HistorySoFar) (before found : Option Finding) → count ≡ length entries → before ≡ None
+    → same_name (symbol_of x) symbol ≡ true → IsKnown (history symbol entries) old before → KnowsOneMore old new (count + 1) x found → IsKnown (history symbol (entries ++ x ∷ [])) new found
+known-next symbol entries x count old new before found counted none same known takes =
     let place : count + 1 ≡ length entries + 1 = ap (λ (n : ℕ). n + 1) counted in
-    let one = known-of symbol entries x (count + 1) new found place same (takes (history symbol entries) (so_far-known (history symbol entries) old before none known)) in
-    subst (λ (f : Option Finding). IsKnown (history symbol (entries ++ x ∷ [])) new f) kept one
+    known-of symbol entries x (count + 1) new found place same (takes (history symbol entries) (so_far-known (history symbol entries) old before none known))

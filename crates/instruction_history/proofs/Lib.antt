@@ -2,7 +2,6 @@ pub mod CleanLemmas
 pub mod DraftLemmas
 pub mod FirstLemmas
 pub mod HistoryLemmas
-pub mod KeyLemmas
 pub mod MadeLemmas
 pub mod NameLemmas
 pub mod OrderLemmas
@@ -10,7 +9,6 @@ pub mod PlaceLemmas
 pub mod PriceLemmas
 pub mod PushLemmas
 pub mod RecordLemmas
-pub mod ShortKeyLemmas
 pub mod SideLemmas
 pub mod SoFarLemmas
 pub mod StepLemmas

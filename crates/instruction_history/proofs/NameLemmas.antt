@@ -13,10 +13,11 @@ use Rattle.audit_base.specs.Least.{least_with, only_if}
 use Rattle.audit_base.specs.Orders.{missing_order, same_key, order_at, with_key}
 use Rattle.audit_base.specs.Histories.{key_of, is_order, target_of, order_index}
 use Rattle.instruction_history.specs.declared.keys.Seen.{Seen}
-use Rattle.instruction_history.specs.Draft.{finding_in, orders_in, named_in, duplicate_of, finding_of, ended, ended_among, order_made, pushed, seen_as}
+use Rattle.instruction_history.specs.Draft.{finding_in, orders_in, named_in, duplicate_of, ended, ended_among, order_made, pushed, seen_as}
+use Rattle.instruction_history.specs.Flaws.{finding_at}
 use Rattle.instruction_history.proofs.CleanLemmas.{clean-at, option_map-none}
 use Rattle.instruction_history.proofs.FirstLemmas.{least_with-same, option_or-nothing}
-use Rattle.instruction_history.proofs.KeyLemmas.{same_key-is}
+use Rattle.audit_base.proofs.HistoryLemmas.{same_key-is}
 use Rattle.instruction_history.proofs.MadeLemmas.{IsAt, standing}
 use Rattle.instruction_history.proofs.OrderLemmas.{IsEnded, is-ended, target_index, orders-step}
 use Rattle.instruction_history.proofs.PushLemmas.{length-push, named_in-push}
@@ -81,7 +82,7 @@ target-inside h e clean i is =
 unnamed : (h : Records) (e : ℕ × OrderRecord) → finding_in (h ++ e ∷ []) ≡ None → named_in h (key_of e.1) ≡ None
 unnamed h e clean =
     let clear = sym (duplicate-step h e) ∙ (clean-at (h ++ e ∷ []) clean (length h) (let size = length-push h e in omega arith)).duplicate in
-    option_map-none _ (named_in h (key_of e.1)) (option_map-none (finding_of e.0) (duplicate_of (named_in h (key_of e.1))) clear)
+    option_map-none _ (named_in h (key_of e.1)) (option_map-none (finding_at e.0) (duplicate_of (named_in h (key_of e.1))) clear)
 
 -- the order that a key names with one record more
 named-next : (orders : List Order) (ended : List Order) (r : OrderRecord) (made : Option Order) (place : ℕ) (key : Key) (seen : Option Seen) (b : Bool) →

@@ -6,7 +6,8 @@ use Rattle.audit_base.specs.declared.findings.Finding.{Finding}
 use Rattle.audit_base.specs.declared.records.OrderRecord.{OrderRecord}
 use Rattle.audit_base.specs.Least.{only_if}
 use Rattle.audit_base.specs.Orders.{same_key}
-use Rattle.audit_base.specs.Histories.{key_of, time_of, target_key, is_order, ends, side_of, fits_side, is_before, missing_entry, record_at, record_place, key_at, earlier_with_key, target_of, duplicate_id, time_back, unknown_target, record_finding, replaced_at, ended_before, placed_within, is_placed}
+use Rattle.audit_base.specs.Histories.{key_of, time_of, target_key, is_order, ends, side_of, fits_side, missing_entry, record_at, record_place, key_at, earlier_with_key, target_of, duplicate_id, time_back, unknown_target, record_finding, replaced_at, ended_before, placed_within, is_placed}
+use Rattle.audit_base.specs.Moments.{is_before}
 use Rattle.audit_base.specs.declared.findings.Property.TheVariants as property
 use Rattle.audit_base.specs.declared.terms.Which.TheVariants as which
 use Rattle.audit_base.specs.Shows.{found, show_place}

@@ -15,7 +15,7 @@ use Rattle.audit_base.specs.Histories.{side_of, is_order, record_at, key_at, ord
 use Rattle.instruction_history.specs.Draft.{orders_in, seen_at, named_in}
 use Rattle.instruction_history.specs.Keys.{index_on}
 use Rattle.instruction_history.proofs.FirstLemmas.{least_with-same, least_with-some, least_with-both}
-use Rattle.instruction_history.proofs.KeyLemmas.{same_key-is}
+use Rattle.audit_base.proofs.HistoryLemmas.{same_key-is}
 use Rattle.instruction_history.proofs.MadeLemmas.{IsAt, standing}
 use Rattle.instruction_history.proofs.RecordLemmas.{Records}
 

@@ -10,15 +10,16 @@ use Rattle.audit_base.specs.Orders.{same_key}
 use Rattle.audit_base.specs.Histories.{key_of, target_key, record_finding}
 use Rattle.instruction_history.specs.declared.history_so_far.HistorySoFar.{HistorySoFar}
 use Rattle.instruction_history.specs.declared.findings.Last.{Last}
-use Rattle.instruction_history.specs.declared.findings.Flaw.{Flaw}
+use Rattle.audit_base.specs.declared.flaws.Evidence.{Evidence}
 use Rattle.instruction_history.specs.declared.keys.Seen.{Seen}
 use Rattle.instruction_history.specs.Draft.{IsHistorySoFar, finding_in, orders_in, seen_at, named_in, last_from}
 use Rattle.instruction_history.specs.declared.keys.Keys.{Keys}
 use Rattle.instruction_history.specs.Keys.{seen_in, AddsKey}
-use Rattle.instruction_history.specs.Draft.{fitting, target_among, duplicate_of, flaw_of, finding_of, ended_among, order_made, pushed, seen_as, AddsRecord}
+use Rattle.instruction_history.specs.Draft.{fitting, target_among, duplicate_of, evidence_of, ended_among, order_made, pushed, seen_as, AddsRecord}
+use Rattle.instruction_history.specs.Flaws.{finding_at}
 use Rattle.instruction_history.proofs.CleanLemmas.{option_map-none}
 use Rattle.instruction_history.proofs.FirstLemmas.{option_or-none, option_or-nothing, option_or-parts}
-use Rattle.instruction_history.proofs.KeyLemmas.{same_key-is}
+use Rattle.audit_base.proofs.HistoryLemmas.{same_key-is}
 use Rattle.instruction_history.proofs.OrderLemmas.{target_index, orders-step}
 use Rattle.instruction_history.proofs.PushLemmas.{finding_in-push, named_in-push}
 use Rattle.instruction_history.proofs.RecordLemmas.{Records}
@@ -39,27 +40,27 @@ target-by h d e is =
     ∙ target-step h e is.clean
 
 -- what is wrong with a record by what is kept
-abbrev pub flaw_so_far : HistorySoFar → OrderRecord → Option ℕ → Option Flaw
-flaw_so_far d r target = flaw_of (seen_in d.keys (key_of r)) d.last r target
+abbrev pub evidence_so_far : HistorySoFar → OrderRecord → Option ℕ → Option Evidence
+evidence_so_far d r target = evidence_of (seen_in d.keys (key_of r)) d.last r target
 
-finding-by : (h : Records) (d : HistorySoFar) (e : ℕ × OrderRecord) (target : Option ℕ) → IsHistorySoFar h d → target ≡ target_by d e.1 → option_map (finding_of e.0) (flaw_so_far d e.1 target) ≡ finding_in (h ++ e ∷ [])
+finding-by : (h : Records) (d : HistorySoFar) (e : ℕ × OrderRecord) (target : Option ℕ) → IsHistorySoFar h d → target ≡ target_by d e.1 → option_map (finding_at e.0) (evidence_so_far d e.1 target) ≡ finding_in (h ++ e ∷ [])
 finding-by h d e target is by =
-    ap (λ (s : Option Seen). option_map (finding_of e.0) (flaw_of s d.last e.1 target)) (is.keys (key_of e.1))
-    ∙ ap (λ (l : Option Last). option_map (finding_of e.0) (flaw_of (named_in h (key_of e.1)) l e.1 target)) is.last
-    ∙ ap (λ (t : Option ℕ). option_map (finding_of e.0) (flaw_of (named_in h (key_of e.1)) (last_from h (length h)) e.1 t)) (by ∙ target-by h d e is)
+    ap (λ (s : Option Seen). option_map (finding_at e.0) (evidence_of s d.last e.1 target)) (is.keys (key_of e.1))
+    ∙ ap (λ (l : Option Last). option_map (finding_at e.0) (evidence_of (named_in h (key_of e.1)) l e.1 target)) is.last
+    ∙ ap (λ (t : Option ℕ). option_map (finding_at e.0) (evidence_of (named_in h (key_of e.1)) (last_from h (length h)) e.1 t)) (by ∙ target-by h d e is)
     ∙ sym (finding-step h e)
     ∙ sym (option_or-none (finding_in h) (record_finding (h ++ e ∷ []) (length h)) is.clean)
     ∙ sym (finding_in-push h e)
 
 -- what is wrong with it where this is what its key named
-flaw-with : (d : HistorySoFar) (r : OrderRecord) (target : Option ℕ) (key : Key) (earlier : Option Seen) → key ≡ key_of r → earlier ≡ seen_in d.keys key → flaw_of earlier d.last r target ≡ flaw_so_far d r target
-flaw-with d r target key earlier own is = ap (λ (s : Option Seen). flaw_of s d.last r target) (is ∙ ap (seen_in d.keys) own)
+evidence-with : (d : HistorySoFar) (r : OrderRecord) (target : Option ℕ) (key : Key) (earlier : Option Seen) → key ≡ key_of r → earlier ≡ seen_in d.keys key → evidence_of earlier d.last r target ≡ evidence_so_far d r target
+evidence-with d r target key earlier own is = ap (λ (s : Option Seen). evidence_of s d.last r target) (is ∙ ap (seen_in d.keys) own)
 
 -- the finding of what is wrong by what a draft holds is that of the history
-pub draft-found : (h : Records) (d : HistorySoFar) (place : ℕ) (r : OrderRecord) (target : Option ℕ) (key : Key) (earlier : Option Seen) (flaw : Flaw) → IsHistorySoFar h d → target ≡ target_by d r → key ≡ key_of r → earlier ≡ seen_in d.keys key
-    → Some flaw ≡ flaw_of earlier d.last r target → finding_in (h ++ (place, r) ∷ []) ≡ Some (finding_of place flaw)
-draft-found h d place r target key earlier flaw is by own named found =
-    sym (finding-by h d (place, r) target is by) ∙ ap (option_map (finding_of place)) (sym (flaw-with d r target key earlier own named) ∙ sym found)
+pub draft-found : (h : Records) (d : HistorySoFar) (place : ℕ) (r : OrderRecord) (target : Option ℕ) (key : Key) (earlier : Option Seen) (evidence : Evidence) → IsHistorySoFar h d → target ≡ target_by d r → key ≡ key_of r → earlier ≡ seen_in d.keys key
+    → Some evidence ≡ evidence_of earlier d.last r target → finding_in (h ++ (place, r) ∷ []) ≡ Some (finding_at place evidence)
+draft-found h d place r target key earlier evidence is by own named found =
+    sym (finding-by h d (place, r) target is by) ∙ ap (option_map (finding_at place)) (sym (evidence-with d r target key earlier own named) ∙ sym found)
 
 -- what is kept once a record's key was added
 abbrev pub with_key_of : HistorySoFar → Keys → HistorySoFar
@@ -72,7 +73,7 @@ orders-by h d new keys place r target is by clean takes =
     ∙ ap (λ (t : Option ℕ). pushed (ended_among (orders_in h) t place) (order_made (orders_in h) r t place)) (by ∙ target-by h d (place, r) is)
     ∙ sym (orders-step h (place, r) clean)
 
-keys-by : (h : Records) (d : HistorySoFar) (keys : Keys) (place : ℕ) (r : OrderRecord) (target : Option ℕ) → IsHistorySoFar h d → None ≡ flaw_so_far d r target → AddsKey d.keys keys (key_of r) (seen_as r place (length d.orders.items)) → (key : Key) → seen_in keys key ≡ named_in (h ++ (place, r) ∷ []) key
+keys-by : (h : Records) (d : HistorySoFar) (keys : Keys) (place : ℕ) (r : OrderRecord) (target : Option ℕ) → IsHistorySoFar h d → None ≡ evidence_so_far d r target → AddsKey d.keys keys (key_of r) (seen_as r place (length d.orders.items)) → (key : Key) → seen_in keys key ≡ named_in (h ++ (place, r) ∷ []) key
 keys-by h d keys place r target is none adds key = adds key ∙ go (same_key (key_of r) key) refl ∙ sym (named_in-push h (place, r) key)
   where
     go : (b : Bool) → same_key (key_of r) key ≡ b → (if b then Some (seen_as r place (length d.orders.items)) else seen_in d.keys key) ≡ option_or (named_in h key) (only_if b (seen_at (h ++ (place, r) ∷ []) (length h)))
@@ -86,11 +87,11 @@ keys-by h d keys place r target is none adds key = adds key ∙ go (same_key (ke
     go false e = is.keys key ∙ sym (option_or-nothing (named_in h key))
 
 pub draft-takes : (h : Records) (d new : HistorySoFar) (keys : Keys) (place : ℕ) (r : OrderRecord) (target : Option ℕ) (key : Key) (earlier : Option Seen) → IsHistorySoFar h d → target ≡ target_by d r → key ≡ key_of r → earlier ≡ seen_in d.keys key
-    → None ≡ flaw_of earlier d.last r target
+    → None ≡ evidence_of earlier d.last r target
     → AddsKey d.keys keys key (seen_as r place (length d.orders.items)) → AddsRecord (with_key_of d keys) new place r target → IsHistorySoFar (h ++ (place, r) ∷ []) new
 draft-takes h d new keys place r target key earlier is by own named clear adds takes =
-    let none : None ≡ flaw_so_far d r target = clear ∙ flaw-with d r target key earlier own named in
-    let clean : finding_in (h ++ (place, r) ∷ []) ≡ None = sym (finding-by h d (place, r) target is by) ∙ ap (option_map (finding_of place)) (sym none) in
+    let none : None ≡ evidence_so_far d r target = clear ∙ evidence-with d r target key earlier own named in
+    let clean : finding_in (h ++ (place, r) ∷ []) ≡ None = sym (finding-by h d (place, r) target is by) ∙ ap (option_map (finding_at place)) (sym none) in
     let added : AddsKey d.keys keys (key_of r) (seen_as r place (length d.orders.items)) = subst (λ (k : Key). AddsKey d.keys keys k (seen_as r place (length d.orders.items))) own adds in
     record {
       clean = clean;

@@ -13,16 +13,18 @@ use Rattle.audit_base.specs.declared.terms.Which.TheVariants as which
 use Rattle.audit_base.specs.Shows.{found}
 use Rattle.audit_base.specs.Least.{least_with, first_of, only_if}
 use Rattle.audit_base.specs.Orders.{same_name, same_key}
-use Rattle.audit_base.specs.Histories.{key_of, time_of, target_key, is_order, ends, side_of, fits_side, is_before, missing_entry, record_at, record_place, key_at, target_of, earlier_with_key, duplicate_id, time_back, unknown_target, record_finding, order_index}
+use Rattle.audit_base.specs.Histories.{key_of, time_of, target_key, is_order, ends, side_of, fits_side, missing_entry, record_at, record_place, key_at, target_of, earlier_with_key, duplicate_id, time_back, unknown_target, record_finding, order_index}
+use Rattle.audit_base.specs.Moments.{is_before}
 use Rattle.instruction_history.specs.declared.findings.Last.{Last}
 use Rattle.instruction_history.specs.declared.keys.Seen.{Seen}
 use Rattle.instruction_history.specs.Draft.{finding_in, orders_in, seen_at, named_in, last_from}
-use Rattle.instruction_history.specs.declared.findings.Flaw.{Flaw}
-use Rattle.instruction_history.specs.declared.findings.Flaw.TheVariants.{TimeBack, UnknownTarget}
-use Rattle.instruction_history.specs.Draft.{fitting, target_among, duplicate_of, back_of, unknown_of, flaw_of, finding_of}
+use Rattle.audit_base.specs.declared.flaws.Evidence.{Evidence}
+use Rattle.audit_base.specs.declared.flaws.Evidence.TheVariants.{TimeBack, UnknownTarget}
+use Rattle.instruction_history.specs.Draft.{fitting, target_among, duplicate_of, back_of, unknown_of, evidence_of}
+use Rattle.instruction_history.specs.Flaws.{finding_at}
 use Rattle.instruction_history.proofs.FirstLemmas.{least_with-same, least_with-some, least_with-from_none, least_with-both}
 use Rattle.instruction_history.proofs.CleanLemmas.{clean-distinct, named-ends, nameless-ends}
-use Rattle.instruction_history.proofs.KeyLemmas.{same_key-is, same_key-itself}
+use Rattle.audit_base.proofs.HistoryLemmas.{same_key-is, is-same_key}
 use Rattle.instruction_history.proofs.MadeLemmas.{IsAt, standing, length-orders_in}
 use Rattle.instruction_history.proofs.PushLemmas.{length-push, pushed-same, pushed-at, order_index-push}
 use Rattle.instruction_history.proofs.RecordLemmas.{Records, SameBelow, may_target, key_at-same, record_place-same, repeats, back_finding, targetless}
@@ -63,7 +65,7 @@ target-named h e named clean is =
     (λ i j less lt one two.
     let keys : key_at h i ≡ key_at h j = same_key-is _ _ one ∙ sym (same_key-is _ _ two) in
     let apart : same_key (key_at h i) (key_at h j) ≡ false = clean-distinct h clean i j less lt in
-    let itself : same_key (key_at h j) (key_at h j) ≡ true = same_key-itself (key_at h j) in
+    let itself : same_key (key_at h j) (key_at h j) ≡ true = is-same_key (key_at h j) (key_at h j) refl in
     let other : same_key (key_at h j) (key_at h j) ≡ false = ap (λ (key : Key). same_key key (key_at h j)) (sym keys) ∙ apart in cc)
 
 pub target-nameless : (h : Records) (e : ℕ × OrderRecord) → target_key e.1 ≡ None → target_of (h ++ e ∷ []) (length h) ≡ None
@@ -101,13 +103,13 @@ target-step h e clean = go (target_key e.1) refl
         ∙ ap (option_map (order_index h)) (sym (target-named h e named clean is))
 
 repeats-seen : (h longer : Records) (e : ℕ × OrderRecord) (place : ℕ) (o : Option ℕ) → SameBelow longer h (length h) → place ≡ e.0 → ((k : ℕ) → o ≡ Some k → k < length h) →
-    option_map (λ k. repeats place (record_place longer k)) o ≡ option_map (finding_of e.0) (duplicate_of (option_map (seen_at h) o))
+    option_map (λ k. repeats place (record_place longer k)) o ≡ option_map (finding_at e.0) (duplicate_of (option_map (seen_at h) o))
 repeats-seen h longer e place None same is within = refl
 repeats-seen h longer e place (Some k) same is within =
     let earlier : record_place longer k ≡ record_place h k = record_place-same longer h same k (within k refl) in
     ap (λ (f : Finding). Some f) (ap (λ (p : ℕ). repeats p (record_place longer k)) is ∙ ap (repeats e.0) earlier)
 
-pub duplicate-step : (h : Records) (e : ℕ × OrderRecord) → duplicate_id (h ++ e ∷ []) (length h) ≡ option_map (finding_of e.0) (duplicate_of (named_in h (key_of e.1)))
+pub duplicate-step : (h : Records) (e : ℕ × OrderRecord) → duplicate_id (h ++ e ∷ []) (length h) ≡ option_map (finding_at e.0) (duplicate_of (named_in h (key_of e.1)))
 duplicate-step h e =
     let longer : Records = h ++ e ∷ [] in
     let same = pushed-same h e in
@@ -118,10 +120,10 @@ duplicate-step h e =
     ap (option_map (λ k. repeats (record_place longer (length h)) (record_place longer k))) earlier
     ∙ repeats-seen h longer e (record_place longer (length h)) (least_with (λ k. same_key (key_at h k) (key_of e.1)) (length h)) same place (λ k found. (least_with-some _ (length h) k found).within)
 
-back-step : (h : Records) (e : ℕ × OrderRecord) → time_back (h ++ e ∷ []) (length h) ≡ option_map (finding_of e.0) (back_of (last_from h (length h)) (time_of e.1))
+back-step : (h : Records) (e : ℕ × OrderRecord) → time_back (h ++ e ∷ []) (length h) ≡ option_map (finding_at e.0) (back_of (last_from h (length h)) (time_of e.1))
 back-step h e = go (length h) refl
   where
-    go : (n : ℕ) → n ≡ length h → time_back (h ++ e ∷ []) n ≡ option_map (finding_of e.0) (back_of (last_from h n) (time_of e.1))
+    go : (n : ℕ) → n ≡ length h → time_back (h ++ e ∷ []) n ≡ option_map (finding_at e.0) (back_of (last_from h n) (time_of e.1))
     go zero is = refl
     go (suc k) is =
         let longer : Records = h ++ e ∷ [] in
@@ -129,18 +131,18 @@ back-step h e = go (length h) refl
         let before : get_or longer k missing_entry ≡ get_or h k missing_entry = (pushed-same h e).at k (omega arith) in
         ap (λ (x : ℕ × OrderRecord). back_finding x (get_or longer k missing_entry)) here
         ∙ ap (back_finding e) before
-        ∙ kept-if (is_before (time_of e.1) (time_of (record_at h k))) (TimeBack (record_place h k)) (finding_of e.0)
+        ∙ kept-if (is_before (time_of e.1) (time_of (record_at h k))) (TimeBack (record_place h k)) (finding_at e.0)
 
 is_none-option_map : {A B : Type 0} (f : A → B) (o : Option A) → is_none (option_map f o) ≡ is_none o
 is_none-option_map f None = refl
 is_none-option_map f (Some a) = refl
 
-unknown-step : (h : Records) (e : ℕ × OrderRecord) → unknown_target (h ++ e ∷ []) (length h) ≡ option_map (finding_of e.0) (unknown_of (target_key e.1) (option_map (order_index h) (target_of (h ++ e ∷ []) (length h))))
+unknown-step : (h : Records) (e : ℕ × OrderRecord) → unknown_target (h ++ e ∷ []) (length h) ≡ option_map (finding_at e.0) (unknown_of (target_key e.1) (option_map (order_index h) (target_of (h ++ e ∷ []) (length h))))
 unknown-step h e =
     let target : Option ℕ = target_of (h ++ e ∷ []) (length h) in
     ap (λ (x : ℕ × OrderRecord). targetless x target) (pushed-at h e)
     ∙ ap (λ (b : Bool). only_if (is_some (target_key e.1) && b) (found property.UnknownTarget which.Orders e.0 None None)) (sym (is_none-option_map (order_index h) target))
-    ∙ kept-if (is_some (target_key e.1) && is_none (option_map (order_index h) target)) UnknownTarget (finding_of e.0)
+    ∙ kept-if (is_some (target_key e.1) && is_none (option_map (order_index h) target)) UnknownTarget (finding_at e.0)
 
 -- the first of three answers, each of them mapped
 first-mapped : {A B : Type 0} (f : A → B) (one two three : Option A) → first_of (option_map f one ∷ option_map f two ∷ option_map f three ∷ []) ≡ option_map f (first_of (one ∷ two ∷ three ∷ []))
@@ -151,16 +153,16 @@ first-mapped f None None None = refl
 
 -- the finding at the record
 pub finding-step : (h : Records) (e : ℕ × OrderRecord) → record_finding (h ++ e ∷ []) (length h) ≡
-    option_map (finding_of e.0) (flaw_of (named_in h (key_of e.1)) (last_from h (length h)) e.1 (option_map (order_index h) (target_of (h ++ e ∷ []) (length h))))
+    option_map (finding_at e.0) (evidence_of (named_in h (key_of e.1)) (last_from h (length h)) e.1 (option_map (order_index h) (target_of (h ++ e ∷ []) (length h))))
 finding-step h e =
     let longer : Records = h ++ e ∷ [] in
-    let one : Option Flaw = duplicate_of (named_in h (key_of e.1)) in
-    let two : Option Flaw = back_of (last_from h (length h)) (time_of e.1) in
-    let three : Option Flaw = unknown_of (target_key e.1) (option_map (order_index h) (target_of longer (length h))) in
+    let one : Option Evidence = duplicate_of (named_in h (key_of e.1)) in
+    let two : Option Evidence = back_of (last_from h (length h)) (time_of e.1) in
+    let three : Option Evidence = unknown_of (target_key e.1) (option_map (order_index h) (target_of longer (length h))) in
     ap (λ (o : Option Finding). first_of (o ∷ time_back longer (length h) ∷ unknown_target longer (length h) ∷ [])) (duplicate-step h e)
-    ∙ ap (λ (o : Option Finding). first_of (option_map (finding_of e.0) one ∷ o ∷ unknown_target longer (length h) ∷ [])) (back-step h e)
-    ∙ ap (λ (o : Option Finding). first_of (option_map (finding_of e.0) one ∷ option_map (finding_of e.0) two ∷ o ∷ [])) (unknown-step h e)
-    ∙ first-mapped (finding_of e.0) one two three
+    ∙ ap (λ (o : Option Finding). first_of (option_map (finding_at e.0) one ∷ o ∷ unknown_target longer (length h) ∷ [])) (back-step h e)
+    ∙ ap (λ (o : Option Finding). first_of (option_map (finding_at e.0) one ∷ option_map (finding_at e.0) two ∷ o ∷ [])) (unknown-step h e)
+    ∙ first-mapped (finding_at e.0) one two three
 
 -- what the record is seen as
 pub seen-step : (h : Records) (e : ℕ × OrderRecord) → seen_at (h ++ e ∷ []) (length h) ≡ record { place = e.0; side = side_of e.1; index = if is_order e.1 then Some (length (orders_in h)) else None }

@@ -2,24 +2,21 @@
 use Rattle.std.specs.Prelude.{◌≡◌, ℕ, zero, suc, ◌&&◌, List, [], ◌∷◌, ◌++◌, Option, None, Some, is_some, is_none, option_map, option_and_then, filter_map, length, slice_get, slice_set, if◌then◌else◌}
 use Rattle.std.specs.Option.{option_or}
 use Rattle.std.specs.List.{enumerate_from}
-use Rattle.audit_base.specs.Moments.{Moment}
+use Rattle.audit_base.specs.Moments.{Moment, is_before}
 use Rattle.audit_base.specs.declared.names.Key.{Key}
-use Rattle.audit_base.specs.declared.terms.Which.TheVariants as which
 use Rattle.audit_base.specs.declared.terms.Life.{Life}
 use Rattle.audit_base.specs.declared.terms.Life.TheVariants.{Rests}
 use Rattle.audit_base.specs.declared.records.OrderRecord.{OrderRecord}
 use Rattle.audit_base.specs.declared.records.OrderRecord.TheVariants.{New, Cancel, Replace}
 use Rattle.audit_base.specs.declared.orders.Order.{Order}
-use Rattle.audit_base.specs.declared.findings.Property.TheVariants as property
 use Rattle.audit_base.specs.declared.findings.Finding.{Finding}
-use Rattle.audit_base.specs.Histories.{symbol_of, time_of, record_at, record_place, key_at, is_order, target_key, side_of, fits_side, is_before, order_index, order_of_record, record_finding}
+use Rattle.audit_base.specs.declared.flaws.Evidence.{Evidence}
+use Rattle.audit_base.specs.declared.flaws.Evidence.TheVariants.{DuplicateId, TimeBack, UnknownTarget}
+use Rattle.audit_base.specs.Histories.{symbol_of, time_of, record_at, record_place, key_at, is_order, target_key, side_of, fits_side, order_index, order_of_record, record_finding}
 use Rattle.audit_base.specs.Least.{least_answer, least_with, first_of, only_if}
 use Rattle.audit_base.specs.Orders.{same_name, same_key, order_at, AreOrders}
-use Rattle.audit_base.specs.Shows.{found, show_place}
 use Rattle.instruction_history.specs.declared.history_so_far.HistorySoFar.{HistorySoFar}
 use Rattle.instruction_history.specs.declared.findings.Last.{Last}
-use Rattle.instruction_history.specs.declared.findings.Flaw.{Flaw}
-use Rattle.instruction_history.specs.declared.findings.Flaw.TheVariants.{DuplicateId, TimeBack, UnknownTarget}
 use Rattle.instruction_history.specs.declared.keys.Seen.{Seen}
 use Rattle.instruction_history.specs.Keys.{seen_in}
 
@@ -87,28 +84,20 @@ abbrev pub target_among : List Order → (Key → Option Seen) → OrderRecord �
 target_among orders seen entry = option_and_then (λ key. seen_target orders entry (seen key)) (target_key entry)
 
 -- 1, 2 and 3 of a record, as what is wrong with it
-abbrev pub duplicate_of : Option Seen → Option Flaw
+abbrev pub duplicate_of : Option Seen → Option Evidence
 duplicate_of earlier = option_map (λ s. DuplicateId s.place) earlier
 
-abbrev pub back_of : Option Last → Moment → Option Flaw
+abbrev pub back_of : Option Last → Moment → Option Evidence
 back_of last time = option_and_then (λ l. only_if (is_before time l.time) (TimeBack l.place)) last
 
-abbrev pub unknown_of : Option Key → Option ℕ → Option Flaw
+abbrev pub unknown_of : Option Key → Option ℕ → Option Evidence
 unknown_of named target = only_if (is_some named && is_none target) UnknownTarget
 
 -- the first of these, by what the record's key named, the record before and the record's target
-abbrev pub flaw_of : Option Seen → Option Last → OrderRecord → Option ℕ → Option Flaw
-flaw_of earlier last entry target =
+abbrev pub evidence_of : Option Seen → Option Last → OrderRecord → Option ℕ → Option Evidence
+evidence_of earlier last entry target =
     first_of (duplicate_of earlier ∷ back_of last (time_of entry)
     ∷ unknown_of (target_key entry) target ∷ [])
-
--- the finding about a record at a place, by what is wrong with it
-abbrev pub finding_of : ℕ → Flaw → Finding
-finding_of place (DuplicateId earlier) =
-    found property.DuplicateId which.Orders place (show_place which.Orders earlier) None
-finding_of place (TimeBack last) =
-    found property.TimeBack which.Orders place (show_place which.Orders last) None
-finding_of place UnknownTarget = found property.UnknownTarget which.Orders place None None
 
 -- an order that a record at a place ends, unless an earlier one did
 abbrev pub ended : ℕ → Order → Order

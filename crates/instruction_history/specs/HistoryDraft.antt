@@ -6,6 +6,7 @@ use Rattle.audit_base.specs.declared.orders.Order.{Order}
 use Rattle.audit_base.specs.Histories.{history, history_finding, order_list}
 use Rattle.instruction_history.specs.declared.history_draft.HistoryDraft.{HistoryDraft}
 use Rattle.instruction_history.specs.Draft.{IsKnown}
+use Rattle.instruction_history.specs.Flaws.{found_by, NamesNoOrder}
 use Rattle.instruction_history.specs.MarketPrices.{AreRecordsMarketPriced, AreMarketPriced}
 
 -- the draft of the symbol's history has been handed exactly these records of the order log
@@ -13,7 +14,8 @@ pub record IsHistoryDraft {S : Type 0} (symbol : List ℕ) (draft : HistoryDraft
     (entries : List OrderRecord) : Type 0 where
   pub named : draft.symbol ≡ symbol
   pub count : draft.count ≡ length entries
-  pub known : IsKnown (history symbol entries) draft.so_far draft.finding
+  pub known : IsKnown (history symbol entries) draft.so_far (found_by draft.flaw)
+  pub alone : NamesNoOrder draft.flaw
 
 -- a fact of whatever records the draft has been handed
 abbrev pub ForHanded : {S : Type 0} → List ℕ → HistoryDraft S → (List OrderRecord → Type 0) → Type 0

@@ -4,19 +4,14 @@ use Rattle.indexmap.specs.IndexMap.{get}
 use Rattle.audit_base.specs.declared.names.Key.{Key}
 use Rattle.audit_base.specs.declared.terms.Side.{Side}
 use Rattle.audit_base.specs.Orders.{same_key, same_side}
-use Rattle.instruction_history.specs.ShortKeys.{same_block, short_of}
+use Rattle.seeded_hash.specs.ShortPairs.{same_block, short_pair_of, held_by}
 use Rattle.instruction_history.specs.declared.keys.Keys.{Keys}
 use Rattle.instruction_history.specs.declared.keys.Seen.{Seen}
-use Rattle.instruction_history.specs.declared.keys.ShortKey.{ShortKey}
-
--- what a key names, given it as a short one, if it is short
-abbrev pub seen_by : Keys → Key → Option ShortKey → Option Seen
-seen_by keys key (Some short) = get same_block keys.short short
-seen_by keys key None = get same_key keys.long key
 
 -- what a key names in the maps, if it is there
 abbrev pub seen_in : Keys → Key → Option Seen
-seen_in keys key = seen_by keys key (short_of key)
+seen_in keys key =
+    held_by (get same_block keys.short) (get same_key keys.long key) (short_pair_of key.firm key.id)
 
 -- one key more: it names this, and every other key names what it did
 abbrev pub AddsKey : Keys → Keys → Key → Seen → Type 0

@@ -7,4 +7,4 @@ pub mod MarketPrices
 pub mod Draft
 pub mod History
 pub mod Keys
-pub mod ShortKeys
+pub mod Flaws

@@ -9,15 +9,14 @@ ghost use Rattle.std.specs.Prelude.{◌≡◌, ◌+◌, ◌<◌, ◌^◌, [], �
 ghost use Rattle.audit_base.specs.Histories.{symbol_of, WellFormed};
 ghost use Rattle.audit_base.specs.Orders.{same_name};
 ghost use Rattle.audit_base.specs.declared.records.OrderRecord.{OrderRecord};
-ghost use Rattle.instruction_history.specs.Draft.{finding_of};
 ghost use Rattle.instruction_history.specs.HistoryDraft.{IsHistoryDraft, ForHanded, AreOrdersOf, KeepsMarketPrices, IsFindingOf, TakesRecord};
 ghost use Rattle.log_source.specs.Collectors.{HasPlace};
 
-use super::findings::Flaw;
 use super::history::History;
 use super::history_so_far::HistorySoFar;
 use audit_base::faults::NoMemory;
 use audit_base::findings::Finding;
+use audit_base::flaws::Flaw;
 use audit_base::names::Name;
 use audit_base::records::OrderRecord;
 use log_source::collector::Collector;
@@ -57,15 +56,15 @@ fn has_symbol(entry: &OrderRecord, symbol: &Name) -> bool
 }
 
 /// What is known of the history of a symbol after some records of an order log: its orders so far, or its
-/// first finding.
+/// first flaw.
 #[derive(Drop)]
 pub struct HistoryDraft<S> {
     symbol: Name,
     /// How many records of the log there were, of all symbols.
     count: u32,
-    /// What is known where there is no finding.
+    /// What is known where there is no flaw.
     so_far: HistorySoFar,
-    finding: Option<Finding>,
+    flaw: Option<Flaw>,
     of: PhantomData<S>,
 }
 
@@ -79,7 +78,7 @@ impl<S: AuditedSymbol> HistoryDraft<S> {
             symbol,
             count: 0,
             so_far: HistorySoFar::new(alloc, seed),
-            finding: None,
+            flaw: None,
             of: PhantomData,
         }
     }
@@ -90,26 +89,14 @@ impl<S: AuditedSymbol> HistoryDraft<S> {
         ensures { OnOk result (TakesRecord S.symbol self.old self.new entry.now) }
     {
         self.count += 1;
-        if let Some(_) = self.finding {
+        if let Some(_) = self.flaw {
             return Ok(());
         }
         if !has_symbol(entry, &self.symbol) {
             return Ok(());
         }
-        if let Some(flaw) = self.so_far.take(entry, self.count)? {
-            self.keep_finding(flaw);
-        }
+        self.flaw = self.so_far.take(entry, self.count)?;
         Ok(())
-    }
-
-    /// Keeps the finding about the last record. It stands apart, since a function that makes a finding
-    /// begins by writing zeros over the room for it, also where it makes none.
-    #[cold]
-    #[inline(never)]
-    fn keep_finding(&mut self, flaw: Flaw)
-        ensures { self.new ≡ record self.old { finding = Some (finding_of self.old.count flaw) } }
-    {
-        self.finding = Some(flaw.finding(self.count));
     }
 
     /// The history, where it is well-formed, or else its first finding. Takes no memory.
@@ -122,13 +109,9 @@ impl<S: AuditedSymbol> HistoryDraft<S> {
     {
         // This read tells the proof that there are fewer than 2^32 records.
         let _ = self.count;
-        let HistoryDraft {
-            so_far,
-            finding,
-            ..
-        } = self;
-        match finding {
-            Some(finding) => Err(finding),
+        let HistoryDraft { so_far, flaw, .. } = self;
+        match flaw {
+            Some(flaw) => Err(flaw.finding(&[])),
             None => Ok(History::of(so_far)),
         }
     }

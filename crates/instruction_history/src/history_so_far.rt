@@ -1,17 +1,20 @@
 //! What is known of a history after some of its records, record by record.
-ghost use Rattle.std.specs.Prelude.{◌≡◌, ◌<◌, ◌^◌, [], ◌∷◌, ◌++◌, List, vec_len, length, IfSome, IfOk, OnOk, Some, option_map};
+ghost use Rattle.std.specs.Prelude.{◌≡◌, ◌<◌, ◌^◌, [], ◌∷◌, ◌++◌, List, vec_len, length, IfSome, IfOk, OnOk, Some};
 ghost use Rattle.std.specs.Option.{ForSome};
 ghost use Rattle.audit_base.specs.Histories.{key_of};
 ghost use Rattle.audit_base.specs.Orders.{AreOrders};
 ghost use Rattle.audit_base.specs.declared.orders.Order.{Order};
 ghost use Rattle.instruction_history.specs.Draft as draft;
+ghost use Rattle.instruction_history.specs.Flaws.{found_by, NamesNoOrder};
 ghost use Rattle.instruction_history.specs.Keys.{seen_in};
 
-use super::findings::{Flaw, Last, flaw_of};
+use super::findings::{Last, evidence_of};
 use super::keys::{Keys, Seen};
 use audit_base::faults::NoMemory;
+use audit_base::flaws::Flaw;
 use audit_base::names::{Key, Name};
 use audit_base::orders::Order;
+use audit_base::ranges::order_in_range;
 use audit_base::records::OrderRecord;
 use audit_base::terms::Life;
 use seeded_hash::seed::HashSeed;
@@ -103,9 +106,7 @@ fn push(orders: &mut Vec<Order>, order: Order) -> Result<(), NoMemory>
     ensures items { OnOk result (orders.new.items ≡ orders.old.items ++ order ∷ []) }
     ensures numbers { AreOrders orders.old.items → AreOrders orders.new.items }
 {
-    // These calls tell the proof the ranges that each price and quantity keeps.
-    let _ = order.quantity.value();
-    let _ = order.limit.units();
+    order_in_range(&order);
     orders.push(order)?;
     Ok(())
 }
@@ -217,16 +218,16 @@ impl HistorySoFar {
     /// nothing is known of what is kept.
     pub fn take(&mut self, entry: &OrderRecord, place: u32) -> Result<Option<Flaw>, NoMemory>
         requires { vec_len self.old.orders < 2 ^ 32 }
-        ensures { let finding = option_map (draft.finding_of place) in
-            let knows = KnowsOneMore self.old self.new place entry.now in
-            IfOk result (λ flaw. knows (finding flaw)) }
+        ensures knows { let knows = KnowsOneMore self.old self.new place entry.now in
+            IfOk result (λ flaw. knows (found_by flaw)) }
+        ensures alone { IfOk result NamesNoOrder }
     {
         let target = target_of(&self.orders, &self.keys, entry);
         let seen = seen_as(entry, place, self.orders.len() as u32);
         // One look-up tells what the key named and adds it.
         let earlier = self.keys.add(key_of(entry), seen)?;
-        if let Some(flaw) = flaw_of(earlier, self.last, entry, target) {
-            return Ok(Some(flaw));
+        if let Some(evidence) = evidence_of(earlier, self.last, entry, target) {
+            return Ok(Some(Flaw { place, evidence }));
         }
         self.add(entry, target, place)?;
         Ok(None)

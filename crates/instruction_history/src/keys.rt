@@ -1,20 +1,18 @@
 //! The keys of a history, and what each of them names.
 //!
-//! A key has room for two names of 64 bytes, and most keys are far shorter. So where the names of a key
-//! have at most 30 bytes together, it is kept as a block of 32 bytes, which is hashed as four words; only a
-//! longer key is kept as it is. The blocks of many keys fit near the processor, where their keys do not.
-ghost use Rattle.std.specs.Prelude.{◌≡◌, ◌+◌, ◌≤◌, None, Some, IfOk, OnOk, if◌then◌else◌, length};
+//! A key is kept as the pair of its firm and its id where the two are short, and only a longer key as it is.
+ghost use Rattle.std.specs.Prelude.{◌≡◌, None, IfOk, OnOk};
 ghost use Rattle.audit_base.specs.declared.names.Key.{Key};
 ghost use Rattle.instruction_history.specs.Keys.{index_on, seen_in, AddsKey};
-ghost use Rattle.instruction_history.specs.ShortKeys.{is_short, put_at, short_block, short_of};
 
 use audit_base::faults::NoMemory;
 use audit_base::names::{Key, Name};
 use audit_base::terms::Side;
 use indexmap::IndexMap;
+use seeded_hash::blocks::BlockSeed;
 use seeded_hash::seed::HashSeed;
+use seeded_hash::short_pairs::ShortPair;
 use std::alloc::Global;
-use std::hash::{Hash, Hasher};
 
 /// What a key names.
 #[derive(Clone, Copy)]
@@ -37,66 +35,10 @@ impl Seen {
     }
 }
 
-/// A key whose names have at most 30 bytes together: the sizes of both, their bytes, and zeros.
-#[derive(Clone, Copy, PartialEq, Eq)]
-pub(crate) struct ShortKey {
-    block: [u8; 32],
-}
-
-impl Hash for ShortKey {
-    ghost use Rattle.std.specs.Prelude.{[], ◌∷◌};
-    ghost use Rattle.std.specs.Cmp.Rules.{hashing};
-    ghost use Rattle.std.proofs.Common.{rules};
-
-    ghost hash_input = { λ key. key.block ∷ [] };
-
-    ghost respects_eq = { Prim.search (hashing, rules) };
-
-    fn hash<H: Hasher>(&self, state: &mut H) {
-        state.write(&self.block);
-    }
-}
-
-/// Writes a text over the bytes of a block from a place on.
-fn put(block: &mut [u8], at: usize, text: &[u8])
-    requires { at + length text.now ≤ length block.old }
-    ensures { block.new ≡ put_at block.old at text.now }
-{
-    block[at..at + text.len()].copy_from_slice(text);
-}
-
-/// The block of a key of these names.
-fn block_of(firm: &[u8], id: &[u8]) -> [u8; 32]
-    requires { length firm.now + length id.now ≤ 30 }
-    ensures { result ≡ short_block firm.now id.now }
-{
-    let mut block = [0; 32];
-    block[0] = firm.len() as u8;
-    block[1] = id.len() as u8;
-    put(&mut block, 2, firm);
-    put(&mut block, 2 + firm.len(), id);
-    block
-}
-
-/// The key of these names as a short one, where it is short.
-fn short_of(firm: &Name, id: &Name) -> Option<ShortKey>
-    ensures { result ≡ short_of (record { firm = firm.now; id = id.now }) }
-{
-    let firm = firm.bytes();
-    let id = id.bytes();
-    if firm.len() + id.len() <= 30 {
-        Some(ShortKey {
-            block: block_of(firm, id),
-        })
-    } else {
-        None
-    }
-}
-
 /// What the keys of the records so far name.
 #[derive(Drop)]
 pub(crate) struct Keys {
-    short: IndexMap<ShortKey, Seen, HashSeed>,
+    short: IndexMap<ShortPair, Seen, BlockSeed>,
     /// The keys that are not short.
     long: IndexMap<Key, Seen, HashSeed>,
 }
@@ -107,7 +49,7 @@ impl Keys {
         ensures { (key : Key) → seen_in result key ≡ None }
     {
         Keys {
-            short: IndexMap::with_hasher(alloc, seed),
+            short: IndexMap::with_hasher(alloc, BlockSeed::of(seed)),
             long: IndexMap::with_hasher(alloc, seed),
         }
     }
@@ -117,7 +59,7 @@ impl Keys {
     pub fn find(&self, firm: &Name, id: &Name) -> Option<Seen>
         ensures { result ≡ seen_in self.now (record { firm = firm.now; id = id.now }) }
     {
-        match short_of(firm, id) {
+        match ShortPair::of(firm.bytes(), id.bytes()) {
             Some(short) => self.short.get(&short).copied(),
             None => {
                 let key = Key {
@@ -134,7 +76,7 @@ impl Keys {
         ensures earlier { IfOk result (λ earlier. earlier ≡ seen_in self.old key.now) }
         ensures adds { OnOk result (AddsKey self.old self.new key.now seen) }
     {
-        match short_of(&key.firm, &key.id) {
+        match ShortPair::of(key.firm.bytes(), key.id.bytes()) {
             Some(short) => Ok(self.short.insert(short, seen)?),
             None => Ok(self.long.insert(*key, seen)?),
         }

@@ -16,7 +16,8 @@ use Rattle.audit_base.specs.declared.records.OrderRecord.TheVariants.{New, Cance
 use Rattle.audit_base.specs.declared.orders.Order.{Order}
 use Rattle.audit_base.specs.Orders.{same_name, same_key, is_rests, order_at, missing_order}
 use Rattle.audit_base.specs.Least.{least_answer, only_if}
-use Rattle.audit_base.specs.Histories.{key_of, time_of, symbol_of, target_key, is_order, ends, side_of, fits_side, is_before, history, missing_entry, record_at, key_at, target_of, duplicate_id, time_back, unknown_target, record_finding, WellFormed, Regular, order_of_record, order_list, instant_order}
+use Rattle.audit_base.specs.Histories.{key_of, time_of, symbol_of, target_key, is_order, ends, side_of, fits_side, history, missing_entry, record_at, key_at, target_of, duplicate_id, time_back, unknown_target, record_finding, WellFormed, Regular, order_of_record, order_list, instant_order}
+use Rattle.audit_base.specs.Moments.{is_before}
 use Rattle.audit_base.proofs.HistoryLemmas.{same_key-is, is-same_key, order_list-regular}
 use Rattle.audit_base.proofs.LeastLemmas.{least-none, option_or-none, with-none, with-exists}
 use Rattle.log_maker.specs.Generator.{AreOfSymbol, generated_symbol, firm_of_number, id_of_number, key_of_number, time_of_number, side_of_state, quantity_of_state, price_of_state, record_of_state, generated_record, generated_records, state_at}

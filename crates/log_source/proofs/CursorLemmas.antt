@@ -65,7 +65,7 @@ left-more logs more i at false within = refl
 -- what a cursor stands at stays as logs are added
 pub cursor_state-more : (logs more : List Log) (cursor : Cursor) → IsCursorInside logs cursor → cursor_state (logs ++ more) cursor ≡ cursor_state logs cursor
 cursor_state-more logs more cursor within =
-    ap (λ (left : List ℕ). record { started = cursor.started; left = Some left; taken = cursor.at; faults = cursor.faults }) (left-more logs more cursor.log cursor.at cursor.started within)
+    ap (λ (left : List ℕ). record { started = cursor.started; left = Some left; taken = cursor.at; starts = cursor.starts; faults = cursor.faults }) (left-more logs more cursor.log cursor.at cursor.started within)
 
 front_next : (logs : List Log) (i : ℕ) (log : Log) → i < length logs → log ≡ get_or logs i log → take (i + 1) logs ≡ take i logs ++ log ∷ []
 front_next logs i log h e =

@@ -25,6 +25,7 @@ cursor_state logs cursor = record {
   started = cursor.started;
   left = Some (if cursor.started then drop cursor.at (bytes_at logs cursor.log) else []);
   taken = cursor.at;
+  starts = cursor.starts;
   faults = cursor.faults;
 }
 

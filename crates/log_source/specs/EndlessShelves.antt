@@ -1,5 +1,5 @@
 -- A shelf that gives one byte without end.
-use Rattle.std.specs.Prelude.{ℕ, Bool, false, List, Option, None}
+use Rattle.std.specs.Prelude.{ℕ, Bool, true, false, List, Option, None}
 use Rattle.audit_base.specs.declared.terms.Which.{Which}
 use Rattle.audit_base.specs.declared.terms.Which.TheVariants.{Orders, Trades}
 use Rattle.log_source.specs.Sources.{Slot}
@@ -8,7 +8,18 @@ use Rattle.log_source.specs.declared.endless_shelf.EndlessShelf.{EndlessShelf}
 
 -- the state of one slot: nothing is told of what is left, and no fault is ever counted
 abbrev pub endless_state : EndlessSlot → Slot
-endless_state slot = record { started = slot.started; left = None; taken = slot.taken; faults = 0 }
+endless_state slot = record {
+  started = slot.started;
+  left = None;
+  taken = slot.taken;
+  starts = slot.starts;
+  faults = 0;
+}
+
+-- the state of a slot that was just started, for this many times
+abbrev pub started_slot : ℕ → Slot
+started_slot starts =
+    record { started = true; left = None; taken = 0; starts = starts; faults = 0 }
 
 -- it does not tell of its logs
 abbrev pub endless_tells : EndlessShelf → Bool

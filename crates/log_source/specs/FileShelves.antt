@@ -13,6 +13,7 @@ file_state remaining slot = record {
   started = is_some slot.file;
   left = option_and_then remaining slot.file;
   taken = slot.taken;
+  starts = slot.starts;
   faults = slot.faults;
 }
 

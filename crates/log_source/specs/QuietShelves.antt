@@ -12,12 +12,14 @@ quiet_state slot = record {
   started = slot.started;
   left = Some (if slot.started then drop slot.at slot.log.items else []);
   taken = slot.at;
+  starts = slot.starts;
   faults = 0;
 }
 
--- the state of a slot whose log was just started
-abbrev pub started_slot : List ℕ → Slot
-started_slot log = record { started = true; left = Some log; taken = 0; faults = 0 }
+-- the state of a slot whose log was just started, for this many times
+abbrev pub started_slot : List ℕ → ℕ → Slot
+started_slot log starts =
+    record { started = true; left = Some log; taken = 0; starts = starts; faults = 0 }
 
 -- the log of a slot
 abbrev pub quiet_log : QuietShelf → Which → List ℕ

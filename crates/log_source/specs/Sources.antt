@@ -5,6 +5,7 @@ use Rattle.std.specs.Io.KnownBytes.{ReadConsumes}
 use Rattle.audit_base.specs.declared.terms.Which.{Which}
 use Rattle.audit_base.specs.declared.terms.Which.TheVariants.{Orders, Trades}
 pub use Rattle.audit_base.specs.Sizes.{longest_log}
+use Rattle.log_source.specs.Calls.{count_after}
 use Rattle.log_source.specs.declared.shelf.Failed.{Failed}
 use Rattle.log_source.specs.declared.shelf.StartFault.{StartFault}
 use Rattle.log_source.specs.declared.shelf.StartFault.TheVariants as start
@@ -19,16 +20,18 @@ other_of Orders = Trades
 other_of Trades = Orders
 
 -- What a shelf stands at in one slot: whether a log is started, the bytes still to come where they are
--- known, how many bytes reads have given since the start, and how many faults were counted.
+-- known, how many bytes reads have given since the start, how many starts were made, and how many faults
+-- were counted.
 pub record Slot : Type 0 where
   pub started : Bool
   pub left : Option (List ℕ)
   pub taken : ℕ
+  pub starts : ℕ
   pub faults : ℕ
 
 -- a slot of a new shelf: nothing is started, taken or counted; `left` is what the shelf tells of it
 abbrev pub fresh_slot : Option (List ℕ) → Slot
-fresh_slot left = record { started = false; left = left; taken = 0; faults = 0 }
+fresh_slot left = record { started = false; left = left; taken = 0; starts = 0; faults = 0 }
 
 -- a count of faults rose, or stands at the greatest value that it can show
 abbrev pub Rose : ℕ → ℕ → Type 0
@@ -46,17 +49,20 @@ pub record ChangesOnly {F : Type 0} (tells : F → Bool)
 pub record Starts {T : Type 0} (tells : Bool) (log : Option (List ℕ)) (old new : Slot)
     (result : Result T StartFault) : Type 0 where
   pub fresh : new.taken ≡ 0
+  pub counted : new.starts ≡ count_after old.starts
   pub later : old.faults ≤ new.faults
   pub started : new.started ≡ is_ok result
   pub known : OnOk result (tells ≡ true → IsSome log × (new.left ≡ log))
   pub cause : IsErrOf result start.Failed → Rose old.faults new.faults ⊎ ((tells ≡ true) × (log ≡ None))
 
 -- What a read into `buf` does to its slot: at `Ok n` the first n bytes of what was left stand at the
--- front of `buf`, and n is 0 only where nothing is left. After a failure left and taken stay.
+-- front of `buf`, and n is 0 only where nothing is left. After a failure left and taken stay. A read is no
+-- start.
 pub record Reads (old new : Slot) (result : Result ℕ Failed) (buf : List ℕ) : Type 0 where
   pub bound : ReadsAtMost result buf
   pub bytes : ReadConsumes old.left new.left result buf
   pub taken : MatchResult result (λ n. new.taken ≡ old.taken + n) (λ _. new.taken ≡ old.taken)
   pub started : new.started ≡ old.started
+  pub starts : new.starts ≡ old.starts
   pub later : old.faults ≤ new.faults
   pub cause : OnErr result (Rose old.faults new.faults)

@@ -2,6 +2,7 @@
 use Rattle.std.specs.Prelude.{◌≡◌, ℕ, ◌<◌, ◌≤◌, ◌⊎◌, ◌↔◌, true, List, length, Some, None, IsSomeAnd, Result, OnOk, IsErrOf}
 use Rattle.std.specs.Io.KnownBytes.{IsAtEnd}
 use Rattle.audit_base.specs.declared.terms.Which.{Which}
+use Rattle.log_source.specs.Calls.{count_after}
 use Rattle.log_source.specs.Sources.{Rose}
 use Rattle.log_source.specs.declared.shelf.Shelf as shelf
 use Rattle.log_source.specs.declared.take.TakeFault.{TakeFault}
@@ -22,11 +23,12 @@ HasTooLong shelves which name limit shelf =
 abbrev pub IsWhole : {F : Type 0} → shelf.Ghosts F → Which → List ℕ → F → List ℕ → Type 0
 IsWhole shelves which name shelf bytes = shelves.tells shelf ≡ true → shelves.log_of shelf which name ≡ Some bytes
 
--- What taking a whole log does to its slot. After `Ok` the log was read to its end. It is too long
+-- What taking a whole log does to its slot. It is started once. After `Ok` the log was read to its end. It is too long
 -- exactly where more bytes were taken than the limit. `Fault` comes only where the slot's faults rose, or
 -- where the shelf tells and has no such log.
 pub record Takes {F T : Type 0} (shelves : shelf.Ghosts F) (which : Which) (name : List ℕ)
     (limit : ℕ) (old new : F) (result : Result T TakeFault) : Type 0 where
+  pub once : (shelves.slot new which).starts ≡ count_after (shelves.slot old which).starts
   pub later : (shelves.slot old which).faults ≤ (shelves.slot new which).faults
   pub started : OnOk result ((shelves.slot new which).started ≡ true)
   pub at_end : OnOk result (IsAtEnd (shelves.slot new which).left)

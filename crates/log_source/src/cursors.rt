@@ -20,6 +20,7 @@ pub(crate) struct Cursor {
     pub(crate) started: bool,
     pub(crate) log: usize,
     pub(crate) at: usize,
+    pub(crate) starts: u64,
     pub(crate) faults: u64,
 }
 
@@ -54,6 +55,7 @@ pub(crate) fn start_cursor(
 {
     cursor.started = false;
     cursor.at = 0;
+    cursor.starts = cursor.starts.saturating_add(1);
     if fails {
         cursor.faults = cursor.faults.saturating_add(1);
         return Err(StartFault::Failed);

@@ -1,6 +1,7 @@
 //! A shelf whose logs have no end.
 ghost use Rattle.std.specs.Prelude.{◌≡◌, ◌<◌, ◌≤◌, true, false, length, replicate, None, IsOk, Ok};
 ghost use Rattle.audit_base.specs.declared.terms.Which.{Which};
+ghost use Rattle.log_source.specs.Calls.{count_after};
 ghost use Rattle.log_source.specs.Sources.{ChangesOnly, Starts, Reads, fresh_slot, longest_read};
 
 use crate::shelf::{Failed, Shelf, StartFault};
@@ -11,6 +12,19 @@ use audit_base::terms::Which;
 struct EndlessSlot {
     started: bool,
     taken: u64,
+    starts: u64,
+}
+
+impl EndlessSlot {
+    ghost use Rattle.log_source.specs.EndlessShelves.{endless_state, started_slot};
+
+    fn start(&mut self)
+        ensures { endless_state self.new ≡ started_slot (count_after self.old.starts) }
+    {
+        self.started = true;
+        self.taken = 0;
+        self.starts = self.starts.saturating_add(1);
+    }
 }
 
 /// A shelf both of whose slots give one byte without end, under every name. It tells nothing of its
@@ -33,6 +47,7 @@ impl EndlessShelf {
         let fresh = EndlessSlot {
             started: false,
             taken: 0,
+            starts: 0,
         };
         EndlessShelf {
             byte,
@@ -59,13 +74,9 @@ impl Shelf for EndlessShelf {
         ensures byte { endless_byte self.new ≡ endless_byte self.old }
         ensures starts { IsOk result }
     {
-        let started = EndlessSlot {
-            started: true,
-            taken: 0,
-        };
         match which {
-            Which::Orders => self.orders = started,
-            Which::Trades => self.trades = started,
+            Which::Orders => self.orders.start(),
+            Which::Trades => self.trades.start(),
         }
         Ok(())
     }

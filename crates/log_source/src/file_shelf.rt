@@ -15,6 +15,7 @@ use std::rt::Files;
 struct FileSlot<X> {
     file: Option<X>,
     taken: u64,
+    starts: u64,
     faults: u64,
 }
 
@@ -25,6 +26,7 @@ impl<X: Read + Drop> FileSlot<X> {
         FileSlot {
             file: None,
             taken: 0,
+            starts: 0,
             faults: 0,
         }
     }
@@ -36,6 +38,7 @@ impl<X: Read + Drop> FileSlot<X> {
     {
         self.file = None;
         self.taken = 0;
+        self.starts = self.starts.saturating_add(1);
         match fs::open(files, name) {
             Ok(file) => {
                 self.file = Some(file);

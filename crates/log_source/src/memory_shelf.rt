@@ -46,6 +46,7 @@ impl MemoryShelf {
             started: false,
             log: 0,
             at: 0,
+            starts: 0,
             faults: 0,
         };
         MemoryShelf {

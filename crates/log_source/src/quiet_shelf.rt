@@ -1,6 +1,7 @@
 //! A shelf in memory that never fails.
 ghost use Rattle.std.specs.Prelude.{◌≡◌, ◌<◌, ◌≤◌, true, [], length, Some, IsOk, IsOkAnd, Ok, false};
 ghost use Rattle.audit_base.specs.declared.terms.Which.{Which};
+ghost use Rattle.log_source.specs.Calls.{count_after};
 ghost use Rattle.log_source.specs.Sources.{ChangesOnly, Starts, Reads, fresh_slot, longest_read};
 
 use crate::in_memory::copy_piece;
@@ -13,6 +14,7 @@ struct QuietSlot {
     log: Vec<u8>,
     started: bool,
     at: usize,
+    starts: u64,
 }
 
 impl QuietSlot {
@@ -26,15 +28,18 @@ impl QuietSlot {
             log,
             started: false,
             at: 0,
+            starts: 0,
         }
     }
 
     fn start(&mut self)
         ensures log { self.new.log.items ≡ self.old.log.items }
-        ensures slot { quiet_state self.new ≡ started_slot self.old.log.items }
+        ensures slot { let starts = count_after self.old.starts in
+            quiet_state self.new ≡ started_slot self.old.log.items starts }
     {
         self.started = true;
         self.at = 0;
+        self.starts = self.starts.saturating_add(1);
     }
 
     fn read(&mut self, piece: usize, buf: &mut [u8]) -> usize

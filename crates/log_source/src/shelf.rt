@@ -24,7 +24,7 @@ pub enum StartFault {
 /// Two logs that are read piece by piece, one in each slot.
 ///
 /// A shelf that tells has known bytes under each name that it knows, and they never change. Each
-/// slot counts its own faults, which never fall, and no call on one slot touches the other.
+/// slot counts its starts and its faults, which never fall, and no call on one slot touches the other.
 pub trait Shelf {
     // Whether the bytes of its logs are known.
     ghost tells: { Self → Bool };

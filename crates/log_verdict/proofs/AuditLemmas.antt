@@ -3,7 +3,7 @@ use Rattle.std.specs.List.{count_by, enumerate_from}
 use Rattle.std.proofs.lemmas.List.{length-map}
 use Rattle.std.proofs.lemmas.List.FromFn.{length-enumerate_from}
 use Rattle.std.proofs.lemmas.List.Sums.{count_by-le-length, length-filter}
-use Rattle.std.proofs.Common.{◌<◌, ◌≡◌, ◌∙◌, sym, ap, subst, refl, inl, inr, ⊎_elim, arith, ℕ, ◌≤◌, Bool, List, length, Option, None, Some, Result, Ok, Err, IsOk}
+use Rattle.std.proofs.Common.{◌<◌, ◌≡◌, ◌⊎◌, ◌∙◌, sym, ap, subst, refl, inl, inr, ⊎_elim, arith, ℕ, ◌≤◌, Bool, true, List, length, Option, None, Some, Result, Ok, Err, IsOk}
 use Rattle.std.specs.Prelude.{IsSomeAnd}
 use Rattle.audit_base.specs.declared.findings.Finding.{Finding}
 use Rattle.audit_base.specs.declared.orders.Order.{Order}
@@ -15,7 +15,8 @@ use Rattle.audit_base.specs.Histories.{history_finding, order_list, WellFormed}
 use Rattle.audit_base.specs.Orders.{same_name}
 use Rattle.audit_base.specs.Trades.{deal_of, deals_of, trades_of, unsound_trade}
 use Rattle.log_source.specs.declared.shelf.Shelf.{Ghosts as Shelf}
-use Rattle.log_source.specs.Sources.{Slot}
+use Rattle.log_source.specs.Calls.{count_after}
+use Rattle.log_source.specs.Sources.{Slot, Rose}
 use Rattle.matching_core.specs.declared.deals_draft.ResolvedTrades.{ResolvedTrades}
 use Rattle.record_verdict.specs.declared.before_rule.BeforeRule.{BeforeRule}
 use Rattle.record_verdict.specs.declared.before_rule.BeforeRule.TheVariants as upto
@@ -52,6 +53,7 @@ module _ (first second : Reading) (after : Follows first second) where
   stays_read name says says' so is = record {
     bytes = is.bytes;
     read = record {
+      once = rw after.orders is.read.once;
       started = rw after.orders is.read.started;
       at_end = rw after.orders is.read.at_end;
       within = is.read.within;
@@ -61,11 +63,15 @@ module _ (first second : Reading) (after : Follows first second) where
     holds = so is.bytes is.holds;
   }
 
+  once_after : (second.after Trades).starts ≡ count_after (second.before Trades).starts → (second.after Trades).starts ≡ count_after (first.before Trades).starts
+  once_after once = subst (λ (s : Slot). (second.after Trades).starts ≡ count_after s.starts) after.trades once
+
   -- the trade log is read in the whole as in the part
   read_after : (name : List ℕ) (says : List ℕ → Type 0) → IsReadAs second Trades name says → IsReadAs (joined first second) Trades name says
   read_after name says is = record {
     bytes = is.bytes;
     read = record {
+      once = once_after is.read.once;
       started = is.read.started;
       at_end = is.read.at_end;
       within = subst (λ (n : ℕ). length is.bytes ≤ n) after.limit is.read.within;
@@ -76,11 +82,16 @@ module _ (first second : Reading) (after : Follows first second) where
   }
 
   fault_after : (name : List ℕ) → IsReadFault second (step_of second Trades name) → IsReadFault (joined first second) (step_of (joined first second) Trades name)
-  fault_after name (inl rose) = inl (rw (← after.trades) rose)
-  fault_after name (inr (t, none)) = inr (sym after.tells ∙ t, sym (after.logs Trades name) ∙ none)
+  fault_after name is = record { once = once_after is.once; cause = by_cause is.cause }
+    where
+      by_cause : Rose (second.before Trades).faults (second.after Trades).faults ⊎ ((second.tells ≡ true) × (second.log_of Trades name ≡ None))
+          → Rose (first.before Trades).faults (second.after Trades).faults ⊎ ((first.tells ≡ true) × (first.log_of Trades name ≡ None))
+      by_cause (inl rose) = inl (rw (← after.trades) rose)
+      by_cause (inr (t, none)) = inr (sym after.tells ∙ t, sym (after.logs Trades name) ∙ none)
 
   long_after : (name : List ℕ) → IsTooLong second (step_of second Trades name) → IsTooLong (joined first second) (step_of (joined first second) Trades name)
   long_after name is = record {
+    once = once_after is.once;
     taken = subst (λ (n : ℕ). n < (second.after Trades).taken) after.limit is.taken;
     longer = λ t. subst (λ (n : ℕ). IsSomeAnd (first.log_of Trades name) (λ bytes. n < length bytes)) after.limit
         (subst (λ (o : Option (List ℕ)). IsSomeAnd o (λ bytes. second.limit < length bytes)) (after.logs Trades name) (is.longer (after.tells ∙ t)));

@@ -13,9 +13,8 @@ use Rattle.audit_base.specs.declared.records.TradeRecord.{TradeRecord}
 use Rattle.audit_report.specs.declared.verdicts.Verdict.{Verdict}
 use Rattle.audit_report.specs.declared.verdicts.Verdict.TheVariants.{Malformed}
 use Rattle.csv_logs.specs.Logs as csv
-use Rattle.fix_messages.specs.declared.meanings.Report.{Report}
 use Rattle.fix_messages.specs.Logs as fix
-use Rattle.fix_messages.specs.Pairings.{pairing}
+use Rattle.fix_messages.specs.Pairings.{Report, pairing}
 use Rattle.record_verdict.specs.declared.questions.Question.{Question}
 use Rattle.record_verdict.specs.Judgements.{IsJudged}
 

@@ -5,6 +5,7 @@ use Rattle.audit_base.specs.declared.terms.Which.{Which}
 use Rattle.audit_base.specs.declared.terms.Which.TheVariants.{Orders, Trades}
 use Rattle.log_source.specs.declared.shelf.Shelf.{Ghosts as Shelf}
 use Rattle.log_verdict.specs.declared.sources.Source.{Source}
+use Rattle.log_source.specs.Calls.{count_after}
 use Rattle.log_source.specs.Sources.{Slot, Rose, longest_log}
 
 -- What a call knows of a shelf: how many bytes a log may have, whether the shelf tells what it has, what it
@@ -47,23 +48,30 @@ pub record Step : Type 0 where
   pub before : Slot
   pub after : Slot
 
--- The log was read to its end, and these are its bytes, whatever pieces they came in; where the shelf
--- tells, they are what it has under the name.
+-- the log was started once
+abbrev pub IsStartedOnce : Step → Type 0
+IsStartedOnce step = step.after.starts ≡ count_after step.before.starts
+
+-- The log was started once and read to its end, and these are its bytes, whatever pieces they came in; where
+-- the shelf tells, they are what it has under the name.
 pub record IsRead (r : Reading) (step : Step) (bytes : List ℕ) : Type 0 where
+  pub once : IsStartedOnce step
   pub started : step.after.started ≡ true
   pub at_end : IsAtEnd step.after.left
   pub within : length bytes ≤ r.limit
   pub taken : length bytes ≡ step.after.taken
   pub known : r.tells ≡ true → r.log_of step.log step.name ≡ Some bytes
 
--- the log could not be read: its faults rose, or the shelf knows that it lacks the log
-abbrev pub IsReadFault : Reading → Step → Type 0
-IsReadFault r step =
-    Rose step.before.faults step.after.faults
-    ⊎ ((r.tells ≡ true) × (r.log_of step.log step.name ≡ None))
+-- The log was started once and could not be read: its faults rose, or the shelf knows that it lacks the log.
+pub record IsReadFault (r : Reading) (step : Step) : Type 0 where
+  pub once : IsStartedOnce step
+  pub cause : Rose step.before.faults step.after.faults
+      ⊎ ((r.tells ≡ true) × (r.log_of step.log step.name ≡ None))
 
--- The log is too long: more of it was taken than a log may have, and where the shelf tells it has more.
+-- The log was started once and is too long: more of it was taken than a log may have, and where the shelf
+-- tells it has more.
 pub record IsTooLong (r : Reading) (step : Step) : Type 0 where
+  pub once : IsStartedOnce step
   pub taken : r.limit < step.after.taken
   pub longer : r.tells ≡ true
       → IsSomeAnd (r.log_of step.log step.name) (λ bytes. r.limit < length bytes)

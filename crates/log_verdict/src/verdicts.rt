@@ -37,6 +37,8 @@ pub fn verdict_on<F: Shelf>(
     ensures in_range { IfOk result IsVerdictInRange }
     ensures within { StaysWithin (reading_by orders.now F.Shelf shelf.old shelf.new) result }
 {
+    // A match and no `?`: behind one, each way out lets go of what was read, case by case, and the proof of
+    // the answer is lost among them.
     match read_both(alloc, shelf, &question.scope(), orders, trades) {
         Ok(reached) => Ok(verdict_after(alloc, question, &reached)?),
         Err(stop) => Err(stop),

@@ -50,12 +50,11 @@ resolved-known orders h kept None none known = known
 resolved-known orders h kept (Some f) none known = absurd (cc none)
 
 -- a trade of the symbol was taken, and its finding, if it has one, is kept
-pub known-next : (orders : List Order) (symbol : List ℕ) (trades : List TradeRecord) (x : TradeRecord) (count : ℕ) (old new : SoundDeals) (before found after : Option Finding) → count ≡ length trades → before ≡ None → found ≡ after
-    → same_name x.symbol symbol ≡ true → IsKnown orders (trades_of symbol trades) old before → KnowsOneMore orders old new (count + 1) x found → IsKnown orders (trades_of symbol (trades ++ x ∷ [])) new after
-known-next orders symbol trades x count old new before found after counted none kept same known takes =
+pub known-next : (orders : List Order) (symbol : List ℕ) (trades : List TradeRecord) (x : TradeRecord) (count : ℕ) (old new : SoundDeals) (before found : Option Finding) → count ≡ length trades → before ≡ None
+    → same_name x.symbol symbol ≡ true → IsKnown orders (trades_of symbol trades) old before → KnowsOneMore orders old new (count + 1) x found → IsKnown orders (trades_of symbol (trades ++ x ∷ [])) new found
+known-next orders symbol trades x count old new before found counted none same known takes =
     let place : count + 1 ≡ length trades + 1 = ap (λ (n : ℕ). n + 1) counted in
-    let one = known-of orders symbol trades x (count + 1) new found place same (takes (trades_of symbol trades) (resolved-known orders (trades_of symbol trades) old before none known)) in
-    subst (λ (f : Option Finding). IsKnown orders (trades_of symbol (trades ++ x ∷ [])) new f) kept one
+    known-of orders symbol trades x (count + 1) new found place same (takes (trades_of symbol trades) (resolved-known orders (trades_of symbol trades) old before none known))
 
 pub size-more : (count : ℕ) (trades : List TradeRecord) (x : TradeRecord) → count ≡ length trades → count + 1 ≡ length (trades ++ x ∷ [])
 size-more count trades x is = simp length-append (omega (arith, is))

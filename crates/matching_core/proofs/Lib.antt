@@ -1,4 +1,3 @@
 pub mod CheckLemmas
 pub mod ResolveLemmas
 pub mod DraftLemmas
-pub mod ShortIdLemmas

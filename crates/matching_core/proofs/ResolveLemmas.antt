@@ -5,18 +5,20 @@ use Rattle.std.specs.List.{enumerate_from}
 use Rattle.std.specs.Option.{option_or}
 use Rattle.std.proofs.lemmas.List.{get_or_append_left, get_or_at}
 use Rattle.std.proofs.lemmas.List.Elements.{filter-append}
+use Rattle.std.proofs.lemmas.Slice.Eq.{bytes_eq-Decides}
 use Rattle.audit_base.specs.declared.records.TradeRecord.{TradeRecord}
 use Rattle.audit_base.specs.declared.orders.Order.{Order}
 use Rattle.audit_base.specs.declared.orders.Deal.{Deal}
 use Rattle.audit_base.specs.declared.findings.Finding.{Finding}
+use Rattle.audit_base.specs.declared.flaws.Evidence.TheVariants.{DuplicateTrade}
 use Rattle.audit_base.specs.Least.{least_answer, least_with, only_if}
 use Rattle.audit_base.specs.Orders.{same_name}
 use Rattle.audit_base.specs.Trades.{trades_of, missing_trade, trade_at, trade_place, duplicate_trade, unknown_order, unsound_trade, deal_of}
 use Rattle.instruction_history.proofs.FirstLemmas.{least_answer-same, least_with-same, least_answer-stays, least_with-some, option_or-none, option_or-nothing}
 use Rattle.instruction_history.proofs.HistoryLemmas.{enumerate_from-append}
-use Rattle.instruction_history.proofs.KeyLemmas.{same_name-is}
+use Rattle.instruction_history.specs.Flaws.{finding_at}
 use Rattle.matching_core.specs.declared.sound_deals.SoundDeals.{SoundDeals}
-use Rattle.matching_core.specs.DealsSoFar.{first_in, duplicate_of, unknown_in, finding_in, first_with, IsResolved, AddsDeal, AddsId, entry_of}
+use Rattle.matching_core.specs.DealsSoFar.{first_in, unknown_in, finding_in, first_with, IsResolved, AddsDeal, AddsId, entry_of}
 use Rattle.matching_core.specs.declared.trade_ids.TradeIds.{TradeIds}
 
 abbrev pub Listed : Type 0
@@ -38,6 +40,10 @@ option_map-same {B = B} f g (Some a) same = ap (λ (b : B). Some b) (same a refl
 pub record SameBelow (h g : Listed) (n : ℕ) : Type 0 where
   pub at : (j : ℕ) → j < n → get_or h j missing_trade ≡ get_or g j missing_trade
 
+-- 5 of a trade at a place, by the place of the earlier one
+abbrev duplicate : ℕ → ℕ → Finding
+duplicate place first = finding_at place (DuplicateTrade first)
+
 -- 5 and 6 of a trade, by the trade itself and those before it
 duplicate-same : (n : ℕ) (h g : Listed) → SameBelow h g n → (k : ℕ) → k < n → duplicate_trade h k ≡ duplicate_trade g k
 unfolding duplicate_trade
@@ -46,11 +52,11 @@ duplicate-same n h g same k lt =
     let tests : least_with (λ j. same_name (trade_at h j).trade (trade_at h k).trade) k ≡ least_with (λ j. same_name (trade_at g j).trade (trade_at g k).trade) k =
     least_with-same (λ j. same_name (trade_at h j).trade (trade_at h k).trade) (λ j. same_name (trade_at g j).trade (trade_at g k).trade) k
     (λ j less. ap (λ (e : ℕ × TradeRecord). same_name e.1.trade (trade_at h k).trade) (same.at j (omega arith)) ∙ ap (λ (e : ℕ × TradeRecord). same_name (trade_at g j).trade e.1.trade) here) in
-    option_map-same (λ j. duplicate_of (trade_place h k) (trade_place h j)) (λ j. duplicate_of (trade_place g k) (trade_place g j))
+    option_map-same (λ j. duplicate (trade_place h k) (trade_place h j)) (λ j. duplicate (trade_place g k) (trade_place g j))
     (least_with (λ j. same_name (trade_at h j).trade (trade_at h k).trade) k)
     (λ j e. let first = least_with-some _ k j e in
-    ap (λ (x : ℕ × TradeRecord). duplicate_of x.0 (trade_place h j)) here ∙ ap (λ (x : ℕ × TradeRecord). duplicate_of (trade_place g k) x.0) (same.at j (omega (arith, first.within))))
-    ∙ ap (option_map (λ j. duplicate_of (trade_place g k) (trade_place g j))) tests
+    ap (λ (x : ℕ × TradeRecord). duplicate x.0 (trade_place h j)) here ∙ ap (λ (x : ℕ × TradeRecord). duplicate (trade_place g k) x.0) (same.at j (omega (arith, first.within))))
+    ∙ ap (option_map (λ j. duplicate (trade_place g k) (trade_place g j))) tests
 
 unknown-at : (orders : List Order) (h : Listed) (k : ℕ) → unknown_order orders h k ≡ unknown_in orders (get_or h k missing_trade)
 unfolding unknown_order
@@ -79,7 +85,7 @@ finding_in-push orders h e =
     ap (least_answer (trade_finding orders (h ++ e ∷ []))) (length-push h e) ∙ ap (λ (o : Option Finding). option_or o (trade_finding orders (h ++ e ∷ []) (length h))) before
 
 -- 5 of the last one
-duplicate-push : (h : Listed) (e : ℕ × TradeRecord) → duplicate_trade (h ++ e ∷ []) (length h) ≡ option_map (duplicate_of e.0) (first_with h e.1.trade)
+duplicate-push : (h : Listed) (e : ℕ × TradeRecord) → duplicate_trade (h ++ e ∷ []) (length h) ≡ option_map (duplicate e.0) (first_with h e.1.trade)
 unfolding duplicate_trade
 duplicate-push h e =
     let longer : Listed = h ++ e ∷ [] in
@@ -88,25 +94,25 @@ duplicate-push h e =
     let tests : least_with (λ j. same_name (trade_at longer j).trade (trade_at longer (length h)).trade) (length h) ≡ least_with (λ j. same_name (trade_at h j).trade e.1.trade) (length h) =
     least_with-same _ _ (length h)
     (λ j lt. ap (λ (x : ℕ × TradeRecord). same_name x.1.trade (trade_at longer (length h)).trade) (same.at j lt) ∙ ap (λ (x : ℕ × TradeRecord). same_name (trade_at h j).trade x.1.trade) last) in
-    ap (option_map (λ j. duplicate_of (trade_place longer (length h)) (trade_place longer j))) tests
-    ∙ option_map-same (λ j. duplicate_of (trade_place longer (length h)) (trade_place longer j)) (λ j. duplicate_of e.0 (trade_place h j))
+    ap (option_map (λ j. duplicate (trade_place longer (length h)) (trade_place longer j))) tests
+    ∙ option_map-same (λ j. duplicate (trade_place longer (length h)) (trade_place longer j)) (λ j. duplicate e.0 (trade_place h j))
     (least_with (λ j. same_name (trade_at h j).trade e.1.trade) (length h))
     (λ j is. let first = least_with-some _ (length h) j is in
-    ap (λ (x : ℕ × TradeRecord). duplicate_of x.0 (trade_place longer j)) last ∙ ap (λ (x : ℕ × TradeRecord). duplicate_of e.0 x.0) (same.at j first.within))
+    ap (λ (x : ℕ × TradeRecord). duplicate x.0 (trade_place longer j)) last ∙ ap (λ (x : ℕ × TradeRecord). duplicate e.0 x.0) (same.at j first.within))
     ∙ mapped-twice (least_with (λ j. same_name (trade_at h j).trade e.1.trade) (length h))
   where
-    mapped-twice : (o : Option ℕ) → option_map (λ j. duplicate_of e.0 (trade_place h j)) o ≡ option_map (duplicate_of e.0) (option_map (trade_place h) o)
+    mapped-twice : (o : Option ℕ) → option_map (λ j. duplicate e.0 (trade_place h j)) o ≡ option_map (duplicate e.0) (option_map (trade_place h) o)
     mapped-twice None = refl
     mapped-twice (Some j) = refl
 
 -- the finding of the last one
-finding-push : (orders : List Order) (h : Listed) (e : ℕ × TradeRecord) → trade_finding orders (h ++ e ∷ []) (length h) ≡ option_or (option_map (duplicate_of e.0) (first_with h e.1.trade)) (unknown_in orders e)
+finding-push : (orders : List Order) (h : Listed) (e : ℕ × TradeRecord) → trade_finding orders (h ++ e ∷ []) (length h) ≡ option_or (option_map (duplicate e.0) (first_with h e.1.trade)) (unknown_in orders e)
 finding-push orders h e =
     let five = duplicate-push h e in
     let six : unknown_order orders (h ++ e ∷ []) (length h) ≡ unknown_in orders e = unknown-at orders (h ++ e ∷ []) (length h) ∙ ap (unknown_in orders) (pushed-at h e) in
-    ap (λ (o : Option Finding). option_or o (unknown_order orders (h ++ e ∷ []) (length h))) five ∙ ap (option_or (option_map (duplicate_of e.0) (first_with h e.1.trade))) six
+    ap (λ (o : Option Finding). option_or o (unknown_order orders (h ++ e ∷ []) (length h))) five ∙ ap (option_or (option_map (duplicate e.0) (first_with h e.1.trade))) six
 
-finding-next : (orders : List Order) (h : Listed) (e : ℕ × TradeRecord) → finding_in orders h ≡ None → finding_in orders (h ++ e ∷ []) ≡ option_or (option_map (duplicate_of e.0) (first_with h e.1.trade)) (unknown_in orders e)
+finding-next : (orders : List Order) (h : Listed) (e : ℕ × TradeRecord) → finding_in orders h ≡ None → finding_in orders (h ++ e ∷ []) ≡ option_or (option_map (duplicate e.0) (first_with h e.1.trade)) (unknown_in orders e)
 finding-next orders h e clean = finding_in-push orders h e ∙ option_or-none (finding_in orders h) (trade_finding orders (h ++ e ∷ []) (length h)) clean ∙ finding-push orders h e
 
 -- an id's first trade is the one before, or else the last one
@@ -131,15 +137,15 @@ first_with-push h e id =
 
 -- what is kept, with one trade more
 
-pub duplicate-found : (orders : List Order) (h : Listed) (r : SoundDeals) (place first : ℕ) (t : TradeRecord) → IsResolved orders h r → first_in r.ids t.trade ≡ Some first → finding_in orders (h ++ (place, t) ∷ []) ≡ Some (duplicate_of place first)
+pub duplicate-found : (orders : List Order) (h : Listed) (r : SoundDeals) (place first : ℕ) (t : TradeRecord) → IsResolved orders h r → first_in r.ids t.trade ≡ Some first → finding_in orders (h ++ (place, t) ∷ []) ≡ Some (finding_at place (DuplicateTrade first))
 duplicate-found orders h r place first t is seen =
     let earlier : first_with h t.trade ≡ Some first = sym (is.ids t.trade) ∙ seen in
-    finding-next orders h (place, t) is.clean ∙ ap (λ (o : Option ℕ). option_or (option_map (duplicate_of place) o) (unknown_in orders (place, t))) earlier
+    finding-next orders h (place, t) is.clean ∙ ap (λ (o : Option ℕ). option_or (option_map (duplicate place) o) (unknown_in orders (place, t))) earlier
 
 new-finding : (orders : List Order) (h : Listed) (r : SoundDeals) (place : ℕ) (t : TradeRecord) → IsResolved orders h r → first_in r.ids t.trade ≡ None → finding_in orders (h ++ (place, t) ∷ []) ≡ unknown_in orders (place, t)
 new-finding orders h r place t is unseen =
     let earlier : first_with h t.trade ≡ None = sym (is.ids t.trade) ∙ unseen in
-    finding-next orders h (place, t) is.clean ∙ ap (λ (o : Option ℕ). option_or (option_map (duplicate_of place) o) (unknown_in orders (place, t))) earlier
+    finding-next orders h (place, t) is.clean ∙ ap (λ (o : Option ℕ). option_or (option_map (duplicate place) o) (unknown_in orders (place, t))) earlier
 
 pub unknown-found : (orders : List Order) (h : Listed) (r : SoundDeals) (place : ℕ) (t : TradeRecord) (f : Finding) → IsResolved orders h r → first_in r.ids t.trade ≡ None → unknown_in orders (place, t) ≡ Some f → finding_in orders (h ++ (place, t) ∷ []) ≡ Some f
 unknown-found orders h r place t f is unseen unknown = new-finding orders h r place t is unseen ∙ unknown
@@ -159,7 +165,7 @@ trade-taken orders h r new ids place t deal is unseen known made adds takes = re
   where
     go : (id : List ℕ) (b : Bool) → same_name t.trade id ≡ b → (if b then Some place else first_in r.ids id) ≡ option_or (first_with h id) (only_if b place)
     go id true e =
-        let own : t.trade ≡ id = same_name-is t.trade id e in
+        let own : t.trade ≡ id = (bytes_eq-Decides t.trade id).0 e in
         let none : first_with h id ≡ None = sym (is.ids id) ∙ ap (first_in r.ids) (sym own) ∙ unseen in
         sym (option_or-none (first_with h id) (Some place) none)
     go id false e = is.ids id ∙ sym (option_or-nothing (first_with h id))

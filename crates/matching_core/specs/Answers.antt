@@ -1,5 +1,5 @@
 -- What is answered of deals.
-use Rattle.std.specs.Prelude.{◌≡◌, ◌<◌, ℕ, Bool, List, Some, Result, Err, Vec, IfOk, OnOk, length, slice_index}
+use Rattle.std.specs.Prelude.{◌≡◌, ℕ, Bool, List, Some, Result, Err, Vec, IfOk, OnOk}
 use Rattle.std.specs.declared.alloc.Global.{Global}
 use Rattle.std.specs.Bool.{OnTrue}
 use Rattle.audit_base.specs.declared.findings.Finding.{Finding}
@@ -7,7 +7,7 @@ use Rattle.audit_base.specs.declared.orders.Order.{Order}
 use Rattle.audit_base.specs.declared.orders.Deal.{Deal}
 use Rattle.audit_base.specs.declared.records.TradeRecord.{TradeRecord}
 use Rattle.audit_base.specs.Calls.{Matching, OnePrice}
-use Rattle.audit_base.specs.Deals.{traded, IsDealList, AreDeals}
+use Rattle.audit_base.specs.Deals.{IsDealList, AreDeals}
 use Rattle.audit_base.specs.Trades.{Sound, deals_of, unsound_trade}
 use Rattle.matching_core.specs.declared.outcomes.CheckFault.{CheckFault}
 use Rattle.matching_core.specs.declared.outcomes.CheckFault.TheVariants.{Found}
@@ -15,10 +15,6 @@ use Rattle.matching_core.specs.declared.outcomes.CheckFault.TheVariants.{Found}
 -- a fact of the finding that is answered, if one is
 abbrev pub IfFound : {A : Type 0} → Result A CheckFault → (Finding → Type 0) → Type 0
 IfFound result P = (finding : Finding) → result ≡ Err (Found finding) → P finding
-
--- the totals say of each order what it trades in all the deals
-abbrev pub HasTraded : List Order → List Deal → List ℕ × ℕ → Type 0
-HasTraded orders deals totals = (i : ℕ) → i < length orders → slice_index totals.0 i ≡ traded deals i
 
 -- the deals are no matching, or not of one price where that is asked
 abbrev pub IsNoMatching : Bool → List Order → List Deal → Type 0

@@ -2,74 +2,41 @@
 use Rattle.std.specs.Prelude.{◌≡◌, ℕ, List, [], ◌∷◌, ◌++◌, Option, None, Some, is_none, map, option_map, length, if◌then◌else◌}
 use Rattle.std.specs.Option.{option_or}
 use Rattle.indexmap.specs.IndexMap.{get}
-use Rattle.audit_base.specs.declared.names.Key.{Key}
-use Rattle.audit_base.specs.declared.terms.Side.{Side}
 use Rattle.audit_base.specs.declared.terms.Side.TheVariants.{Buy, Sell}
-use Rattle.audit_base.specs.declared.terms.Which.TheVariants as which
 use Rattle.audit_base.specs.declared.records.TradeRecord.{TradeRecord}
 use Rattle.audit_base.specs.declared.orders.Order.{Order}
 use Rattle.audit_base.specs.declared.orders.Deal.{Deal}
-use Rattle.audit_base.specs.declared.findings.Property.TheVariants as property
 use Rattle.audit_base.specs.declared.findings.Finding.{Finding}
-use Rattle.audit_base.specs.declared.findings.Shown.TheVariants as shown
+use Rattle.audit_base.specs.declared.flaws.Evidence.TheVariants.{UnknownOrder}
 use Rattle.audit_base.specs.Deals.{AreDeals}
 use Rattle.audit_base.specs.Least.{least_answer, least_with, only_if}
 use Rattle.audit_base.specs.Orders.{same_name, on_side_with_key}
-use Rattle.audit_base.specs.Shows.{found, show_place}
 use Rattle.audit_base.specs.Trades.{trades_of, trade_at, trade_place, duplicate_trade, unknown_order, deal_of}
+use Rattle.seeded_hash.specs.ShortPairs.{same_block, short_pair_of, held_by}
+use Rattle.instruction_history.specs.Flaws.{finding_at, found_by, NamesNoOrder}
 use Rattle.matching_core.specs.declared.deals_so_far.DealsSoFar.{DealsSoFar}
 use Rattle.matching_core.specs.declared.sound_deals.SoundDeals.{SoundDeals}
-use Rattle.matching_core.specs.declared.trade_ids.ShortId.{ShortId}
 use Rattle.matching_core.specs.declared.trade_ids.TradeIds.{TradeIds}
-use Rattle.matching_core.specs.declared.unsound.Unsound.{Unsound}
-use Rattle.matching_core.specs.declared.unsound.Unsound.TheVariants.{Repeated, Unknown}
-use Rattle.matching_core.specs.ShortIds.{short_of, same_block}
 
--- Ids and keys.
-
--- the place of the first trade with an id, given it as a short one, if it is short
-abbrev pub first_by : TradeIds → List ℕ → Option ShortId → Option ℕ
-first_by ids id (Some short) = get same_block ids.short short
-first_by ids id None = get same_name ids.long id
+-- Trade ids.
 
 -- the place of the first trade with an id, as two maps hold it
 abbrev pub first_in : TradeIds → List ℕ → Option ℕ
-first_in ids id = first_by ids id (short_of id)
+first_in ids id =
+    held_by (get same_block ids.short) (get same_name ids.long id) (short_pair_of id [])
 
 -- one id more: it has this place, and every other id has what it had
 abbrev pub AddsId : TradeIds → TradeIds → List ℕ → ℕ → Type 0
 AddsId old new id place =
     (other : List ℕ) → first_in new other ≡ (if same_name id other then Some place else first_in old other)
 
--- Findings 5 and 6 of a trade, by what is known of those before it.
-
--- 5, by the place of the earlier trade
-abbrev pub duplicate_of : ℕ → ℕ → Finding
-duplicate_of place first = found property.DuplicateTrade which.Trades place (show_place which.Trades first) None
-
--- 6, by the key that no order of the side has
-abbrev pub unknown_of : Side → Key → ℕ → Finding
-unknown_of side key place = found property.UnknownOrder which.Trades place (Some (shown.Unknown side key)) None
-
--- the key that a trade names on a side
-abbrev pub key_on : Side → TradeRecord → Key
-key_on Buy trade = trade.buy
-key_on Sell trade = trade.sell
-
--- 6 of a trade at a place, by the side of which no order has the key that it names
-abbrev pub unknown_on : Side → ℕ → TradeRecord → Finding
-unknown_on side place trade = unknown_of side (key_on side trade) place
-
--- the finding of a trade at a place, by why it is not sound
-abbrev pub finding_of : ℕ → TradeRecord → Unsound → Finding
-finding_of place trade (Repeated first) = duplicate_of place first
-finding_of place trade (Unknown side) = unknown_on side place trade
-
 -- 6 of a trade with its place
 abbrev pub unknown_in : List Order → ℕ × TradeRecord → Option Finding
 unknown_in orders e =
-    option_or (only_if (is_none (on_side_with_key orders Buy e.1.buy)) (unknown_of Buy e.1.buy e.0))
-    (only_if (is_none (on_side_with_key orders Sell e.1.sell)) (unknown_of Sell e.1.sell e.0))
+    option_or (only_if (is_none (on_side_with_key orders Buy e.1.buy))
+    (finding_at e.0 (UnknownOrder Buy e.1.buy)))
+    (only_if (is_none (on_side_with_key orders Sell e.1.sell))
+    (finding_at e.0 (UnknownOrder Sell e.1.sell)))
 
 -- What is known after some trades of a symbol.
 
@@ -99,7 +66,8 @@ IsKnown orders listed kept (Some finding) = finding_in orders listed ≡ Some fi
 pub record IsDealsSoFar {M : Type 0} (orders : List Order) (symbol : List ℕ)
     (so_far : DealsSoFar M) (trades : List TradeRecord) : Type 0 where
   pub count : so_far.count ≡ length trades
-  pub known : IsKnown orders (trades_of symbol trades) so_far.sound so_far.finding
+  pub known : IsKnown orders (trades_of symbol trades) so_far.sound (found_by so_far.flaw)
+  pub alone : NamesNoOrder so_far.flaw
 
 -- whatever records of the trade log were known, they are known with one more
 abbrev pub TakesTrade : {M : Type 0} → List Order → List ℕ → DealsSoFar M → DealsSoFar M → TradeRecord → Type 0

@@ -2,7 +2,6 @@
 -- both are those of audit_base.
 pub mod Answers
 pub mod DealsDraft
--- What private functions pass on: what is kept while trades come, and the finding of one deal.
-pub mod DealFindings
+-- What private functions pass on: what is kept while trades come, and what is wrong with one deal.
+pub mod DealFlaws
 pub mod DealsSoFar
-pub mod ShortIds

@@ -1,25 +1,18 @@
 //! Whether deals are a matching, deal by deal.
-ghost use Rattle.std.specs.Prelude.{◌≡◌, ◌<◌, ◌+◌, ◌^◌, IfOk, OnOk, ◌≢◌, length, slice_index, vec_len, replicate, Some, None};
+ghost use Rattle.std.specs.Prelude.{◌≡◌, ◌<◌, ◌+◌, ◌^◌, IfOk, OnOk, ◌≢◌, slice_index, vec_len, Some, None};
 ghost use Rattle.std.specs.Bool.{OnTrue};
 ghost use Rattle.audit_base.specs.CallOffences.{matching_offence};
 ghost use Rattle.audit_base.specs.Calls.{Matching, OnePrice};
-ghost use Rattle.audit_base.specs.Deals.{IsDealList, volume};
-ghost use Rattle.matching_core.specs.Answers.{IfFound, HasTraded, IsNoMatching};
-ghost use Rattle.matching_core.specs.DealFindings as at;
+ghost use Rattle.audit_base.specs.Deals.{IsDealList, AreTotals, volume};
+ghost use Rattle.matching_core.specs.Answers.{IfFound, IsNoMatching};
+ghost use Rattle.matching_core.specs.DealFlaws as at;
 
-use super::breaches::breach_at;
+use super::deal_flaws::evidence_of;
 use super::outcomes::CheckFault;
-use super::totals::Totals;
-use audit_base::faults::NoMemory;
+use super::totals::{Totals, zeros};
+use audit_base::flaws::Flaw;
 use audit_base::orders::{Deal, Order};
 use std::alloc::Global;
-
-/// A zero for each order.
-fn zeros(alloc: Global, count: usize) -> Result<Vec<u128>, NoMemory>
-    ensures { IfOk result (λ traded. traded.items ≡ replicate count 0) }
-{
-    Ok(vec![in alloc; 0u128; count]?)
-}
 
 /// Adds the quantity of a deal to what its two orders trade, and gives what they then trade.
 pub fn add_deal(traded: &mut Vec<u128>, bid: usize, ask: usize, quantity: u128) -> (u128, u128)
@@ -52,8 +45,7 @@ pub fn check_matching(
     ensures conforms { OnOk result (matching_offence uniform orders.now deals.now ≡ None) }
     ensures matching { OnOk result (Matching orders.now deals.now) }
     ensures one_price { OnOk result (OnTrue uniform (OnePrice deals.now)) }
-    ensures count { IfOk result (λ totals. length totals.0 ≡ length orders.now) }
-    ensures traded { IfOk result (HasTraded orders.now deals.now) }
+    ensures totals { IfOk result (λ totals. AreTotals orders.now deals.now totals.0) }
     ensures volume { IfOk result (λ totals. totals.1 ≡ volume deals.now) }
     ensures found { let offence = matching_offence uniform orders.now deals.now in
         IfFound result (λ f. offence ≡ Some f) }
@@ -65,11 +57,9 @@ pub fn check_matching(
         let quantity = deal.quantity.value() as u128;
         let (bid_traded, ask_traded) = add_deal(&mut traded, deal.bid, deal.ask, quantity);
         let first = &deals[0];
-        let bid = &orders[deal.bid];
-        let ask = &orders[deal.ask];
-        if let Some(breach) = breach_at(uniform, deal, first, bid, ask, bid_traded, ask_traded) {
-            let finding = breach.finding(deal, first, bid, ask, bid_traded, ask_traded);
-            return Err(CheckFault::Found(finding));
+        if let Some(evidence) = evidence_of(uniform, orders, deal, first, bid_traded, ask_traded) {
+            let place = deal.place;
+            return Err(CheckFault::Found(Flaw { place, evidence }.finding(orders)));
         }
         volume += quantity;
     }

@@ -6,6 +6,7 @@
 //! of the log tells how many deals there are: the deals and the ids grow with them, by doubling.
 ghost use Rattle.std.specs.Prelude.{◌≡◌, ◌<◌, ◌-◌, ◌^◌, [], None, length};
 ghost use Rattle.audit_base.specs.Deals.{IsDealList, AreDeals};
+ghost use Rattle.instruction_history.specs.Flaws.{found_by, NamesNoOrder};
 ghost use Rattle.matching_core.specs.DealsDraft.{IsDealsDraft, ForHanded, IsFindingOf, AreDealsOf};
 ghost use Rattle.log_source.specs.Collectors.{HasPlace};
 
@@ -13,6 +14,7 @@ pub use super::deals_so_far::AuditedHistory;
 use super::deals_so_far::DealsSoFar;
 use audit_base::faults::NoMemory;
 use audit_base::findings::Finding;
+use audit_base::flaws::Flaw;
 use audit_base::names::Name;
 use audit_base::orders::Deal;
 use audit_base::records::TradeRecord;
@@ -39,6 +41,17 @@ pub struct ResolvedTrades {
     pub deals: Vec<Deal>,
     /// The first finding; then the deals say nothing.
     pub finding: Option<Finding>,
+}
+
+/// The finding of a flaw, if there is one.
+fn finding_of(flaw: Option<Flaw>) -> Option<Finding>
+    requires { NamesNoOrder flaw }
+    ensures { result ≡ found_by flaw }
+{
+    match flaw {
+        Some(flaw) => Some(flaw.finding(&[])),
+        None => None,
+    }
 }
 
 impl<M: AuditedHistory> DealsDraft<M> {
@@ -74,14 +87,14 @@ impl<M: AuditedHistory> DealsDraft<M> {
         let DealsSoFar {
             count,
             sound,
-            finding,
+            flaw,
             ..
         } = so_far;
         ResolvedTrades {
             history,
             count,
             deals: sound.deals,
-            finding,
+            finding: finding_of(flaw),
         }
     }
 }

@@ -4,12 +4,11 @@ ghost use Rattle.audit_base.specs.Orders.{same_name};
 ghost use Rattle.audit_base.specs.declared.orders.Order.{Order};
 ghost use Rattle.audit_base.specs.declared.records.TradeRecord.{TradeRecord};
 ghost use Rattle.log_source.specs.Collectors.{HasPlace};
-ghost use Rattle.matching_core.specs.DealsSoFar.{IsDealsSoFar, TakesTrade, finding_of};
+ghost use Rattle.matching_core.specs.DealsSoFar.{IsDealsSoFar, TakesTrade};
 
 use super::sound_deals::SoundDeals;
-use super::unsound::Unsound;
 use audit_base::faults::NoMemory;
-use audit_base::findings::Finding;
+use audit_base::flaws::Flaw;
 use audit_base::names::Name;
 use audit_base::records::TradeRecord;
 use instruction_history::history::History;
@@ -41,14 +40,14 @@ fn has_symbol(trade: &TradeRecord, symbol: &Name) -> bool
 }
 
 /// What is known of the trades of a symbol after some records of a trade log: their deals, or their first
-/// finding.
+/// flaw.
 #[derive(Drop)]
 pub(crate) struct DealsSoFar<M> {
     /// How many records of the log there were, of all symbols.
     pub count: u32,
-    /// What is known where there is no finding.
+    /// What is known where there is no flaw.
     pub sound: SoundDeals,
-    pub finding: Option<Finding>,
+    pub flaw: Option<Flaw>,
     of: PhantomData<M>,
 }
 
@@ -60,7 +59,7 @@ impl<M: AuditedHistory> DealsSoFar<M> {
         DealsSoFar {
             count: 0,
             sound: SoundDeals::new(alloc, seed),
-            finding: None,
+            flaw: None,
             of: PhantomData,
         }
     }
@@ -79,26 +78,13 @@ impl<M: AuditedHistory> DealsSoFar<M> {
         ensures { OnOk result (TakesTrade M.orders M.symbol self.old self.new trade.now) }
     {
         self.count += 1;
-        if let Some(_) = self.finding {
+        if let Some(_) = self.flaw {
             return Ok(());
         }
         if !has_symbol(trade, symbol) {
             return Ok(());
         }
-        if let Some(unsound) = self.sound.take(history, trade, self.count)? {
-            self.keep_finding(unsound, trade);
-        }
+        self.flaw = self.sound.take(history, trade, self.count)?;
         Ok(())
-    }
-
-    /// Keeps the finding about the last record. It stands apart, since a function that makes a finding
-    /// begins by writing zeros over the room for it, also where it makes none.
-    #[cold]
-    #[inline(never)]
-    fn keep_finding(&mut self, unsound: Unsound, trade: &TradeRecord)
-        ensures { let found = finding_of self.old.count trade.now unsound in
-            self.new ≡ record self.old { finding = Some found } }
-    {
-        self.finding = Some(unsound.finding(trade, self.count));
     }
 }

@@ -1,8 +1,8 @@
 //! Deals, their totals, and whether they are a matching: the first part of every rule of a call.
 #![tactic(auto)]
 
-mod breaches;
 pub mod checking;
+mod deal_flaws;
 pub mod deals_draft;
 mod deals_so_far;
 pub mod outcomes;
@@ -10,4 +10,3 @@ pub mod resolving;
 mod sound_deals;
 pub mod totals;
 mod trade_ids;
-mod unsound;

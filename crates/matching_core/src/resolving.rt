@@ -48,10 +48,10 @@ fn resolve_all<M: AuditedHistory>(
     requires few { length trades.now < 2 ^ 32 - 1 }
     ensures { AreResolved history.now symbol.now trades.now result }
 {
-    let DealsSoFar { sound, finding, .. } = deals_after::<M>(alloc, history, trades, symbol)?;
+    let DealsSoFar { sound, flaw, .. } = deals_after::<M>(alloc, history, trades, symbol)?;
     let SoundDeals { deals, .. } = sound;
-    match finding {
-        Some(finding) => Err(CheckFault::Found(finding)),
+    match flaw {
+        Some(flaw) => Err(CheckFault::Found(flaw.finding(&[]))),
         None => Ok(deals),
     }
 }

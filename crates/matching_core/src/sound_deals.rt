@@ -1,30 +1,34 @@
 //! The deals of sound trades: each trade with its bid and its ask.
-ghost use Rattle.std.specs.Prelude.{◌≡◌, [], List, None, Some, IfOk, IfErr, OnOk, option_map};
+ghost use Rattle.std.specs.Prelude.{◌≡◌, [], List, None, Some, IfOk, IfErr, OnOk};
+ghost use Rattle.audit_base.specs.Flaws.{IsInside};
 ghost use Rattle.audit_base.specs.Trades.{deal_of};
+ghost use Rattle.instruction_history.specs.Flaws.{finding_at, found_by, NamesNoOrder};
 ghost use Rattle.matching_core.specs.DealsSoFar as so_far;
 
 use super::trade_ids::TradeIds;
-use super::unsound::Unsound;
 use audit_base::faults::NoMemory;
+use audit_base::flaws::{Evidence, Flaw};
 use audit_base::orders::Deal;
+use audit_base::ranges::deal_in_range;
 use audit_base::records::TradeRecord;
 use audit_base::terms::Side;
 use instruction_history::history::History;
 use seeded_hash::seed::HashSeed;
 use std::alloc::Global;
 
-/// The deal of a trade, or the side whose order is not there: that of its bid, or else that of its ask.
-fn deal_of(history: &History, trade: &TradeRecord, place: u32) -> Result<Deal, Side>
+/// The deal of a trade, or finding 6: there is no bid of its buy key, or else no ask of its sell key.
+fn deal_of(history: &History, trade: &TradeRecord, place: u32) -> Result<Deal, Evidence>
     ensures deal { IfOk result (λ deal. deal ≡ deal_of history.now (place, trade.now)) }
     ensures known { OnOk result (so_far.unknown_in history.now (place, trade.now) ≡ None) }
     ensures unknown { let unknown = so_far.unknown_in history.now (place, trade.now) in
-        IfErr result (λ side. unknown ≡ Some (so_far.unknown_on side place trade.now)) }
+        IfErr result (λ evidence. unknown ≡ Some (finding_at place evidence)) }
+    ensures alone { IfErr result (IsInside []) }
 {
     let Some(bid) = history.find_on_side(Side::Buy, &trade.buy) else {
-        return Err(Side::Buy);
+        return Err(Evidence::UnknownOrder(Side::Buy, trade.buy));
     };
     let Some(ask) = history.find_on_side(Side::Sell, &trade.sell) else {
-        return Err(Side::Sell);
+        return Err(Evidence::UnknownOrder(Side::Sell, trade.sell));
     };
     Ok(Deal {
         place,
@@ -63,17 +67,18 @@ impl SoundDeals {
         history: &History,
         trade: &TradeRecord,
         place: u32,
-    ) -> Result<Option<Unsound>, NoMemory>
-        ensures { let finding = option_map (so_far.finding_of place trade.now) in
-            let knows = KnowsOneMore history.now self.old self.new place trade.now in
-            IfOk result (λ unsound. knows (finding unsound)) }
+    ) -> Result<Option<Flaw>, NoMemory>
+        ensures knows { let knows = KnowsOneMore history.now self.old self.new place trade.now in
+            IfOk result (λ flaw. knows (found_by flaw)) }
+        ensures alone { IfOk result NamesNoOrder }
     {
         // One look-up tells which trade had the id and adds it.
         if let Some(first) = self.ids.add(&trade.trade, place)? {
-            return Ok(Some(Unsound::Repeated(first)));
+            let evidence = Evidence::DuplicateTrade(first);
+            return Ok(Some(Flaw { place, evidence }));
         }
         match deal_of(history, trade, place) {
-            Err(side) => Ok(Some(Unsound::Unknown(side))),
+            Err(evidence) => Ok(Some(Flaw { place, evidence })),
             Ok(deal) => {
                 self.add(deal)?;
                 Ok(None)
@@ -85,9 +90,7 @@ impl SoundDeals {
     fn add(&mut self, deal: Deal) -> Result<(), NoMemory>
         ensures { OnOk result (AddsDeal self.old self.new deal) }
     {
-        // These calls tell the proof the ranges that each price and quantity keeps.
-        let _ = deal.quantity.value();
-        let _ = deal.price.units();
+        deal_in_range(&deal);
         self.deals.push(deal)?;
         Ok(())
     }

@@ -1,9 +1,18 @@
 //! What each order of an order list has traded, what that leaves of it, and the volume.
-ghost use Rattle.std.specs.Prelude.{◌≡◌, ◌<◌, ◌-◌, ◌^◌, length};
+ghost use Rattle.std.specs.Prelude.{◌≡◌, ◌<◌, ◌-◌, ◌^◌, IfOk, length, replicate};
 ghost use Rattle.audit_base.specs.Deals.{volume};
 
+use audit_base::faults::NoMemory;
 use audit_base::orders::Deal;
+use std::alloc::Global;
 use std::marker::Model;
+
+/// A zero for each order.
+pub fn zeros(alloc: Global, count: usize) -> Result<Vec<u128>, NoMemory>
+    ensures { IfOk result (λ traded. traded.items ≡ replicate count 0) }
+{
+    Ok(vec![in alloc; 0u128; count]?)
+}
 
 /// The volume of the deals: their quantities, added.
 pub fn volume_of(deals: &[Deal]) -> u128

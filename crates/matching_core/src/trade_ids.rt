@@ -1,76 +1,22 @@
 //! The ids of the trades so far, and where each of them came first.
 //!
-//! An id has room for 64 bytes, and most ids are far shorter. So an id of at most 31 bytes is kept as a
-//! block of 32 bytes; only a longer one is kept as it is. The blocks of many ids fit near the processor,
-//! where their ids do not.
-ghost use Rattle.std.specs.Prelude.{◌≡◌, ◌+◌, ◌≤◌, ℕ, List, None, IfOk, OnOk, length};
+//! An id of at most 30 bytes is short: it is kept as the pair of itself and an empty text, in one block.
+//! Only a longer id is kept as it is.
+ghost use Rattle.std.specs.Prelude.{◌≡◌, ℕ, List, None, IfOk, OnOk};
 ghost use Rattle.matching_core.specs.DealsSoFar.{first_in, AddsId};
-ghost use Rattle.matching_core.specs.ShortIds.{put_at, short_block, short_of};
 
 use audit_base::faults::NoMemory;
 use audit_base::names::Name;
 use indexmap::IndexMap;
+use seeded_hash::blocks::BlockSeed;
 use seeded_hash::seed::HashSeed;
+use seeded_hash::short_pairs::ShortPair;
 use std::alloc::Global;
-use std::hash::{Hash, Hasher};
-
-/// An id of at most 31 bytes: its size, its bytes, and zeros.
-#[derive(Clone, Copy, PartialEq, Eq)]
-pub(crate) struct ShortId {
-    block: [u8; 32],
-}
-
-impl Hash for ShortId {
-    ghost use Rattle.std.specs.Prelude.{[], ◌∷◌};
-    ghost use Rattle.std.specs.Cmp.Rules.{hashing};
-    ghost use Rattle.std.proofs.Common.{rules};
-
-    ghost hash_input = { λ id. id.block ∷ [] };
-
-    ghost respects_eq = { Prim.search (hashing, rules) };
-
-    fn hash<H: Hasher>(&self, state: &mut H) {
-        state.write(&self.block);
-    }
-}
-
-/// Writes a text over the bytes of a block from a place on.
-fn put(block: &mut [u8], at: usize, text: &[u8])
-    requires { at + length text.now ≤ length block.old }
-    ensures { block.new ≡ put_at block.old at text.now }
-{
-    block[at..at + text.len()].copy_from_slice(text);
-}
-
-/// The block of an id.
-fn block_of(id: &[u8]) -> [u8; 32]
-    requires { length id.now ≤ 31 }
-    ensures { result ≡ short_block id.now }
-{
-    let mut block = [0; 32];
-    block[0] = id.len() as u8;
-    put(&mut block, 1, id);
-    block
-}
-
-/// The id as a short one, where it is short.
-fn short_of(id: &Name) -> Option<ShortId>
-    ensures { result ≡ short_of id.now }
-{
-    let id = id.bytes();
-    if id.len() <= 31 {
-        Some(ShortId {
-            block: block_of(id),
-        })
-    } else {
-        None
-    }
-}
 
 /// For each trade id the place of its first trade.
 #[derive(Drop)]
 pub(crate) struct TradeIds {
-    short: IndexMap<ShortId, u32, HashSeed>,
+    short: IndexMap<ShortPair, u32, BlockSeed>,
     /// The ids that are not short.
     long: IndexMap<Name, u32, HashSeed>,
 }
@@ -81,7 +27,7 @@ impl TradeIds {
         ensures { (id : List ℕ) → first_in result id ≡ None }
     {
         TradeIds {
-            short: IndexMap::with_hasher(alloc, seed),
+            short: IndexMap::with_hasher(alloc, BlockSeed::of(seed)),
             long: IndexMap::with_hasher(alloc, seed),
         }
     }
@@ -92,7 +38,7 @@ impl TradeIds {
         ensures earlier { IfOk result (λ earlier. earlier ≡ first_in self.old id.now) }
         ensures adds { OnOk result (AddsId self.old self.new id.now place) }
     {
-        match short_of(id) {
+        match ShortPair::of(id.bytes(), &[]) {
             Some(short) => Ok(self.short.insert(short, place)?),
             None => Ok(self.long.insert(*id, place)?),
         }

@@ -1,13 +1,13 @@
 //! Whether deals conform to the rule `maximum`.
 ghost use Rattle.std.specs.Prelude.{◌<◌, ◌-◌, ◌^◌, IfOk};
-ghost use Rattle.audit_base.specs.declared.terms.Rule.TheVariants.{Maximum};
+ghost use Rattle.audit_base.specs.declared.terms.VolumeRule.TheVariants.{Maximum};
 ghost use Rattle.audit_base.specs.Orders.{IsOrderList};
 ghost use Rattle.audit_base.specs.Deals.{IsDealList};
 ghost use Rattle.call_auction.specs.Audits.{IsGreatestOf, IsAudited};
 
 use audit_base::faults::NoMemory;
 use audit_base::orders::{Cut, Deal, Order};
-use audit_base::terms::Rule;
+use audit_base::terms::VolumeRule;
 use call_auction::auditing::audit_call;
 use call_laws::optimum::greatest_matching_reaches_the_least_cut;
 use matching_core::outcomes::Outcome;
@@ -40,5 +40,5 @@ pub fn audit_maximum(
     ensures { IfOk result (IsAudited Maximum orders.now deals.now count) }
 {
     let most = greatest_of(alloc, orders)?;
-    audit_call(alloc, Rule::Maximum, orders, deals, count, most)
+    audit_call(alloc, VolumeRule::Maximum, orders, deals, count, most)
 }

@@ -1,9 +1,11 @@
 -- The stages of the verdict on records, one after another, are the verdict of the rules.
 use Rattle.std.proofs.Common.{◌≡◌, ◌∙◌, sym, ap, subst, refl, ℕ, Bool, true, false, List, [], ◌∷◌, length, Option, None, Some, Result, Ok, Err, ◌<◌, ◌≤◌, ◌^◌}
-use Rattle.std.specs.Prelude.{IfOk, not, option_map}
+use Rattle.std.specs.Prelude.{IfOk, not, option_map, MatchOption, IsSomeAnd}
 use Rattle.std.specs.Option.{ForSome}
-use Rattle.audit_base.specs.declared.terms.Rule.{Rule}
-use Rattle.audit_base.specs.declared.terms.Rule.TheVariants as rule
+use Rattle.audit_base.specs.declared.terms.VolumeRule.{VolumeRule}
+use Rattle.audit_base.specs.declared.terms.VolumeRule.TheVariants as of_volume
+use Rattle.audit_base.specs.RuleKinds.{volume_rule}
+use Rattle.call_auction.specs.Audits.{IsBoundOf}
 use Rattle.audit_base.specs.declared.terms.Which.TheVariants as which
 use Rattle.audit_base.specs.declared.findings.Property.TheVariants as property
 use Rattle.audit_base.specs.declared.records.OrderRecord.{OrderRecord}
@@ -25,7 +27,7 @@ use Rattle.audit_report.specs.declared.verdicts.Verdict.{Verdict}
 use Rattle.audit_report.specs.declared.verdicts.Verdict.TheVariants.{Accepted as IsAccepted, Rejected, Malformed}
 use Rattle.audit_report.specs.Texts.{IsVerdictInRange, IsBoundInRange}
 use Rattle.record_verdict.specs.declared.questions.Question.{Question}
-use Rattle.record_verdict.specs.Judgements.{IsBoundShown, IsOutcome, IsJudged}
+use Rattle.record_verdict.specs.Judgements.{IsOutcome, IsJudged}
 use Rattle.record_verdict.specs.Stages.{FoundAfter, IsJudgedRecords, IsJudgedHistory, IsJudgedTrades, IsJudgedDeals}
 
 -- what holds of an answer holds of what follows from it
@@ -133,17 +135,14 @@ some-shown c le x e = subst (λ (y : Cut). y.price ≤ 10 ^ 18) (same c x e) le
     same : (c x : Cut) → Some c ≡ Some x → c ≡ x
     same c x e = cc
 
-bound-in_range : (the_rule : Rule) (orders : List Order) (reached : ℕ) (bound : Option Cut) → IsBoundShown the_rule orders reached bound → ForSome bound IsBoundInRange
-bound-in_range rule.Uniform orders reached None is = absurd is
-bound-in_range rule.Uniform orders reached (Some c) is = some-shown c is.shows.holds.0
-bound-in_range rule.Maximum orders reached None is = absurd is
-bound-in_range rule.Maximum orders reached (Some c) is = some-shown c is.shows.holds.0
-bound-in_range rule.Matching orders reached bound is = none-shown bound is
-bound-in_range rule.Fair orders reached bound is = none-shown bound is
-bound-in_range rule.Continuous orders reached bound is = none-shown bound is
+bound-in_range : (r : Option VolumeRule) (orders : List Order) (reached : ℕ) (bound : Option Cut) → MatchOption r (bound ≡ None) (λ v. IsSomeAnd bound (IsBoundOf v orders reached)) → ForSome bound IsBoundInRange
+bound-in_range None orders reached bound is = none-shown bound is
+bound-in_range (Some r) orders reached None is = absurd is
+bound-in_range (Some of_volume.Uniform) orders reached (Some c) is = some-shown c is.shows.holds.0
+bound-in_range (Some of_volume.Maximum) orders reached (Some c) is = some-shown c is.shows.holds.0
 
 outcome-in_range : (q : Question) (orders : List Order) (deals : List Deal) (found : Option Finding) (the_verdict : Verdict) → IsOutcome q orders deals found the_verdict → IsVerdictInRange the_verdict
-outcome-in_range q orders deals None (IsAccepted a) is = bound-in_range q.rule orders (volume deals) a.bound is.bound_is
+outcome-in_range q orders deals None (IsAccepted a) is = bound-in_range (volume_rule q.rule) orders (volume deals) a.bound is.bound_is
 outcome-in_range q orders deals None (Rejected f) is = absurd is
 outcome-in_range q orders deals None (Malformed log bad) is = absurd is
 outcome-in_range q orders deals (Some finding) the_verdict is = rw is tt

@@ -1,6 +1,6 @@
 -- The verdict on two logs by what they come to before the rule is looked at.
-use Rattle.std.proofs.Common.{◌≡◌, ◌∙◌, sym, subst, refl, ℕ, List, length, Option, Some, Result, Ok}
-use Rattle.std.specs.Prelude.{MatchOption}
+use Rattle.std.proofs.Common.{◌≡◌, ◌∙◌, sym, subst, refl, ℕ, List, length, cond, Option, Some, None, Result, Ok}
+use Rattle.std.specs.Prelude.{MatchOption, is_some, option_and_then}
 use Rattle.audit_base.specs.declared.faults.BadPlace.{BadPlace}
 use Rattle.audit_base.specs.declared.findings.Finding.{Finding}
 use Rattle.audit_base.specs.declared.orders.Deal.{Deal}
@@ -8,10 +8,11 @@ use Rattle.audit_base.specs.declared.orders.Order.{Order}
 use Rattle.audit_base.specs.declared.records.OrderRecord.{OrderRecord}
 use Rattle.audit_base.specs.declared.records.TradeRecord.{TradeRecord}
 use Rattle.audit_base.specs.declared.terms.Rule.{Rule}
-use Rattle.audit_base.specs.declared.terms.Rule.TheVariants as rule
+use Rattle.audit_base.specs.declared.terms.CallRule.{CallRule}
 use Rattle.audit_base.specs.declared.terms.Which.{Which}
 use Rattle.audit_base.specs.Deals.{AreDeals}
-use Rattle.audit_base.specs.Histories.{order_list}
+use Rattle.audit_base.specs.RuleKinds.{call_rule}
+use Rattle.audit_base.specs.Histories.{instant_order, order_list}
 use Rattle.audit_base.specs.Trades.{deals_of}
 use Rattle.audit_base.specs.Verdicts.{call_finding, log_finding, paired_trades, IsRuleVerdict}
 use Rattle.audit_base.proofs.VerdictLemmas.{one-verdict-of_deals}
@@ -19,6 +20,7 @@ use Rattle.audit_report.specs.declared.verdicts.Verdict.{Verdict}
 use Rattle.audit_report.specs.declared.verdicts.Verdict.TheVariants as verdict
 use Rattle.matching_core.specs.declared.deals_draft.ResolvedTrades.{ResolvedTrades}
 use Rattle.record_verdict.specs.declared.before_rule.BeforeRule.TheVariants as upto
+use Rattle.record_verdict.specs.declared.scopes.Admission.TheVariants as admission
 use Rattle.record_verdict.specs.declared.questions.Question.{Question}
 use Rattle.record_verdict.specs.BeforeRule.{AreJudgeable, AreSound}
 use Rattle.record_verdict.specs.Laws.{SoundTradesAreJudged}
@@ -27,12 +29,12 @@ use Rattle.record_verdict.specs.Scopes.{admission_of, early_finding, scope_of, u
 use Rattle.record_verdict.specs.Stages.{IsJudgedDeals, VerdictIs}
 
 -- what a rule does not admit is what it finds of the orders before it is looked at
-pub admitted-by : (the_rule : Rule) (orders : List Order) → unadmitted_order (admission_of the_rule) orders ≡ call_finding the_rule orders
-admitted-by rule.Matching orders = refl
-admitted-by rule.Fair orders = refl
-admitted-by rule.Uniform orders = refl
-admitted-by rule.Maximum orders = refl
-admitted-by rule.Continuous orders = refl
+admitted-by : (the_rule : Rule) (orders : List Order) → unadmitted_order (admission_of the_rule) orders ≡ call_finding the_rule orders
+admitted-by the_rule orders = either (call_rule the_rule)
+  where
+    either : (r : Option CallRule) → unadmitted_order (cond (is_some r) admission.Resting admission.All) orders ≡ option_and_then (λ call. instant_order orders) r
+    either (Some r) = refl
+    either None = refl
 
 -- the findings before those of the rule of a question
 pub early-is : (q : Question) (entries : List OrderRecord) (paired : Result (List TradeRecord) Finding) → early_finding (scope_of q) entries paired ≡ log_finding q.rule q.symbol entries paired

@@ -1,5 +1,5 @@
 -- The verdict on the records of two logs: the finding of the rules, or what an accepted log comes to.
-use Rattle.std.specs.Prelude.{◌≡◌, ◌<◌, ℕ, Bool, true, false, nat_lt, List, [], Option, None, Result, length, map, filter_map, flat_map, MatchOption, IsSomeAnd}
+use Rattle.std.specs.Prelude.{◌≡◌, ◌<◌, ℕ, Bool, true, false, nat_lt, List, [], Option, None, Result, length, map, filter_map, flat_map, is_some, if◌then◌else◌, MatchOption, IfSome, IsSomeAnd}
 use Rattle.std.specs.List.{range_with_len}
 use Rattle.audit_base.specs.declared.terms.Rule.{Rule}
 use Rattle.audit_base.specs.declared.terms.Rule.TheVariants as rule
@@ -9,6 +9,7 @@ use Rattle.audit_base.specs.declared.orders.Order.{Order}
 use Rattle.audit_base.specs.declared.orders.Deal.{Deal}
 use Rattle.audit_base.specs.declared.orders.Cut.{Cut}
 use Rattle.audit_base.specs.declared.findings.Finding.{Finding}
+use Rattle.audit_base.specs.RuleKinds.{call_rule, greatest_of, rule_of_volume, volume_rule}
 use Rattle.audit_base.specs.Orders.{order_at, place_at}
 use Rattle.audit_base.specs.Deals.{traded, pair, volume}
 use Rattle.audit_base.specs.Shows.{with_traded}
@@ -49,41 +50,37 @@ pair_lines orders deals = let indices = range_with_len 0 (length orders) in
 
 -- the lines of a rule: of a call its orders, of continuous trading its pairs
 abbrev pub rule_lines : Rule → List Order → List Deal → List Line
-rule_lines rule.Continuous orders deals = pair_lines orders deals
-rule_lines rule.Matching orders deals = order_lines orders deals
-rule_lines rule.Fair orders deals = order_lines orders deals
-rule_lines rule.Uniform orders deals = order_lines orders deals
-rule_lines rule.Maximum orders deals = order_lines orders deals
+rule_lines the_rule orders deals =
+    if is_some (call_rule the_rule) then order_lines orders deals else pair_lines orders deals
 
 -- the table of a log, where one is asked for
 abbrev pub table_lines : Rule → Bool → List Order → List Deal → List Line
 table_lines the_rule false orders deals = []
 table_lines the_rule true orders deals = rule_lines the_rule orders deals
 
--- the bound that is reported: of `uniform` and `maximum` the least price that shows the volume, of the other rules none
+-- the bound that is reported: where the rule asks for the greatest volume, the least price that shows
+-- the volume, else none
 abbrev pub IsBoundShown : Rule → List Order → ℕ → Option Cut → Type 0
-IsBoundShown rule.Uniform orders reached bound =
-    IsSomeAnd bound (IsBoundOf rule.Uniform orders reached)
-IsBoundShown rule.Maximum orders reached bound =
-    IsSomeAnd bound (IsBoundOf rule.Maximum orders reached)
-IsBoundShown rule.Matching orders reached bound = bound ≡ None
-IsBoundShown rule.Fair orders reached bound = bound ≡ None
-IsBoundShown rule.Continuous orders reached bound = bound ≡ None
+IsBoundShown the_rule orders reached bound =
+    MatchOption (volume_rule the_rule) (bound ≡ None)
+    (λ r. IsSomeAnd bound (IsBoundOf r orders reached))
 
--- the quantity of each order is the only conforming one
+-- each order's quantity is the only conforming one
 abbrev pub EachOnly : Rule → List Order → List Deal → Type 0
 EachOnly the_rule orders deals =
     (i : ℕ) → i < length orders → Only the_rule orders i (traded deals i)
 
--- the quantities are the only conforming ones: of `uniform` and `maximum` each order's, of `continuous`
--- each pair's; the rules `matching` and `fair` claim none
-abbrev pub AreOnlyQuantities : Rule → List Order → List Deal → Type 0
-AreOnlyQuantities rule.Uniform orders deals = EachOnly rule.Uniform orders deals
-AreOnlyQuantities rule.Maximum orders deals = EachOnly rule.Maximum orders deals
-AreOnlyQuantities rule.Continuous orders deals =
+-- each pair's quantity is the only one that conforms to continuous trading
+abbrev pub EachPairOnly : List Order → List Deal → Type 0
+EachPairOnly orders deals =
     (bid ask : ℕ) → OnlyPair rule.Continuous orders bid ask (pair deals bid ask)
-AreOnlyQuantities rule.Matching orders deals = Unit {0}
-AreOnlyQuantities rule.Fair orders deals = Unit {0}
+
+-- the quantities are the only conforming ones: of a call that asks for the greatest volume each order's,
+-- of continuous trading each pair's; a call that does not ask for it claims none
+abbrev pub AreOnlyQuantities : Rule → List Order → List Deal → Type 0
+AreOnlyQuantities the_rule orders deals =
+    MatchOption (call_rule the_rule) (EachPairOnly orders deals)
+    (λ call. IfSome (greatest_of call) (λ r. EachOnly (rule_of_volume r) orders deals))
 
 -- What is reported of a log that conforms; its quantities are the only conforming ones.
 pub record IsAcceptedLog (q : Question) (orders : List Order) (deals : List Deal)

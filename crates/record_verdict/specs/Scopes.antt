@@ -1,11 +1,11 @@
 -- What a reading of two logs is about, and what it finds before any rule is looked at.
-use Rattle.std.specs.Prelude.{ℕ, List, [], ◌∷◌, Option, None, Result}
+use Rattle.std.specs.Prelude.{ℕ, List, [], ◌∷◌, Option, None, Result, is_some, if◌then◌else◌}
 use Rattle.audit_base.specs.declared.findings.Finding.{Finding}
 use Rattle.audit_base.specs.declared.orders.Order.{Order}
 use Rattle.audit_base.specs.declared.records.OrderRecord.{OrderRecord}
 use Rattle.audit_base.specs.declared.records.TradeRecord.{TradeRecord}
 use Rattle.audit_base.specs.declared.terms.Rule.{Rule}
-use Rattle.audit_base.specs.declared.terms.Rule.TheVariants as rule
+use Rattle.audit_base.specs.RuleKinds.{call_rule}
 use Rattle.audit_base.specs.Histories.{history_finding, instant_order, order_list}
 use Rattle.audit_base.specs.Least.{first_of}
 use Rattle.audit_base.specs.Trades.{unsound_trade}
@@ -15,13 +15,10 @@ use Rattle.record_verdict.specs.declared.scopes.Admission.{Admission}
 use Rattle.record_verdict.specs.declared.scopes.Admission.TheVariants as admission
 use Rattle.record_verdict.specs.declared.scopes.Scope.{Scope}
 
--- the four rules of a call admit orders that rest, continuous trading admits all
+-- a rule of a call admits orders that rest, continuous trading admits all
 abbrev pub admission_of : Rule → Admission
-admission_of rule.Continuous = admission.All
-admission_of rule.Matching = admission.Resting
-admission_of rule.Fair = admission.Resting
-admission_of rule.Uniform = admission.Resting
-admission_of rule.Maximum = admission.Resting
+admission_of the_rule =
+    if is_some (call_rule the_rule) then admission.Resting else admission.All
 
 -- what of a question a reading needs to know: the symbol, and which orders the rule admits
 abbrev pub scope_of : Question → Scope

@@ -4,9 +4,10 @@ use Rattle.std.specs.List.{range_with_len}
 use Rattle.audit_base.specs.declared.orders.Order.{Order}
 use Rattle.audit_base.specs.declared.orders.Deal.{Deal}
 use Rattle.audit_base.specs.declared.terms.Rule.{Rule}
-use Rattle.audit_base.specs.Deals.{volume}
+use Rattle.audit_base.specs.declared.terms.CallRule.{CallRule}
+use Rattle.audit_base.specs.RuleKinds.{rule_of_call}
+use Rattle.audit_base.specs.Deals.{AreTotals, volume}
 use Rattle.audit_base.specs.Verdicts.{IsRuleVerdict}
-use Rattle.short_order.specs.Totals.{AreTotals}
 use Rattle.audit_base.specs.Orders.{order_at, place_at}
 use Rattle.audit_base.specs.Shows.{with_traded}
 use Rattle.audit_report.specs.declared.tables.Line.{Line}
@@ -75,6 +76,11 @@ IsRuleAudited the_rule orders deals count (outcome.Conforms reached) =
     IsRuleConforming the_rule orders deals count reached
 IsRuleAudited the_rule orders deals count (outcome.Broken finding) =
     IsRuleVerdict the_rule orders deals count (Some finding)
+
+-- the same of a rule of a call, whatever the number of trades of the whole log is
+abbrev pub IsCallAudited : CallRule → List Order → List Deal → Outcome → Type 0
+IsCallAudited the_rule orders deals the_outcome =
+    (count : ℕ) → IsRuleAudited (rule_of_call the_rule) orders deals count the_outcome
 
 -- what deals come to that conform to a rule without a bound
 abbrev pub conforming_outcome : List ℕ × ℕ → Outcome

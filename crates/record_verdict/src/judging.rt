@@ -1,6 +1,7 @@
 //! Judging logs that have been read: the stages of the verdict, each handed to the crate that decides
 //! it.
 ghost use Rattle.std.specs.Prelude.{◌≡◌, ◌<◌, ◌-◌, ◌^◌, length, IfOk};
+ghost use Rattle.audit_base.specs.Trades.{AreTrades};
 ghost use Rattle.audit_base.specs.Verdicts as spec;
 ghost use Rattle.audit_base.specs.Verdicts.{paired_trades};
 ghost use Rattle.audit_report.specs.Texts.{IsVerdictInRange};
@@ -9,13 +10,13 @@ ghost use Rattle.record_verdict.specs.Judgements.{question, IsJudged};
 ghost use Rattle.record_verdict.specs.Stages.{IsJudgedRecords, IsJudgedHistory, IsJudgedTrades};
 
 use crate::questions::Question;
-use crate::ranges::trades_in_range;
 use crate::rules::judge_deals;
 use crate::scopes::Admission;
 use audit_base::faults::NoMemory;
 use audit_base::findings::Finding;
 use audit_base::names::Name;
 use audit_base::orders::Order;
+use audit_base::ranges::trades_in_range;
 use audit_base::records::{OrderRecord, TradeRecord};
 use audit_base::terms::Rule;
 use audit_report::verdicts::Verdict;
@@ -25,6 +26,16 @@ use instruction_history::history::History;
 use matching_core::outcomes::CheckFault;
 use matching_core::resolving::resolve;
 use std::alloc::Global;
+
+/// The numbers of the trades of a log are in their ranges. Nothing is computed.
+fn paired_in_range(trades: &Paired)
+    ensures { AreTrades (paired_trades (pairing_of trades.now)) }
+{
+    match trades {
+        Paired::Trades(list) => trades_in_range(list.as_slice()),
+        Paired::Alone(_) => {}
+    }
+}
 
 /// What is found where the rule does not admit an order of the history: a call takes only orders that rest.
 pub fn call_finding(rule: Rule, orders: &[Order]) -> Option<Finding>
@@ -117,7 +128,7 @@ pub fn judge(
         (IsJudged (question rule symbol.now table) entries.now (pairing_of trades.now)) }
     ensures in_range { IfOk result IsVerdictInRange }
 {
-    trades_in_range(trades);
+    paired_in_range(trades);
     let question = Question {
         rule,
         symbol: *symbol,

@@ -11,7 +11,6 @@ pub mod before_rule;
 pub mod judging;
 pub mod laws;
 pub mod questions;
-pub mod ranges;
 pub mod rules;
 pub mod scopes;
 mod tables;

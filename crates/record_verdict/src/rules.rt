@@ -1,19 +1,20 @@
 //! The verdict of each rule where the trades are sound: what the audit of the rule answers, as a
 //! finding or as an accepted log.
 ghost use Rattle.std.specs.Prelude.{◌≡◌, ◌<◌, ◌-◌, ◌^◌, None, IfOk};
-ghost use Rattle.audit_base.specs.declared.terms.Rule.TheVariants as rule;
+ghost use Rattle.audit_base.specs.declared.terms.CallRule.TheVariants as call;
+ghost use Rattle.audit_base.specs.RuleKinds.{rule_of_call};
 ghost use Rattle.audit_base.specs.Histories.{Regular};
 ghost use Rattle.audit_base.specs.Orders.{IsOrderList};
-ghost use Rattle.short_order.specs.Totals.{AreTotals};
-ghost use Rattle.audit_base.specs.Deals.{IsDealList};
+ghost use Rattle.audit_base.specs.Deals.{AreTotals, IsDealList};
+ghost use Rattle.call_auction.specs.Audits.{IsAudited};
 ghost use Rattle.record_verdict.specs.Stages.{IsJudgedDeals};
-ghost use Rattle.record_verdict.specs.Tables.{accepted_verdict, conforming_outcome, IsOutcomeOfFault, IsRuleAudited};
+ghost use Rattle.record_verdict.specs.Tables.{accepted_verdict, conforming_outcome, IsCallAudited, IsOutcomeOfFault, IsRuleAudited};
 
 use crate::questions::Question;
 use crate::tables::table_of;
 use audit_base::faults::NoMemory;
 use audit_base::orders::{Deal, Order};
-use audit_base::terms::Rule;
+use audit_base::terms::{CallRule, Rule, VolumeRule};
 use audit_report::verdicts::{Accepted, Verdict};
 use call_auction::fair_matchings::fair_matching;
 use continuous_audit::auditing::audit_continuous;
@@ -45,14 +46,9 @@ fn broken(fault: CheckFault) -> Result<Outcome, NoMemory>
 }
 
 /// Whether the deals conform to the rule `matching`.
-fn audit_matching(
-    alloc: Global,
-    orders: &[Order],
-    deals: &[Deal],
-    count: u32,
-) -> Result<Outcome, NoMemory>
+fn audit_matching(alloc: Global, orders: &[Order], deals: &[Deal]) -> Result<Outcome, NoMemory>
     requires deal_list { IsDealList orders.now deals.now }
-    ensures { IfOk result (IsRuleAudited rule.Matching orders.now deals.now count) }
+    ensures { IfOk result (IsCallAudited call.Matching orders.now deals.now) }
 {
     match check_matching(alloc, orders, deals, false) {
         Ok(totals) => Ok(conforming(totals)),
@@ -61,19 +57,53 @@ fn audit_matching(
 }
 
 /// Whether the deals conform to the rule `fair`.
-fn audit_fair(
+fn audit_fair(alloc: Global, orders: &[Order], deals: &[Deal]) -> Result<Outcome, NoMemory>
+    requires order_list { IsOrderList orders.now }
+    requires deal_list { IsDealList orders.now deals.now }
+    ensures { IfOk result (IsCallAudited call.Fair orders.now deals.now) }
+{
+    match fair_matching(alloc, orders, deals, false) {
+        Ok(fair) => Ok(conforming(fair.totals)),
+        Err(fault) => broken(fault),
+    }
+}
+
+/// Whether the deals conform to a rule that asks for the greatest volume.
+fn audit_greatest(
     alloc: Global,
+    rule: VolumeRule,
     orders: &[Order],
     deals: &[Deal],
     count: u32,
 ) -> Result<Outcome, NoMemory>
     requires order_list { IsOrderList orders.now }
     requires deal_list { IsDealList orders.now deals.now }
-    ensures { IfOk result (IsRuleAudited rule.Fair orders.now deals.now count) }
+    requires few { count < 2 ^ 32 - 1 }
+    ensures { IfOk result (IsAudited rule orders.now deals.now count) }
 {
-    match fair_matching(alloc, orders, deals, false) {
-        Ok(fair) => Ok(conforming(fair.totals)),
-        Err(fault) => broken(fault),
+    match rule {
+        VolumeRule::Uniform => audit_uniform(alloc, orders, deals, count),
+        VolumeRule::Maximum => audit_maximum(alloc, orders, deals, count),
+    }
+}
+
+/// Whether the deals conform to a rule of a call.
+fn audit_call(
+    alloc: Global,
+    rule: CallRule,
+    orders: &[Order],
+    deals: &[Deal],
+    count: u32,
+) -> Result<Outcome, NoMemory>
+    requires order_list { IsOrderList orders.now }
+    requires deal_list { IsDealList orders.now deals.now }
+    requires few { count < 2 ^ 32 - 1 }
+    ensures { IfOk result (IsRuleAudited (rule_of_call rule) orders.now deals.now count) }
+{
+    match rule {
+        CallRule::Matching => audit_matching(alloc, orders, deals),
+        CallRule::Fair => audit_fair(alloc, orders, deals),
+        CallRule::Greatest(rule) => audit_greatest(alloc, rule, orders, deals, count),
     }
 }
 
@@ -91,12 +121,9 @@ fn audit(
     requires few { count < 2 ^ 32 - 1 }
     ensures { IfOk result (IsRuleAudited rule orders.now deals.now count) }
 {
-    match rule {
-        Rule::Matching => audit_matching(alloc, orders, deals, count),
-        Rule::Fair => audit_fair(alloc, orders, deals, count),
-        Rule::Uniform => audit_uniform(alloc, orders, deals, count),
-        Rule::Maximum => audit_maximum(alloc, orders, deals, count),
-        Rule::Continuous => audit_continuous(alloc, orders, deals),
+    match rule.call_rule() {
+        Some(rule) => audit_call(alloc, rule, orders, deals, count),
+        None => audit_continuous(alloc, orders, deals),
     }
 }
 

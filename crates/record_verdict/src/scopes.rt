@@ -3,10 +3,11 @@ ghost use Rattle.std.specs.Prelude.{◌≡◌};
 ghost use Rattle.audit_base.specs.Histories.{instant_order};
 ghost use Rattle.record_verdict.specs.Scopes.{admission_of, unadmitted_order};
 
-use audit_base::findings::{Finding, Property};
+use audit_base::findings::Finding;
+use audit_base::flaws::{Evidence, Flaw};
 use audit_base::names::Name;
 use audit_base::orders::Order;
-use audit_base::terms::{Rule, Which};
+use audit_base::terms::Rule;
 
 /// Which orders of a symbol may be in its log.
 #[derive(Clone, Copy, Debug, PartialEq, Eq)]
@@ -30,27 +31,24 @@ fn first_instant(orders: &[Order]) -> Option<Finding>
 {
     for order in orders {
         if !order.life.rests() {
-            return Some(Finding {
-                property: Property::InstantOrder,
-                log: Which::Orders,
+            let flaw = Flaw {
                 place: order.place,
-                first: None,
-                second: None,
-                short: None,
-            });
+                evidence: Evidence::InstantOrder,
+            };
+            return Some(flaw.finding(orders));
         }
     }
     None
 }
 
 impl Admission {
-    /// Which orders a rule admits: each of the four rules of a call those that rest, `continuous` all.
+    /// Which orders a rule admits: a rule of a call those that rest, `continuous` all.
     pub fn of(rule: Rule) -> Admission
         ensures { result ≡ admission_of rule }
     {
-        match rule {
-            Rule::Continuous => Admission::All,
-            Rule::Matching | Rule::Fair | Rule::Uniform | Rule::Maximum => Admission::Resting,
+        match rule.call_rule() {
+            Some(_) => Admission::Resting,
+            None => Admission::All,
         }
     }
 

@@ -1,8 +1,7 @@
 //! The table of an accepted log: under a rule of a call what each order of the history traded, under
 //! `continuous` what each pair of a bid and an ask did.
 ghost use Rattle.std.specs.Prelude.{◌≡◌, ◌<◌, ◌++◌, ◌∷◌, [], All, IfOk, OnOk, length};
-ghost use Rattle.audit_base.specs.Deals.{IsDealList};
-ghost use Rattle.short_order.specs.Totals.{AreTotals};
+ghost use Rattle.audit_base.specs.Deals.{AreTotals, IsDealList};
 ghost use Rattle.record_verdict.specs.Judgements as table;
 ghost use Rattle.record_verdict.specs.Tables as spec;
 
@@ -91,11 +90,9 @@ fn lines_of(
     requires totals { AreTotals orders.now deals.now traded.now }
     ensures { IfOk result (λ lines. lines.items ≡ table.rule_lines rule orders.now deals.now) }
 {
-    match rule {
-        Rule::Continuous => pair_lines(alloc, orders, deals),
-        Rule::Matching | Rule::Fair | Rule::Uniform | Rule::Maximum => {
-            order_lines(alloc, orders, traded)
-        }
+    match rule.call_rule() {
+        Some(_) => order_lines(alloc, orders, traded),
+        None => pair_lines(alloc, orders, deals),
     }
 }
 

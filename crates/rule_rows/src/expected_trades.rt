@@ -2,7 +2,8 @@
 use crate::records::{history_of, new_order, price_of};
 use audit_base::orders::Deal;
 use audit_base::records::OrderRecord;
-use audit_base::terms::{Life, Side};
+use audit_base::terms::VolumeRule::{Maximum, Uniform};
+use audit_base::terms::{Life, Side, VolumeRule};
 use instruction_history::history::History;
 use matching_core::outcomes::Outcome;
 use maximum_audit::auditing::audit_maximum;
@@ -75,24 +76,22 @@ const SPLIT: [Row; 5] = [
 /// trades of the case.
 fn bound_of_expected<R: AllocGlobal + Abort>(
     rt: &R,
-    uniform: bool,
+    rule: VolumeRule,
     history: &History,
     trades: &[Trade],
 ) -> (u128, u64) {
     let orders = history.orders();
-    let made = if uniform {
-        expected_uniform(rt.alloc(), orders)
-    } else {
-        greatest_matching(rt.alloc(), orders)
+    let made = match rule {
+        Uniform => expected_uniform(rt.alloc(), orders),
+        Maximum => greatest_matching(rt.alloc(), orders),
     };
     let Ok(deals) = made else {
         panic!(rt; "no memory");
     };
     assert_trades(rt, &deals, trades);
-    let audited = if uniform {
-        audit_uniform(rt.alloc(), orders, &deals, 9)
-    } else {
-        audit_maximum(rt.alloc(), orders, &deals, 9)
+    let audited = match rule {
+        Uniform => audit_uniform(rt.alloc(), orders, &deals, 9),
+        Maximum => audit_maximum(rt.alloc(), orders, &deals, 9),
     };
     let Ok(Outcome::Conforms(reached)) = audited else {
         panic!(rt; "an offence");
@@ -104,31 +103,31 @@ fn bound_of_expected<R: AllocGlobal + Abort>(
     (bound.volume, bound.price)
 }
 
-/// A case: whether the rule is `uniform`, the orders, their Expected trades, the volume and its bound.
-type Case = (bool, &'static [Row], &'static [Trade], u128, u64);
+/// A case: the rule, the orders, their Expected trades, the volume and its bound.
+type Case = (VolumeRule, &'static [Row], &'static [Trade], u128, u64);
 
 const CASES: [Case; 8] = [
-    (true, &[], &[], 0, 0),
-    (true, &LADDER, &[(1, 4, 1, 2), (2, 3, 1, 2)], 2, 2),
-    (true, &CROSSED, &[(0, 2, 1, 5)], 1, 5),
+    (Uniform, &[], &[], 0, 0),
+    (Uniform, &LADDER, &[(1, 4, 1, 2), (2, 3, 1, 2)], 2, 2),
+    (Uniform, &CROSSED, &[(0, 2, 1, 5)], 1, 5),
     (
-        true,
+        Uniform,
         &SPLIT,
         &[(0, 2, 2, 4), (0, 3, 3, 4), (1, 4, 4, 4)],
         9,
         4,
     ),
-    (false, &[], &[], 0, 0),
+    (Maximum, &[], &[], 0, 0),
     (
-        false,
+        Maximum,
         &LADDER,
         &[(0, 3, 1, 1), (1, 4, 1, 2), (2, 5, 1, 3)],
         3,
         0,
     ),
-    (false, &CROSSED, &[(0, 3, 1, 9), (1, 2, 1, 5)], 2, 0),
+    (Maximum, &CROSSED, &[(0, 3, 1, 9), (1, 2, 1, 5)], 2, 0),
     (
-        false,
+        Maximum,
         &SPLIT,
         &[(0, 2, 1, 3), (0, 4, 4, 4), (1, 2, 1, 3), (1, 3, 3, 2)],
         9,
@@ -138,9 +137,9 @@ const CASES: [Case; 8] = [
 
 #[test]
 fn the_expected_trades_are_accepted(rt: HostRuntime) {
-    for &(uniform, rows, trades, volume, bound) in &CASES {
+    for &(rule, rows, trades, volume, bound) in &CASES {
         assert_eq!(rt;
-            bound_of_expected(&rt, uniform, &history(&rt, rows), trades),
+            bound_of_expected(&rt, rule, &history(&rt, rows), trades),
             (volume, bound)
         );
     }

@@ -1,1 +1,4 @@
 pub mod Seeds
+pub mod Blocks
+pub mod Collisions
+pub mod ShortPairs

@@ -32,6 +32,13 @@ impl HashSeed {
         HashSeed::of(0, 0)
     }
 
+    /// The hasher that each hash begins with.
+    pub(crate) fn start(&self) -> &DefaultHasher
+        ensures { result.now ≡ self.now.start }
+    {
+        &self.start
+    }
+
     /// A seed that nobody knows beforehand: 16 bytes of the source. An error comes exactly where the source
     /// gives one.
     pub fn random(source: &impl RandomSource) -> io::Result<HashSeed>

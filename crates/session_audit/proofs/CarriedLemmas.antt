@@ -5,6 +5,7 @@ use Rattle.std.proofs.lemmas.Bool.{cases_lt, and_from, lt-ltb}
 use Rattle.std.proofs.lemmas.List.Elements.{All-filter}
 use Rattle.audit_base.specs.declared.terms.Side.{Side}
 use Rattle.audit_base.specs.declared.terms.Side.TheVariants.{Buy, Sell}
+use Rattle.audit_base.specs.declared.terms.VolumeRule.TheVariants as of_volume
 use Rattle.audit_base.specs.declared.orders.Order.{Order}
 use Rattle.audit_base.specs.declared.orders.Deal.{Deal}
 use Rattle.audit_base.specs.Orders.{order_at, quantity_at, limit_at, side_at, stands_on, missing_order, IsOrderList, IsOrder, AreOrders}
@@ -13,11 +14,12 @@ use Rattle.audit_base.specs.CallOffences.{is_cancelled, is_short}
 use Rattle.audit_base.specs.Continuous.{cause}
 use Rattle.audit_base.proofs.OrderLemmas.{is-same_side}
 use Rattle.audit_base.proofs.OffenceLemmas.{get_or-default}
-use Rattle.call_laws.specs.Laws.{asks_for_greatest, ShortOrdersDoNotMeet}
+use Rattle.audit_base.specs.Rules.{Conforms}
+use Rattle.call_laws.specs.Laws.{ShortOrdersDoNotMeet}
 use Rattle.session_audit.specs.declared.phases.Phase.{Phase}
 use Rattle.session_audit.specs.declared.phases.PhaseKind.{PhaseKind}
 use Rattle.session_audit.specs.declared.phases.PhaseKind.TheVariants as kind
-use Rattle.session_audit.specs.Phases.{rule_of, is_call, kind_at, first_place, last_place, lies_in, phase_deals}
+use Rattle.session_audit.specs.Phases.{rule_of, is_call, kind_at, first_place, end_place, lies_in, phase_deals}
 use Rattle.session_audit.specs.PhaseOrders.{brought, phase_order, left_of_call, left_of_phase, chain_earlier, rest_before, phase_orders}
 use Rattle.session_audit.specs.Laws.{CarriedOrdersDoNotMeet}
 use Rattle.session_audit.proofs.BroughtLemmas.{brought-le}
@@ -31,11 +33,11 @@ module _ (phases : List Phase) (orders : List Order) (list : IsOrderList orders)
   abbrev amount : ℕ → ℕ → ℕ
   amount k = brought orders (first_place phases k) (rest_before phases orders deals k) (chain_earlier phases orders deals k)
 
-  at : (k i : ℕ) → i < length (here k) → order_at (here k) i ≡ phase_order (first_place phases k) (last_place phases k) (amount k i) (order_at orders i)
-  at k i lt = phase-at orders list (last_place phases k) (first_place phases k) (rest_before phases orders deals k) (chain_earlier phases orders deals k) i lt
+  at : (k i : ℕ) → i < length (here k) → order_at (here k) i ≡ phase_order (first_place phases k) (end_place phases k) (amount k i) (order_at orders i)
+  at k i lt = phase-at orders list (end_place phases k) (first_place phases k) (rest_before phases orders deals k) (chain_earlier phases orders deals k) i lt
 
   inside : (k i : ℕ) → i < length (here k) → i < length orders
-  inside k i lt = phase-inside orders list (last_place phases k) (first_place phases k) (rest_before phases orders deals k) (chain_earlier phases orders deals k) i lt
+  inside k i lt = phase-inside orders list (end_place phases k) (first_place phases k) (rest_before phases orders deals k) (chain_earlier phases orders deals k) i lt
 
   -- the quantity of an order of a phase is that which it brings, or its written one
   quantity-is : (first last a : ℕ) (o : Order) → a ≤ o.quantity → 0 < o.quantity → (0 < (phase_order first last a o).quantity) × ((phase_order first last a o).quantity ≤ o.quantity)
@@ -54,13 +56,13 @@ module _ (phases : List Phase) (orders : List Order) (list : IsOrderList orders)
     rest-le zero i = omega arith
     rest-le (suc k) i = elim (cases_lt i (length (here k))) [
       | inl lt ↦
-          let m = left-le (kind_at phases k) (here k) (phase_deals phases orders deals k) (last_place phases k) i in
+          let m = left-le (kind_at phases k) (here k) (phase_deals phases orders deals k) (end_place phases k) i in
           let in_orders = inside k i lt in
           let b = brought-le orders list (first_place phases k) (rest_before phases orders deals k) (chain_earlier phases orders deals k) i in_orders (rest-le k i) in
-          let q = (quantity-is (first_place phases k) (last_place phases k) (amount k i) (order_at orders i) b (written i in_orders).some).1 in
+          let q = (quantity-is (first_place phases k) (end_place phases k) (amount k i) (order_at orders i) b (written i in_orders).some).1 in
           let e = ap (λ (o : Order). o.quantity) (at k i lt) in
           omega arith
-      | inr past ↦ let z = left-past (kind_at phases k) (here k) (phase_deals phases orders deals k) (last_place phases k) i past in omega arith
+      | inr past ↦ let z = left-past (kind_at phases k) (here k) (phase_deals phases orders deals k) (end_place phases k) i past in omega arith
     ]
 
     in-range : (k i : ℕ) → i < length (here k) → IsOrder (order_at (here k) i)
@@ -68,13 +70,13 @@ module _ (phases : List Phase) (orders : List Order) (list : IsOrderList orders)
         let in_orders = inside k i lt in
         let is = written i in_orders in
         let b = brought-le orders list (first_place phases k) (rest_before phases orders deals k) (chain_earlier phases orders deals k) i in_orders (rest-le k i) in
-        let q = quantity-is (first_place phases k) (last_place phases k) (amount k i) (order_at orders i) b is.some in
-        let limit : (phase_order (first_place phases k) (last_place phases k) (amount k i) (order_at orders i)).limit ≡ (order_at orders i).limit = keeps (λ o. o.limit) (λ o q c t. refl) (first_place phases k) (last_place phases k) (amount k i) (order_at orders i) in
+        let q = quantity-is (first_place phases k) (end_place phases k) (amount k i) (order_at orders i) b is.some in
+        let limit : (phase_order (first_place phases k) (end_place phases k) (amount k i) (order_at orders i)).limit ≡ (order_at orders i).limit = keeps (λ o. o.limit) (λ o q c t. refl) (first_place phases k) (end_place phases k) (amount k i) (order_at orders i) in
         let some = q.0 in
         let most = q.1 in
         let w = is.most in
         let p = is.priced in
-        let ordered : IsOrder (phase_order (first_place phases k) (last_place phases k) (amount k i) (order_at orders i)) = record { some = some; most = omega arith; priced = omega arith } in
+        let ordered : IsOrder (phase_order (first_place phases k) (end_place phases k) (amount k i) (order_at orders i)) = record { some = some; most = omega arith; priced = omega arith } in
         subst IsOrder (sym (at k i lt)) ordered
 
     -- the order lists of phases have numbers in range
@@ -106,24 +108,26 @@ call-left kind.Uniform orders deals last i e = refl
 call-left kind.Maximum orders deals last i e = refl
 call-left kind.Continuous orders deals last i e = absurd (cc)
 
-asks : (k : PhaseKind) → is_call k ≡ true → asks_for_greatest (rule_of k) ≡ true
-asks kind.Uniform e = refl
-asks kind.Maximum e = refl
-asks kind.Continuous e = absurd (cc)
+-- what a call leaves short doesn't meet, whichever rule of a call it has
+call-apart : ShortOrdersDoNotMeet → (k : PhaseKind) (orders : List Order) (deals : List Deal) → is_call k ≡ true → AreOrders orders → AreDeals deals → Conforms (rule_of k) orders deals
+    → (bid ask : ℕ) → is_short orders deals Buy bid ≡ true → is_short orders deals Sell ask ≡ true → limit_at orders bid < limit_at orders ask
+call-apart law kind.Uniform orders deals call numbers ranges conforms = law of_volume.Uniform orders deals numbers ranges conforms
+call-apart law kind.Maximum orders deals call numbers ranges conforms = law of_volume.Maximum orders deals numbers ranges conforms
+call-apart law kind.Continuous orders deals call numbers ranges conforms = absurd (cc)
 
 pub carried-apart : ShortOrdersDoNotMeet → CarriedOrdersDoNotMeet
 unfolding rest_before
 carried-apart law phases orders deals k list numbers ranges call conforms bid ask buys sells some_bid some_ask =
     let here : List Order = phase_orders phases orders deals k in
     let dealt : List Deal = phase_deals phases orders deals k in
-    let last : ℕ = last_place phases k in
+    let last : ℕ = end_place phases k in
     let left_bid = call-left (kind_at phases k) here dealt last bid call in
     let left_ask = call-left (kind_at phases k) here dealt last ask call in
     let in_bid : bid < length here = elim (cases_lt bid (length here)) [ inl lt ↦ lt | inr past ↦ let z = left-past (kind_at phases k) here dealt last bid past in absurd (omega arith) ] in
     let in_ask : ask < length here = elim (cases_lt ask (length here)) [ inl lt ↦ lt | inr past ↦ let z = left-past (kind_at phases k) here dealt last ask past in absurd (omega arith) ] in
     let side_bid = phase-side orders list last (first_place phases k) (rest_before phases orders deals k) (chain_earlier phases orders deals k) bid in_bid in
     let side_ask = phase-side orders list last (first_place phases k) (rest_before phases orders deals k) (chain_earlier phases orders deals k) ask in_ask in
-    let apart = law (rule_of (kind_at phases k)) here dealt (asks (kind_at phases k) call) (phase-numbers phases orders list deals numbers k) (deals-numbers phases orders deals k ranges) conforms bid ask
+    let apart = call-apart law (kind_at phases k) here dealt call (phase-numbers phases orders list deals numbers k) (deals-numbers phases orders deals k ranges) conforms bid ask
     (short-of here dealt Buy bid (side_bid ∙ buys) (omega arith)) (short-of here dealt Sell ask (side_ask ∙ sells) (omega arith)) in
     let limit_of : (i : ℕ) → i < length here → limit_at here i ≡ limit_at orders i = λ i lt.
     ap (λ (o : Order). o.limit) (at phases orders list deals k i lt) ∙ keeps (λ o. o.limit) (λ o q c t. refl) (first_place phases k) last (amount phases orders list deals k i) (order_at orders i) in

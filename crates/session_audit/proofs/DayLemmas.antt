@@ -16,7 +16,7 @@ use Rattle.continuous_laws.proofs.StepLemmas.{rests-parts}
 use Rattle.session_audit.specs.declared.phases.Phase.{Phase}
 use Rattle.session_audit.specs.declared.phases.PhaseKind.{PhaseKind}
 use Rattle.session_audit.specs.declared.phases.PhaseKind.TheVariants as kind
-use Rattle.session_audit.specs.Phases.{rule_of, kind_at, first_place, last_place, ArePhases, phase_deals}
+use Rattle.session_audit.specs.Phases.{rule_of, kind_at, first_place, end_place, ArePhases, phase_deals}
 use Rattle.session_audit.specs.PhaseOrders.{listed, brought, phase_order, left_of_phase, traded_earlier, chain_earlier, rest_before, phase_orders}
 use Rattle.session_audit.specs.Days.{PhaseConforms}
 use Rattle.session_audit.specs.Numbers.{number_in, AreSmall}
@@ -113,25 +113,25 @@ module _ (phases : List Phase) (are : ArePhases phases) (orders : List Order) (l
     rest-le i = let m = so_far.most i in let e = so_far.rest_is i in omega arith
 
     -- no order of the phase has more than its written quantity
-    amount-le : (amount : ℕ) (o : Order) → amount ≤ o.quantity → (phase_order (first_place phases k) (last_place phases k) amount o).quantity ≤ o.quantity
+    amount-le : (amount : ℕ) (o : Order) → amount ≤ o.quantity → (phase_order (first_place phases k) (end_place phases k) amount o).quantity ≤ o.quantity
     amount-le amount o le = elim (cases_lt 0 amount) [
-      | inl some ↦ let e = ap (λ (p : Order). p.quantity) (order-present (first_place phases k) (last_place phases k) amount o some) in omega arith
-      | inr none ↦ let e = ap (λ (p : Order). p.quantity) (order-gone (first_place phases k) (last_place phases k) amount o (omega arith)) in omega arith
+      | inl some ↦ let e = ap (λ (p : Order). p.quantity) (order-present (first_place phases k) (end_place phases k) amount o some) in omega arith
+      | inr none ↦ let e = ap (λ (p : Order). p.quantity) (order-gone (first_place phases k) (end_place phases k) amount o (omega arith)) in omega arith
     ]
 
     quantity-le : (i : ℕ) → i < length here → quantity_at here i ≤ quantity_at orders i
     quantity-le i lt =
-        let at = ap (λ (o : Order). o.quantity) (phase-at orders list (last_place phases k) (first_place phases k) (rest_before phases orders deals k) (chain_earlier phases orders deals k) i lt) in
-        let in_orders = phase-inside orders list (last_place phases k) (first_place phases k) (rest_before phases orders deals k) (chain_earlier phases orders deals k) i lt in
+        let at = ap (λ (o : Order). o.quantity) (phase-at orders list (end_place phases k) (first_place phases k) (rest_before phases orders deals k) (chain_earlier phases orders deals k) i lt) in
+        let in_orders = phase-inside orders list (end_place phases k) (first_place phases k) (rest_before phases orders deals k) (chain_earlier phases orders deals k) i lt in
         let m = brought-le orders list (first_place phases k) (rest_before phases orders deals k) (chain_earlier phases orders deals k) i in_orders (rest-le i) in
         let a = amount-le (brought orders (first_place phases k) (rest_before phases orders deals k) (chain_earlier phases orders deals k) i) (order_at orders i) m in
         omega arith
 
-    rest-is-left : rest_before phases orders deals (suc k) ≡ left_of_phase (kind_at phases k) here dealt_here (last_place phases k)
+    rest-is-left : rest_before phases orders deals (suc k) ≡ left_of_phase (kind_at phases k) here dealt_here (end_place phases k)
     unfolding rest_before
     rest-is-left = refl
 
-    pub one-phase : (the_kind : PhaseKind) (last : ℕ) (after left : List ℕ) → the_kind ≡ kind_at phases k → last ≡ last_place phases k
+    pub one-phase : (the_kind : PhaseKind) (last : ℕ) (after left : List ℕ) → the_kind ≡ kind_at phases k → last ≡ end_place phases k
         → IsPassed the_kind here dealt_here last traded_list after left → IsSoFar phases orders deals (k + 1) after left
     one-phase the_kind last after left kind_is last_is passed =
         let f = left_of_phase the_kind here dealt_here last in
@@ -176,22 +176,22 @@ pub record IsReady (orders here : List Order) (dealt : List Deal) (last : ℕ) :
   pub few : length here ≤ length orders
 
 pub ready : (phases : List Phase) (are : ArePhases phases) (orders : List Order) (list : IsOrderList orders) (regular : Regular orders) (deals : List Deal) → IsDealList orders deals → AreDeals deals → (k : ℕ) → k < length phases
-    → (here : List Order) (dealt : List Deal) (last : ℕ) → here ≡ phase_orders phases orders deals k → dealt ≡ phase_deals phases orders deals k → last ≡ last_place phases k → IsReady orders here dealt last
+    → (here : List Order) (dealt : List Deal) (last : ℕ) → here ≡ phase_orders phases orders deals k → dealt ≡ phase_deals phases orders deals k → last ≡ end_place phases k → IsReady orders here dealt last
 ready phases are orders list regular deals dl ranges k inside here dealt last here_is dealt_is last_is =
-    let at : IsReady orders (phase_orders phases orders deals k) (phase_deals phases orders deals k) (last_place phases k) = record {
-      order_list = phase-is_list orders list (last_place phases k) (first_place phases k) (rest_before phases orders deals k) (chain_earlier phases orders deals k);
-      regular = phase-is_regular orders list (last_place phases k) (first_place phases k) (rest_before phases orders deals k) (chain_earlier phases orders deals k) regular;
+    let at : IsReady orders (phase_orders phases orders deals k) (phase_deals phases orders deals k) (end_place phases k) = record {
+      order_list = phase-is_list orders list (end_place phases k) (first_place phases k) (rest_before phases orders deals k) (chain_earlier phases orders deals k);
+      regular = phase-is_regular orders list (end_place phases k) (first_place phases k) (rest_before phases orders deals k) (chain_earlier phases orders deals k) regular;
       deal_list = deals-list phases orders list deals k dl;
       ends = causes-upto phases orders list deals k dl.named;
       more = λ i. let m = in-le phases are orders deals k i inside in let s = traded-small deals ranges dl.few i in omega arith;
-      few = let e = phase-length orders list (last_place phases k) (first_place phases k) (rest_before phases orders deals k) (chain_earlier phases orders deals k) in let m = upto-inside orders list (last_place phases k) in omega arith;
+      few = let e = phase-length orders list (end_place phases k) (first_place phases k) (rest_before phases orders deals k) (chain_earlier phases orders deals k) in let m = upto-inside orders list (end_place phases k) in omega arith;
     } in
     subst (λ h. IsReady orders h dealt last) (sym here_is) (subst (λ d. IsReady orders (phase_orders phases orders deals k) d last) (sym dealt_is) (subst (IsReady orders (phase_orders phases orders deals k) (phase_deals phases orders deals k)) (sym last_is) at))
 
 -- the same as `one-phase`, of lists that are those of the phase
 pub phase-passed : (phases : List Phase) (are : ArePhases phases) (orders : List Order) (list : IsOrderList orders) (deals : List Deal) → All (NamesOrders orders) deals → (k : ℕ) → k < length phases
     → (traded_list rest : List ℕ) → IsSoFar phases orders deals k traded_list rest → (here : List Order) (dealt : List Deal) (the_kind : PhaseKind) (last : ℕ) (after left : List ℕ)
-    → here ≡ phase_orders phases orders deals k → dealt ≡ phase_deals phases orders deals k → the_kind ≡ kind_at phases k → last ≡ last_place phases k
+    → here ≡ phase_orders phases orders deals k → dealt ≡ phase_deals phases orders deals k → the_kind ≡ kind_at phases k → last ≡ end_place phases k
     → IsPassed the_kind here dealt last traded_list after left → IsSoFar phases orders deals (k + 1) after left
 phase-passed phases are orders list deals named k inside traded_list rest so_far here dealt the_kind last after left here_is dealt_is kind_is last_is passed =
     one-phase phases are orders list deals named k inside traded_list rest so_far the_kind last after left kind_is last_is

@@ -8,7 +8,7 @@ use Rattle.audit_base.specs.declared.orders.Deal.{Deal}
 use Rattle.audit_base.specs.Deals.{deal_at, missing_deal}
 use Rattle.audit_base.specs.Continuous.{cause}
 use Rattle.session_audit.specs.declared.phases.Phase.{Phase}
-use Rattle.session_audit.specs.Phases.{first_place, last_place, phase_deals}
+use Rattle.session_audit.specs.Phases.{first_place, end_place, phase_deals}
 use Rattle.session_audit.specs.Numbers.{number_in}
 use Rattle.session_audit.specs.Dealing.{causes_upto, lies_between, deals_if, deals_between}
 use Rattle.session_audit.proofs.ListedLemmas.{listed-at}
@@ -35,8 +35,8 @@ module _ (first last : ℕ) (orders : List Order) (deals : List Deal) (causes : 
   whole : deals_between deals causes first last (length deals) ≡ filter test deals
   whole = picked (length deals) (omega arith) ∙ ap (filter test) (take_all (length deals) deals (omega arith))
 
-pub dealt : (phases : List Phase) (orders : List Order) (deals : List Deal) (causes : List ℕ) (k first last : ℕ) → causes ≡ causes_upto orders deals (length deals) → first ≡ first_place phases k → last ≡ last_place phases k
+pub dealt : (phases : List Phase) (orders : List Order) (deals : List Deal) (causes : List ℕ) (k first last : ℕ) → causes ≡ causes_upto orders deals (length deals) → first ≡ first_place phases k → last ≡ end_place phases k
     → deals_between deals causes first last (length deals) ≡ phase_deals phases orders deals k
 unfolding phase_deals
 dealt phases orders deals causes k first last are first_is last_is =
-    (λ j. deals_between deals causes (first_is j) (last_is j) (length deals)) ∙ whole (first_place phases k) (last_place phases k) orders deals causes are
+    (λ j. deals_between deals causes (first_is j) (last_is j) (length deals)) ∙ whole (first_place phases k) (end_place phases k) orders deals causes are

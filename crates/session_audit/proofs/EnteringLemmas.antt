@@ -12,7 +12,7 @@ use Rattle.audit_base.proofs.ContinuousLemmas.{target-below}
 use Rattle.audit_base.proofs.OffenceLemmas.{get_or-default}
 use Rattle.audit_base.proofs.SumLemmas.{sum_by-same}
 use Rattle.session_audit.specs.declared.phases.Phase.{Phase}
-use Rattle.session_audit.specs.Phases.{first_place, last_place}
+use Rattle.session_audit.specs.Phases.{first_place, end_place}
 use Rattle.session_audit.specs.PhaseOrders.{brought_if, brought, phase_order, orders_upto, phase_list, traded_earlier, chain_earlier, rest_before, phase_orders}
 use Rattle.session_audit.specs.Numbers.{number_in, chain_total, AreChainTotals}
 use Rattle.session_audit.specs.Entering.{target_brings, amount_of, amounts, AreAmounts, orders_with}
@@ -85,12 +85,12 @@ module _ (phases : List Phase) (orders : List Order) (list : IsOrderList orders)
 
   -- the list that is made from the numbers is that of the phase
   pub list-is : (spent amounts_list : List ℕ) → AreChainTotals orders traded (length orders) spent
-      → amounts_list ≡ amounts orders (first_place phases k) rest spent (orders_upto orders (last_place phases k))
-      → orders_with orders (first_place phases k) (last_place phases k) amounts_list (length amounts_list) ≡ phase_orders phases orders deals k
+      → amounts_list ≡ amounts orders (first_place phases k) rest spent (orders_upto orders (end_place phases k))
+      → orders_with orders (first_place phases k) (end_place phases k) amounts_list (length amounts_list) ≡ phase_orders phases orders deals k
   unfolding phase_list
   list-is spent amounts_list totals are =
       let first : ℕ = first_place phases k in
-      let last : ℕ = last_place phases k in
+      let last : ℕ = end_place phases k in
       let n : ℕ = orders_upto orders last in
       let rests : number_in rest ≡ rest_before phases orders deals k = λ j i. so_far.rest_is i j in
       let chains : number_in spent ≡ chain_earlier phases orders deals k = λ j i. spent-is spent totals i j in

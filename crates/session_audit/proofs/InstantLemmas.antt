@@ -16,7 +16,7 @@ use Rattle.audit_base.specs.Continuous.{was_placed}
 use Rattle.audit_base.proofs.ContinuousLemmas.{chain-none}
 use Rattle.audit_base.proofs.LeastLemmas.{with-at, none-with, cases_Option}
 use Rattle.session_audit.specs.declared.phases.Phase.{Phase}
-use Rattle.session_audit.specs.Phases.{is_call, kind_at, first_place, last_place, lies_in}
+use Rattle.session_audit.specs.Phases.{is_call, kind_at, first_place, end_place, lies_in}
 use Rattle.session_audit.specs.PhaseOrders.{chain_earlier, traded_earlier, rest_before, brought_into}
 use Rattle.session_audit.specs.Days.{is_own, is_instant, instant_finding}
 use Rattle.session_audit.specs.Instants.{in_call, is_instant_order, first_instant}
@@ -73,7 +73,7 @@ module _ (phases : List Phase) (orders : List Order) (list : IsOrderList orders)
   own-is k = elim (cases_Bool (lies_in phases k (place_at orders i))) [
     | inr out ↦ ap (λ (b : Bool). b && nat_lt 0 (brought_into phases orders deals k i)) out ∙ sym (ap (λ (b : Bool). b && was_placed orders i) out)
     | inl in_phase ↦
-        let from = leb-true _ _ (and_parts (nat_le (first_place phases k) (place_at orders i)) (nat_le (place_at orders i) (last_place phases k)) in_phase).0 in
+        let from = leb-true _ _ (and_parts (nat_le (first_place phases k) (place_at orders i)) (nat_le (place_at orders i) (end_place phases k)) in_phase).0 in
         let b = brings k from in
         let same : nat_lt 0 (brought_into phases orders deals k i) ≡ was_placed orders i = elim (cases_Bool (was_placed orders i)) [
           | inl t ↦ lt-ltb 0 (brought_into phases orders deals k i) (let q = b ∙ cond-true (was_placed orders i) (quantity_at orders i) 0 t in omega arith) ∙ sym t

@@ -13,7 +13,8 @@ use Rattle.audit_base.specs.Continuous.{cause}
 use Rattle.audit_base.proofs.OrderLemmas.{same_place, not_both_sides}
 use Rattle.audit_base.proofs.SumLemmas.{sum_by-below, sum_by-same, sum_by-le-All, below-same, below-none, below-single, All-each}
 use Rattle.session_audit.specs.declared.phases.Phase.{Phase}
-use Rattle.session_audit.specs.Phases.{missing_phase, first_place, last_place, ArePhases, lies_in, phase_deals}
+use Rattle.session_audit.specs.Dealing.{HaveSmallCauses}
+use Rattle.session_audit.specs.Phases.{last_place, missing_phase, first_place, end_place, ArePhases, lies_in, phase_deals}
 use Rattle.session_audit.specs.PhaseOrders.{traded_in, traded_earlier}
 
 -- a sum over the elements that pass is a sum of a conditional
@@ -50,11 +51,11 @@ module _ (phases : List Phase) (are : ArePhases phases) where
   -- a place lies in at most one phase
   pub lies-once : (place i j : ℕ) → i < j → j < length phases → lies_in phases i place ≡ true → lies_in phases j place ≡ true → ⊥
   lies-once place i j less lt a b =
-      let x = and_parts (nat_le (first_place phases i) place) (nat_le place (last_place phases i)) a in
-      let y = and_parts (nat_le (first_place phases j) place) (nat_le place (last_place phases j)) b in
+      let x = and_parts (nat_le (first_place phases i) place) (nat_le place (end_place phases i)) a in
+      let y = and_parts (nat_le (first_place phases j) place) (nat_le place (end_place phases j)) b in
       let upto = leb-true _ _ x.1 in
       let from = leb-true _ _ y.0 in
-      let last : last_place phases i ≡ first_place phases (i + 1) - 1 = cond-true (nat_lt (i + 1) (length phases)) (first_place phases (i + 1) - 1) 4294967295 (lt-ltb (i + 1) (length phases) (omega arith)) in
+      let last : end_place phases i ≡ first_place phases (i + 1) - 1 = cond-true (nat_lt (i + 1) (length phases)) (first_place phases (i + 1) - 1) last_place (lt-ltb (i + 1) (length phases) (omega arith)) in
       let r = first-rises i (i + 1) (omega arith) (omega arith) in
       elim (cases_order (i + 1) j) [
         | inl e ↦ let s : first_place phases (i + 1) ≡ first_place phases j = ap (first_place phases) e in absurd (omega arith)
@@ -83,17 +84,17 @@ module _ (phases : List Phase) (are : ArePhases phases) where
         )
   ]
 
-  pub lies-somewhere : (place : ℕ) → 1 ≤ place → place ≤ 4294967295 → (m : ℕ) × (m < length phases) × (lies_in phases m place ≡ true)
+  pub lies-somewhere : (place : ℕ) → 1 ≤ place → place ≤ last_place → (m : ℕ) × (m < length phases) × (lies_in phases m place ≡ true)
   lies-somewhere place some most =
       let r = begins place (length phases) some are.some (omega arith) in
       let from : nat_le (first_place phases r.0) place ≡ true = le-leb _ _ r.2 in
-      let upto : place ≤ last_place phases r.0 = elim (cases_lt (r.0 + 1) (length phases)) [
+      let upto : place ≤ end_place phases r.0 = elim (cases_lt (r.0 + 1) (length phases)) [
         | inl lt ↦
-            let last : last_place phases r.0 ≡ first_place phases (r.0 + 1) - 1 = cond-true (nat_lt (r.0 + 1) (length phases)) (first_place phases (r.0 + 1) - 1) 4294967295 (lt-ltb (r.0 + 1) (length phases) lt) in
+            let last : end_place phases r.0 ≡ first_place phases (r.0 + 1) - 1 = cond-true (nat_lt (r.0 + 1) (length phases)) (first_place phases (r.0 + 1) - 1) last_place (lt-ltb (r.0 + 1) (length phases) lt) in
             let b = r.3 lt in
             omega arith
         | inr ge ↦
-            let last : last_place phases r.0 ≡ 4294967295 = cond-false (nat_lt (r.0 + 1) (length phases)) (first_place phases (r.0 + 1) - 1) 4294967295 (le-ltb (r.0 + 1) (length phases) ge) in
+            let last : end_place phases r.0 ≡ last_place = cond-false (nat_lt (r.0 + 1) (length phases)) (first_place phases (r.0 + 1) - 1) last_place (le-ltb (r.0 + 1) (length phases) ge) in
             omega arith
       ] in
       (r.0, r.1, and_from _ _ from (le-leb _ _ upto))
@@ -129,7 +130,7 @@ module _ (phases : List Phase) (are : ArePhases phases) where
           absurd (not_both_sides (sym n.buys ∙ ap (side_at orders) same ∙ n.sells))
     ]
 
-    pub earlier-whole : IsOrderList orders → All (NamesOrders orders) deals → All (λ d. cause orders d ≤ 4294967295) deals → (i : ℕ) → traded_earlier phases orders deals (length phases) i ≡ traded deals i
+    pub earlier-whole : IsOrderList orders → All (NamesOrders orders) deals → HaveSmallCauses orders deals → (i : ℕ) → traded_earlier phases orders deals (length phases) i ≡ traded deals i
     earlier-whole list named most i = earlier-parts (length phases) i ∙ sum_by-same (λ d. sum_below (λ j. cond (in_test d j) (part_of i d) 0) (length phases)) (part_of i) deals (λ n x lt.
         let d = get_or deals n x in
         let at = lies-somewhere (cause orders d) (cause-some list d (named n x lt)) (most n x lt) in

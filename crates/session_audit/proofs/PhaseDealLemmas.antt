@@ -11,7 +11,7 @@ use Rattle.audit_base.specs.Orders.{IsOrderList}
 use Rattle.audit_base.specs.Deals.{NamesOrders, IsDealList}
 use Rattle.audit_base.specs.Continuous.{cause}
 use Rattle.session_audit.specs.declared.phases.Phase.{Phase}
-use Rattle.session_audit.specs.Phases.{first_place, last_place, lies_in, phase_deals}
+use Rattle.session_audit.specs.Phases.{first_place, end_place, lies_in, phase_deals}
 use Rattle.session_audit.specs.PhaseOrders.{phase_orders, rest_before, chain_earlier}
 use Rattle.session_audit.proofs.PhaseListLemmas.{phase-below, phase-side, phase-place}
 
@@ -30,20 +30,20 @@ module _ (phases : List Phase) (orders : List Order) (list : IsOrderList orders)
   unfolding phase_deals
   of-phase P all i d lt = (All-filter place_test P deals all i d lt, filter_passes place_test deals i d lt)
 
-  upto : (d : Deal) → place_test d ≡ true → cause orders d ≤ last_place phases k
-  upto d t = leb-true _ _ (and_parts (nat_le (first_place phases k) (cause orders d)) (nat_le (cause orders d) (last_place phases k)) t).1
+  upto : (d : Deal) → place_test d ≡ true → cause orders d ≤ end_place phases k
+  upto d t = leb-true _ _ (and_parts (nat_le (first_place phases k) (cause orders d)) (nat_le (cause orders d) (end_place phases k)) t).1
 
   named-here : (d : Deal) → NamesOrders orders d × (place_test d ≡ true) → NamesOrders the_orders d
   named-here d p =
       let n = p.0 in
       let le = upto d p.1 in
-      let bid = phase-below orders list (last_place phases k) (first_place phases k) (rest_before phases orders deals k) (chain_earlier phases orders deals k) d.bid n.bid_inside (omega arith) in
-      let ask = phase-below orders list (last_place phases k) (first_place phases k) (rest_before phases orders deals k) (chain_earlier phases orders deals k) d.ask n.ask_inside (omega arith) in
+      let bid = phase-below orders list (end_place phases k) (first_place phases k) (rest_before phases orders deals k) (chain_earlier phases orders deals k) d.bid n.bid_inside (omega arith) in
+      let ask = phase-below orders list (end_place phases k) (first_place phases k) (rest_before phases orders deals k) (chain_earlier phases orders deals k) d.ask n.ask_inside (omega arith) in
       record {
         bid_inside = bid;
         ask_inside = ask;
-        buys = phase-side orders list (last_place phases k) (first_place phases k) (rest_before phases orders deals k) (chain_earlier phases orders deals k) d.bid bid ∙ n.buys;
-        sells = phase-side orders list (last_place phases k) (first_place phases k) (rest_before phases orders deals k) (chain_earlier phases orders deals k) d.ask ask ∙ n.sells;
+        buys = phase-side orders list (end_place phases k) (first_place phases k) (rest_before phases orders deals k) (chain_earlier phases orders deals k) d.bid bid ∙ n.buys;
+        sells = phase-side orders list (end_place phases k) (first_place phases k) (rest_before phases orders deals k) (chain_earlier phases orders deals k) d.ask ask ∙ n.sells;
       }
 
   pub deals-named : All (NamesOrders orders) deals → All (NamesOrders the_orders) the_deals
@@ -65,10 +65,10 @@ module _ (phases : List Phase) (orders : List Order) (list : IsOrderList orders)
   }
 
   -- no cause is behind the last place of the phase
-  pub causes-upto : All (NamesOrders orders) deals → All (λ d. cause the_orders d ≤ last_place phases k) the_deals
-  causes-upto named = All-weaker (λ d. NamesOrders orders d × (place_test d ≡ true)) (λ d. cause the_orders d ≤ last_place phases k) (λ d p.
+  pub causes-upto : All (NamesOrders orders) deals → All (λ d. cause the_orders d ≤ end_place phases k) the_deals
+  causes-upto named = All-weaker (λ d. NamesOrders orders d × (place_test d ≡ true)) (λ d. cause the_orders d ≤ end_place phases k) (λ d p.
       let n = named-here d p in
       let le = upto d p.1 in
-      let b = phase-place orders list (last_place phases k) (first_place phases k) (rest_before phases orders deals k) (chain_earlier phases orders deals k) d.bid n.bid_inside in
-      let a = phase-place orders list (last_place phases k) (first_place phases k) (rest_before phases orders deals k) (chain_earlier phases orders deals k) d.ask n.ask_inside in
+      let b = phase-place orders list (end_place phases k) (first_place phases k) (rest_before phases orders deals k) (chain_earlier phases orders deals k) d.bid n.bid_inside in
+      let a = phase-place orders list (end_place phases k) (first_place phases k) (rest_before phases orders deals k) (chain_earlier phases orders deals k) d.ask n.ask_inside in
       omega arith) the_deals (of-phase (NamesOrders orders) named)

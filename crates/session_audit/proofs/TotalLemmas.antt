@@ -1,11 +1,11 @@
 -- What the orders trade over a day.
-use Rattle.std.proofs.Common.{◌≡◌, ◌≤◌, ℕ, List, length, None, ap, ◌∙◌, arith, All}
+use Rattle.std.proofs.Common.{◌≡◌, ℕ, List, length, None, ap, ◌∙◌, arith}
 use Rattle.audit_base.specs.declared.orders.Order.{Order}
 use Rattle.audit_base.specs.declared.orders.Deal.{Deal}
 use Rattle.audit_base.specs.Orders.{IsOrderList}
 use Rattle.audit_base.specs.Deals.{traded, volume, IsDealList}
-use Rattle.audit_base.specs.Continuous.{cause}
 use Rattle.session_audit.specs.declared.phases.Phase.{Phase}
+use Rattle.session_audit.specs.Dealing.{HaveSmallCauses}
 use Rattle.session_audit.specs.Phases.{ArePhases}
 use Rattle.session_audit.specs.PhaseOrders.{listed, traded_earlier}
 use Rattle.session_audit.specs.Days.{instant_finding}
@@ -16,7 +16,7 @@ use Rattle.session_audit.proofs.ListedLemmas.{length-listed, listed-at, listed-s
 use Rattle.session_audit.proofs.PartLemmas.{earlier-whole}
 
 pub day-conforms : (phases : List Phase) (are : ArePhases phases) (orders : List Order) → IsOrderList orders → (deals : List Deal) → IsDealList orders deals
-    → All (λ d. cause orders d ≤ 4294967295) deals → instant_finding phases orders deals ≡ None → (k : ℕ) → k ≡ length phases → (traded_list rest : List ℕ) (totals : List ℕ × ℕ) → totals ≡ (traded_list, volume deals) → IsSoFar phases orders deals k traded_list rest
+    → HaveSmallCauses orders deals → instant_finding phases orders deals ≡ None → (k : ℕ) → k ≡ length phases → (traded_list rest : List ℕ) (totals : List ℕ × ℕ) → totals ≡ (traded_list, volume deals) → IsSoFar phases orders deals k traded_list rest
     → IsConformingDay phases orders deals totals
 day-conforms phases are orders list deals dl causes none k all traded_list rest totals same so_far =
     let whole : totals.0 ≡ listed (traded deals) (length orders) = ap (λ (t : List ℕ × ℕ). t.0) same ∙ so_far.traded_is ∙ ap (λ (n : ℕ). listed (traded_earlier phases orders deals n) (length orders)) all

@@ -21,7 +21,7 @@ use Rattle.continuous_laws.specs.Laws.{ContinuousUniqueness}
 use Rattle.session_audit.specs.declared.phases.Phase.{Phase}
 use Rattle.session_audit.specs.declared.phases.PhaseKind.{PhaseKind}
 use Rattle.session_audit.specs.declared.phases.PhaseKind.TheVariants as kind
-use Rattle.session_audit.specs.Phases.{rule_of, kind_at, first_place, last_place, lies_in, phase_deals}
+use Rattle.session_audit.specs.Phases.{rule_of, kind_at, first_place, end_place, lies_in, phase_deals}
 use Rattle.session_audit.specs.PhaseOrders.{phase_list, left_of_phase, traded_in, traded_earlier, chain_earlier, rest_before, phase_orders}
 use Rattle.session_audit.specs.Days.{ConformsDay}
 use Rattle.session_audit.specs.Laws.{DayUniqueness, DayPairs}
@@ -133,14 +133,14 @@ module _ (fixes : FairVolumeFixes) (unique : ContinuousUniqueness) where
     chains-same k a = let e = a.earlier in λ j i. sum_by (e j) (chain orders i)
 
     lists-same : (k : ℕ) → Agree k → phase_orders phases orders ds k ≡ phase_orders phases orders es k
-    lists-same k a = let r = a.rest in let s = chains-same k a in λ j. phase_list orders (first_place phases k) (last_place phases k) (r j) (s j)
+    lists-same k a = let r = a.rest in let s = chains-same k a in λ j. phase_list orders (first_place phases k) (end_place phases k) (r j) (s j)
 
     fixed-at : (k : ℕ) → k < length phases → Agree k → Fixed (kind_at phases k) (phase_orders phases orders ds k) (phase_deals phases orders ds k) (phase_deals phases orders es k)
     fixed-at k lt a =
         let here : List Order = phase_orders phases orders ds k in
         phase-fixed (kind_at phases k) here (phase_deals phases orders ds k) (phase_deals phases orders es k)
-        (phase-is_list orders list (last_place phases k) (first_place phases k) (rest_before phases orders ds k) (chain_earlier phases orders ds k))
-        (phase-is_regular orders list (last_place phases k) (first_place phases k) (rest_before phases orders ds k) (chain_earlier phases orders ds k) regular)
+        (phase-is_list orders list (end_place phases k) (first_place phases k) (rest_before phases orders ds k) (chain_earlier phases orders ds k))
+        (phase-is_regular orders list (end_place phases k) (first_place phases k) (rest_before phases orders ds k) (chain_earlier phases orders ds k) regular)
         (in-range phases orders ds k rd) (in-range phases orders es k re) (c.each k lt)
         (subst (λ (h : List Order). Conforms (rule_of (kind_at phases k)) h (phase_deals phases orders es k)) (sym (lists-same k a)) (d.each k lt))
 
@@ -152,7 +152,7 @@ module _ (fixes : FairVolumeFixes) (unique : ContinuousUniqueness) where
         let e = a.earlier in
         let t = f.totals in
         record {
-          rest = f.left (last_place phases k) ∙ (λ j. left_of_phase (kind_at phases k) (h j) (phase_deals phases orders es k) (last_place phases k));
+          rest = f.left (end_place phases k) ∙ (λ j. left_of_phase (kind_at phases k) (h j) (phase_deals phases orders es k) (end_place phases k));
           earlier = λ j i. e j i + t j i;
         }
 
@@ -171,8 +171,8 @@ module _ (fixes : FairVolumeFixes) (unique : ContinuousUniqueness) where
         let second : ConformsContinuous here (phase_deals phases orders es k) = subst (λ (t : PhaseKind). Conforms (rule_of t) here (phase_deals phases orders es k)) is
         (subst (λ (h : List Order). Conforms (rule_of (kind_at phases k)) h (phase_deals phases orders es k)) (sym (lists-same k a)) (d.each k lt)) in
         unique here (phase_deals phases orders ds k) (phase_deals phases orders es k)
-        (phase-is_list orders list (last_place phases k) (first_place phases k) (rest_before phases orders ds k) (chain_earlier phases orders ds k))
-        (phase-is_regular orders list (last_place phases k) (first_place phases k) (rest_before phases orders ds k) (chain_earlier phases orders ds k) regular)
+        (phase-is_list orders list (end_place phases k) (first_place phases k) (rest_before phases orders ds k) (chain_earlier phases orders ds k))
+        (phase-is_regular orders list (end_place phases k) (first_place phases k) (rest_before phases orders ds k) (chain_earlier phases orders ds k) regular)
         first second bid ask
 
   pub day-unique : DayUniqueness

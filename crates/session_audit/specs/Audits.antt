@@ -3,8 +3,7 @@ use Rattle.std.specs.Prelude.{◌≡◌, ℕ, List}
 use Rattle.audit_base.specs.declared.orders.Order.{Order}
 use Rattle.audit_base.specs.declared.orders.Deal.{Deal}
 use Rattle.audit_base.specs.declared.findings.Finding.{Finding}
-use Rattle.audit_base.specs.Deals.{volume}
-use Rattle.short_order.specs.Totals.{AreTotals}
+use Rattle.audit_base.specs.Deals.{AreTotals, volume}
 use Rattle.session_audit.specs.declared.days.Day.{Day}
 use Rattle.session_audit.specs.declared.days.Day.TheVariants as day
 use Rattle.session_audit.specs.declared.phases.Phase.{Phase}

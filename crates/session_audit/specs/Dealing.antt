@@ -5,6 +5,7 @@ use Rattle.audit_base.specs.declared.orders.Deal.{Deal}
 use Rattle.audit_base.specs.Deals.{deal_at}
 use Rattle.audit_base.specs.Continuous.{cause}
 use Rattle.session_audit.specs.Numbers.{number_in}
+use Rattle.session_audit.specs.Phases.{last_place}
 use Rattle.session_audit.specs.PhaseOrders.{listed}
 
 -- the causes of the first n deals, in log order
@@ -13,7 +14,7 @@ causes_upto orders deals n = listed (λ j. cause orders (deal_at deals j)) n
 
 -- no cause is above the greatest place of a record
 abbrev pub HaveSmallCauses : List Order → List Deal → Type 0
-HaveSmallCauses orders deals = All (λ d. cause orders d ≤ 4294967295) deals
+HaveSmallCauses orders deals = All (λ d. cause orders d ≤ last_place) deals
 
 -- a place is from `first` to `last`
 abbrev pub lies_between : ℕ → ℕ → ℕ → Bool

@@ -4,9 +4,9 @@ use Rattle.audit_base.specs.declared.terms.Rule.{Rule}
 use Rattle.audit_base.specs.declared.orders.Order.{Order}
 use Rattle.audit_base.specs.declared.orders.Deal.{Deal}
 use Rattle.audit_base.specs.declared.findings.Finding.{Finding}
+use Rattle.audit_base.specs.Deals.{AreTotals}
 use Rattle.audit_base.specs.Rules.{Conforms}
 use Rattle.audit_base.specs.Verdicts.{IsFirstOffence}
-use Rattle.short_order.specs.Totals.{AreTotals}
 use Rattle.matching_core.specs.declared.outcomes.Reached.{Reached}
 use Rattle.matching_core.specs.declared.outcomes.Outcome.{Outcome}
 use Rattle.matching_core.specs.declared.outcomes.Outcome.TheVariants as outcome

@@ -5,7 +5,7 @@ use Rattle.audit_base.specs.declared.orders.Deal.{Deal}
 use Rattle.audit_base.specs.Orders.{order_at, place_at, is_rests}
 use Rattle.audit_base.specs.Continuous.{cause, is_own_place, uncancelled_before, size_of}
 use Rattle.audit_base.specs.ContinuousRules.{ConformsContinuous}
-use Rattle.short_order.specs.Totals.{AreTotals}
+use Rattle.audit_base.specs.Deals.{AreTotals}
 use Rattle.session_audit.specs.Numbers.{number_in}
 use Rattle.session_audit.specs.PhaseOrders.{listed, left_of_continuous}
 

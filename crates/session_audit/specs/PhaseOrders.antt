@@ -15,7 +15,7 @@ use Rattle.audit_base.specs.Continuous.{chain, was_placed, left_after, rests_aft
 use Rattle.session_audit.specs.declared.phases.Phase.{Phase}
 use Rattle.session_audit.specs.declared.phases.PhaseKind.{PhaseKind}
 use Rattle.session_audit.specs.declared.phases.PhaseKind.TheVariants as kind
-use Rattle.session_audit.specs.Phases.{kind_at, first_place, last_place, phase_deals}
+use Rattle.session_audit.specs.Phases.{kind_at, first_place, end_place, phase_deals}
 
 -- The first part: one phase.
 
@@ -106,7 +106,7 @@ chain_earlier phases orders deals k i =
 -- the order list of the k-th phase, where it is known what the phases before left
 abbrev pub phase_list_after : List Phase → List Order → List Deal → ℕ → (ℕ → ℕ) → List Order
 phase_list_after phases orders deals k rest =
-    phase_list orders (first_place phases k) (last_place phases k) rest
+    phase_list orders (first_place phases k) (end_place phases k) rest
     (chain_earlier phases orders deals k)
 
 -- Rest(k - 1): what the phases before the k-th left of each order. Before the first phase it is 0
@@ -114,7 +114,7 @@ unfoldable pub rest_before : List Phase → List Order → List Deal → ℕ →
 rest_before phases orders deals zero = λ i. 0
 rest_before phases orders deals (suc k) = left_of_phase (kind_at phases k)
     (phase_list_after phases orders deals k (rest_before phases orders deals k))
-    (phase_deals phases orders deals k) (last_place phases k)
+    (phase_deals phases orders deals k) (end_place phases k)
 
 -- what the order at i brings into the k-th phase
 abbrev pub brought_into : List Phase → List Order → List Deal → ℕ → ℕ → ℕ

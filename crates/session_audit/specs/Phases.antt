@@ -1,10 +1,11 @@
 -- The phases of a day, and the deals of each. A phase is named by its index in the list, from 0.
-use Rattle.std.specs.Prelude.{◌≡◌, ◌<◌, ℕ, ◌+◌, ◌-◌, Bool, true, false, ◌&&◌, nat_lt, nat_le, List, AllPairs, filter, length, slice_index_or, if◌then◌else◌}
+use Rattle.std.specs.Prelude.{◌≡◌, ◌<◌, ℕ, ◌+◌, ◌-◌, Bool, ◌&&◌, nat_lt, nat_le, is_some, List, AllPairs, filter, length, slice_index_or, if◌then◌else◌}
 use Rattle.audit_base.specs.declared.terms.Rule.{Rule}
 use Rattle.audit_base.specs.declared.terms.Rule.TheVariants as rule
 use Rattle.audit_base.specs.declared.orders.Order.{Order}
 use Rattle.audit_base.specs.declared.orders.Deal.{Deal}
 use Rattle.audit_base.specs.Continuous.{cause}
+use Rattle.audit_base.specs.RuleKinds.{call_rule}
 use Rattle.session_audit.specs.declared.phases.Phase.{Phase}
 use Rattle.session_audit.specs.declared.phases.PhaseKind.{PhaseKind}
 use Rattle.session_audit.specs.declared.phases.PhaseKind.TheVariants as kind
@@ -17,9 +18,7 @@ rule_of kind.Continuous = rule.Continuous
 
 -- a phase is a call, in which all orders meet at once
 abbrev pub is_call : PhaseKind → Bool
-is_call kind.Uniform = true
-is_call kind.Maximum = true
-is_call kind.Continuous = false
+is_call the_kind = is_some (call_rule (rule_of the_kind))
 
 -- what stands for a phase past the end of a list, and the phase at an index
 abbrev pub missing_phase : Phase
@@ -27,6 +26,10 @@ missing_phase = record { kind = kind.Continuous; first = 0 }
 
 abbrev pub phase_at : List Phase → ℕ → Phase
 phase_at phases k = slice_index_or phases k missing_phase
+
+-- the greatest place that a record can have, 2^32 - 1
+abbrev pub last_place : ℕ
+last_place = 4294967295
 
 -- its kind
 abbrev pub kind_at : List Phase → ℕ → PhaseKind
@@ -36,11 +39,11 @@ kind_at phases k = (phase_at phases k).kind
 abbrev pub first_place : List Phase → ℕ → ℕ
 first_place phases k = (phase_at phases k).first
 
--- E: the last place of a phase, the one before the next phase begins; of the last phase the greatest
--- place that a record can have
-abbrev pub last_place : List Phase → ℕ → ℕ
-last_place phases k =
-    if nat_lt (k + 1) (length phases) then first_place phases (k + 1) - 1 else 4294967295
+-- E: the place at which a phase ends, the one before the next phase begins; of the last phase the
+-- greatest that a record can have
+abbrev pub end_place : List Phase → ℕ → ℕ
+end_place phases k =
+    if nat_lt (k + 1) (length phases) then first_place phases (k + 1) - 1 else last_place
 
 -- the phases of a day: there is one, the first begins at place 1, and the places at which they begin rise
 -- strictly
@@ -51,7 +54,7 @@ pub record ArePhases (phases : List Phase) : Type 0 where
 
 -- a place lies in a phase
 abbrev pub lies_in : List Phase → ℕ → ℕ → Bool
-lies_in phases k place = nat_le (first_place phases k) place && nat_le place (last_place phases k)
+lies_in phases k place = nat_le (first_place phases k) place && nat_le place (end_place phases k)
 
 -- the deals of a phase, in log order: those whose cause lies in it
 unfoldable pub phase_deals : List Phase → List Order → List Deal → ℕ → List Deal

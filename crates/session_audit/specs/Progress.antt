@@ -3,9 +3,8 @@ use Rattle.std.specs.Prelude.{◌≡◌, ◌<◌, ◌≤◌, ℕ, ◌+◌, List,
 use Rattle.audit_base.specs.declared.orders.Order.{Order}
 use Rattle.audit_base.specs.declared.orders.Deal.{Deal}
 use Rattle.audit_base.specs.Orders.{quantity_at}
-use Rattle.audit_base.specs.Deals.{traded}
+use Rattle.audit_base.specs.Deals.{AreTotals, traded}
 use Rattle.audit_base.specs.Rules.{Conforms}
-use Rattle.short_order.specs.Totals.{AreTotals}
 use Rattle.session_audit.specs.declared.phases.Phase.{Phase}
 use Rattle.session_audit.specs.declared.phases.PhaseKind.{PhaseKind}
 use Rattle.session_audit.specs.Phases.{rule_of}

@@ -1,6 +1,6 @@
 //! Whether the deals of a day conform, phase by phase.
-ghost use Rattle.std.specs.Prelude.{◌≡◌, ◌<◌, ◌≤◌, ◌-◌, ◌^◌, All, IfOk, None, OnOk, length};
-ghost use Rattle.audit_base.specs.Orders.{IsOrder, IsOrderList, AreOrders};
+ghost use Rattle.std.specs.Prelude.{◌≡◌, ◌<◌, ◌≤◌, ◌-◌, ◌^◌, IfOk, None, length};
+ghost use Rattle.audit_base.specs.Orders.{IsOrderList};
 ghost use Rattle.audit_base.specs.Deals.{IsDealList};
 ghost use Rattle.audit_base.specs.Histories.{Regular};
 ghost use Rattle.session_audit.specs.Phases.{ArePhases};
@@ -11,27 +11,12 @@ use super::days::Day;
 use super::dealing::{causes_of, deals_between};
 use super::instants::first_instant;
 use super::phases::Phase;
-use super::progress::{first_place, judge_phase, kind_at, last_place, list_phase, start};
+use super::progress::{end_place, first_place, judge_phase, kind_at, list_phase, start};
 use audit_base::faults::NoMemory;
 use audit_base::orders::{Deal, Order};
+use audit_base::ranges::{deals_in_range, orders_in_range};
 use matching_core::totals::{Totals, volume_of};
 use std::alloc::Global;
-
-/// Tells the proof the ranges of the numbers of an order, which its type keeps.
-fn order_in_range(order: &Order)
-    ensures { IsOrder order.now }
-{
-    let _ = (order.quantity.value(), order.limit.units());
-}
-
-/// Tells the proof that the numbers of all orders are in range.
-fn orders_in_range(orders: &[Order])
-    ensures { AreOrders orders.now }
-{
-    for order in orders {
-        order_in_range(order);
-    }
-}
 
 /// The audit of the phases of a day, in whose calls all orders rest.
 fn audit_phases(
@@ -49,10 +34,11 @@ fn audit_phases(
     requires admitted { instant_finding phases.now orders.now deals.now ≡ None }
     ensures { IfOk result (IsAuditedDay phases.now orders.now deals.now count) }
 {
+    deals_in_range(deals);
     let causes = causes_of(alloc, orders, deals)?;
     let mut so_far = start(alloc, orders.len())?;
     for index in 0..phases.len() {
-        let (first, last) = (first_place(phases, index), last_place(phases, index));
+        let (first, last) = (first_place(phases, index), end_place(phases, index));
         let dealt = deals_between(alloc, deals, &causes, first, last)?;
         let list = list_phase(alloc, orders, phases, index, &so_far)?;
         let kind = kind_at(phases, index);

@@ -1,7 +1,8 @@
 //! The deals of a phase: those whose cause lies in it.
 ghost use Rattle.std.specs.Prelude.{◌≡◌, ◌≤◌, ◌++◌, All, IfOk, OnOk, length};
 ghost use Rattle.audit_base.specs.Continuous.{cause};
-ghost use Rattle.audit_base.specs.Deals.{NamesOrders, AreDeals, IsDeal};
+ghost use Rattle.audit_base.specs.Deals.{NamesOrders};
+ghost use Rattle.session_audit.specs.Phases.{last_place};
 ghost use Rattle.session_audit.specs.Dealing.{HaveSmallCauses, causes_upto, lies_between, deals_if, deals_between};
 
 use audit_base::faults::NoMemory;
@@ -12,11 +13,8 @@ use std::alloc::Global;
 fn cause_of(orders: &[Order], deal: &Deal) -> u32
     requires { NamesOrders orders.now deal.now }
     ensures cause { result ≡ cause orders.now deal.now }
-    ensures fits { cause orders.now deal.now ≤ 4294967295 }
-    ensures numbers { IsDeal deal.now }
+    ensures fits { cause orders.now deal.now ≤ last_place }
 {
-    // These calls tell the proof the ranges of the numbers of a deal.
-    let _ = (deal.quantity.value(), deal.price.units());
     let bid = orders[deal.bid].place;
     let ask = orders[deal.ask].place;
     if bid < ask { ask } else { bid }
@@ -27,7 +25,6 @@ pub fn causes_of(alloc: Global, orders: &[Order], deals: &[Deal]) -> Result<Vec<
     requires { All (NamesOrders orders.now) deals.now }
     ensures causes { IfOk result (λ causes.
         causes.items ≡ causes_upto orders.now deals.now (length deals.now)) }
-    ensures numbers { OnOk result (AreDeals deals.now) }
     ensures fits { OnOk result (HaveSmallCauses orders.now deals.now) }
 {
     let mut causes = Vec::with_capacity(alloc, deals.len())?;

@@ -9,6 +9,7 @@ ghost use Rattle.session_audit.specs.PhaseOrders as spec;
 use audit_base::faults::NoMemory;
 use audit_base::numbers::Quantity;
 use audit_base::orders::Order;
+use audit_base::ranges::order_in_range;
 use matching_core::totals::left_of;
 use std::alloc::Global;
 
@@ -136,8 +137,7 @@ fn phase_order(order: &Order, first: u32, last: u32, amount: u64) -> Order
     requires { amount ≤ order.now.quantity }
     ensures { result ≡ spec.phase_order first last amount order.now }
 {
-    // This call tells the proof the range of a quantity.
-    let _ = order.quantity.value();
+    order_in_range(order);
     match Quantity::of(amount) {
         Some(quantity) => Order {
             quantity,

@@ -5,19 +5,16 @@ ghost use Rattle.session_audit.specs.Phases.{ArePhases, is_call, kind_at, lies_i
 
 use super::entering::was_placed;
 use super::phases::{Phase, PhaseKind};
-use super::progress::{first_place, kind_at, last_place};
-use audit_base::findings::{Finding, Property};
+use super::progress::{end_place, first_place, kind_at};
+use audit_base::findings::Finding;
+use audit_base::flaws::{Evidence, Flaw};
 use audit_base::orders::Order;
-use audit_base::terms::Which;
 
 /// Whether all orders of a phase meet at once.
 fn is_call(kind: PhaseKind) -> bool
     ensures { result ≡ is_call kind }
 {
-    match kind {
-        PhaseKind::Uniform | PhaseKind::Maximum => true,
-        PhaseKind::Continuous => false,
-    }
+    kind.rule().call_rule().is_some()
 }
 
 /// Whether a place lies in a phase.
@@ -26,7 +23,7 @@ fn lies_in(phases: &[Phase], index: usize, place: u32) -> bool
     requires inside { index < length phases.now }
     ensures { result ≡ lies_in phases.now index place }
 {
-    first_place(phases, index) <= place && place <= last_place(phases, index)
+    first_place(phases, index) <= place && place <= end_place(phases, index)
 }
 
 /// Whether a phase is a call, and a place lies in it.
@@ -66,14 +63,11 @@ pub fn first_instant(phases: &[Phase], orders: &[Order]) -> Option<Finding>
 {
     for index in 0..orders.len() {
         if is_instant_order(phases, &orders[index]) {
-            return Some(Finding {
-                property: Property::InstantOrder,
-                log: Which::Orders,
+            let flaw = Flaw {
                 place: orders[index].place,
-                first: None,
-                second: None,
-                short: None,
-            });
+                evidence: Evidence::InstantOrder,
+            };
+            return Some(flaw.finding(orders));
         }
     }
     None

@@ -22,6 +22,7 @@ use audit_base::faults::NoMemory;
 use audit_base::findings::Finding;
 use audit_base::orders::{Deal, Order};
 use matching_core::outcomes::Outcome;
+use matching_core::totals::zeros;
 use std::alloc::Global;
 
 /// What the phases so far have come to.
@@ -38,7 +39,7 @@ pub fn start(alloc: Global, count: usize) -> Result<SoFar, NoMemory>
     ensures traded { IfOk result (λ so_far. so_far.traded.items ≡ replicate count 0) }
     ensures rest { IfOk result (λ so_far. so_far.rest.items ≡ []) }
 {
-    let traded = vec![in alloc; 0u128; count]?;
+    let traded = zeros(alloc, count)?;
     Ok(SoFar {
         traded,
         rest: Vec::new(alloc),
@@ -61,11 +62,11 @@ pub fn kind_at(phases: &[Phase], index: usize) -> PhaseKind
     phases[index].kind
 }
 
-/// The last place of a phase: the one before the next phase begins, or the greatest place there is.
-pub fn last_place(phases: &[Phase], index: usize) -> u32
+/// The place at which a phase ends: the one before the next phase begins, or the greatest place there is.
+pub fn end_place(phases: &[Phase], index: usize) -> u32
     requires phases { spec.ArePhases phases.now }
     requires inside { index < length phases.now }
-    ensures { result ≡ spec.last_place phases.now index }
+    ensures { result ≡ spec.end_place phases.now index }
 {
     if index + 1 < phases.len() {
         phases[index + 1].first - 1
@@ -94,7 +95,7 @@ pub fn list_phase(
         → list.items ≡ phase_orders phases.now orders.now deals index) }
 {
     let first = first_place(phases, index);
-    let last = last_place(phases, index);
+    let last = end_place(phases, index);
     let spent = chain_totals(alloc, orders, &so_far.traded)?;
     let count = orders_upto(orders, last);
     let amounts = amounts_of(alloc, orders, count, first, &so_far.rest, &spent)?;

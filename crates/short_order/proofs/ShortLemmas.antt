@@ -7,10 +7,11 @@ use Rattle.audit_base.specs.declared.orders.Order.{Order}
 use Rattle.audit_base.specs.declared.orders.Deal.{Deal}
 use Rattle.audit_base.specs.Orders.{quantity_at, IsOrderList}
 use Rattle.audit_base.specs.Priority.{IsRanked}
+use Rattle.audit_base.specs.Deals.{AreTotals}
 use Rattle.audit_base.specs.Deals as deals_of
 use Rattle.audit_base.specs.CallOffences.{best_short}
 use Rattle.audit_base.proofs.RankLemmas.{first-ranked}
-use Rattle.short_order.specs.Totals.{AreTotals, is_short_by}
+use Rattle.short_order.specs.ShortOrders.{is_short_by}
 
 -- two tests that agree on a list find the same there
 find-same : (p q : ℕ → Bool) (xs : List ℕ) → All (λ i. p i ≡ q i) xs → find p xs ≡ find q xs

@@ -1,6 +1,6 @@
 //! The best order of a side that is short.
-ghost use Rattle.std.specs.Prelude.{◌≡◌, ◌<◌, All, length, find};
-ghost use Rattle.short_order.specs.Totals.{IsBestShortOf, is_short_by};
+ghost use Rattle.std.specs.Prelude.{◌≡◌, ◌<◌, All, IfSome, length, find};
+ghost use Rattle.short_order.specs.ShortOrders.{IsBestShortOf, is_short_by};
 
 use audit_base::orders::Order;
 
@@ -17,7 +17,8 @@ fn is_short_by(orders: &[Order], traded: &[u128], index: usize) -> bool
 fn first_short(orders: &[Order], ranked: &[usize], traded: &[u128]) -> Option<usize>
     requires inside { All (λ i. i < length orders.now) ranked.now }
     requires count { length traded.now ≡ length orders.now }
-    ensures { result ≡ find (is_short_by orders.now traded.now) ranked.now }
+    ensures first { result ≡ find (is_short_by orders.now traded.now) ranked.now }
+    ensures inside { IfSome result (λ i. i < length orders.now) }
 {
     for index in ranked {
         if is_short_by(orders, traded, *index) {
@@ -36,6 +37,7 @@ pub fn best_short(orders: &[Order], ranked: &[usize], traded: &[u128]) -> Option
     requires count { length traded.now ≡ length orders.now }
     ensures first { result ≡ find (is_short_by orders.now traded.now) ranked.now }
     ensures best { IsBestShortOf orders.now ranked.now traded.now result }
+    ensures inside { IfSome result (λ i. i < length orders.now) }
 {
     first_short(orders, ranked, traded)
 }

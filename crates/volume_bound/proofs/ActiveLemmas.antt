@@ -4,19 +4,18 @@ use Rattle.std.specs.Prelude.{map}
 use Rattle.std.specs.List.{filter}
 use Rattle.std.proofs.lemmas.List.{take_more, map-append, length-map}
 use Rattle.std.proofs.lemmas.List.Sums.{length-filter, count_by-le-length}
-use Rattle.std.proofs.lemmas.List.Elements.{All-push, filter-append}
+use Rattle.std.proofs.lemmas.List.Elements.{filter-append}
 use Rattle.audit_base.specs.declared.terms.Side.{Side}
 use Rattle.audit_base.specs.declared.terms.Side.TheVariants.{Buy, Sell}
 use Rattle.audit_base.specs.declared.orders.Order.{Order}
-use Rattle.audit_base.specs.Orders.{stands_on, IsOrder, AreOrders}
+use Rattle.audit_base.specs.Orders.{stands_on}
 use Rattle.volume_bound.specs.declared.limits.LimitQuantity.{LimitQuantity}
 use Rattle.volume_bound.specs.Limits.{limit_quantity_of, limits_on}
 
--- the limits of both sides of these orders, and the ranges of their numbers
+-- the limits of both sides of these orders
 pub record AreGathered (orders : List Order) (bids asks : List LimitQuantity) : Type 0 where
   pub bids_are : bids ≡ limits_on Buy orders
   pub asks_are : asks ≡ limits_on Sell orders
-  pub numbers : AreOrders orders
 
 pub limits-few : (side : Side) (orders : List Order) → length (limits_on side orders) ≤ length orders
 limits-few side orders = omega (arith, length-map (filter (stands_on side) orders) limit_quantity_of, length-filter (stands_on side) orders, count_by-le-length (stands_on side) orders)
@@ -26,12 +25,11 @@ limits-append side xs ys = ap (map limit_quantity_of) (filter-append (stands_on 
 
 -- one order further
 module _ (orders : List Order) (n : ℕ) (o : Order) (lt : n < length orders) (at : o ≡ get_or orders n o) (bids asks more_bids more_asks : List LimitQuantity) where
-  pub gathered-more : AreGathered (take n orders) bids asks → more_bids ≡ bids ++ limits_on Buy (o ∷ []) → more_asks ≡ asks ++ limits_on Sell (o ∷ []) → IsOrder o
+  pub gathered-more : AreGathered (take n orders) bids asks → more_bids ≡ bids ++ limits_on Buy (o ∷ []) → more_asks ≡ asks ++ limits_on Sell (o ∷ [])
       → AreGathered (take (n + 1) orders) more_bids more_asks
-  gathered-more so_far b a is =
+  gathered-more so_far b a =
       let next : take (n + 1) orders ≡ take n orders ++ o ∷ [] = take_more orders n o lt ∙ ap (λ (x : Order). take n orders ++ x ∷ []) (sym at) in
       rw next (record {
         bids_are = b ∙ ap (λ (limits : List LimitQuantity). limits ++ limits_on Buy (o ∷ [])) so_far.bids_are ∙ sym (limits-append Buy (take n orders) (o ∷ []));
         asks_are = a ∙ ap (λ (limits : List LimitQuantity). limits ++ limits_on Sell (o ∷ [])) so_far.asks_are ∙ sym (limits-append Sell (take n orders) (o ∷ []));
-        numbers = All-push IsOrder (take n orders) o so_far.numbers is;
       })

@@ -1,12 +1,13 @@
 //! Which orders count: those of each side that no record cancels.
 ghost use Rattle.std.specs.Prelude.{◌≡◌, ◌++◌, ◌∷◌, [], IfOk, OnOk};
-ghost use Rattle.audit_base.specs.Orders.{IsOrder, AreOrders};
+ghost use Rattle.audit_base.specs.Orders.{AreOrders};
 ghost use Rattle.audit_base.specs.declared.terms.Side.TheVariants as the_side;
 ghost use Rattle.volume_bound.specs.Limits.{limits_on};
 
 use super::limits::LimitQuantity;
 use audit_base::faults::NoMemory;
 use audit_base::orders::Order;
+use audit_base::ranges::orders_in_range;
 use audit_base::terms::Side;
 use std::alloc::Global;
 
@@ -21,15 +22,11 @@ pub(crate) struct ActiveOrders {
 fn add(limits: &mut Vec<LimitQuantity>, order: &Order, side: Side) -> Result<(), NoMemory>
     ensures limits { let more = limits_on side (order.now ∷ []) in
         OnOk result (limits.new.items ≡ limits.old.items ++ more) }
-    ensures numbers { IsOrder order.now }
 {
     let limit_quantity = LimitQuantity {
         limit: order.limit,
         quantity: order.quantity,
     };
-    // These calls tell the proof the ranges that the price and the quantity keep.
-    let _ = limit_quantity.limit.units();
-    let _ = limit_quantity.quantity.value();
     if order.stands_on(side) {
         limits.push(limit_quantity)?;
     }
@@ -45,6 +42,7 @@ impl ActiveOrders {
             IfOk result (λ active. active.asks.items ≡ asks) }
         ensures numbers { OnOk result (AreOrders orders.now) }
     {
+        orders_in_range(orders);
         let mut bids = Vec::with_capacity(alloc, orders.len())?;
         let mut asks = Vec::with_capacity(alloc, orders.len())?;
         for order in orders {

@@ -10,4 +10,4 @@ loop-index-init c = above-none c.args.orders.now c.args.traded.now
 pub loop-index-preserved : goal.loop-index-preserved
 loop-index-preserved c = above-more c.args.orders.now c.args.traded.now c.loop-index.index c.loop-index.price c.max-price.result c.index-orders-index.result c.above_if_short.result
     (c.index-orders-index.is ∙ get_or-default c.args.orders.now c.loop-index.index c.index-orders-index.result missing_order c.loop-index-test.true)
-    c.above_if_short.ensures.same c.above_if_short.ensures.in_range c.above_if_short.ensures.numbers c.above_if_short.ensures.place c.max-price.ensures c.loop-index.invariant
+    c.above_if_short.ensures.same c.above_if_short.ensures.in_range c.max-price.ensures c.loop-index.invariant

@@ -1,5 +1,5 @@
-use Rattle.audit_certificate.proofs.CountLemmas.{AreCountsSoFar}
+use Rattle.audit_base.proofs.TotalsLemmas.{AreTotalsSoFar}
 use Rattle.audit_certificate.proofs.counting.count.Given as goal
 
 abbrev pub invariant-deals : goal.invariant-deals
-invariant-deals l = AreCountsSoFar l.orders l.deals l.deal-index l.traded.items l.volume
+invariant-deals l = AreTotalsSoFar l.orders l.deals l.deal-index l.traded.items l.volume

@@ -1,9 +1,6 @@
-use Rattle.std.proofs.Common.{◌≡◌}
-use Rattle.canonical_form.specs.Parts.{HaveParts, parts_upto}
+use Rattle.std.proofs.Common.{◌≡◌, map, take}
+use Rattle.canonical_form.specs.Parts.{part_of_deal}
 use Rattle.canonical_form.proofs.parts.collect_parts.Given as goal
 
-abbrev pub invariant-loop-index : goal.invariant-loop-index
-invariant-loop-index l = record {
-  parts : l.parts.items ≡ parts_upto l.deals l.index;
-  each : HaveParts l.deals l.index;
-}
+abbrev pub invariant-loop-deal : goal.invariant-loop-deal
+invariant-loop-deal l = l.parts.items ≡ map part_of_deal (take l.deal-index l.deals)

@@ -1,4 +1,3 @@
-use Rattle.std.proofs.Common.{List}
 use Rattle.canonical_form.specs.Parts.{AreMerged}
 use Rattle.canonical_form.specs.Shares.{AreShares}
 use Rattle.canonical_form.proofs.ShareLemmas.{are-shares, if_ok-weaker}

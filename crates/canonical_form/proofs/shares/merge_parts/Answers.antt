@@ -1,4 +1,4 @@
-use Rattle.std.proofs.Common.{◌≡◌, ◌<◌, arith, length, rules}
+use Rattle.std.proofs.Common.{◌<◌, arith, length, rules}
 use Rattle.canonical_form.specs.Parts.{missing_part}
 use Rattle.canonical_form.proofs.PartLemmas.{made-first, made-more, merged}
 use Rattle.canonical_form.proofs.shares.merge_parts.Goals as goal

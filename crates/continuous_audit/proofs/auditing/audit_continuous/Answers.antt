@@ -1,8 +1,10 @@
-use Rattle.std.proofs.Common.{◌∙◌, ℕ, List, Ok, length, refl, ap}
+use Rattle.std.proofs.Common.{◌∙◌, ℕ, List, Option, IfSome, Ok, refl, sym, ap, subst}
+use Rattle.audit_base.specs.declared.findings.Finding.{Finding}
+use Rattle.audit_base.specs.Deals.{AreTotals}
+use Rattle.audit_base.specs.ContinuousOffences.{IsContinuousOffence}
 use Rattle.audit_base.proofs.ContinuousOffenceLemmas.{offence-fails}
 use Rattle.continuous_audit.specs.Markets.{IsMarket}
-use Rattle.continuous_audit.specs.Scans.{number_in}
-use Rattle.continuous_audit.proofs.AuditLemmas.{market-read, ready-first, last-conforms, last-count, last-traded}
+use Rattle.continuous_audit.proofs.AuditLemmas.{market-read, ready-first, last-conforms, last-totals}
 use Rattle.continuous_audit.proofs.auditing.audit_continuous.Goals as goal
 
 pub first_offence-requires-clause-market : goal.first_offence-requires-clause-market
@@ -13,8 +15,9 @@ first_offence-requires-clause-ready c = ready-first _ (market-read _ c.in_ok-cau
 
 pub returns-in-Some : goal.returns-in-Some
 returns-in-Some c =
-    let broken = c.in_ok-finding.ensures.found c.in-Some.finding (ap Ok c.in-Some.is) in
-    record { offence = broken; fails = offence-fails c.args.orders.now c.args.deals.now c.in-Some.finding c.requires.deal_list.named c.volume_of-volume.ensures.numbers broken }
+    let orders = c.args.orders.now in
+    let broken = subst (λ (f : Option Finding). IfSome f (IsContinuousOffence orders c.args.deals.now)) c.in-Some.is c.in_ok-finding.ensures.found in
+    record { offence = broken; fails = offence-fails orders c.args.deals.now c.in-Some.finding c.requires.deal_list.named c.deals_in_range.ensures broken }
 
 pub returns : goal.returns
 returns c =
@@ -24,9 +27,8 @@ returns c =
     let conforms = last-conforms _ market state ready in
     record {
       conforms = conforms;
-      count = ap (λ (t : List ℕ × ℕ). length t.0) c.of.ensures ∙ last-count _ market state ready;
-      totals = λ i lt. ap (λ (t : List ℕ × ℕ). number_in t.0 i) c.of.ensures ∙ last-traded _ market state ready i lt;
-      volume_is = ap (λ (t : List ℕ × ℕ). t.1) c.of.ensures ∙ c.volume_of-volume.ensures.total;
+      totals = subst (λ (t : List ℕ × ℕ). AreTotals c.args.orders.now c.args.deals.now t.0) (sym c.of.ensures) (last-totals _ market state ready);
+      volume_is = ap (λ (t : List ℕ × ℕ). t.1) c.of.ensures ∙ c.volume_of-volume.ensures;
       no_bound = refl;
-      only = λ regular bid ask. c.continuous_uniqueness.ensures.only c.args.orders.now c.args.deals.now c.requires.order_list regular c.volume_of-volume.ensures.numbers conforms bid ask;
+      only = λ regular bid ask. c.continuous_uniqueness.ensures.only c.args.orders.now c.args.deals.now c.requires.order_list regular c.deals_in_range.ensures conforms bid ask;
     }

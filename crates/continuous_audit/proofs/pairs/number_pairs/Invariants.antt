@@ -1,10 +1,6 @@
 use Rattle.std.proofs.Common.{take}
-use Rattle.audit_base.specs.Deals.{AreDeals}
 use Rattle.continuous_audit.specs.Pairs.{AreNumbered}
 use Rattle.continuous_audit.proofs.pairs.number_pairs.Given as goal
 
 abbrev pub invariant-loop-i : goal.invariant-loop-i
-invariant-loop-i l = record {
-  numbered : AreNumbered l.orders (take l.i l.pairs) l.deals.items;
-  ranges : AreDeals l.deals.items;
-}
+invariant-loop-i l = AreNumbered l.orders (take l.i l.pairs) l.deals.items

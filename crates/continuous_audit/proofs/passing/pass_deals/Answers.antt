@@ -1,9 +1,9 @@
 use Rattle.std.proofs.Common.{◌≡◌, ◌∙◌, ℕ, List, All, option_map, ap, sym, subst, arith}
 use Rattle.audit_base.specs.declared.orders.Order.{Order}
+use Rattle.audit_base.specs.Flaws.{finding_of}
 use Rattle.audit_base.specs.Orders.{missing_order, side_at, other_side}
 use Rattle.audit_base.proofs.OffenceLemmas.{get_or-default}
 use Rattle.continuous_audit.specs.Books.{list_of, with_fills}
-use Rattle.continuous_audit.specs.Breaches.{breach_after}
 use Rattle.continuous_audit.specs.Holding.{IsWithin}
 use Rattle.continuous_audit.proofs.DealingLemmas.{within-bids, within-asks, after_fills-new, best-inside, finding-none, holds-none}
 use Rattle.continuous_audit.proofs.passing.pass_deals.Goals as goal
@@ -25,11 +25,11 @@ check_priority-requires-clause-best c =
     c.other-side.result side_is c.fill.new.self fill_is c.in-Some.best (sym c.best.ensures ∙ c.in-Some.is) in
     record { earlier = is.0; of_side = is.1 }
 
-pub returns-in-Some-clause-passed : goal.returns-in-Some-clause-passed
-returns-in-Some-clause-passed c =
+pub returns-in-Some-clause-found : goal.returns-in-Some-clause-found
+returns-in-Some-clause-found c =
     let side_is : c.other-side.result ≡ other_side (side_at c.args.market.now.orders.now c.args.order) = c.other-side.ensures ∙ ap (λ (o : Order). other_side o.side) (get_or-default c.args.market.now.orders.now c.args.order c.index-market-order.result missing_order c.requires.order) in
     let fill_is = c.fill.ensures ∙ ap (λ (xs : List ℕ). with_fills c.other-side.result xs c.args.books.now) c.deref.ensures.value in
-    c.check_priority.ensures.passed (list_of c.other-side.result c.fill.new.self) (sym c.best.ensures ∙ c.in-Some.is)
+    c.check_priority.ensures (list_of c.other-side.result c.fill.new.self) (sym c.best.ensures ∙ c.in-Some.is)
     (after_fills-new c.args.market.now.orders.now c.requires.market.list c.args.market.now.deals.now c.requires.market.deal_list c.args.order c.requires.order
     c.args.numbers.now.sheet.left.items c.requires.dealt.known.left.count (λ x lt. c.requires.dealt.known.left.is x (omega arith)) c.args.books.now c.requires.books
     c.other-side.result side_is c.fill.new.self fill_is)
@@ -38,21 +38,24 @@ pub returns-in-Some-clause-holds : goal.returns-in-Some-clause-holds
 returns-in-Some-clause-holds c = λ none.
     let side_is : c.other-side.result ≡ other_side (side_at c.args.market.now.orders.now c.args.order) = c.other-side.ensures ∙ ap (λ (o : Order). other_side o.side) (get_or-default c.args.market.now.orders.now c.args.order c.index-market-order.result missing_order c.requires.order) in
     let fill_is = c.fill.ensures ∙ ap (λ (xs : List ℕ). with_fills c.other-side.result xs c.args.books.now) c.deref.ensures.value in
-    let passed = c.check_priority.ensures.passed (list_of c.other-side.result c.fill.new.self) (sym c.best.ensures ∙ c.in-Some.is)
+    let passed = c.check_priority.ensures (list_of c.other-side.result c.fill.new.self) (sym c.best.ensures ∙ c.in-Some.is)
     (after_fills-new c.args.market.now.orders.now c.requires.market.list c.args.market.now.deals.now c.requires.market.deal_list c.args.order c.requires.order
     c.args.numbers.now.sheet.left.items c.requires.dealt.known.left.count (λ x lt. c.requires.dealt.known.left.is x (omega arith)) c.args.books.now c.requires.books
     c.other-side.result side_is c.fill.new.self fill_is) in
     holds-none c.args.market.now.orders.now c.requires.market.list c.args.market.now.deals.now c.requires.market.deal_list c.args.order c.requires.order
     c.args.numbers.now.sheet.left.items c.requires.dealt.known.left.count (λ x lt. c.requires.dealt.known.left.is x (omega arith)) c.args.books.now c.requires.books
-    c.other-side.result side_is c.fill.new.self fill_is (passed ∙ ap (option_map (breach_after c.args.market.now.orders.now c.args.market.now.deals.now c.args.order)) none)
+    c.other-side.result side_is c.fill.new.self fill_is (passed.same ∙ ap (option_map (finding_of c.args.market.now.orders.now)) none)
 
-pub returns-in-None-clause-passed : goal.returns-in-None-clause-passed
-returns-in-None-clause-passed c =
+pub returns-in-None-clause-found : goal.returns-in-None-clause-found
+returns-in-None-clause-found c =
     let side_is : c.other-side.result ≡ other_side (side_at c.args.market.now.orders.now c.args.order) = c.other-side.ensures ∙ ap (λ (o : Order). other_side o.side) (get_or-default c.args.market.now.orders.now c.args.order c.index-market-order.result missing_order c.requires.order) in
     let fill_is = c.fill.ensures ∙ ap (λ (xs : List ℕ). with_fills c.other-side.result xs c.args.books.now) c.deref.ensures.value in
-    finding-none c.args.market.now.orders.now c.requires.market.list c.args.market.now.deals.now c.requires.market.deal_list c.args.order c.requires.order
-    c.args.numbers.now.sheet.left.items c.requires.dealt.known.left.count (λ x lt. c.requires.dealt.known.left.is x (omega arith)) c.args.books.now c.requires.books
-    c.other-side.result side_is c.fill.new.self fill_is (sym c.best.ensures ∙ c.in-None.is)
+    record {
+      inside = tt;
+      same = finding-none c.args.market.now.orders.now c.requires.market.list c.args.market.now.deals.now c.requires.market.deal_list c.args.order c.requires.order
+          c.args.numbers.now.sheet.left.items c.requires.dealt.known.left.count (λ x lt. c.requires.dealt.known.left.is x (omega arith)) c.args.books.now c.requires.books
+          c.other-side.result side_is c.fill.new.self fill_is (sym c.best.ensures ∙ c.in-None.is);
+    }
 
 pub returns-in-None-clause-holds : goal.returns-in-None-clause-holds
 returns-in-None-clause-holds c = λ none.

@@ -1,43 +1,50 @@
-use Rattle.std.proofs.Common.{◌≡◌, ◌∙◌, inl, inr, sym, ap, refl, subst, arith, option_map, None, rules}
+use Rattle.std.proofs.Common.{◌≡◌, ◌∙◌, Option, None, IfSome, inl, inr, sym, ap, refl, subst, arith, option_map, rules}
 use Rattle.std.proofs.lemmas.Bool.{cases_eq}
+use Rattle.audit_base.specs.declared.flaws.Evidence.{Evidence}
+use Rattle.audit_base.specs.Flaws.{IsInside}
 use Rattle.audit_base.specs.Orders.{place_at}
-use Rattle.audit_base.specs.Deals.{deal_at}
-use Rattle.audit_base.specs.ContinuousOffences.{conservation_finding, shown_upto}
+use Rattle.audit_base.specs.ContinuousOffences.{conservation_finding}
 use Rattle.continuous_audit.specs.declared.checking.Accounts.{Accounts}
 use Rattle.continuous_audit.specs.declared.checking.Coming.{Coming}
 use Rattle.continuous_audit.specs.DealFindings as by_deal
-use Rattle.continuous_audit.specs.Breaches.{IsDealBreach, rule_finding}
 use Rattle.continuous_audit.specs.Scans.{deal_in, order_in}
-use Rattle.continuous_audit.proofs.ScanLemmas.{all-clean, breach-read, finding-read, running-read}
+use Rattle.continuous_audit.proofs.ScanLemmas.{all-clean, finding_by, finding-read, first-finding, inside-read, running-read}
 use Rattle.continuous_audit.proofs.scanning.check_deals.Goals as goal
 
-pub returns-then-cause-order-clause-conserved : goal.returns-then-cause-order-clause-conserved
-returns-then-cause-order-clause-conserved c = λ e. all-clean c.args.market.now.orders.now c.requires.market.list c.args.market.now.deals.now c.requires.market.deal_list c.args.market.now.causes.now c.requires.market.causes c.args.order c.requires.order
-    c.args.running.now.at c.loop-running.running.at c.requires.traded.split c.loop-running.invariant.clean (λ lt. c.if-cause-order.true) c.loop-running.invariant.from
+pub returns-then-cause-order-clause-found : goal.returns-then-cause-order-clause-found
+returns-then-cause-order-clause-found c = record {
+  inside = tt;
+  same = all-clean c.args.market.now.orders.now c.requires.market.list c.args.market.now.deals.now c.requires.market.deal_list c.args.market.now.causes.now c.requires.market.causes c.args.order c.requires.order
+      c.args.running.now.at c.loop-running.running.at c.requires.traded.split c.loop-running.invariant.clean (λ lt. c.if-cause-order.true) c.loop-running.invariant.from;
+}
 
-pub returns-clause-conserved : goal.returns-clause-conserved
-returns-clause-conserved c = λ e. all-clean c.args.market.now.orders.now c.requires.market.list c.args.market.now.deals.now c.requires.market.deal_list c.args.market.now.causes.now c.requires.market.causes c.args.order c.requires.order
-    c.args.running.now.at c.loop-running.running.at c.requires.traded.split c.loop-running.invariant.clean (λ lt. absurd (omega arith)) c.loop-running.invariant.from
+pub returns-clause-found : goal.returns-clause-found
+returns-clause-found c = record {
+  inside = tt;
+  same = all-clean c.args.market.now.orders.now c.requires.market.list c.args.market.now.deals.now c.requires.market.deal_list c.args.market.now.causes.now c.requires.market.causes c.args.order c.requires.order
+      c.args.running.now.at c.loop-running.running.at c.requires.traded.split c.loop-running.invariant.clean (λ lt. absurd (omega arith)) c.loop-running.invariant.from;
+}
 
 pub returns-in-Some-clause-found : goal.returns-in-Some-clause-found
-returns-in-Some-clause-found c breach e =
+returns-in-Some-clause-found c =
     let orders = c.args.market.now.orders.now in
-    let deals = c.args.market.now.deals.now in
     let at = c.loop-running.running.at in
     let d = c.index-deals-cause.result in
     let coming : Coming = record { place = c.index-orders-order.result.place; entered = c.args.entered } in
     let accounts : Accounts = record { bid = c.account.result; ask = c.account-in-loop-running.result } in
-    let is = finding-read c.args.market.now.orders.now c.requires.market.list c.args.market.now.deals.now c.requires.market.deal_list c.args.market.now.causes.now c.requires.market.causes c.args.order c.requires.order at c.loop-running-test.true c.loop-running.running.traded.items c.loop-running.invariant.totals d c.index-deals-cause.is c.value-quantity.result c.value-quantity.ensures.same c.value-quantity.ensures.in_range
+    let is = finding-read orders c.requires.market.list c.args.market.now.deals.now c.requires.market.deal_list c.args.market.now.causes.now c.requires.market.causes c.args.order c.requires.order at c.loop-running-test.true c.loop-running.running.traded.items c.loop-running.invariant.totals d c.index-deals-cause.is c.value-quantity.result c.value-quantity.ensures.same c.value-quantity.ensures.in_range
     c.if-cause-order.false coming c.args.sheet.now c.requires.known c.index-orders-order.result c.index-orders-deal.result c.index-orders-deal-in-loop-running.result c.index-orders-order.is c.index-orders-deal.is c.index-orders-deal-in-loop-running.is refl
     accounts c.add_deal-bid_traded.result.0 c.add_deal-bid_traded.result.1 c.account.ensures c.account-in-loop-running.ensures c.add_deal-bid_traded.ensures.bid c.add_deal-bid_traded.ensures.ask in
-    let run = running-read c.args.market.now.orders.now c.requires.market.list c.args.market.now.deals.now c.requires.market.deal_list c.args.market.now.causes.now c.requires.market.causes c.args.order c.requires.order at c.loop-running-test.true c.loop-running.running.traded.items c.loop-running.invariant.totals d c.index-deals-cause.is c.value-quantity.result c.value-quantity.ensures.same c.value-quantity.ensures.in_range
-    c.add_deal-bid_traded.new.traded.items c.add_deal-bid_traded.ensures.added in
-    let made = option_map (rule_finding orders (shown_upto orders deals (place_at orders c.args.order) (deal_in c.args.market.now.causes.now at)) (deal_at deals (deal_in c.args.market.now.causes.now at))) in
-    let h : c.broken_rule.result ≡ by_deal.broken_rule d c.index-orders-deal.result c.index-orders-deal-in-loop-running.result coming accounts = search rules in
-    let same : record { deal = deal_in c.args.market.now.causes.now at; rule = c.in-Some.rule } ≡ breach = cc in
-    subst (IsDealBreach orders deals c.args.order c.add_deal-bid_traded.new.traded.items) same
-    (breach-read c.args.market.now.orders.now c.requires.market.list c.args.market.now.deals.now c.requires.market.deal_list c.args.market.now.causes.now c.requires.market.causes c.args.order c.requires.order c.args.entered c.args.sheet.now c.requires.known c.args.running.now.at at c.requires.traded.split c.loop-running.invariant.clean
-    c.loop-running-test.true c.if-cause-order.false c.in-Some.rule (is ∙ ap made (sym h ∙ c.in-Some.is)) c.add_deal-bid_traded.new.traded.items run)
+    let inside = inside-read orders c.requires.market.list c.args.market.now.deals.now c.requires.market.deal_list c.args.market.now.causes.now c.requires.market.causes c.args.order c.requires.order at c.loop-running-test.true c.loop-running.running.traded.items c.loop-running.invariant.totals d c.index-deals-cause.is c.value-quantity.result c.value-quantity.ensures.same c.value-quantity.ensures.in_range
+    c.index-orders-deal.result c.index-orders-deal-in-loop-running.result coming c.args.sheet.now accounts c.add_deal-bid_traded.result.0 c.add_deal-bid_traded.result.1 c.account.ensures c.account-in-loop-running.ensures in
+    let h : c.deal_evidence.result ≡ by_deal.deal_evidence d c.index-orders-deal.result c.index-orders-deal-in-loop-running.result coming accounts = search rules in
+    let made = sym h ∙ c.in-Some.is in
+    record {
+      inside = subst (λ (e : Option Evidence). IfSome e (IsInside orders)) made inside;
+      same = first-finding orders c.requires.market.list c.args.market.now.deals.now c.requires.market.deal_list c.args.market.now.causes.now c.requires.market.causes c.args.order c.requires.order
+          c.args.running.now.at at c.requires.traded.split c.loop-running.invariant.clean _ c.loop-running-test.true c.if-cause-order.false
+          (is ∙ ap (option_map (finding_by orders c.requires.market.list c.args.market.now.deals.now c.requires.market.deal_list c.args.market.now.causes.now c.requires.market.causes c.args.order c.requires.order d)) made);
+    }
 
 pub loop-running-preserved : goal.loop-running-preserved
 loop-running-preserved c =
@@ -47,15 +54,14 @@ loop-running-preserved c =
     let d = c.index-deals-cause.result in
     let coming : Coming = record { place = c.index-orders-order.result.place; entered = c.args.entered } in
     let accounts : Accounts = record { bid = c.account.result; ask = c.account-in-loop-running.result } in
-    let is = finding-read c.args.market.now.orders.now c.requires.market.list c.args.market.now.deals.now c.requires.market.deal_list c.args.market.now.causes.now c.requires.market.causes c.args.order c.requires.order at c.loop-running-test.true c.loop-running.running.traded.items c.loop-running.invariant.totals d c.index-deals-cause.is c.value-quantity.result c.value-quantity.ensures.same c.value-quantity.ensures.in_range
+    let is = finding-read orders c.requires.market.list deals c.requires.market.deal_list c.args.market.now.causes.now c.requires.market.causes c.args.order c.requires.order at c.loop-running-test.true c.loop-running.running.traded.items c.loop-running.invariant.totals d c.index-deals-cause.is c.value-quantity.result c.value-quantity.ensures.same c.value-quantity.ensures.in_range
     c.if-cause-order.false coming c.args.sheet.now c.requires.known c.index-orders-order.result c.index-orders-deal.result c.index-orders-deal-in-loop-running.result c.index-orders-order.is c.index-orders-deal.is c.index-orders-deal-in-loop-running.is refl
     accounts c.add_deal-bid_traded.result.0 c.add_deal-bid_traded.result.1 c.account.ensures c.account-in-loop-running.ensures c.add_deal-bid_traded.ensures.bid c.add_deal-bid_traded.ensures.ask in
-    let run = running-read c.args.market.now.orders.now c.requires.market.list c.args.market.now.deals.now c.requires.market.deal_list c.args.market.now.causes.now c.requires.market.causes c.args.order c.requires.order at c.loop-running-test.true c.loop-running.running.traded.items c.loop-running.invariant.totals d c.index-deals-cause.is c.value-quantity.result c.value-quantity.ensures.same c.value-quantity.ensures.in_range
+    let run = running-read orders c.requires.market.list deals c.requires.market.deal_list c.args.market.now.causes.now c.requires.market.causes c.args.order c.requires.order at c.loop-running-test.true c.loop-running.running.traded.items c.loop-running.invariant.totals d c.index-deals-cause.is c.value-quantity.result c.value-quantity.ensures.same c.value-quantity.ensures.in_range
     c.add_deal-bid_traded.new.traded.items c.add_deal-bid_traded.ensures.added in
-    let made = option_map (rule_finding orders (shown_upto orders deals (place_at orders c.args.order) (deal_in c.args.market.now.causes.now at)) (deal_at deals (deal_in c.args.market.now.causes.now at))) in
-    let h : c.broken_rule.result ≡ by_deal.broken_rule d c.index-orders-deal.result c.index-orders-deal-in-loop-running.result coming accounts = search rules in
+    let h : c.deal_evidence.result ≡ by_deal.deal_evidence d c.index-orders-deal.result c.index-orders-deal-in-loop-running.result coming accounts = search rules in
     let none : conservation_finding orders deals (place_at orders c.args.order) (deal_in c.args.market.now.causes.now at) ≡ None =
-    is ∙ ap made (sym h ∙ c.in_default.is) in
+    is ∙ ap (option_map (finding_by orders c.requires.market.list deals c.requires.market.deal_list c.args.market.now.causes.now c.requires.market.causes c.args.order c.requires.order d)) (sym h ∙ c.in_default.is) in
     record {
       from = let l = c.loop-running.invariant.from in omega arith;
       own = λ i le lt. elim (cases_eq i at) [

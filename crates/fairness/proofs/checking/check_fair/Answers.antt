@@ -1,10 +1,10 @@
 use Rattle.std.proofs.Common.{◌≡◌, ◌∙◌, sym, ap, refl, subst, ℕ, None, Some, length, add-one, arith, inl, inr}
 use Rattle.std.specs.Prelude.{option_map}
 use Rattle.audit_base.specs.declared.terms.Side.TheVariants.{Buy, Sell}
+use Rattle.audit_base.specs.Flaws.{finding_of}
 use Rattle.audit_base.specs.Least.{least_answer}
 use Rattle.audit_base.proofs.LeastLemmas.{cases_Option, least-at, least-none_more}
 use Rattle.audit_base.proofs.OffenceLemmas.{no_offence-fair}
-use Rattle.fairness.specs.Passing.{finding_of}
 use Rattle.fairness.proofs.PassingLemmas.{best-stands, unfair, unfair-is, unfair-breaks}
 use Rattle.fairness.proofs.checking.check_fair.Goals as goal
 
@@ -21,8 +21,7 @@ returns-in-Some-clause-offence c =
     let bid = c.best_short-short_bid.ensures.best Buy c.args.deals.now c.requires.order_list c.requires.bids c.requires.totals in
     let ask = c.best_short-short_ask.ensures.best Sell c.args.deals.now c.requires.order_list c.requires.asks c.requires.totals in
     let is = unfair-is c.args.orders.now c.args.deals.now c.args.traded.now c.requires.order_list c.requires.totals c.best_short-short_bid.result c.best_short-short_ask.result bid ask c.requires.matching c.loop-deal.deal-index c.loop-deal-test.true c.deal-item.result c.deal-item.is in
-    let made = finding_of c.args.orders.now c.args.traded.now c.deal-item.result in
-    let found : unfair c.args.orders.now c.args.deals.now c.loop-deal.deal-index ≡ Some c.finding.result = sym is ∙ ap (option_map made) (sym c.unfair_at.ensures.outranked ∙ c.in-Some.is) ∙ ap Some (sym c.finding.ensures) in
+    let found : unfair c.args.orders.now c.args.deals.now c.loop-deal.deal-index ≡ Some c.finding.result = sym is ∙ ap (option_map (finding_of c.args.orders.now)) (sym c.unfair_at.ensures.unfair ∙ c.in-Some.is) ∙ ap Some (sym c.finding.ensures) in
     sym (least-at (unfair c.args.orders.now c.args.deals.now) (length c.args.deals.now) c.loop-deal.deal-index c.finding.result c.loop-deal-test.true c.loop-deal.invariant found)
 
 pub returns-in-Some-clause-fair : goal.returns-in-Some-clause-fair
@@ -31,7 +30,7 @@ returns-in-Some-clause-fair c = (
   λ fair.
       let bid = c.best_short-short_bid.ensures.best Buy c.args.deals.now c.requires.order_list c.requires.bids c.requires.totals in
       let ask = c.best_short-short_ask.ensures.best Sell c.args.deals.now c.requires.order_list c.requires.asks c.requires.totals in
-      absurd (unfair-breaks c.args.orders.now c.args.deals.now c.args.traded.now c.requires.order_list c.requires.totals c.best_short-short_bid.result c.best_short-short_ask.result bid ask c.requires.matching c.loop-deal.deal-index c.loop-deal-test.true c.deal-item.result c.deal-item.is c.in-Some.outranked (sym c.unfair_at.ensures.outranked ∙ c.in-Some.is) c.unfair_at.ensures.positive fair),
+      absurd (unfair-breaks c.args.orders.now c.args.deals.now c.args.traded.now c.requires.order_list c.requires.totals c.best_short-short_bid.result c.best_short-short_ask.result bid ask c.requires.matching c.loop-deal.deal-index c.loop-deal-test.true c.deal-item.result c.deal-item.is c.in-Some.flaw (sym c.unfair_at.ensures.unfair ∙ c.in-Some.is) c.deals_in_range.ensures fair),
 )
 
 pub loop-deal-preserved : goal.loop-deal-preserved
@@ -40,7 +39,7 @@ loop-deal-preserved c =
     let ask = c.best_short-short_ask.ensures.best Sell c.args.deals.now c.requires.order_list c.requires.asks c.requires.totals in
     let is = unfair-is c.args.orders.now c.args.deals.now c.args.traded.now c.requires.order_list c.requires.totals c.best_short-short_bid.result c.best_short-short_ask.result bid ask c.requires.matching c.loop-deal.deal-index c.loop-deal-test.true c.deal-item.result c.deal-item.is in
     let none : unfair c.args.orders.now c.args.deals.now c.loop-deal.deal-index ≡ None =
-    sym is ∙ ap (option_map (finding_of c.args.orders.now c.args.traded.now c.deal-item.result)) (sym c.unfair_at.ensures.outranked ∙ elim (cases_Option c.unfair_at.result) [ inl e ↦ e | inr some ↦ absurd (c.in_default.not-Some some.0 some.1) ]) in
+    sym is ∙ ap (option_map (finding_of c.args.orders.now)) (sym c.unfair_at.ensures.unfair ∙ elim (cases_Option c.unfair_at.result) [ inl e ↦ e | inr some ↦ absurd (c.in_default.not-Some some.0 some.1) ]) in
     rw add-one (least-none_more (unfair c.args.orders.now c.args.deals.now) c.loop-deal.deal-index c.loop-deal.invariant none)
 
 pub returns-clause-fair : goal.returns-clause-fair

@@ -1,4 +1,4 @@
-use Rattle.fix_messages.proofs.AgainLemmas.{orders-again, pairs-again, trades-again}
+use Rattle.fix_messages.proofs.AgainLemmas.{orders-again, trades-again}
 use Rattle.fix_messages.proofs.laws.written_logs_are_read_again.Goals as goal
 
 pub returns-clause-orders : goal.returns-clause-orders
@@ -6,6 +6,3 @@ returns-clause-orders c = orders-again
 
 pub returns-clause-reports : goal.returns-clause-reports
 returns-clause-reports c = trades-again
-
-pub returns-clause-pairs : goal.returns-clause-pairs
-returns-clause-pairs c = pairs-again

@@ -3,7 +3,7 @@ use Rattle.std.proofs.lemmas.List.{append-nil}
 use Rattle.std.proofs.lemmas.List.Elements.{All-cons, All-nil}
 use Rattle.fix_messages.specs.Logs.{report_log}
 use Rattle.fix_messages.specs.Written.{IsTradeInForm, trade_text}
-use Rattle.fix_messages.proofs.AgainLemmas.{pairs-again, trades-again}
+use Rattle.fix_messages.proofs.AgainLemmas.{trades-again}
 use Rattle.fix_messages.proofs.writers.write_trade.Goals as goal
 
 pub returns-clause-again : goal.returns-clause-again
@@ -12,4 +12,4 @@ returns-clause-again c =
     ∙ trades-again (c.args.trade.now ∷ []) (All-cons IsTradeInForm c.args.trade.now [] c.in_ok-text.ensures.in_form (All-nil IsTradeInForm))
 
 pub returns-clause-paired : goal.returns-clause-paired
-returns-clause-paired c = pairs-again (c.args.trade.now ∷ [])
+returns-clause-paired c = c.reports_are_paired_again.ensures (c.args.trade.now ∷ [])

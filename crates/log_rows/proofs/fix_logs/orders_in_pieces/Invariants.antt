@@ -1,6 +1,6 @@
 use Rattle.std.proofs.Common.{◌≡◌, length}
 use Rattle.log_source.specs.Feeds.{HasRoom}
-use Rattle.fix_messages.specs.Bodies.{order_entry}
+use Rattle.fix_messages.specs.OrderTables.{order_entry}
 use Rattle.fix_messages.specs.Feeds.{StandsFor}
 use Rattle.log_rows.proofs.fix_logs.orders_in_pieces.Given as goal
 

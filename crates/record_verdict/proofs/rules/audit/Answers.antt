@@ -1,15 +1,12 @@
+use Rattle.std.proofs.Common.{◌∙◌, sym}
 use Rattle.record_verdict.proofs.JudgeLemmas.{ok-then}
-use Rattle.record_verdict.proofs.RuleLemmas.{uniform_audited, maximum_audited, continuous_audited}
+use Rattle.record_verdict.proofs.RuleLemmas.{call-rule_is, no-call_rule_is, continuous_audited}
 use Rattle.record_verdict.proofs.rules.audit.Goals as goal
 
-pub returns-in-Uniform : goal.returns-in-Uniform
-returns-in-Uniform c =
-    rw c.in-Uniform.is (ok-then c.audit_uniform.result _ _ (λ answer is. uniform_audited c.args.orders.now c.args.deals.now c.args.count answer is) c.audit_uniform.ensures)
+pub returns-in-Some : goal.returns-in-Some
+returns-in-Some c = rw (← call-rule_is c.args.rule c.in-Some.rule (sym c.call_rule.ensures ∙ c.in-Some.is)) c.audit_call.ensures
 
-pub returns-in-Maximum : goal.returns-in-Maximum
-returns-in-Maximum c =
-    rw c.in-Maximum.is (ok-then c.audit_maximum.result _ _ (λ answer is. maximum_audited c.args.orders.now c.args.deals.now c.args.count answer is) c.audit_maximum.ensures)
-
-pub returns-in-Continuous : goal.returns-in-Continuous
-returns-in-Continuous c =
-    rw c.in-Continuous.is (ok-then c.audit_continuous.result _ _ (λ answer is. continuous_audited c.args.orders.now c.args.deals.now c.args.count c.requires.regular answer is) c.audit_continuous.ensures)
+pub returns-in-None : goal.returns-in-None
+returns-in-None c =
+    rw (no-call_rule_is c.args.rule (sym c.call_rule.ensures ∙ c.in-None.is))
+    (ok-then c.audit_continuous.result _ _ (λ answer is. continuous_audited c.args.orders.now c.args.deals.now c.args.count c.requires.regular answer is) c.audit_continuous.ensures)

@@ -24,7 +24,7 @@ list_phase-requires-clause-counted c =
 pub list_phase-requires-clause-small : goal.list_phase-requires-clause-small
 list_phase-requires-clause-small c =
     small-so_far c.args.phases.now c.requires.phases c.args.orders.now c.requires.order_list c.args.deals.now c.requires.deal_list.named c.loop-index.index c.loop-index-test.true
-    c.loop-index.so_far.traded.items c.loop-index.so_far.rest.items c.loop-index.invariant c.in_ok-causes.ensures.numbers c.requires.deal_list.few
+    c.loop-index.so_far.traded.items c.loop-index.so_far.rest.items c.loop-index.invariant c.deals_in_range.ensures c.requires.deal_list.few
 
 pub judge_phase-requires : goal.judge_phase-requires
 judge_phase-requires c =
@@ -34,9 +34,9 @@ judge_phase-requires c =
     let k = c.loop-index.index in
     let here : c.deref-in-loop-index.result.now ≡ phase_orders phases orders deals k = c.deref-in-loop-index.ensures.value ∙ c.in_ok-list.ensures deals c.loop-index.invariant in
     let picked : c.deref-in-loop-index-2.result.now ≡ phase_deals phases orders deals k = c.deref-in-loop-index-2.ensures.value ∙ c.in_ok-dealt.ensures
-    ∙ dealt phases orders deals c.deref.result.now k c.first_place-first.result c.last_place-last.result (c.deref.ensures.value ∙ c.in_ok-causes.ensures.causes) c.first_place-first.ensures c.last_place-last.ensures in
-    let is : IsReady orders c.deref-in-loop-index.result.now c.deref-in-loop-index-2.result.now c.last_place-last.result = ready phases c.requires.phases orders c.requires.order_list c.requires.regular deals c.requires.deal_list c.in_ok-causes.ensures.numbers k c.loop-index-test.true
-    c.deref-in-loop-index.result.now c.deref-in-loop-index-2.result.now c.last_place-last.result here picked c.last_place-last.ensures in
+    ∙ dealt phases orders deals c.deref.result.now k c.first_place-first.result c.end_place-last.result (c.deref.ensures.value ∙ c.in_ok-causes.ensures.causes) c.first_place-first.ensures c.end_place-last.ensures in
+    let is : IsReady orders c.deref-in-loop-index.result.now c.deref-in-loop-index-2.result.now c.end_place-last.result = ready phases c.requires.phases orders c.requires.order_list c.requires.regular deals c.requires.deal_list c.deals_in_range.ensures k c.loop-index-test.true
+    c.deref-in-loop-index.result.now c.deref-in-loop-index-2.result.now c.end_place-last.result here picked c.end_place-last.ensures in
     let long = long-so_far phases c.requires.phases orders c.requires.order_list deals c.requires.deal_list.named k c.loop-index-test.true c.loop-index.so_far.traded.items c.loop-index.so_far.rest.items c.loop-index.invariant in
     record {
       order_list = is.order_list;
@@ -45,7 +45,7 @@ judge_phase-requires c =
       few = c.requires.few;
       ends = is.ends;
       more = is.more;
-      small = small-so_far phases c.requires.phases orders c.requires.order_list deals c.requires.deal_list.named k c.loop-index-test.true c.loop-index.so_far.traded.items c.loop-index.so_far.rest.items c.loop-index.invariant c.in_ok-causes.ensures.numbers c.requires.deal_list.few;
+      small = small-so_far phases c.requires.phases orders c.requires.order_list deals c.requires.deal_list.named k c.loop-index-test.true c.loop-index.so_far.traded.items c.loop-index.so_far.rest.items c.loop-index.invariant c.deals_in_range.ensures c.requires.deal_list.few;
       counted = let f = is.few in omega arith;
     }
 
@@ -57,7 +57,7 @@ returns-in-Some c =
     let k = c.loop-index.index in
     let here : c.deref-in-loop-index.result.now ≡ phase_orders phases orders deals k = c.deref-in-loop-index.ensures.value ∙ c.in_ok-list.ensures deals c.loop-index.invariant in
     let picked : c.deref-in-loop-index-2.result.now ≡ phase_deals phases orders deals k = c.deref-in-loop-index-2.ensures.value ∙ c.in_ok-dealt.ensures
-    ∙ dealt phases orders deals c.deref.result.now k c.first_place-first.result c.last_place-last.result (c.deref.ensures.value ∙ c.in_ok-causes.ensures.causes) c.first_place-first.ensures c.last_place-last.ensures in
+    ∙ dealt phases orders deals c.deref.result.now k c.first_place-first.result c.end_place-last.result (c.deref.ensures.value ∙ c.in_ok-causes.ensures.causes) c.first_place-first.ensures c.end_place-last.ensures in
     broken-phase phases orders deals c.args.count k c.in-Some.finding c.requires.admitted c.loop-index-test.true c.loop-index.so_far.traded.items c.loop-index.so_far.rest.items c.loop-index.invariant
     c.deref-in-loop-index.result.now c.deref-in-loop-index-2.result.now c.kind_at-kind.result here picked c.kind_at-kind.ensures (c.judge_phase.ensures.found c.in-Some.finding (c.in_ok-finding.was ∙ ap Ok c.in-Some.is))
 
@@ -69,11 +69,11 @@ loop-index-preserved c =
     let k = c.loop-index.index in
     let here : c.deref-in-loop-index.result.now ≡ phase_orders phases orders deals k = c.deref-in-loop-index.ensures.value ∙ c.in_ok-list.ensures deals c.loop-index.invariant in
     let picked : c.deref-in-loop-index-2.result.now ≡ phase_deals phases orders deals k = c.deref-in-loop-index-2.ensures.value ∙ c.in_ok-dealt.ensures
-    ∙ dealt phases orders deals c.deref.result.now k c.first_place-first.result c.last_place-last.result (c.deref.ensures.value ∙ c.in_ok-causes.ensures.causes) c.first_place-first.ensures c.last_place-last.ensures in
+    ∙ dealt phases orders deals c.deref.result.now k c.first_place-first.result c.end_place-last.result (c.deref.ensures.value ∙ c.in_ok-causes.ensures.causes) c.first_place-first.ensures c.end_place-last.ensures in
     let none : c.in_ok-finding.field-0 ≡ None = c.in_default.is in
     phase-passed phases c.requires.phases orders c.requires.order_list deals c.requires.deal_list.named k c.loop-index-test.true c.loop-index.so_far.traded.items c.loop-index.so_far.rest.items c.loop-index.invariant
-    c.deref-in-loop-index.result.now c.deref-in-loop-index-2.result.now c.kind_at-kind.result c.last_place-last.result c.judge_phase.new.so_far.traded.items c.judge_phase.new.so_far.rest.items
-    here picked c.kind_at-kind.ensures c.last_place-last.ensures (c.judge_phase.ensures.passed (c.in_ok-finding.was ∙ ap Ok none))
+    c.deref-in-loop-index.result.now c.deref-in-loop-index-2.result.now c.kind_at-kind.result c.end_place-last.result c.judge_phase.new.so_far.traded.items c.judge_phase.new.so_far.rest.items
+    here picked c.kind_at-kind.ensures c.end_place-last.ensures (c.judge_phase.ensures.passed (c.in_ok-finding.was ∙ ap Ok none))
 
 pub returns : goal.returns
 returns c =

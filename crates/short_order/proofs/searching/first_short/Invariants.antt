@@ -1,6 +1,6 @@
 use Rattle.std.proofs.Common.{◌≡◌, drop}
 use Rattle.std.specs.Prelude.{find}
-use Rattle.short_order.specs.Totals.{is_short_by}
+use Rattle.short_order.specs.ShortOrders.{is_short_by}
 use Rattle.short_order.proofs.searching.first_short.Given as goal
 
 abbrev pub invariant-loop-index : goal.invariant-loop-index

@@ -1,12 +1,11 @@
-use Rattle.std.proofs.Common.{◌≡◌, ◌-◌, ◌∙◌, sym, subst}
+use Rattle.std.proofs.Common.{◌-◌, ◌∙◌, Option, option_map, ap, sym, subst}
+use Rattle.audit_base.specs.declared.flaws.Flaw.{Flaw}
+use Rattle.audit_base.specs.Flaws.{finding_of}
 use Rattle.audit_base.specs.Orders.{place_at}
-use Rattle.continuous_audit.specs.declared.breaches.Breach.TheVariants.{Deal}
-use Rattle.continuous_audit.specs.declared.numbers.Numbers.{Numbers}
-use Rattle.continuous_audit.specs.Breaches.{Breaks}
-use Rattle.continuous_audit.specs.Records.{AreLeft}
+use Rattle.continuous_audit.specs.Flaws.{IsFindingOf}
+use Rattle.continuous_audit.specs.Records.{AreLeft, conservation_at}
 use Rattle.continuous_audit.specs.Scans.{AreSmall, number_in}
-use Rattle.continuous_audit.proofs.BreachLemmas.{deal-breach}
-use Rattle.continuous_audit.proofs.NumberLemmas.{before-more, closed-more, known, left-after_deals, open-sheet, opening, running-small, sizes-more}
+use Rattle.continuous_audit.proofs.NumberLemmas.{before-more, closed-more, left-after_deals, open-sheet, opening, running-small, sizes-more, traded-now}
 use Rattle.continuous_audit.proofs.numbers.Numbers.deal_order.Goals as goal
 
 pub open_order-opening-requires-clause-traded : goal.open_order-opening-requires-clause-traded
@@ -21,9 +20,12 @@ check_deals-requires-clause-known c =
     let orders = c.args.market.now.orders.now in
     let deals = c.args.market.now.deals.now in
     let o = c.open_order-opening.ensures.opened deals (opening c.args.market.now.orders.now c.requires.market.list c.args.market.now.deals.now c.requires.market.deal_list c.args.market.now.causes.now c.requires.market.causes c.args.order c.requires.order c.args.self.now.running.at c.args.self.now.running.traded.items c.deref.result.now c.args.self.now.sheet c.deref.ensures.value c.requires.conforms c.requires.known.before c.requires.known.left c.requires.known.running.split c.requires.known.running.totals) in
-    known orders deals c.args.order c.requires.order c.open_order-opening.result.entered c.note.new.self o.entered_is
-    (sizes-more orders deals c.args.order c.requires.order _ _ c.open_order-opening.result.size c.requires.known.sizes o.size_is c.note.ensures.sizes)
-    (subst (AreLeft orders deals c.args.order (place_at orders c.args.order)) (sym c.note.ensures.left) c.requires.known.left)
+    record {
+      arrived = o.entered_is;
+      before = before-more orders deals c.args.order c.requires.order _ c.note.new.self.before.items c.open_order-opening.result.before c.requires.known.before o.before_is c.open_order-opening.ensures.fits.bounded c.requires.market.list.few c.note.ensures.before;
+      sizes = sizes-more orders deals c.args.order c.requires.order _ _ c.open_order-opening.result.size c.requires.known.sizes o.size_is c.note.ensures.sizes;
+      left = subst (AreLeft orders deals c.args.order (place_at orders c.args.order)) (sym c.note.ensures.left) c.requires.known.left;
+    }
 
 pub returns-clause-dealt : goal.returns-clause-dealt
 returns-clause-dealt c = λ e.
@@ -32,7 +34,7 @@ returns-clause-dealt c = λ e.
     let traded = c.check_deals.ensures.traded c.in_default.is in
     let o = c.open_order-opening.ensures.opened deals (opening c.args.market.now.orders.now c.requires.market.list c.args.market.now.deals.now c.requires.market.deal_list c.args.market.now.causes.now c.requires.market.causes c.args.order c.requires.order c.args.self.now.running.at c.args.self.now.running.traded.items c.deref.result.now c.args.self.now.sheet c.deref.ensures.value c.requires.conforms c.requires.known.before c.requires.known.left c.requires.known.running.split c.requires.known.running.totals) in
     record {
-      conserved = c.check_deals.ensures.conserved c.in_default.is;
+      conserved = c.check_deals.ensures.found.same ∙ ap (option_map (finding_of orders)) c.in_default.is;
       split = c.requires.known.running.split;
       from = c.check_deals.ensures.from c.in_default.is;
       known = record {
@@ -47,15 +49,10 @@ returns-clause-dealt c = λ e.
             c.set_amount.ensures;
         running = traded;
       };
+      traded = traded-now orders c.requires.market.list deals c.requires.market.deal_list c.args.market.now.causes.now c.requires.market.causes c.args.order c.requires.order c.check_deals.new.running.at c.check_deals.new.running.traded.items traded.split traded.totals;
     }
 
 pub returns-in-Some-clause-found : goal.returns-in-Some-clause-found
-returns-in-Some-clause-found c breach e =
+returns-in-Some-clause-found c =
     let orders = c.args.market.now.orders.now in
-    let deals = c.args.market.now.deals.now in
-    let o = c.open_order-opening.ensures.opened deals (opening c.args.market.now.orders.now c.requires.market.list c.args.market.now.deals.now c.requires.market.deal_list c.args.market.now.causes.now c.requires.market.causes c.args.order c.requires.order c.args.self.now.running.at c.args.self.now.running.traded.items c.deref.result.now c.args.self.now.sheet c.deref.ensures.value c.requires.conforms c.requires.known.before c.requires.known.left c.requires.known.running.split c.requires.known.running.totals) in
-    let known = before-more orders deals c.args.order c.requires.order _ c.note.new.self.before.items c.open_order-opening.result.before c.requires.known.before o.before_is c.open_order-opening.ensures.fits.bounded c.requires.market.list.few c.note.ensures.before in
-    let same : Deal c.in-Some.breach ≡ breach = cc in
-    let numbers : Numbers = record { sheet = c.note.new.self; running = c.check_deals.new.running; start = c.args.self.now.running.at } in
-    subst (Breaks c.args.market.now c.args.order numbers) same
-    (deal-breach orders deals c.requires.market.deal_list c.args.order numbers c.in-Some.breach (c.check_deals.ensures.found c.in-Some.breach c.in-Some.is) known)
+    subst (λ (f : Option Flaw). IsFindingOf orders f (conservation_at orders c.args.market.now.deals.now c.args.order)) c.in-Some.is c.check_deals.ensures.found

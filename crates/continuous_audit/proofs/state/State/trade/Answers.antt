@@ -1,28 +1,24 @@
-use Rattle.std.proofs.Common.{◌∙◌, option_map, ap}
-use Rattle.audit_base.specs.Orders.{place_at}
-use Rattle.continuous_audit.specs.Breaches.{breach_after}
-use Rattle.continuous_audit.proofs.BreachLemmas.{after-breach}
-use Rattle.continuous_audit.proofs.NumberLemmas.{traded-now}
-use Rattle.continuous_audit.proofs.RecordLemmas.{priority-shown}
+use Rattle.std.proofs.Common.{◌∙◌, Option, option_map, ap, subst}
+use Rattle.audit_base.specs.declared.flaws.Flaw.{Flaw}
+use Rattle.audit_base.specs.Flaws.{finding_of}
+use Rattle.continuous_audit.specs.Flaws.{IsFindingOf}
+use Rattle.continuous_audit.specs.Records.{conservation_at}
+use Rattle.continuous_audit.proofs.FlawLemmas.{conservation-flaw, priority-flaw}
 use Rattle.continuous_audit.proofs.state.State.trade.Goals as goal
 
-pub returns-clause-found : goal.returns-clause-found
-returns-clause-found c breach e =
+pub returns-in-Some-clause-found : goal.returns-in-Some-clause-found
+returns-in-Some-clause-found c =
     let orders = c.args.market.now.orders.now in
-    let deals = c.args.market.now.deals.now in
-    let dealt = c.deal_order.ensures.dealt c.in_default.is in
-    let t = traded-now c.args.market.now.orders.now c.requires.market.list c.args.market.now.deals.now c.requires.market.deal_list c.args.market.now.causes.now c.requires.market.causes c.args.order c.requires.order c.deal_order.new.self.running.at c.deal_order.new.self.running.traded.items dealt.known.running.split dealt.known.running.totals in
-    after-breach orders deals c.args.order c.requires.order c.deal_order.new.self t dealt.known.before breach (c.pass_deals.ensures.upto breach e)
-    (priority-shown orders deals (place_at orders c.args.order) _ dealt.conserved (c.pass_deals.ensures.passed ∙ ap (option_map (breach_after orders deals c.args.order)) e))
+    conservation-flaw c.args.market.now c.args.order c.in-Some.flaw
+    (subst (λ (f : Option Flaw). IsFindingOf orders f (conservation_at orders c.args.market.now.deals.now c.args.order)) c.in-Some.is c.deal_order.ensures.found)
+
+pub returns-clause-found : goal.returns-clause-found
+returns-clause-found c = priority-flaw c.args.market.now c.args.order (c.deal_order.ensures.dealt c.in_default.is).conserved c.pass_deals.result c.pass_deals.ensures.found
 
 pub returns-clause-after_deals : goal.returns-clause-after_deals
-returns-clause-after_deals c = λ quiet.
-    let dealt = c.deal_order.ensures.dealt c.in_default.is in
-    record {
-      conserved = dealt.conserved;
-      ranked = c.pass_deals.ensures.passed ∙ ap (option_map (breach_after c.args.market.now.orders.now c.args.market.now.deals.now c.args.order)) quiet;
-      known = dealt.known;
-      traded = traded-now c.args.market.now.orders.now c.requires.market.list c.args.market.now.deals.now c.requires.market.deal_list c.args.market.now.causes.now c.requires.market.causes c.args.order c.requires.order c.deal_order.new.self.running.at c.deal_order.new.self.running.traded.items dealt.known.running.split dealt.known.running.totals;
-      holds = c.pass_deals.ensures.holds quiet;
-      dropped = c.requires.ready.dropped;
-    }
+returns-clause-after_deals c = λ quiet. record {
+  dealt = c.deal_order.ensures.dealt c.in_default.is;
+  ranked = c.pass_deals.ensures.found.same ∙ ap (option_map (finding_of c.args.market.now.orders.now)) quiet;
+  holds = c.pass_deals.ensures.holds quiet;
+  dropped = c.requires.ready.dropped;
+}

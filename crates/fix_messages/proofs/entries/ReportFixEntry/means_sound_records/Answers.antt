@@ -1,4 +1,4 @@
-use Rattle.fix_messages.specs.Bodies.{report_entry}
+use Rattle.fix_messages.specs.ReportTable.{report_entry}
 use Rattle.fix_messages.proofs.PricedLemmas.{any-sound}
 use Rattle.fix_messages.proofs.entries.ReportFixEntry.means_sound_records.Goals as goal
 

@@ -1,0 +1,149 @@
+-- What is wrong with a record, by places, indices and numbers, as the finding that it is.
+use Rattle.std.specs.Prelude.{◌<◌, List, Option, None, Some, length, option_and_then, IfSome}
+use Rattle.audit_base.specs.declared.terms.Side.{Side}
+use Rattle.audit_base.specs.declared.terms.Side.TheVariants.{Buy, Sell}
+use Rattle.audit_base.specs.declared.terms.Which.{Which}
+use Rattle.audit_base.specs.declared.terms.Which.TheVariants as which
+use Rattle.audit_base.specs.declared.orders.Order.{Order}
+use Rattle.audit_base.specs.declared.findings.Property.{Property}
+use Rattle.audit_base.specs.declared.findings.Property.TheVariants as property
+use Rattle.audit_base.specs.declared.findings.Finding.{Finding}
+use Rattle.audit_base.specs.declared.findings.Short.{Short}
+use Rattle.audit_base.specs.declared.findings.Shown.{Shown}
+use Rattle.audit_base.specs.declared.findings.Shown.TheVariants as shown
+use Rattle.audit_base.specs.declared.flaws.TradedOrder.{TradedOrder}
+use Rattle.audit_base.specs.declared.flaws.DueOrder.{DueOrder}
+use Rattle.audit_base.specs.declared.flaws.Evidence.{Evidence}
+use Rattle.audit_base.specs.declared.flaws.Evidence.TheVariants.{DuplicateId, TimeBack, UnknownTarget, Unpaired, DuplicateTrade, UnknownOrder, Inactive, Limit, UniformPrice, Quantity, Priority, Volume, Spread, InstantOrder}
+use Rattle.audit_base.specs.declared.flaws.Flaw.{Flaw}
+use Rattle.audit_base.specs.Orders.{order_at}
+use Rattle.audit_base.specs.Shows.{with_traded, show_place, priority_of}
+
+-- the quantity finding of a side
+abbrev pub quantity_of : Side → Property
+quantity_of Buy = property.BuyQuantity
+quantity_of Sell = property.SellQuantity
+
+-- an order with what it has traded
+abbrev pub show_traded : List Order → TradedOrder → Option Shown
+show_traded orders t = Some (shown.Order (with_traded (order_at orders t.index) t.traded))
+
+-- a short order with its due
+abbrev pub show_due : List Order → DueOrder → Option Shown
+show_due orders d =
+    Some (shown.Due (with_traded (order_at orders d.order.index) d.order.traded) d.due)
+
+-- the property that is broken
+abbrev pub property_of : Evidence → Property
+property_of (DuplicateId earlier) = property.DuplicateId
+property_of (TimeBack last) = property.TimeBack
+property_of UnknownTarget = property.UnknownTarget
+property_of (Unpaired first) = property.Unpaired
+property_of (DuplicateTrade earlier) = property.DuplicateTrade
+property_of (UnknownOrder side key) = property.UnknownOrder
+property_of (Inactive order) = property.Inactive
+property_of (Limit bid ask) = property.Limit
+property_of (UniformPrice first) = property.UniformPrice
+property_of (Quantity side order) = quantity_of side
+property_of (Priority side ahead own) = priority_of side
+property_of (Volume short bid ask) = property.Volume
+property_of (Spread bid ask) = property.Spread
+property_of InstantOrder = property.InstantOrder
+
+-- the log that its record stands in
+abbrev pub log_of : Evidence → Which
+log_of (DuplicateId earlier) = which.Orders
+log_of (TimeBack last) = which.Orders
+log_of UnknownTarget = which.Orders
+log_of (Unpaired first) = which.Trades
+log_of (DuplicateTrade earlier) = which.Trades
+log_of (UnknownOrder side key) = which.Trades
+log_of (Inactive order) = which.Trades
+log_of (Limit bid ask) = which.Trades
+log_of (UniformPrice first) = which.Trades
+log_of (Quantity side order) = which.Trades
+log_of (Priority side ahead own) = which.Trades
+log_of (Volume short bid ask) = which.Trades
+log_of (Spread bid ask) = which.Orders
+log_of InstantOrder = which.Orders
+
+-- what is shown first
+abbrev pub first_shown : List Order → Evidence → Option Shown
+first_shown orders (DuplicateId earlier) = show_place which.Orders earlier
+first_shown orders (TimeBack last) = show_place which.Orders last
+first_shown orders UnknownTarget = None
+first_shown orders (Unpaired first) = option_and_then (show_place which.Trades) first
+first_shown orders (DuplicateTrade earlier) = show_place which.Trades earlier
+first_shown orders (UnknownOrder side key) = Some (shown.Unknown side key)
+first_shown orders (Inactive order) = show_traded orders order
+first_shown orders (Limit bid ask) = show_traded orders bid
+first_shown orders (UniformPrice first) = show_place which.Trades first
+first_shown orders (Quantity side order) = show_traded orders order
+first_shown orders (Priority side ahead own) = show_traded orders ahead
+first_shown orders (Volume short bid ask) = option_and_then (show_due orders) bid
+first_shown orders (Spread bid ask) = show_traded orders bid
+first_shown orders InstantOrder = None
+
+-- what is shown second: the other order of two
+abbrev pub second_shown : List Order → Evidence → Option Shown
+second_shown orders (DuplicateId earlier) = None
+second_shown orders (TimeBack last) = None
+second_shown orders UnknownTarget = None
+second_shown orders (Unpaired first) = None
+second_shown orders (DuplicateTrade earlier) = None
+second_shown orders (UnknownOrder side key) = None
+second_shown orders (Inactive order) = None
+second_shown orders (Limit bid ask) = show_traded orders ask
+second_shown orders (UniformPrice first) = None
+second_shown orders (Quantity side order) = None
+second_shown orders (Priority side ahead own) = show_traded orders own
+second_shown orders (Volume short bid ask) = option_and_then (show_due orders) ask
+second_shown orders (Spread bid ask) = show_traded orders ask
+second_shown orders InstantOrder = None
+
+-- the volumes, of a volume that is below the greatest
+abbrev pub short_of : Evidence → Option Short
+short_of (Volume short bid ask) = Some short
+short_of (DuplicateId earlier) = None
+short_of (TimeBack last) = None
+short_of UnknownTarget = None
+short_of (Unpaired first) = None
+short_of (DuplicateTrade earlier) = None
+short_of (UnknownOrder side key) = None
+short_of (Inactive order) = None
+short_of (Limit bid ask) = None
+short_of (UniformPrice first) = None
+short_of (Quantity side order) = None
+short_of (Priority side ahead own) = None
+short_of (Spread bid ask) = None
+short_of InstantOrder = None
+
+-- the finding that a flaw is
+abbrev pub finding_of : List Order → Flaw → Finding
+finding_of orders flaw = record {
+  property = property_of flaw.evidence;
+  log = log_of flaw.evidence;
+  place = flaw.place;
+  first = first_shown orders flaw.evidence;
+  second = second_shown orders flaw.evidence;
+  short = short_of flaw.evidence;
+}
+
+-- the orders that an evidence names are in the list
+abbrev pub IsInside : List Order → Evidence → Type 0
+IsInside orders (DuplicateId earlier) = Unit {0}
+IsInside orders (TimeBack last) = Unit {0}
+IsInside orders UnknownTarget = Unit {0}
+IsInside orders (Unpaired first) = Unit {0}
+IsInside orders (DuplicateTrade earlier) = Unit {0}
+IsInside orders (UnknownOrder side key) = Unit {0}
+IsInside orders (Inactive order) = order.index < length orders
+IsInside orders (Limit bid ask) = (bid.index < length orders) × (ask.index < length orders)
+IsInside orders (UniformPrice first) = Unit {0}
+IsInside orders (Quantity side order) = order.index < length orders
+IsInside orders (Priority side ahead own) =
+    (ahead.index < length orders) × (own.index < length orders)
+IsInside orders (Volume short bid ask) = IfSome bid (λ d. d.order.index < length orders)
+    × IfSome ask (λ d. d.order.index < length orders)
+IsInside orders (Spread bid ask) = (bid.index < length orders) × (ask.index < length orders)
+IsInside orders InstantOrder = Unit {0}

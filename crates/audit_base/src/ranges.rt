@@ -1,0 +1,59 @@
+//! The ranges of the numbers of records, as facts. Nothing is computed here: the types keep the ranges, and
+//! reading a number tells a proof so.
+ghost use Rattle.audit_base.specs.Deals.{IsDeal, AreDeals};
+ghost use Rattle.audit_base.specs.Orders.{IsOrder, AreOrders};
+ghost use Rattle.audit_base.specs.Trades.{IsTrade, AreTrades};
+
+use super::orders::{Deal, Order};
+use super::records::TradeRecord;
+
+/// The numbers of an order are in their ranges.
+pub fn order_in_range(order: &Order)
+    ensures { IsOrder order.now }
+{
+    let _quantity = order.quantity.value();
+    let _limit = order.limit.units();
+}
+
+/// The numbers of all orders are in their ranges.
+pub fn orders_in_range(orders: &[Order])
+    ensures { AreOrders orders.now }
+{
+    for order in orders {
+        order_in_range(order);
+    }
+}
+
+/// The numbers of a deal are in their ranges.
+pub fn deal_in_range(deal: &Deal)
+    ensures { IsDeal deal.now }
+{
+    let _quantity = deal.quantity.value();
+    let _price = deal.price.units();
+}
+
+/// The numbers of all deals are in their ranges.
+pub fn deals_in_range(deals: &[Deal])
+    ensures { AreDeals deals.now }
+{
+    for deal in deals {
+        deal_in_range(deal);
+    }
+}
+
+/// The numbers of a trade are in their ranges.
+pub fn trade_in_range(trade: &TradeRecord)
+    ensures { IsTrade trade.now }
+{
+    let _quantity = trade.quantity.value();
+    let _price = trade.price.units();
+}
+
+/// The numbers of all trades are in their ranges.
+pub fn trades_in_range(trades: &[TradeRecord])
+    ensures { AreTrades trades.now }
+{
+    for trade in trades {
+        trade_in_range(trade);
+    }
+}

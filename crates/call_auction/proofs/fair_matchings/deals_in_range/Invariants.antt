@@ -1,6 +1,0 @@
-use Rattle.std.proofs.Common.{All, take}
-use Rattle.audit_base.specs.Deals.{IsDeal}
-use Rattle.call_auction.proofs.fair_matchings.deals_in_range.Given as goal
-
-abbrev pub invariant-loop-deal : goal.invariant-loop-deal
-invariant-loop-deal l = All IsDeal (take l.deal-index l.deals)

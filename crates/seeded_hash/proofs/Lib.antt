@@ -1,0 +1,2 @@
+mod CollisionLemmas
+pub mod ShortPairLemmas

@@ -1,0 +1,35 @@
+-- Two texts of at most 30 bytes together, in one block of 32.
+use Rattle.std.specs.Prelude.{ℕ, ◌+◌, Bool, Option, Some, None, List, ◌∷◌, ◌++◌, length, take, drop, replicate, nat_le, bytes_eq, if◌then◌else◌}
+use Rattle.seeded_hash.specs.declared.short_pairs.ShortPair.{ShortPair}
+
+-- the texts have at most 30 bytes together
+abbrev pub is_short : List ℕ → List ℕ → Bool
+is_short first second = nat_le (length first + length second) 30
+
+-- a block with a text written over its bytes from a place on
+abbrev pub put_at : List ℕ → ℕ → List ℕ → List ℕ
+put_at block at text = take at block ++ text ++ drop (at + length text) block
+
+-- both sizes, and zeros
+abbrev pub sizes_block : ℕ → ℕ → List ℕ
+sizes_block first second = first ∷ second ∷ replicate 30 0
+
+-- the block of two texts: the sizes of both, their bytes, and zeros
+abbrev pub short_block : List ℕ → List ℕ → List ℕ
+short_block first second =
+    put_at (put_at (sizes_block (length first) (length second)) 2 first) (2 + length first) second
+
+-- the pair of two texts, where they are short
+abbrev pub short_pair_of : List ℕ → List ℕ → Option ShortPair
+short_pair_of first second =
+    if is_short first second then Some (record { block = short_block first second }) else None
+
+-- these are the same blocks
+abbrev pub same_block : ShortPair → ShortPair → Bool
+same_block a b = bytes_eq a.block b.block
+
+-- what is held of two texts in two tables, one of short pairs, the other of what is not short: by the
+-- pair that they are given as
+abbrev pub held_by : {A : Type 0} → (ShortPair → Option A) → Option A → Option ShortPair → Option A
+held_by short long (Some pair) = short pair
+held_by short long None = long
