@@ -51,12 +51,12 @@ rule_words words behind =
     Some (record { rule = the_rule; symbol = symbol; options = options })))
 
 -- these words, where they pass a test
-abbrev pub passing : (RuleWords → Bool) → Option RuleWords → Option RuleWords
-passing test said = given said (λ w. only_if (test w) w)
+abbrev pub passing_words : (RuleWords → Bool) → Option RuleWords → Option RuleWords
+passing_words test said = given said (λ w. only_if (test w) w)
 
 -- of `audit`, `--table` where the rule has one
 abbrev pub audit_words : List (List ℕ) → Option RuleWords
-audit_words words = passing (λ w. not w.options.table || has_table w.rule) (rule_words words (drop 5 words))
+audit_words words = passing_words (λ w. not w.options.table || has_table w.rule) (rule_words words (drop 5 words))
 
 -- `audit RULE SYMBOL ORDERS TRADES` and options
 abbrev pub audit_asked : List (List ℕ) → Option Request
@@ -69,7 +69,7 @@ audit_asked words =
 
 -- of `expect`, a rule with Expected trades, and of the options `--orders-form` alone
 abbrev pub expect_words : List (List ℕ) → Option RuleWords
-expect_words words = passing
+expect_words words = passing_words
     (λ w. has_table w.rule && is_none w.options.trades_form && not w.options.table)
     (rule_words words (drop 4 words))
 
@@ -101,7 +101,7 @@ generate_asked words =
 
 -- of `certify`, a rule that asks for a greatest volume, and of the options the forms alone
 abbrev pub certify_words : List (List ℕ) → Option RuleWords
-certify_words words = passing (λ w. asks_for_greatest w.rule && not w.options.table)
+certify_words words = passing_words (λ w. asks_for_greatest w.rule && not w.options.table)
     (rule_words words (drop 5 words))
 
 -- `certify RULE SYMBOL ORDERS TRADES` and options
