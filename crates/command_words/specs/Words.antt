@@ -1,5 +1,5 @@
--- What the words of a command line without the program's name ask for, where they are well-formed. The first
--- word names the command; there is one definition a command of what its words ask for.
+-- What the words of a command line without the program's name ask for, where they are well-formed. The
+-- first word names the command; there is one definition a command of what its words ask for.
 use Rattle.std.specs.Prelude.{ℕ, Bool, not, ◌==◌, ◌&&◌, ◌||◌, ◌+◌, Option, None, Some, option_and_then, is_none, List, [], ◌∷◌, length, drop, codes, nat_le, if◌then◌else◌, IsTrue}
 use Rattle.audit_base.specs.Least.{first_of, only_if}
 use Rattle.audit_base.specs.RuleKinds.{asks_for_greatest, has_table}
@@ -56,7 +56,8 @@ passing_words test said = given said (λ w. only_if (test w) w)
 
 -- of `audit`, `--table` where the rule has one
 abbrev pub audit_words : List (List ℕ) → Option RuleWords
-audit_words words = passing_words (λ w. not w.options.table || has_table w.rule) (rule_words words (drop 5 words))
+audit_words words = passing_words (λ w. not w.options.table || has_table w.rule)
+    (rule_words words (drop 5 words))
 
 -- `audit RULE SYMBOL ORDERS TRADES` and options
 abbrev pub audit_asked : List (List ℕ) → Option Request
