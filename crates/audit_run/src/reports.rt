@@ -16,7 +16,7 @@ use log_verdict::stops::Stop;
 use std::alloc::Global;
 
 /// What a command answers and writes.
-#[derive(Debug, Drop)]
+#[derive(Drop)]
 pub struct Report {
     pub status: Status,
     pub text: Vec<u8>,

@@ -32,7 +32,7 @@ use seeded_hash::seed::HashSeed;
 use std::alloc::Global;
 
 /// What a command answers and writes.
-#[derive(Debug, Drop)]
+#[derive(Drop)]
 pub(crate) struct Answer {
     pub(crate) status: CaseStatus,
     pub(crate) text: Vec<u8>,

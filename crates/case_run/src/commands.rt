@@ -6,7 +6,7 @@ use command_words::paths::PathText;
 
 /// What is to be filed: the verdict of a rule on two logs about a symbol, under a label. Both logs are in
 /// the same form.
-#[derive(Debug, Drop)]
+#[derive(Drop)]
 pub struct Filing {
     pub label: Name,
     pub rule: Rule,
@@ -17,7 +17,7 @@ pub struct Filing {
 }
 
 /// A command of a casebook.
-#[derive(Debug, Drop)]
+#[derive(Drop)]
 pub enum Command {
     /// To audit two logs and file the verdict.
     File(Filing),

@@ -1,2 +1,1 @@
 pub mod PhaseWordLemmas
-pub mod WordLemmas

@@ -1,10 +1,13 @@
--- What the words of a command line without the program's name ask for, where they are well-formed: one
--- definition a command.
+-- What the words of a command line without the program's name ask for, where they are well-formed. The
+-- first word names the command; there is one definition a command of what its words ask for.
 use Rattle.std.specs.Prelude.{ℕ, Bool, not, ◌==◌, ◌&&◌, ◌||◌, ◌+◌, Option, None, Some, option_and_then, is_none, List, [], ◌∷◌, length, drop, codes, nat_le, if◌then◌else◌, IsTrue}
 use Rattle.audit_base.specs.Least.{first_of, only_if}
 use Rattle.audit_base.specs.RuleKinds.{asks_for_greatest, has_table}
 use Rattle.log_maker.specs.Generator.{IsCount, IsStart}
 use Rattle.session_audit.specs.Phases.{ArePhases}
+use Rattle.command_words.specs.declared.commands.Command.{Command}
+use Rattle.command_words.specs.declared.commands.Command.TheVariants as command
+use Rattle.command_words.specs.declared.commands.RuleWords.{RuleWords}
 use Rattle.command_words.specs.declared.options.Options.{Options}
 use Rattle.command_words.specs.declared.requests.Request.{Request}
 use Rattle.command_words.specs.declared.requests.Request.TheVariants.{Audit, Expect, Convert, Generate, Certify, Verify, Session}
@@ -20,9 +23,15 @@ given answer make = option_and_then make answer
 abbrev pub given_both : {A B C : Type 0} → Option (A × B) → (A → B → Option C) → Option C
 given_both answers make = option_and_then (λ both. make both.0 both.1) answers
 
--- a command, and at least so many words with it
-abbrev pub begins : List ℕ → ℕ → List (List ℕ) → Bool
-begins command least words = nat_le least (length words) && is_word (word_at words 0) command
+-- the command that a word names
+abbrev pub command_named : List ℕ → Option Command
+command_named word = first_of (only_if (is_word word (codes "audit")) command.Audit
+    ∷ only_if (is_word word (codes "expect")) command.Expect
+    ∷ only_if (is_word word (codes "convert")) command.Convert
+    ∷ only_if (is_word word (codes "generate")) command.Generate
+    ∷ only_if (is_word word (codes "certify")) command.Certify
+    ∷ only_if (is_word word (codes "verify")) command.Verify
+    ∷ only_if (is_word word (codes "session")) command.Session ∷ [])
 
 -- ORDERS and TRADES, at a place and behind it
 abbrev pub names_logs : List (List ℕ) → ℕ → Bool
@@ -34,32 +43,49 @@ symbol_and_options word behind =
     given (symbol_named word) (λ symbol.
     given (options_in behind) (λ options. Some (symbol, options)))
 
--- `audit RULE SYMBOL ORDERS TRADES` and options: `--table` where the rule has one
+-- RULE and SYMBOL behind the command, and what the words behind all others say as options
+abbrev pub rule_words : List (List ℕ) → List (List ℕ) → Option RuleWords
+rule_words words behind =
+    given (rule_named (word_at words 1)) (λ the_rule.
+    given_both (symbol_and_options (word_at words 2) behind) (λ symbol options.
+    Some (record { rule = the_rule; symbol = symbol; options = options })))
+
+-- these words, where they pass a test
+abbrev pub passing_words : (RuleWords → Bool) → Option RuleWords → Option RuleWords
+passing_words test said = given said (λ w. only_if (test w) w)
+
+-- of `audit`, `--table` where the rule has one
+abbrev pub audit_words : List (List ℕ) → Option RuleWords
+audit_words words = passing_words (λ w. not w.options.table || has_table w.rule)
+    (rule_words words (drop 5 words))
+
+-- `audit RULE SYMBOL ORDERS TRADES` and options
 abbrev pub audit_asked : List (List ℕ) → Option Request
 audit_asked words =
-    if begins (codes "audit") 5 words && names_logs words 3 then
-    given (rule_named (word_at words 1)) (λ the_rule.
-    given_both (symbol_and_options (word_at words 2) (drop 5 words)) (λ symbol options.
-    only_if (not options.table || has_table the_rule)
-    (Audit the_rule symbol (word_at words 3) (word_at words 4)
-    (or_csv options.orders_form) (or_csv options.trades_form) options.table)))
+    if nat_le 5 (length words) && names_logs words 3 then
+    given (audit_words words) (λ w.
+    Some (Audit w.rule w.symbol (word_at words 3) (word_at words 4)
+    (or_csv w.options.orders_form) (or_csv w.options.trades_form) w.options.table))
     else None
 
--- `expect RULE SYMBOL ORDERS` of a rule with Expected trades, and of the options `--orders-form` alone
+-- of `expect`, a rule with Expected trades, and of the options `--orders-form` alone
+abbrev pub expect_words : List (List ℕ) → Option RuleWords
+expect_words words = passing_words
+    (λ w. has_table w.rule && is_none w.options.trades_form && not w.options.table)
+    (rule_words words (drop 4 words))
+
+-- `expect RULE SYMBOL ORDERS` and options
 abbrev pub expect_asked : List (List ℕ) → Option Request
 expect_asked words =
-    if begins (codes "expect") 4 words && is_path (word_at words 3) then
-    given (rule_named (word_at words 1)) (λ the_rule.
-    given_both (symbol_and_options (word_at words 2) (drop 4 words)) (λ symbol options.
-    only_if (has_table the_rule && is_none options.trades_form && not options.table)
-    (Expect the_rule symbol (word_at words 3) (or_csv options.orders_form))))
+    if nat_le 4 (length words) && is_path (word_at words 3) then
+    given (expect_words words) (λ w.
+    Some (Expect w.rule w.symbol (word_at words 3) (or_csv w.options.orders_form)))
     else None
 
 -- `convert LOG FORM PATH`
 abbrev pub convert_asked : List (List ℕ) → Option Request
 convert_asked words =
-    if length words == 4 && is_word (word_at words 0) (codes "convert") && is_path (word_at words 3)
-    then
+    if length words == 4 && is_path (word_at words 3) then
     given (log_named (word_at words 1)) (λ log.
     given (form_named (word_at words 2)) (λ form.
     Some (Convert log form (word_at words 3))))
@@ -68,48 +94,65 @@ convert_asked words =
 -- `generate START COUNT`, START from 1 to 2,147,483,646 and COUNT from 1 to 1,000,000
 abbrev pub generate_asked : List (List ℕ) → Option Request
 generate_asked words =
-    if length words == 3 && is_word (word_at words 0) (codes "generate") then
+    if length words == 3 then
     given (number_upto 2147483646 (word_at words 1)) (λ start.
     given (number_upto 1000000 (word_at words 2)) (λ count.
     Some (Generate start count)))
     else None
 
--- `certify RULE SYMBOL ORDERS TRADES` of a rule that asks for a greatest volume, and of the options the
--- forms alone
+-- of `certify`, a rule that asks for a greatest volume, and of the options the forms alone
+abbrev pub certify_words : List (List ℕ) → Option RuleWords
+certify_words words = passing_words (λ w. asks_for_greatest w.rule && not w.options.table)
+    (rule_words words (drop 5 words))
+
+-- `certify RULE SYMBOL ORDERS TRADES` and options
 abbrev pub certify_asked : List (List ℕ) → Option Request
 certify_asked words =
-    if begins (codes "certify") 5 words && names_logs words 3 then
-    given (rule_named (word_at words 1)) (λ the_rule.
-    given_both (symbol_and_options (word_at words 2) (drop 5 words)) (λ symbol options.
-    only_if (asks_for_greatest the_rule && not options.table)
-    (Certify the_rule symbol (word_at words 3) (word_at words 4)
-    (or_csv options.orders_form) (or_csv options.trades_form))))
+    if nat_le 5 (length words) && names_logs words 3 then
+    given (certify_words words) (λ w.
+    Some (Certify w.rule w.symbol (word_at words 3) (word_at words 4)
+    (or_csv w.options.orders_form) (or_csv w.options.trades_form)))
     else None
 
--- `verify SYMBOL ORDERS TRADES CERTIFICATE`, and of the options the forms alone
+-- of `verify`, SYMBOL, and of the options the forms alone
+abbrev pub verify_words : List (List ℕ) → Option (List ℕ × Options)
+verify_words words =
+    given_both (symbol_and_options (word_at words 1) (drop 5 words)) (λ symbol options.
+    only_if (not options.table) (symbol, options))
+
+-- `verify SYMBOL ORDERS TRADES CERTIFICATE` and options
 abbrev pub verify_asked : List (List ℕ) → Option Request
 verify_asked words =
-    if begins (codes "verify") 5 words && names_logs words 2 && is_path (word_at words 4) then
-    given_both (symbol_and_options (word_at words 1) (drop 5 words)) (λ symbol options.
-    only_if (not options.table)
-    (Verify symbol (word_at words 2) (word_at words 3) (word_at words 4)
+    if nat_le 5 (length words) && names_logs words 2 && is_path (word_at words 4) then
+    given_both (verify_words words) (λ symbol options.
+    Some (Verify symbol (word_at words 2) (word_at words 3) (word_at words 4)
     (or_csv options.orders_form) (or_csv options.trades_form)))
     else None
 
 -- `session SYMBOL PHASES ORDERS TRADES` and options
 abbrev pub session_asked : List (List ℕ) → Option Request
 session_asked words =
-    if begins (codes "session") 5 words && names_logs words 3 then
+    if nat_le 5 (length words) && names_logs words 3 then
     given_both (symbol_and_options (word_at words 1) (drop 5 words)) (λ symbol options.
     given (phases_named (word_at words 2)) (λ phases.
     Some (Session symbol phases (word_at words 3) (word_at words 4)
     (or_csv options.orders_form) (or_csv options.trades_form) options.table)))
     else None
 
--- what words ask for, one row a command; nothing where they are not well-formed
+-- what the words of a command ask for, one row a command
+abbrev pub asked_by : Command → List (List ℕ) → Option Request
+asked_by command.Audit words = audit_asked words
+asked_by command.Expect words = expect_asked words
+asked_by command.Convert words = convert_asked words
+asked_by command.Generate words = generate_asked words
+asked_by command.Certify words = certify_asked words
+asked_by command.Verify words = verify_asked words
+asked_by command.Session words = session_asked words
+
+-- what words ask for, by the command that the first of them names; nothing where they are not well-formed
 abbrev pub request_of : List (List ℕ) → Option Request
-request_of words = first_of (audit_asked words ∷ expect_asked words ∷ convert_asked words
-    ∷ generate_asked words ∷ certify_asked words ∷ verify_asked words ∷ session_asked words ∷ [])
+request_of words =
+    given (command_named (word_at words 0)) (λ command. asked_by command words)
 
 -- what well-formed words ask for is Expected trades of a rule that has such, a log of numbers in their
 -- limits, a certificate of a rule that asks for a greatest volume, and phases that are those of a day

@@ -1,11 +1,13 @@
-//! The words of each command. A function gives the request where the words are those of its command, and
-//! nothing, with no memory taken, where they are not.
-ghost use Rattle.std.specs.Prelude.{◌≡◌, ◌+◌, ◌<◌, ◌≤◌, length, map, IfOk, IfSome, IsErr, IsSome};
+//! The words of each command. The first word names the command. A function gives the request where the
+//! words behind it are those of its command, and nothing, with no memory taken, where they are not.
+ghost use Rattle.std.specs.Prelude.{◌≡◌, ◌+◌, ◌<◌, ◌≤◌, length, map, IfOk, IfSome, IsErr, IsSome, IsTrue};
+ghost use Rattle.audit_base.specs.RuleKinds.{asks_for_greatest, has_table};
 ghost use Rattle.std.specs.String.{string_bytes};
+ghost use Rattle.command_words.specs.WordForms.{word_at};
 ghost use Rattle.command_words.specs.Words as spec;
 
 use super::options::{Options, options_in, or_csv};
-use super::paths::path_of;
+use super::paths::{PathText, path_of};
 use super::phase_words::phases_named;
 use super::requests::Request;
 use super::word_forms::{
@@ -13,14 +15,55 @@ use super::word_forms::{
 };
 use audit_base::faults::NoMemory;
 use audit_base::names::Name;
+use audit_base::terms::Rule;
 use std::alloc::Global;
 
-/// Whether there are at least so many words, one or more, of which the first is that of the command.
-fn begins(words: &[String], command: &[u8], least: usize) -> bool
-    requires { 0 < least }
-    ensures { result ≡ spec.begins command.now least (map string_bytes words.now) }
+/// The commands, each with a word of its own.
+#[derive(Clone, Copy)]
+pub(crate) enum Command {
+    Audit,
+    Expect,
+    Convert,
+    Generate,
+    Certify,
+    Verify,
+    Session,
+}
+
+/// The command that a word names.
+fn command_named(word: &str) -> Option<Command>
+    ensures { result ≡ spec.command_named word.now }
 {
-    words.len() >= least && is_word(word_at(words, 0), command)
+    if is_word(word, b"audit") {
+        return Some(Command::Audit);
+    }
+    if is_word(word, b"expect") {
+        return Some(Command::Expect);
+    }
+    if is_word(word, b"convert") {
+        return Some(Command::Convert);
+    }
+    if is_word(word, b"generate") {
+        return Some(Command::Generate);
+    }
+    if is_word(word, b"certify") {
+        return Some(Command::Certify);
+    }
+    if is_word(word, b"verify") {
+        return Some(Command::Verify);
+    }
+    if is_word(word, b"session") {
+        return Some(Command::Session);
+    }
+    None
+}
+
+/// The command that the first word names, where there is one.
+pub(crate) fn command_in(words: &[String]) -> Option<Command>
+    ensures { result ≡ spec.command_named (word_at (map string_bytes words.now) 0) }
+{
+    let first = words.first()?;
+    command_named(first.as_str())
 }
 
 /// Whether ORDERS and TRADES stand at a place and behind it.
@@ -29,6 +72,25 @@ fn names_logs(words: &[String], place: usize) -> bool
     ensures { result ≡ spec.names_logs (map string_bytes words.now) place }
 {
     is_path(word_at(words, place)) && is_path(word_at(words, place + 1))
+}
+
+/// The paths of both logs.
+#[derive(Drop)]
+struct LogPaths {
+    orders: PathText,
+    trades: PathText,
+}
+
+/// The paths that stand at a place and behind it.
+fn log_paths(alloc: Global, words: &[String], place: usize) -> Result<LogPaths, NoMemory>
+    requires { place + 1 < length words.now }
+    ensures orders { IfOk result (λ paths. paths.orders ≡ word_at (map string_bytes words.now) place) }
+    ensures trades { IfOk result
+        (λ paths. paths.trades ≡ word_at (map string_bytes words.now) (place + 1)) }
+{
+    let orders = path_of(alloc, word_at(words, place))?;
+    let trades = path_of(alloc, word_at(words, place + 1))?;
+    Ok(LogPaths { orders, trades })
 }
 
 /// The symbol that a word is, and what the words behind all others say as options.
@@ -40,71 +102,106 @@ fn symbol_and_options(word: &str, behind: &[String]) -> Option<(Name, Options)>
     Some((symbol, options))
 }
 
+/// RULE and SYMBOL of a command, with its options.
+#[derive(Clone, Copy)]
+struct RuleWords {
+    rule: Rule,
+    symbol: Name,
+    options: Options,
+}
+
+/// RULE and SYMBOL behind the command, and what the words behind all others say as options.
+fn rule_words(words: &[String], behind: &[String]) -> Option<RuleWords>
+    requires { 3 ≤ length words.now }
+    ensures { result
+        ≡ spec.rule_words (map string_bytes words.now) (map string_bytes behind.now) }
+{
+    let rule = rule_named(word_at(words, 1))?;
+    let (symbol, options) = symbol_and_options(word_at(words, 2), behind)?;
+    Some(RuleWords {
+        rule,
+        symbol,
+        options,
+    })
+}
+
+/// What `audit` says of rule, symbol and options.
+fn audit_words(words: &[String]) -> Option<RuleWords>
+    requires { 5 ≤ length words.now }
+    ensures { result ≡ spec.audit_words (map string_bytes words.now) }
+{
+    let said = rule_words(words, &words[5..])?;
+    if said.options.table && !said.rule.has_table() {
+        return None;
+    }
+    Some(said)
+}
+
 /// `audit RULE SYMBOL ORDERS TRADES` with its options.
-pub(crate) fn audit_request(alloc: Global, words: &[String]) -> Result<Option<Request>, NoMemory>
+fn audit_request(alloc: Global, words: &[String]) -> Result<Option<Request>, NoMemory>
     ensures request { IfOk result (λ made. made ≡ spec.audit_asked (map string_bytes words.now)) }
     ensures memory { IsErr result → IsSome (spec.audit_asked (map string_bytes words.now)) }
     ensures asked { IfOk result (λ made. IfSome made spec.MayBeAsked) }
 {
-    if !begins(words, b"audit", 5) || !names_logs(words, 3) {
+    if words.len() < 5 || !names_logs(words, 3) {
         return Ok(None);
     }
-    let Some(rule) = rule_named(word_at(words, 1)) else {
+    let Some(said) = audit_words(words) else {
         return Ok(None);
     };
-    let Some((symbol, options)) = symbol_and_options(word_at(words, 2), &words[5..]) else {
-        return Ok(None);
-    };
-    if options.table && !rule.has_table() {
-        return Ok(None);
-    }
-    let orders = path_of(alloc, word_at(words, 3))?;
-    let trades = path_of(alloc, word_at(words, 4))?;
+    let LogPaths { orders, trades } = log_paths(alloc, words, 3)?;
     Ok(Some(Request::Audit {
-        rule,
-        symbol,
+        rule: said.rule,
+        symbol: said.symbol,
         orders,
         trades,
-        orders_form: or_csv(options.orders_form),
-        trades_form: or_csv(options.trades_form),
-        table: options.table,
+        orders_form: or_csv(said.options.orders_form),
+        trades_form: or_csv(said.options.trades_form),
+        table: said.options.table,
     }))
 }
 
+/// What `expect` says of rule, symbol and options.
+fn expect_words(words: &[String]) -> Option<RuleWords>
+    requires { 4 ≤ length words.now }
+    ensures words { result ≡ spec.expect_words (map string_bytes words.now) }
+    ensures asked { IfSome result (λ said. IsTrue (has_table said.rule)) }
+{
+    let said = rule_words(words, &words[4..])?;
+    if !said.rule.has_table() || said.options.trades_form.is_some() || said.options.table {
+        return None;
+    }
+    Some(said)
+}
+
 /// `expect RULE SYMBOL ORDERS` with its option.
-pub(crate) fn expect_request(alloc: Global, words: &[String]) -> Result<Option<Request>, NoMemory>
+fn expect_request(alloc: Global, words: &[String]) -> Result<Option<Request>, NoMemory>
     ensures request { IfOk result (λ made. made ≡ spec.expect_asked (map string_bytes words.now)) }
     ensures memory { IsErr result → IsSome (spec.expect_asked (map string_bytes words.now)) }
     ensures asked { IfOk result (λ made. IfSome made spec.MayBeAsked) }
 {
-    if !begins(words, b"expect", 4) || !is_path(word_at(words, 3)) {
+    if words.len() < 4 || !is_path(word_at(words, 3)) {
         return Ok(None);
     }
-    let Some(rule) = rule_named(word_at(words, 1)) else {
+    let Some(said) = expect_words(words) else {
         return Ok(None);
     };
-    let Some((symbol, options)) = symbol_and_options(word_at(words, 2), &words[4..]) else {
-        return Ok(None);
-    };
-    if !rule.has_table() || options.trades_form.is_some() || options.table {
-        return Ok(None);
-    }
     let orders = path_of(alloc, word_at(words, 3))?;
     Ok(Some(Request::Expect {
-        rule,
-        symbol,
+        rule: said.rule,
+        symbol: said.symbol,
         orders,
-        orders_form: or_csv(options.orders_form),
+        orders_form: or_csv(said.options.orders_form),
     }))
 }
 
 /// `convert orders|trades FORM PATH`.
-pub(crate) fn convert_request(alloc: Global, words: &[String]) -> Result<Option<Request>, NoMemory>
+fn convert_request(alloc: Global, words: &[String]) -> Result<Option<Request>, NoMemory>
     ensures request { IfOk result (λ made. made ≡ spec.convert_asked (map string_bytes words.now)) }
     ensures memory { IsErr result → IsSome (spec.convert_asked (map string_bytes words.now)) }
     ensures asked { IfOk result (λ made. IfSome made spec.MayBeAsked) }
 {
-    if words.len() != 4 || !is_word(word_at(words, 0), b"convert") || !is_path(word_at(words, 3)) {
+    if words.len() != 4 || !is_path(word_at(words, 3)) {
         return Ok(None);
     }
     let Some(log) = log_named(word_at(words, 1)) else {
@@ -118,11 +215,11 @@ pub(crate) fn convert_request(alloc: Global, words: &[String]) -> Result<Option<
 }
 
 /// `generate START COUNT`. Takes no memory.
-pub(crate) fn generate_request(words: &[String]) -> Option<Request>
+fn generate_request(words: &[String]) -> Option<Request>
     ensures request { result ≡ spec.generate_asked (map string_bytes words.now) }
     ensures asked { IfSome result spec.MayBeAsked }
 {
-    if words.len() != 3 || !is_word(word_at(words, 0), b"generate") {
+    if words.len() != 3 {
         return None;
     }
     let start = number_upto(word_at(words, 1), 2_147_483_646)?;
@@ -130,53 +227,67 @@ pub(crate) fn generate_request(words: &[String]) -> Option<Request>
     Some(Request::Generate { start, count })
 }
 
+/// What `certify` says of rule, symbol and options.
+fn certify_words(words: &[String]) -> Option<RuleWords>
+    requires { 5 ≤ length words.now }
+    ensures words { result ≡ spec.certify_words (map string_bytes words.now) }
+    ensures asked { IfSome result (λ said. IsTrue (asks_for_greatest said.rule)) }
+{
+    let said = rule_words(words, &words[5..])?;
+    if !said.rule.asks_for_greatest() || said.options.table {
+        return None;
+    }
+    Some(said)
+}
+
 /// `certify RULE SYMBOL ORDERS TRADES` with its options.
-pub(crate) fn certify_request(alloc: Global, words: &[String]) -> Result<Option<Request>, NoMemory>
+fn certify_request(alloc: Global, words: &[String]) -> Result<Option<Request>, NoMemory>
     ensures request { IfOk result (λ made. made ≡ spec.certify_asked (map string_bytes words.now)) }
     ensures memory { IsErr result → IsSome (spec.certify_asked (map string_bytes words.now)) }
     ensures asked { IfOk result (λ made. IfSome made spec.MayBeAsked) }
 {
-    if !begins(words, b"certify", 5) || !names_logs(words, 3) {
+    if words.len() < 5 || !names_logs(words, 3) {
         return Ok(None);
     }
-    let Some(rule) = rule_named(word_at(words, 1)) else {
+    let Some(said) = certify_words(words) else {
         return Ok(None);
     };
-    let Some((symbol, options)) = symbol_and_options(word_at(words, 2), &words[5..]) else {
-        return Ok(None);
-    };
-    if !rule.asks_for_greatest() || options.table {
-        return Ok(None);
-    }
-    let orders = path_of(alloc, word_at(words, 3))?;
-    let trades = path_of(alloc, word_at(words, 4))?;
+    let LogPaths { orders, trades } = log_paths(alloc, words, 3)?;
     Ok(Some(Request::Certify {
-        rule,
-        symbol,
+        rule: said.rule,
+        symbol: said.symbol,
         orders,
         trades,
-        orders_form: or_csv(options.orders_form),
-        trades_form: or_csv(options.trades_form),
+        orders_form: or_csv(said.options.orders_form),
+        trades_form: or_csv(said.options.trades_form),
     }))
 }
 
+/// What `verify` says of symbol and options.
+fn verify_words(words: &[String]) -> Option<(Name, Options)>
+    requires { 5 ≤ length words.now }
+    ensures { result ≡ spec.verify_words (map string_bytes words.now) }
+{
+    let (symbol, options) = symbol_and_options(word_at(words, 1), &words[5..])?;
+    if options.table {
+        return None;
+    }
+    Some((symbol, options))
+}
+
 /// `verify SYMBOL ORDERS TRADES CERTIFICATE` with its options.
-pub(crate) fn verify_request(alloc: Global, words: &[String]) -> Result<Option<Request>, NoMemory>
+fn verify_request(alloc: Global, words: &[String]) -> Result<Option<Request>, NoMemory>
     ensures request { IfOk result (λ made. made ≡ spec.verify_asked (map string_bytes words.now)) }
     ensures memory { IsErr result → IsSome (spec.verify_asked (map string_bytes words.now)) }
     ensures asked { IfOk result (λ made. IfSome made spec.MayBeAsked) }
 {
-    if !begins(words, b"verify", 5) || !names_logs(words, 2) || !is_path(word_at(words, 4)) {
+    if words.len() < 5 || !names_logs(words, 2) || !is_path(word_at(words, 4)) {
         return Ok(None);
     }
-    let Some((symbol, options)) = symbol_and_options(word_at(words, 1), &words[5..]) else {
+    let Some((symbol, options)) = verify_words(words) else {
         return Ok(None);
     };
-    if options.table {
-        return Ok(None);
-    }
-    let orders = path_of(alloc, word_at(words, 2))?;
-    let trades = path_of(alloc, word_at(words, 3))?;
+    let LogPaths { orders, trades } = log_paths(alloc, words, 2)?;
     let certificate = path_of(alloc, word_at(words, 4))?;
     Ok(Some(Request::Verify {
         symbol,
@@ -190,12 +301,12 @@ pub(crate) fn verify_request(alloc: Global, words: &[String]) -> Result<Option<R
 
 /// `session SYMBOL PHASES ORDERS TRADES` with its options. The phases are read last, since they take
 /// memory where they are well-formed.
-pub(crate) fn session_request(alloc: Global, words: &[String]) -> Result<Option<Request>, NoMemory>
+fn session_request(alloc: Global, words: &[String]) -> Result<Option<Request>, NoMemory>
     ensures request { IfOk result (λ made. made ≡ spec.session_asked (map string_bytes words.now)) }
     ensures memory { IsErr result → IsSome (spec.session_asked (map string_bytes words.now)) }
     ensures asked { IfOk result (λ made. IfSome made spec.MayBeAsked) }
 {
-    if !begins(words, b"session", 5) || !names_logs(words, 3) {
+    if words.len() < 5 || !names_logs(words, 3) {
         return Ok(None);
     }
     let Some((symbol, options)) = symbol_and_options(word_at(words, 1), &words[5..]) else {
@@ -204,8 +315,7 @@ pub(crate) fn session_request(alloc: Global, words: &[String]) -> Result<Option<
     let Some(phases) = phases_named(alloc, word_at(words, 2))? else {
         return Ok(None);
     };
-    let orders = path_of(alloc, word_at(words, 3))?;
-    let trades = path_of(alloc, word_at(words, 4))?;
+    let LogPaths { orders, trades } = log_paths(alloc, words, 3)?;
     Ok(Some(Request::Session {
         symbol,
         phases,
@@ -215,4 +325,26 @@ pub(crate) fn session_request(alloc: Global, words: &[String]) -> Result<Option<
         trades_form: or_csv(options.trades_form),
         table: options.table,
     }))
+}
+
+/// What the words of a command ask for, one arm a command.
+pub(crate) fn request_by(
+    alloc: Global,
+    command: Command,
+    words: &[String],
+) -> Result<Option<Request>, NoMemory>
+    ensures request { IfOk result
+        (λ made. made ≡ spec.asked_by command (map string_bytes words.now)) }
+    ensures memory { IsErr result → IsSome (spec.asked_by command (map string_bytes words.now)) }
+    ensures asked { IfOk result (λ made. IfSome made spec.MayBeAsked) }
+{
+    match command {
+        Command::Audit => audit_request(alloc, words),
+        Command::Expect => expect_request(alloc, words),
+        Command::Convert => convert_request(alloc, words),
+        Command::Generate => Ok(generate_request(words)),
+        Command::Certify => certify_request(alloc, words),
+        Command::Verify => verify_request(alloc, words),
+        Command::Session => session_request(alloc, words),
+    }
 }

@@ -8,7 +8,7 @@ use super::word_forms::{form_named, is_word};
 use audit_base::terms::Form;
 
 /// What options say.
-#[derive(Clone, Copy, Debug, PartialEq, Eq)]
+#[derive(Clone, Copy)]
 pub(crate) struct Options {
     /// The form of the order log, if one is given.
     pub(crate) orders_form: Option<Form>,

@@ -3,10 +3,7 @@ ghost use Rattle.std.specs.Prelude.{◌≡◌, None, Some, map, IfOk, IsErrOf};
 ghost use Rattle.std.specs.String.{string_bytes};
 ghost use Rattle.command_words.specs.Words as spec;
 
-use super::commands::{
-    audit_request, certify_request, convert_request, expect_request, generate_request,
-    session_request, verify_request,
-};
+use super::commands::{command_in, request_by};
 use super::paths::PathText;
 use audit_base::faults::NoMemory;
 use audit_base::names::Name;
@@ -17,7 +14,7 @@ use thiserror::Error;
 
 /// What well-formed words ask for. A symbol is a name that does not begin with `-`, and a path a word of
 /// one byte or more that does not begin with it.
-#[derive(Debug, Drop)]
+#[derive(Drop)]
 pub enum Request {
     /// To judge the trades of a symbol by a rule. A table is asked for only where the rule has one.
     Audit {
@@ -130,26 +127,11 @@ pub fn read_words(alloc: Global, words: &[String]) -> Result<Request, WordsFault
         → IsErrOf result WordsFault.Usage }
     ensures asked { IfOk result spec.MayBeAsked }
 {
-    if let Some(request) = audit_request(alloc, words)? {
-        return Ok(request);
+    let Some(command) = command_in(words) else {
+        return Err(WordsFault::Usage);
+    };
+    match request_by(alloc, command, words)? {
+        Some(request) => Ok(request),
+        None => Err(WordsFault::Usage),
     }
-    if let Some(request) = expect_request(alloc, words)? {
-        return Ok(request);
-    }
-    if let Some(request) = convert_request(alloc, words)? {
-        return Ok(request);
-    }
-    if let Some(request) = generate_request(words) {
-        return Ok(request);
-    }
-    if let Some(request) = certify_request(alloc, words)? {
-        return Ok(request);
-    }
-    if let Some(request) = verify_request(alloc, words)? {
-        return Ok(request);
-    }
-    if let Some(request) = session_request(alloc, words)? {
-        return Ok(request);
-    }
-    Err(WordsFault::Usage)
 }
