@@ -16,8 +16,8 @@ use sqlite_std_file::OpenError;
 use std::hash::{BuildHasher, RandomState};
 use std::io::ErrorKind;
 
-/// How many pages of a database that were read are kept in memory: 2 MB. The room is taken at the open. A casebook of
-/// ten thousand cases has half as many.
+/// How many pages of a database that were read are kept in memory: 2 MB, whose room is taken at the open. A casebook of
+/// ten thousand cases has 110 pages.
 const KEPT_PAGES: usize = 512;
 
 /// An opener over the files of the runtime, where a casebook is a database under its path, which is made
