@@ -14,4 +14,5 @@ file_opener_state opener =
 -- the opening was refused, and counted as a fault
 abbrev pub RefusesPath : {B : Type 0} → FileOpener → FileOpener → Result B KeepFault → Type 0
 RefusesPath old new result =
-    (result ≡ Err Failed) × ((file_opener_state new).faults ≡ faults_after true (file_opener_state old).faults)
+    (result ≡ Err Failed)
+    × ((file_opener_state new).faults ≡ faults_after true (file_opener_state old).faults)

@@ -43,8 +43,8 @@ pub fn run_and_close<F: Shelf, K: Sink, O: Opener>(
 ) -> CaseStatus
 where
     O::Book: Closing,
-    ensures { RunsWordsAndCloses F.Shelf shelf.old shelf.new (O.state opener.old) (O.state opener.new)
-        (map string_bytes words.now) (K.state out.old) (K.state out.new) result }
+    ensures { RunsWordsAndCloses F.Shelf shelf.old shelf.new
+        (O.state opener.old) (O.state opener.new) (map string_bytes words.now) (K.state out.old) (K.state out.new) result }
 {
     let Ended { status, book } = run_book_seeded(alloc, seed, words, shelf, out, opener);
     if let Some(book) = book {

@@ -65,7 +65,8 @@ fn names_file(path: &str) -> bool
 fn open_files(rt: &HostRuntime, path: &str) -> Result<Files<File>, KeepFault>
     ensures refused { is_path path.now ≡ false → result ≡ Err KeepFault.Failed }
     ensures usable { IfOk result (λ files.
-        IsTrue (⟦<File as Disk>⟧.is_usable files.log) × IsTrue (⟦<File as Disk>⟧.is_usable files.db)) }
+        IsTrue (⟦<File as Disk>⟧.is_usable files.log)
+        × IsTrue (⟦<File as Disk>⟧.is_usable files.db)) }
 {
     if !names_file(path) {
         return Err(KeepFault::Failed);

@@ -30,8 +30,8 @@ module _ {S : Type 0} (g : Ghosts S) where
     pub ran : Executes text values (begun (state g old)) (state g inside) (Ok count)
     pub trees : db ≡ (state g inside).now.trees
 
-  -- A statement ran in a transaction of its own, and was committed: the database is what the statement made of it, and
-  -- this is what a stop leaves.
+  -- A statement ran in a transaction of its own, and was committed: the database is what the
+  -- statement made of it, and this is what a stop leaves.
   pub record RunsCommitted (text : List ℕ) (values : Row) (old new : Held S) : Type 0 where
     pub inside : Held S
     pub count : ℕ
@@ -49,27 +49,31 @@ module _ {S : Type 0} (g : Ghosts S) where
   abbrev pub IsClean : SqlKeeper S → Type 0
   IsClean keeper = HasCleanDisk (database keeper)
 
-  -- the connection once the table is there: that of the keeper, or what making the table left of it at the first call
+  -- the connection once the table is there: that of the keeper, or what making the table left of it
+  -- at the first call
   abbrev pub HasTable : SqlKeeper S → Held S → Type 0
   HasTable keeper connection =
       MatchBool keeper.has_table (connection ≡ connection_of keeper)
       (RunsCommitted make_text [] (connection_of keeper) connection)
 
   -- A query that only reads shows these rows, all of them, over the table of the keeper.
-  pub record ShowsRows (text : List ℕ) (values : Row) (old new : SqlKeeper S) (rows : List Row) : Type 0 where
+  pub record ShowsRows (text : List ℕ) (values : Row) (old new : SqlKeeper S) (rows : List Row)
+      : Type 0 where
     pub table : Held S
     pub made : HasTable old table
     pub shown : Shown text values (state g table) (database new) rows
     pub known : IsTrue new.has_table
 
-  -- what is found is the one row that the table shows for the label, and nothing where it shows none
+  -- what is found is the one row that the table shows for the label, nothing where it shows none
   abbrev pub FindsRow : SqlKeeper S → SqlKeeper S → List ℕ → Option Case → Type 0
   FindsRow old new label found =
       ShowsRows find_text (label_values label) old new (map case_columns (option_to_list found))
 
-  -- the cases that are listed are all rows that the table shows for the filter, in the order of their numbers
+  -- the cases that are listed are all rows that the table shows for the filter, in the order of
+  -- their numbers
   abbrev pub ListsRows : SqlKeeper S → SqlKeeper S → Filter → List Case → Type 0
-  ListsRows old new filter given = ShowsRows list_text (filter_values filter) old new (map case_columns given)
+  ListsRows old new filter given =
+      ShowsRows list_text (filter_values filter) old new (map case_columns given)
 
   -- The row of a case was added to the table, and the addition was committed.
   pub record AddsRow (old new : SqlKeeper S) (case : Case) : Type 0 where
@@ -84,8 +88,8 @@ module _ {S : Type 0} (g : Ghosts S) where
       KeepsCommit (database old) (database new)
       ⊎ ((table : Held S) × HasTable old table × KeepsCommit (state g table) (database new))
 
-  -- what a stop while a case is added may leave that it could not leave before: the table as it was made, or with the
-  -- row of the case
+  -- what a stop while a case is added may leave that it could not leave before: the table as it was
+  -- made, or with the row of the case
   abbrev pub MayLeave : SqlKeeper S → Case → Trees → Type 0
   MayLeave old case db =
       Makes make_text [] (connection_of old) db

@@ -14,7 +14,8 @@ use Rattle.case_sqlite.specs.Codes.{property_number}
 abbrev pub columns_text : List ℕ
 columns_text = codes "label, rule, symbol, property, log, place"
 
--- the table is made where it is not there: each row has a number that no row had before, and a label of its own
+-- the table is made where it is not there: each row has a number that no row had before, and a
+-- label of its own
 abbrev pub make_text : List ℕ
 make_text =
     codes "CREATE TABLE IF NOT EXISTS cases (number INTEGER PRIMARY KEY AUTOINCREMENT, "
@@ -23,14 +24,15 @@ make_text =
 
 -- one row is added, with these six values in its columns
 abbrev pub insert_text : List ℕ
-insert_text = codes "INSERT INTO cases (" ++ columns_text ++ codes ") VALUES (?1, ?2, ?3, ?4, ?5, ?6)"
+insert_text =
+    codes "INSERT INTO cases (" ++ columns_text ++ codes ") VALUES (?1, ?2, ?3, ?4, ?5, ?6)"
 
 -- the rows with a label are shown
 abbrev pub find_text : List ℕ
 find_text = codes "SELECT " ++ columns_text ++ codes " FROM cases WHERE label = ?1"
 
--- the rows with a symbol and with the number of a property are shown, where these are given, in the order of their
--- numbers
+-- the rows with a symbol and with the number of a property are shown, where these are given, in
+-- the order of their numbers
 abbrev pub list_text : List ℕ
 list_text =
     codes "SELECT " ++ columns_text ++ codes " FROM cases WHERE (?1 IS NULL OR symbol = ?1) "

@@ -72,7 +72,8 @@ impl<S: Alter> SqlKeeper<S> {
     fn make_table(&mut self) -> Result<(), KeepFault>
         ensures faults { self.new.faults ≡ self.old.faults }
         ensures ends { EndsTransaction self.old.connection self.new.connection }
-        ensures made { IsClean S.Store self.new → OnOk result (HasTable S.Store self.old self.new.connection) }
+        ensures made { IsClean S.Store self.new
+            → OnOk result (HasTable S.Store self.old self.new.connection) }
         ensures known { OnOk result (IsTrue self.new.has_table) }
         ensures refused { IsClean S.Store self.new
             → OnErr result (KeepsCommit (database S.Store self.old) (database S.Store self.new)) }
@@ -91,7 +92,8 @@ impl<S: Alter> SqlKeeper<S> {
         ensures labelled { IfOk result (λ found. IfSome found (λ case. case.label ≡ label.now)) }
         ensures faults { self.new.faults ≡ self.old.faults }
         ensures ends { EndsTransaction self.old.connection self.new.connection }
-        ensures shown { IsClean S.Store self.new → IfOk result (FindsRow S.Store self.old self.new label.now) }
+        ensures shown { IsClean S.Store self.new
+            → IfOk result (FindsRow S.Store self.old self.new label.now) }
     {
         self.make_table()?;
         let rows = table::rows_with_label(&mut self.connection, label)?;
@@ -102,8 +104,10 @@ impl<S: Alter> SqlKeeper<S> {
     fn insert(&mut self, case: &Case) -> Result<(), KeepFault>
         ensures faults { self.new.faults ≡ self.old.faults }
         ensures ends { EndsTransaction self.old.connection self.new.connection }
-        ensures inserted { IsClean S.Store self.new → OnOk result (AddsRow S.Store self.old self.new case.now) }
-        ensures refused { IsClean S.Store self.new → OnErr result (AddsNothing S.Store self.old self.new) }
+        ensures inserted { IsClean S.Store self.new
+            → OnOk result (AddsRow S.Store self.old self.new case.now) }
+        ensures refused { IsClean S.Store self.new
+            → OnErr result (AddsNothing S.Store self.old self.new) }
         ensures survives { Survives (database S.Store self.old) (database S.Store self.new)
             (MayLeave S.Store self.old case.now) }
     {
@@ -117,7 +121,8 @@ impl<S: Alter> SqlKeeper<S> {
             All (λ case. IsTrue (passes filter.now case)) given) }
         ensures faults { self.new.faults ≡ self.old.faults }
         ensures ends { EndsTransaction self.old.connection self.new.connection }
-        ensures shown { IsClean S.Store self.new → IfOk result (ListsRows S.Store self.old self.new filter.now) }
+        ensures shown { IsClean S.Store self.new
+            → IfOk result (ListsRows S.Store self.old self.new filter.now) }
     {
         self.make_table()?;
         let rows = table::rows_passing(&mut self.connection, filter)?;
@@ -140,7 +145,8 @@ impl<S: Alter> Keeper for SqlKeeper<S> {
         ensures found { Finds (sql_state self.old) (sql_state self.new) result label.now }
         ensures counted { CountsFailure (sql_state self.old) (sql_state self.new) result }
         ensures ends { EndsTransaction (connection_of self.old) (connection_of self.new) }
-        ensures shown { IsClean S.Store self.new → IfOk result (FindsRow S.Store self.old self.new label.now) }
+        ensures shown { IsClean S.Store self.new
+            → IfOk result (FindsRow S.Store self.old self.new label.now) }
     {
         let found = self.case_with_label(label);
         count_failure(&mut self.faults, found)
@@ -151,8 +157,10 @@ impl<S: Alter> Keeper for SqlKeeper<S> {
         ensures added { Adds (sql_state self.old) (sql_state self.new) result case.now }
         ensures counted { CountsFailure (sql_state self.old) (sql_state self.new) result }
         ensures ends { EndsTransaction (connection_of self.old) (connection_of self.new) }
-        ensures inserted { IsClean S.Store self.new → OnOk result (AddsRow S.Store self.old self.new case.now) }
-        ensures refused { IsClean S.Store self.new → OnErr result (AddsNothing S.Store self.old self.new) }
+        ensures inserted { IsClean S.Store self.new
+            → OnOk result (AddsRow S.Store self.old self.new case.now) }
+        ensures refused { IsClean S.Store self.new
+            → OnErr result (AddsNothing S.Store self.old self.new) }
         ensures survives { Survives (database S.Store self.old) (database S.Store self.new)
             (MayLeave S.Store self.old case.now) }
     {
@@ -164,7 +172,8 @@ impl<S: Alter> Keeper for SqlKeeper<S> {
         ensures listed { Lists (sql_state self.old) (sql_state self.new) result filter.now }
         ensures counted { CountsFailure (sql_state self.old) (sql_state self.new) result }
         ensures ends { EndsTransaction (connection_of self.old) (connection_of self.new) }
-        ensures shown { IsClean S.Store self.new → IfOk result (ListsRows S.Store self.old self.new filter.now) }
+        ensures shown { IsClean S.Store self.new
+            → IfOk result (ListsRows S.Store self.old self.new filter.now) }
     {
         let listed = self.cases_passing(filter);
         count_failure(&mut self.faults, listed)

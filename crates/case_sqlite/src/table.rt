@@ -44,7 +44,8 @@ fn commit_one<S: Alter>(
     requires { connection.old.in_transaction ≡ false }
     ensures ends { connection.new.in_transaction ≡ false }
     ensures committed { HasCleanDisk (state S.Store connection.new)
-        → OnOk result (RunsCommitted S.Store sql.now (bound values.now) connection.old connection.new) }
+        → OnOk result (RunsCommitted S.Store sql.now (bound values.now)
+        connection.old connection.new) }
     ensures refused { HasCleanDisk (state S.Store connection.new)
         → OnErr result (KeepsCommit (state S.Store connection.old) (state S.Store connection.new)) }
     ensures survives { Survives (state S.Store connection.old) (state S.Store connection.new)
@@ -63,7 +64,8 @@ fn change<S: Alter>(
 ) -> Result<(), KeepFault>
     ensures ends { EndsTransaction connection.old connection.new }
     ensures committed { HasCleanDisk (state S.Store connection.new)
-        → OnOk result (RunsCommitted S.Store sql.now (bound values.now) connection.old connection.new) }
+        → OnOk result (RunsCommitted S.Store sql.now (bound values.now)
+        connection.old connection.new) }
     ensures refused { HasCleanDisk (state S.Store connection.new)
         → OnErr result (KeepsCommit (state S.Store connection.old) (state S.Store connection.new)) }
     ensures survives { Survives (state S.Store connection.old) (state S.Store connection.new)
@@ -86,7 +88,8 @@ fn answer<S: Alter>(
 ) -> Result<Vec<Row>, KeepFault>
     ensures ends { EndsTransaction connection.old connection.new }
     ensures shown { HasCleanDisk (state S.Store connection.new) → IfOk result (λ rows.
-        Shown sql.now (bound values.now) (state S.Store connection.old) (state S.Store connection.new) rows.items) }
+        Shown sql.now (bound values.now) (state S.Store connection.old)
+        (state S.Store connection.new) rows.items) }
     ensures clean { StaysDoubted (state S.Store connection.old) (state S.Store connection.new) }
 {
     match connection.query_all(sql, values) {
@@ -112,7 +115,8 @@ pub(crate) fn make_table<S: Alter>(connection: &mut Connection<S>) -> Result<(),
 pub(crate) fn insert<S: Alter>(connection: &mut Connection<S>, case: &Case) -> Result<(), KeepFault>
     ensures ends { EndsTransaction connection.old connection.new }
     ensures added { HasCleanDisk (state S.Store connection.new) → OnOk result
-        (RunsCommitted S.Store text.insert_text (case_columns case.now) connection.old connection.new) }
+        (RunsCommitted S.Store text.insert_text (case_columns case.now)
+        connection.old connection.new) }
     ensures refused { HasCleanDisk (state S.Store connection.new)
         → OnErr result (KeepsCommit (state S.Store connection.old) (state S.Store connection.new)) }
     ensures survives { Survives (state S.Store connection.old) (state S.Store connection.new)
