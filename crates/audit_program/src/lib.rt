@@ -30,7 +30,8 @@ fn answer_words<R: Env + AllocGlobal + RandomSource, F: Shelf, K: Sink>(
     shelf: &mut F,
     out: &mut K,
 ) -> Status
-    ensures { AnswersSomeWords F.Shelf shelf.old shelf.new (K.state out.old) (K.state out.new) result }
+    ensures { AnswersSomeWords F.Shelf shelf.old shelf.new
+        (K.state out.old) (K.state out.new) result }
 {
     match words_of(rt) {
         Ok(words) => run_seeded(rt.alloc(), seed_of(rt), &words, shelf, out),
