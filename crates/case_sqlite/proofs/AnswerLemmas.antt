@@ -1,5 +1,5 @@
 -- The cases that the rows of an answer tell, row by row.
-use Rattle.std.proofs.Common.{◌≡◌, ℕ, zero, suc, ◌+◌, ◌<◌, Bool, List, [], ◌∷◌, ◌++◌, length, take, get_or, Some, None, refl, sym, ap, ◌∙◌, subst, All, arith}
+use Rattle.std.proofs.Common.{◌≡◌, map, ap₂, ℕ, zero, suc, ◌+◌, ◌<◌, Bool, List, [], ◌∷◌, ◌++◌, length, take, get_or, Some, None, Ok, refl, sym, ap, ◌∙◌, subst, All, arith}
 use Rattle.std.specs.Prelude.{Option, Result, option_map, option_and_then, IfSome, IfOk, IsTrue}
 use Rattle.std.specs.Option.{ok_or}
 use Rattle.std.proofs.lemmas.List.{take_more}
@@ -12,6 +12,9 @@ use Rattle.std.proofs.lemmas.List.Elements.{All-nil, All-cons}
 use Rattle.audit_base.specs.Least.{only_if}
 use Rattle.case_keeper.specs.declared.case.Case.{Case}
 use Rattle.sqlite_value.specs.Order.{Row}
+use Rattle.std.specs.Option.{option_to_list}
+use Rattle.case_sqlite.specs.CaseRows.{case_columns}
+use Rattle.case_sqlite.proofs.RowLemmas.{form_told}
 use Rattle.case_sqlite.specs.Readings.{case_form, case_that, cases_that, one_that}
 
 abbrev before : Case → Option (List Case) → Option (List Case)
@@ -82,3 +85,37 @@ one_has_label label rows result e = subst (λ r. IfOk r (λ found. IfSome found 
     told [] = tt
     told (row ∷ []) = one row (case_that (has_label label) row) refl
     told (row ∷ next ∷ rows) = tt
+
+-- a row that tells a case has its columns
+told_columns : (test : Case → Bool) (row : Row) (case : Case) → case_that test row ≡ Some case → row ≡ case_columns case
+told_columns test row case e =
+    option_and_then_some (λ c. only_if (test c) c) (case_form row) case e
+    (λ c is_c is. (form_told row c is_c).columns ∙ ap case_columns (cond_some (test c) c case is).1)
+
+-- the rows that tell cases have their columns, all of them, in their order
+pub all_rows : (test : Case → Bool) (rows : List Row) (cases : List Case) → cases_that test rows ≡ Some cases → rows ≡ map case_columns cases
+all_rows test [] cases e = ap (map case_columns) (same_Some [] cases e)
+all_rows test (row ∷ rows) cases e =
+    option_and_then_some (λ c. before c (cases_that test rows)) (case_that test row) cases e
+    (λ c is_c behind. rest c is_c (cases_that test rows) refl behind (all_rows test rows))
+  where
+    rest : (c : Case) → case_that test row ≡ Some c → (o : Option (List Case)) → cases_that test rows ≡ o → before c o ≡ Some cases
+        → ((more : List Case) → cases_that test rows ≡ Some more → rows ≡ map case_columns more) → row ∷ rows ≡ map case_columns cases
+    rest c is_c None is_o behind same = absurd (none-some cases behind)
+    rest c is_c (Some more) is_o behind same =
+        ap₂ (λ r rs. r ∷ rs) (told_columns test row c is_c) (same more is_o) ∙ ap (map case_columns) (same_Some (c ∷ more) cases behind)
+
+-- the rows that tell a case, or none, are its columns, or none
+pub one_row : (test : Case → Bool) (rows : List Row) (found : Option Case) → Ok found ≡ one_that test rows → rows ≡ map case_columns (option_to_list found)
+one_row test [] found e = ap (λ o. map case_columns (option_to_list o)) (sym (ok_same found None e))
+  where
+    ok_same : (a b : Option Case) → ◌≡◌ {A = Result (Option Case) KeepFault} (Ok a) (Ok b) → a ≡ b
+    ok_same a b e = cc
+one_row test (row ∷ []) found e = one (case_that test row) refl e
+  where
+    one : (o : Option Case) → case_that test row ≡ o → Ok found ≡ ok_or (option_map Some o) Failed → row ∷ [] ≡ map case_columns (option_to_list found)
+    one None is e = absurd cc
+    one (Some case) is e =
+        let same : found ≡ Some case = cc in
+        ap (λ r. r ∷ []) (told_columns test row case is) ∙ ap (λ o. map case_columns (option_to_list o)) (sym same)
+one_row test (row ∷ next ∷ rows) found e = absurd cc

@@ -2,3 +2,4 @@ mod AnswerLemmas
 mod CodeLemmas
 mod KeeperLemmas
 mod RowLemmas
+mod RunLemmas

@@ -149,7 +149,7 @@ case_told row case size e =
     ∙ ap (λ rs. Text label ∷ integer (rule_number r) ∷ Text symbol ∷ rs) rest.columns in
     subst (IsRowOf row) is (record { columns = columns; label = first.named; symbol = third.named; place = rest.placed })))))
 
-form_told : (row : Row) (case : Case) → case_form row ≡ Some case → IsRowOf row case
+pub form_told : (row : Row) (case : Case) → case_form row ≡ Some case → IsRowOf row case
 form_told row case e = split (eqb (length row) 6) refl e
   where
     split : (b : Bool) → eqb (length row) 6 ≡ b → cond b (case_in row) None ≡ Some case → IsRowOf row case

@@ -5,5 +5,7 @@ pub mod CaseRows
 pub mod Laws
 pub mod Faults
 pub mod SqlKeepers
+pub mod Statements
+pub mod Runs
 -- Part 2. What the private functions pass on: rows read column by column.
 pub mod Readings

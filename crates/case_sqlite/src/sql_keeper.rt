@@ -1,7 +1,10 @@
 //! A keeper that has its cases in a database.
-ghost use Rattle.std.specs.Prelude.{◌≡◌, None, IfOk, IfSome, All, IsTrue};
+ghost use Rattle.std.specs.Prelude.{◌≡◌, None, false, [], IfOk, IfSome, OnOk, OnErr, All, IsTrue};
 ghost use Rattle.case_keeper.specs.Cases.{passes};
 ghost use Rattle.case_keeper.specs.Keepers.{Accounts};
+ghost use Rattle.case_sqlite.specs.Runs.{database, IsClean, HasTable, Makes, MayLeave, FindsRow, ListsRows, AddsRow, AddsNothing};
+ghost use Rattle.case_sqlite.specs.Statements.{make_text};
+ghost use Rattle.sqlite.specs.State.{Survives, KeepsCommit};
 ghost use Rattle.case_sqlite.specs.SqlKeepers.{silent_state, CountsFailure};
 
 use crate::answers::{all_passing, one_with_label};
@@ -48,6 +51,7 @@ impl<S: Alter> SqlKeeper<S> {
     pub fn new(alloc: Global, connection: Connection<S>) -> SqlKeeper<S>
         ensures state { sql_state result ≡ record { cases = None; faults = 0 } }
         ensures connection { connection_of result ≡ connection }
+        ensures unmade { result.has_table ≡ false }
     {
         SqlKeeper {
             connection,
@@ -68,6 +72,13 @@ impl<S: Alter> SqlKeeper<S> {
     fn make_table(&mut self) -> Result<(), KeepFault>
         ensures faults { self.new.faults ≡ self.old.faults }
         ensures ends { EndsTransaction self.old.connection self.new.connection }
+        ensures made { IsClean S.Store self.new
+            → OnOk result (HasTable S.Store self.old self.new.connection) }
+        ensures known { OnOk result (IsTrue self.new.has_table) }
+        ensures refused { IsClean S.Store self.new
+            → OnErr result (KeepsCommit (database S.Store self.old) (database S.Store self.new)) }
+        ensures survives { Survives (database S.Store self.old) (database S.Store self.new)
+            (Makes S.Store make_text [] self.old.connection) }
     {
         if !self.has_table {
             table::make_table(&mut self.connection)?;
@@ -81,6 +92,8 @@ impl<S: Alter> SqlKeeper<S> {
         ensures labelled { IfOk result (λ found. IfSome found (λ case. case.label ≡ label.now)) }
         ensures faults { self.new.faults ≡ self.old.faults }
         ensures ends { EndsTransaction self.old.connection self.new.connection }
+        ensures shown { IsClean S.Store self.new
+            → IfOk result (FindsRow S.Store self.old self.new label.now) }
     {
         self.make_table()?;
         let rows = table::rows_with_label(&mut self.connection, label)?;
@@ -91,6 +104,12 @@ impl<S: Alter> SqlKeeper<S> {
     fn insert(&mut self, case: &Case) -> Result<(), KeepFault>
         ensures faults { self.new.faults ≡ self.old.faults }
         ensures ends { EndsTransaction self.old.connection self.new.connection }
+        ensures inserted { IsClean S.Store self.new
+            → OnOk result (AddsRow S.Store self.old self.new case.now) }
+        ensures refused { IsClean S.Store self.new
+            → OnErr result (AddsNothing S.Store self.old self.new) }
+        ensures survives { Survives (database S.Store self.old) (database S.Store self.new)
+            (MayLeave S.Store self.old case.now) }
     {
         self.make_table()?;
         table::insert(&mut self.connection, case)
@@ -102,6 +121,8 @@ impl<S: Alter> SqlKeeper<S> {
             All (λ case. IsTrue (passes filter.now case)) given) }
         ensures faults { self.new.faults ≡ self.old.faults }
         ensures ends { EndsTransaction self.old.connection self.new.connection }
+        ensures shown { IsClean S.Store self.new
+            → IfOk result (ListsRows S.Store self.old self.new filter.now) }
     {
         self.make_table()?;
         let rows = table::rows_passing(&mut self.connection, filter)?;
@@ -115,6 +136,8 @@ impl<S: Alter> SqlKeeper<S> {
 impl<S: Alter> Keeper for SqlKeeper<S> {
     ghost use Rattle.case_keeper.specs.Keepers.{Finds, Adds, Lists, Lacks};
     ghost use Rattle.case_sqlite.specs.SqlKeepers.{sql_state, connection_of, CountsFailure, EndsTransaction};
+    ghost use Rattle.case_sqlite.specs.Runs.{database, IsClean, MayLeave, FindsRow, ListsRows, AddsRow, AddsNothing};
+    ghost use Rattle.sqlite.specs.State.{Survives};
 
     ghost state = { sql_state };
 
@@ -122,6 +145,8 @@ impl<S: Alter> Keeper for SqlKeeper<S> {
         ensures found { Finds (sql_state self.old) (sql_state self.new) result label.now }
         ensures counted { CountsFailure (sql_state self.old) (sql_state self.new) result }
         ensures ends { EndsTransaction (connection_of self.old) (connection_of self.new) }
+        ensures shown { IsClean S.Store self.new
+            → IfOk result (FindsRow S.Store self.old self.new label.now) }
     {
         let found = self.case_with_label(label);
         count_failure(&mut self.faults, found)
@@ -132,6 +157,12 @@ impl<S: Alter> Keeper for SqlKeeper<S> {
         ensures added { Adds (sql_state self.old) (sql_state self.new) result case.now }
         ensures counted { CountsFailure (sql_state self.old) (sql_state self.new) result }
         ensures ends { EndsTransaction (connection_of self.old) (connection_of self.new) }
+        ensures inserted { IsClean S.Store self.new
+            → OnOk result (AddsRow S.Store self.old self.new case.now) }
+        ensures refused { IsClean S.Store self.new
+            → OnErr result (AddsNothing S.Store self.old self.new) }
+        ensures survives { Survives (database S.Store self.old) (database S.Store self.new)
+            (MayLeave S.Store self.old case.now) }
     {
         let added = self.insert(case);
         count_failure(&mut self.faults, added)
@@ -141,6 +172,8 @@ impl<S: Alter> Keeper for SqlKeeper<S> {
         ensures listed { Lists (sql_state self.old) (sql_state self.new) result filter.now }
         ensures counted { CountsFailure (sql_state self.old) (sql_state self.new) result }
         ensures ends { EndsTransaction (connection_of self.old) (connection_of self.new) }
+        ensures shown { IsClean S.Store self.new
+            → IfOk result (ListsRows S.Store self.old self.new filter.now) }
     {
         let listed = self.cases_passing(filter);
         count_failure(&mut self.faults, listed)

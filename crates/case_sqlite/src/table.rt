@@ -1,6 +1,13 @@
 //! The table `cases` and its statements.
-ghost use Rattle.std.specs.Prelude.{◌≡◌, false};
+ghost use Rattle.std.specs.Prelude.{◌≡◌, false, [], IfOk, OnOk, OnErr};
+ghost use Rattle.case_sqlite.specs.CaseRows.{case_columns};
+ghost use Rattle.case_sqlite.specs.Runs.{Makes, RunsCommitted, StaysDoubted};
 ghost use Rattle.case_sqlite.specs.SqlKeepers.{EndsTransaction};
+ghost use Rattle.case_sqlite.specs.Statements as text;
+ghost use Rattle.sqlite.specs.Held.{state};
+ghost use Rattle.sqlite.specs.State.{HasCleanDisk, Shown, Survives, KeepsCommit};
+ghost use Rattle.sqlite.specs.Values.{bound};
+ghost use Rattle.sqlite_value.specs.Value.{owned};
 
 use crate::case_rows::{case_values, has_place};
 use crate::codes::property_number;
@@ -35,7 +42,14 @@ fn commit_one<S: Alter>(
     values: &[ValueRef<'_>],
 ) -> Result<(), Error>
     requires { connection.old.in_transaction ≡ false }
-    ensures { connection.new.in_transaction ≡ false }
+    ensures ends { connection.new.in_transaction ≡ false }
+    ensures committed { HasCleanDisk (state S.Store connection.new)
+        → OnOk result (RunsCommitted S.Store sql.now (bound values.now)
+        connection.old connection.new) }
+    ensures refused { HasCleanDisk (state S.Store connection.new)
+        → OnErr result (KeepsCommit (state S.Store connection.old) (state S.Store connection.new)) }
+    ensures survives { Survives (state S.Store connection.old) (state S.Store connection.new)
+        (Makes S.Store sql.now (bound values.now) connection.old) }
 {
     let mut transaction = connection.transaction();
     transaction.execute(sql, values)?;
@@ -48,7 +62,14 @@ fn change<S: Alter>(
     sql: &str,
     values: &[ValueRef<'_>],
 ) -> Result<(), KeepFault>
-    ensures { EndsTransaction connection.old connection.new }
+    ensures ends { EndsTransaction connection.old connection.new }
+    ensures committed { HasCleanDisk (state S.Store connection.new)
+        → OnOk result (RunsCommitted S.Store sql.now (bound values.now)
+        connection.old connection.new) }
+    ensures refused { HasCleanDisk (state S.Store connection.new)
+        → OnErr result (KeepsCommit (state S.Store connection.old) (state S.Store connection.new)) }
+    ensures survives { Survives (state S.Store connection.old) (state S.Store connection.new)
+        (Makes S.Store sql.now (bound values.now) connection.old) }
 {
     if !connection.is_autocommit() {
         return Err(KeepFault::Failed);
@@ -65,7 +86,11 @@ fn answer<S: Alter>(
     sql: &str,
     values: &[ValueRef<'_>],
 ) -> Result<Vec<Row>, KeepFault>
-    ensures { EndsTransaction connection.old connection.new }
+    ensures ends { EndsTransaction connection.old connection.new }
+    ensures shown { HasCleanDisk (state S.Store connection.new) → IfOk result (λ rows.
+        Shown sql.now (bound values.now) (state S.Store connection.old)
+        (state S.Store connection.new) rows.items) }
+    ensures clean { StaysDoubted (state S.Store connection.old) (state S.Store connection.new) }
 {
     match connection.query_all(sql, values) {
         Ok(rows) => Ok(rows),
@@ -75,14 +100,27 @@ fn answer<S: Alter>(
 
 /// Makes the table where it is not there.
 pub(crate) fn make_table<S: Alter>(connection: &mut Connection<S>) -> Result<(), KeepFault>
-    ensures { EndsTransaction connection.old connection.new }
+    ensures ends { EndsTransaction connection.old connection.new }
+    ensures made { HasCleanDisk (state S.Store connection.new)
+        → OnOk result (RunsCommitted S.Store text.make_text [] connection.old connection.new) }
+    ensures refused { HasCleanDisk (state S.Store connection.new)
+        → OnErr result (KeepsCommit (state S.Store connection.old) (state S.Store connection.new)) }
+    ensures survives { Survives (state S.Store connection.old) (state S.Store connection.new)
+        (Makes S.Store text.make_text [] connection.old) }
 {
     change(connection, MAKE, &[])
 }
 
 /// Adds the row of a case. A case with no place is refused.
 pub(crate) fn insert<S: Alter>(connection: &mut Connection<S>, case: &Case) -> Result<(), KeepFault>
-    ensures { EndsTransaction connection.old connection.new }
+    ensures ends { EndsTransaction connection.old connection.new }
+    ensures added { HasCleanDisk (state S.Store connection.new) → OnOk result
+        (RunsCommitted S.Store text.insert_text (case_columns case.now)
+        connection.old connection.new) }
+    ensures refused { HasCleanDisk (state S.Store connection.new)
+        → OnErr result (KeepsCommit (state S.Store connection.old) (state S.Store connection.new)) }
+    ensures survives { Survives (state S.Store connection.old) (state S.Store connection.new)
+        (Makes S.Store text.insert_text (case_columns case.now) connection.old) }
 {
     if has_place(case) {
         change(connection, INSERT, &case_values(case))
@@ -96,13 +134,19 @@ pub(crate) fn rows_with_label<S: Alter>(
     connection: &mut Connection<S>,
     label: &Name,
 ) -> Result<Vec<Row>, KeepFault>
-    ensures { EndsTransaction connection.old connection.new }
+    ensures ends { EndsTransaction connection.old connection.new }
+    ensures shown { HasCleanDisk (state S.Store connection.new) → IfOk result (λ rows.
+        Shown text.find_text (text.label_values label.now) (state S.Store connection.old)
+        (state S.Store connection.new) rows.items) }
+    ensures clean { StaysDoubted (state S.Store connection.old) (state S.Store connection.new) }
 {
     answer(connection, FIND, &[ValueRef::Text(label.bytes())])
 }
 
 /// The symbol that a filter names, or null.
-fn symbol_value(filter: &Filter) -> ValueRef<'_> {
+fn symbol_value(filter: &Filter) -> ValueRef<'_>
+    ensures { owned result ≡ text.symbol_value filter.now }
+{
     match &filter.symbol {
         Some(symbol) => ValueRef::Text(symbol.bytes()),
         None => ValueRef::Null,
@@ -110,7 +154,9 @@ fn symbol_value(filter: &Filter) -> ValueRef<'_> {
 }
 
 /// The number in the column of the property that a filter names, or null.
-fn property_value(filter: &Filter) -> ValueRef<'static> {
+fn property_value(filter: &Filter) -> ValueRef<'static>
+    ensures { owned result ≡ text.property_value filter.now }
+{
     match filter.mark {
         Some(Mark::Accepted) => ValueRef::Int(0),
         Some(Mark::Broken(property)) => ValueRef::Int(i64::from(property_number(property))),
@@ -123,7 +169,11 @@ pub(crate) fn rows_passing<S: Alter>(
     connection: &mut Connection<S>,
     filter: &Filter,
 ) -> Result<Vec<Row>, KeepFault>
-    ensures { EndsTransaction connection.old connection.new }
+    ensures ends { EndsTransaction connection.old connection.new }
+    ensures shown { HasCleanDisk (state S.Store connection.new) → IfOk result (λ rows.
+        Shown text.list_text (text.filter_values filter.now) (state S.Store connection.old)
+        (state S.Store connection.new) rows.items) }
+    ensures clean { StaysDoubted (state S.Store connection.old) (state S.Store connection.new) }
 {
     answer(
         connection,

@@ -1,17 +1,19 @@
-//! Runs over databases in files: what is under a path, and a path under which nothing can be.
+//! Runs over databases in files: what is under a path, what stays of it without the log, and paths under which nothing
+//! can be, or is to be.
 use super::case_tests::{Row, shelf_of, split_words};
-use super::closing::run_and_close;
-use super::file_opener::FileOpener;
+use case_files::closing::run_and_close;
+use case_files::file_opener::FileOpener;
 use case_run::statuses::CaseStatus;
 use log_source::memory_sink::MemorySink;
 use seeded_hash::seed::HashSeed;
 use std::fs;
 use std::test::Fail;
 
-/// Removes the files of the database of the test, which lie in the folder that it runs in, if they are there.
+/// Removes the files of the databases of the tests, which lie in the folder that they run in, if they are there.
 fn remove_files(rt: &HostRuntime) {
-    let _database = fs::remove_file(rt, "opened.db");
-    let _log = fs::remove_file(rt, "opened.db-wal");
+    for name in ["opened.db", "opened.db-wal", "--help", "--help-wal"] {
+        let _removed = fs::remove_file(rt, name);
+    }
 }
 
 /// What the words come to over databases in files, which are closed.
@@ -31,8 +33,15 @@ fn run_words(rt: &HostRuntime, line: &str) -> Result<(CaseStatus, MemorySink), F
     Ok((status, out))
 }
 
-/// A database that is made and opened again, and a folder, which is no database.
-const OPENED: [Row; 3] = [
+/// Whether the row's words have its status and its lines.
+fn holds(rt: &HostRuntime, row: Row) -> Result<bool, Fail> {
+    let (line, number, lines) = row;
+    let (status, out) = run_words(rt, line)?;
+    Ok(status.number() == number && out.bytes() == lines.as_bytes())
+}
+
+/// A database that is made and opened again, a folder, which is no database, and a path that is read as an option.
+const OPENED: [Row; 4] = [
     (
         "opened.db file c1 matching Z csv o t",
         0,
@@ -40,16 +49,21 @@ const OPENED: [Row; 3] = [
     ),
     ("opened.db list", 0, "case,c1,matching,Z,accepted\n"),
     (". list", 8, "keeperfault\n"),
+    ("--help list", 8, "keeperfault\n"),
 ];
 
+// A database that is closed has its cases in its own file alone: without the log beside it nothing is missing. A path
+// that is refused makes no file.
 #[test]
 fn databases_are_opened_by_their_paths(rt: HostRuntime) -> Result<(), Fail> {
     remove_files(&rt);
-    for &(line, number, lines) in &OPENED {
-        let (status, out) = run_words(&rt, line)?;
-        assert_eq!(rt; status.number(), number, "{line}");
-        assert_eq!(rt; out.bytes(), lines.as_bytes(), "{line}");
+    for &row in &OPENED {
+        assert!(rt; holds(&rt, row)?, "{}", row.0);
+        let _removed = fs::remove_file(&rt, "opened.db-wal");
     }
+    assert!(rt; fs::open(&rt, "--help").is_err());
+    assert!(rt; holds(&rt, ("./--help list", 0, ""))?);
+    assert!(rt; fs::open(&rt, "--help").is_ok());
     remove_files(&rt);
     Ok(())
 }

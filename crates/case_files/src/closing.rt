@@ -1,4 +1,8 @@
 //! The run of the commands, and the close of the database behind it.
+ghost use Rattle.std.specs.Prelude.{map};
+ghost use Rattle.std.specs.String.{string_bytes};
+ghost use Rattle.case_files.specs.ClosedRuns.{RunsWordsAndCloses};
+
 use case_keeper::keeper::Keeper;
 use case_run::books::{Ended, run_book_seeded};
 use case_run::opener::Opener;
@@ -14,20 +18,22 @@ use std::alloc::Global;
 ///
 /// What handles one by this knows nothing of what it is made of. A function that has a database by its own
 /// type is proved by way of all that the database is made of, which takes half a minute or more.
-pub(crate) trait Closing: Keeper {
+pub trait Closing: Keeper {
     /// Closes it. What it has kept stays kept, also where the close fails.
     fn close(self);
 }
 
 impl Closing for SqlKeeper<FileStore<File>> {
-    /// What was filed is in the database's files before this, so that a close that fails loses nothing.
+    /// What was filed is in the database's files before this, so that a close that fails loses nothing. Behind it the
+    /// database file has all of it alone, without the log beside it.
     fn close(self) {
         let _closed = self.into_connection().close();
     }
 }
 
-/// Runs the commands over the casebook that the first word names, as `run_book_seeded` does, and closes it.
-pub(crate) fn run_and_close<F: Shelf, K: Sink, O: Opener>(
+/// Runs the commands over the casebook that the first word names, as `run_book_seeded` does, and closes it. The answer
+/// is that of the commands.
+pub fn run_and_close<F: Shelf, K: Sink, O: Opener>(
     alloc: Global,
     seed: HashSeed,
     words: &[String],
@@ -37,6 +43,8 @@ pub(crate) fn run_and_close<F: Shelf, K: Sink, O: Opener>(
 ) -> CaseStatus
 where
     O::Book: Closing,
+    ensures { RunsWordsAndCloses F.Shelf shelf.old shelf.new
+        (O.state opener.old) (O.state opener.new) (map string_bytes words.now) (K.state out.old) (K.state out.new) result }
 {
     let Ended { status, book } = run_book_seeded(alloc, seed, words, shelf, out, opener);
     if let Some(book) = book {

@@ -1,0 +1,102 @@
+//! What the program `casebook` does with what its machine gives it: words, files, standard output, an opener over
+//! files and a random seed are handed to `run_and_close`, and the number of the status is what the process ends with.
+//! Where it is above 1, where a database was made, and where a list may not be the one that was meant, a line on standard
+//! error says so (`run_notes`).
+ghost use Rattle.std.specs.Prelude.{◌≡◌};
+ghost use Rattle.std.specs.Process.{exit_status};
+ghost use Rattle.case_files.specs.ClosedRuns.{AnswersSomeWords};
+ghost use Rattle.case_run.specs.Statuses.{case_status_number};
+
+use crate::closing::{Closing, run_and_close};
+use crate::file_opener::FileOpener;
+use case_run::opener::Opener;
+use case_run::statuses::CaseStatus;
+use command_words::arguments::{seed_of, words_of};
+use log_source::file_shelf::FileShelf;
+use log_source::shelf::Shelf;
+use log_source::sink::Sink;
+use log_source::std_sink::StdSink;
+use run_notes::database_notes::{is_missing, tell_database_fault, tell_listed_symbols, tell_made};
+use run_notes::log_notes::tell_log_fault;
+use run_notes::noted_shelf::NotedShelf;
+use run_notes::noted_sink::NotedSink;
+use run_notes::usage_notes::tell_casebook_usage;
+use std::io;
+use std::process::ExitCode;
+use std::random::RandomSource;
+use std::rt::Env;
+
+/// Runs the commands that the words of the command line ask for, with hashes of a random seed, and closes the casebook.
+fn answer_words<R: Env + AllocGlobal + RandomSource, F: Shelf, K: Sink, O: Opener>(
+    rt: &R,
+    shelf: &mut F,
+    out: &mut K,
+    opener: &mut O,
+) -> CaseStatus
+where
+    O::Book: Closing,
+    ensures { AnswersSomeWords F.Shelf shelf.old shelf.new (O.state opener.old) (O.state opener.new)
+        (K.state out.old) (K.state out.new) result }
+{
+    match words_of(rt) {
+        Ok(words) => run_and_close(rt.alloc(), seed_of(rt), &words, shelf, out, opener),
+        Err(_) => CaseStatus::Memory,
+    }
+}
+
+/// Tells on standard error why a run ended above 1.
+fn tell<F: Shelf>(
+    rt: &HostRuntime,
+    status: CaseStatus,
+    words: &[String],
+    shelf: &NotedShelf<F>,
+    last: &[u8],
+) {
+    match status {
+        CaseStatus::Usage => tell_casebook_usage(rt, words),
+        CaseStatus::KeeperFault => tell_database_fault(rt, words),
+        CaseStatus::Memory => {
+            let _told = eprintln!(rt; "casebook: memory ran out");
+        }
+        CaseStatus::WriteFault => {
+            let _told = eprintln!(rt; "casebook: standard output could not be written");
+        }
+        CaseStatus::Malformed | CaseStatus::ReadFault | CaseStatus::TooLong => {
+            tell_log_fault(rt, "casebook", shelf, last);
+        }
+        CaseStatus::Done | CaseStatus::Refused => tell_listed_symbols(rt, words),
+    }
+}
+
+/// Runs the commands over files and standard output.
+fn answer(rt: HostRuntime) -> CaseStatus {
+    let Ok(files) = rt.clone() else {
+        return CaseStatus::Memory;
+    };
+    let Ok(databases) = rt.clone() else {
+        return CaseStatus::Memory;
+    };
+    let Ok(words) = words_of(&rt) else {
+        return CaseStatus::Memory;
+    };
+    let was_missing = is_missing(&rt, &words);
+    let mut shelf = NotedShelf::new(rt.alloc(), FileShelf::new(files));
+    let mut out = NotedSink::new(rt.alloc(), StdSink::new(io::writer(&rt)));
+    let mut opener = FileOpener::new(databases);
+    let status = answer_words(&rt, &mut shelf, &mut out, &mut opener);
+    tell_made(&rt, &words, was_missing);
+    tell(&rt, status, &words, &shelf, out.last());
+    status
+}
+
+/// What a process ends with whose status this is: its number.
+fn exit_code(status: CaseStatus) -> ExitCode
+    ensures { exit_status result ≡ case_status_number status }
+{
+    ExitCode::from(status.number())
+}
+
+/// Does what the program does, and gives what its process ends with.
+pub fn run_casebook(rt: HostRuntime) -> ExitCode {
+    exit_code(answer(rt))
+}

@@ -1,2 +1,0 @@
--- What private functions pass on to one another.
-pub mod FileOpeners

@@ -1,0 +1,64 @@
+//! What is told of the database of a casebook.
+use crate::log_notes::refusal;
+use crate::word_parts::is_result;
+use command_words::word_forms::is_path;
+use std::fs;
+
+/// Whether the words name a database that is not there.
+pub fn is_missing(rt: &HostRuntime, words: &[String]) -> bool {
+    match words.first() {
+        Some(path) => fs::metadata(rt, path.as_str()).is_err(),
+        None => false,
+    }
+}
+
+/// Tells that the database which the words name was made, where it was missing and is there.
+pub fn tell_made(rt: &HostRuntime, words: &[String], was_missing: bool) {
+    if let Some(path) = words.first() {
+        if was_missing && !is_missing(rt, words) {
+            let _told = eprintln!(rt; "casebook: {path} was not there, and has been made");
+        }
+    }
+}
+
+/// Tells which database could not be opened, read or written, and why the system refuses its file, where it does.
+pub fn tell_database_fault(rt: &HostRuntime, words: &[String]) {
+    let Some(path) = words.first() else {
+        return;
+    };
+    let _told = if is_path(path.as_str()) {
+        match refusal(rt, path.as_str()) {
+            Some(error) => eprintln!(rt; "casebook: {path}: {error}"),
+            None => eprintln!(rt;
+                "casebook: {path}: it is no database, may not be written, is open in another process, or has a row that is no case"
+            ),
+        }
+    } else {
+        eprintln!(rt; "casebook: no path '{path}': one that begins with - is written as ./-")
+    };
+}
+
+/// Whether the words begin with `list` and one word that is a result's, and with no other of that command.
+fn lists_result(words: &[String]) -> bool {
+    let mut rest = words.iter();
+    match (rest.next(), rest.next(), rest.next()) {
+        (Some(command), Some(name), None) => command.as_str() == "list" && is_result(name.as_str()),
+        (Some(command), Some(name), Some(next)) => {
+            command.as_str() == "list" && is_result(name.as_str()) && next.as_str() == "then"
+        }
+        _ => false,
+    }
+}
+
+/// Tells that a list of one word is that of a symbol, where the word is a result's.
+pub fn tell_listed_symbols(rt: &HostRuntime, words: &[String]) {
+    let mut begins = true;
+    for place in 1..words.len() {
+        if begins && lists_result(&words[place..]) {
+            let _told = eprintln!(rt;
+                "casebook: list with one word is of a symbol of this name: give the symbol before the result"
+            );
+        }
+        begins = words[place].as_str() == "then";
+    }
+}

@@ -1,0 +1,66 @@
+//! What is told of a log that could not be read, is too long or is malformed.
+use crate::noted_shelf::NotedShelf;
+use audit_base::terms::Which;
+use log_source::shelf::Shelf;
+use std::io::{self, Read};
+use std::{fs, str};
+
+/// Why the system does not let a file be read, as it says itself when it is asked once more. What may wait for its
+/// bytes, as a pipe, is not asked.
+pub(crate) fn refusal(rt: &HostRuntime, path: &str) -> Option<io::Error> {
+    match fs::metadata(rt, path) {
+        Ok(found) if found.is_file() || found.is_dir() => match fs::open(rt, path) {
+            Ok(mut file) => file.read(&mut [0; 1]).err(),
+            Err(error) => Some(error),
+        },
+        Ok(_) => None,
+        Err(error) => Some(error),
+    }
+}
+
+fn tell_unread(rt: &HostRuntime, program: &str, path: &str) {
+    let _told = match refusal(rt, path) {
+        Some(error) => eprintln!(rt; "{program}: {path}: {error}"),
+        None => eprintln!(rt; "{program}: {path}: it could not be read"),
+    };
+}
+
+fn log_named(word: &str) -> Option<Which> {
+    if word == "orders" {
+        Some(Which::Orders)
+    } else if word == "trades" {
+        Some(Which::Trades)
+    } else {
+        None
+    }
+}
+
+/// Tells of the log that a line of a fault is of: `malformed,LOG,PLACE,OFFSET,REASON`, `readfault,LOG` or
+/// `toolong,LOG`. Any other line tells nothing.
+pub fn tell_log_fault<F: Shelf>(
+    rt: &HostRuntime,
+    program: &str,
+    shelf: &NotedShelf<F>,
+    line: &[u8],
+) {
+    let Ok(text) = str::from_utf8(line) else {
+        return;
+    };
+    let mut parts = text.trim_end().split(',');
+    let (Some(kind), Some(log)) = (parts.next(), parts.next()) else {
+        return;
+    };
+    let Some(path) = log_named(log).and_then(|which| shelf.name_of(which)) else {
+        return;
+    };
+    if kind == "readfault" {
+        tell_unread(rt, program, path.as_str());
+    } else if kind == "toolong" {
+        let _told = eprintln!(rt; "{program}: {path}: it has more than 67108864 bytes");
+    } else if kind == "malformed" {
+        let _place = parts.next();
+        if let (Some(offset), Some(reason)) = (parts.next(), parts.next()) {
+            let _told = eprintln!(rt; "{program}: {path}: malformed at byte {offset}: {reason}");
+        }
+    }
+}

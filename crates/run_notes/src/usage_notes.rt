@@ -1,0 +1,155 @@
+//! What is told of words that are not well-formed: the first that is wrong or missing, and what may stand there.
+use crate::word_parts::Part;
+
+const AUDIT: [Part; 4] = [Part::Rule, Part::Symbol, Part::Path, Part::Path];
+
+const EXPECT: [Part; 3] = [Part::Rule, Part::Symbol, Part::Path];
+
+const CONVERT: [Part; 3] = [Part::Log, Part::Form, Part::Path];
+
+const GENERATE: [Part; 2] = [Part::Start, Part::Count];
+
+const CERTIFY: [Part; 4] = [Part::BoundRule, Part::Symbol, Part::Path, Part::Path];
+
+const VERIFY: [Part; 4] = [Part::Symbol, Part::Path, Part::Path, Part::Path];
+
+const SESSION: [Part; 4] = [Part::Symbol, Part::Phases, Part::Path, Part::Path];
+
+const FILE: [Part; 6] = [
+    Part::Label,
+    Part::Rule,
+    Part::Symbol,
+    Part::Form,
+    Part::Path,
+    Part::Path,
+];
+
+const LIST: [Part; 2] = [Part::Symbol, Part::Result];
+
+const SHOW: [Part; 1] = [Part::Label];
+
+const AUDITOR_COMMANDS: &str = "audit, expect, convert, generate, certify, verify, session";
+
+const CASEBOOK_COMMANDS: &str = "file, list, show";
+
+/// The parts of a command of `auditor`, behind its word.
+fn auditor_parts(command: &str) -> Option<&'static [Part]> {
+    if command == "audit" {
+        Some(&AUDIT)
+    } else if command == "expect" {
+        Some(&EXPECT)
+    } else if command == "convert" {
+        Some(&CONVERT)
+    } else if command == "generate" {
+        Some(&GENERATE)
+    } else if command == "certify" {
+        Some(&CERTIFY)
+    } else if command == "verify" {
+        Some(&VERIFY)
+    } else if command == "session" {
+        Some(&SESSION)
+    } else {
+        None
+    }
+}
+
+/// Tells the first part that a word does not fit or that has none. Where all fit it tells the word behind them.
+fn tell_parts(rt: &HostRuntime, program: &str, parts: &[Part], words: &[String]) {
+    let mut rest = words.iter();
+    for part in parts {
+        let (name, wanted) = (part.name(), part.wanted());
+        let Some(word) = rest.next() else {
+            let _told = eprintln!(rt; "{program}: no {name} is given: {wanted}");
+            return;
+        };
+        if !part.takes(word.as_str()) {
+            let _told = eprintln!(rt; "{program}: no {name} '{word}': {wanted}");
+            return;
+        }
+    }
+    let _told = match rest.next() {
+        Some(word) => eprintln!(rt; "{program}: '{word}' or what is behind it does not stand here"),
+        None => eprintln!(rt; "{program}: these words do not go together"),
+    };
+}
+
+/// Tells what is wrong with words that are none of `auditor`.
+pub fn tell_auditor_usage(rt: &HostRuntime, words: &[String]) {
+    let Some((command, rest)) = words.split_first() else {
+        let _told = eprintln!(rt; "auditor: no command is given: {AUDITOR_COMMANDS}");
+        return;
+    };
+    match auditor_parts(command.as_str()) {
+        Some(parts) => tell_parts(rt, "auditor", parts, rest),
+        None => {
+            let _told = eprintln!(rt; "auditor: no command '{command}': {AUDITOR_COMMANDS}");
+        }
+    }
+}
+
+/// The parts of a command of `casebook`, behind its word. Those of `list` may be left out.
+fn casebook_parts(command: &str) -> Option<&'static [Part]> {
+    if command == "file" {
+        Some(&FILE)
+    } else if command == "list" {
+        Some(&LIST)
+    } else if command == "show" {
+        Some(&SHOW)
+    } else {
+        None
+    }
+}
+
+/// Whether each word fits its part, and none is left over. The last parts may have no word where that is said.
+fn all_fit(parts: &[Part], words: &[String], may_end: bool) -> bool {
+    let mut rest = words.iter();
+    for part in parts {
+        match rest.next() {
+            Some(word) if part.takes(word.as_str()) => {}
+            Some(_) => return false,
+            None => return may_end,
+        }
+    }
+    rest.next().is_none()
+}
+
+/// Tells what is wrong with one command of `casebook`, and whether something is.
+fn told_command(rt: &HostRuntime, words: &[String]) -> bool {
+    let Some((command, rest)) = words.split_first() else {
+        let _told = eprintln!(rt; "casebook: no command is given: {CASEBOOK_COMMANDS}");
+        return true;
+    };
+    let Some(parts) = casebook_parts(command.as_str()) else {
+        let _told = eprintln!(rt; "casebook: no command '{command}': {CASEBOOK_COMMANDS}");
+        return true;
+    };
+    if all_fit(parts, rest, command.as_str() == "list") {
+        return false;
+    }
+    tell_parts(rt, "casebook", parts, rest);
+    true
+}
+
+/// Tells what is wrong with the first command in which something is.
+fn tell_commands(rt: &HostRuntime, words: &[String]) {
+    let first = words.iter().position(|word| word.as_str() == "then");
+    match first {
+        Some(place) => {
+            if !told_command(rt, &words[..place]) {
+                tell_commands(rt, &words[place + 1..]);
+            }
+        }
+        None => {
+            let _told = told_command(rt, words);
+        }
+    }
+}
+
+/// Tells what is wrong with words that are none of `casebook`: the first of its commands in which something is.
+pub fn tell_casebook_usage(rt: &HostRuntime, words: &[String]) {
+    let Some((_database, commands)) = words.split_first() else {
+        let _told = eprintln!(rt; "casebook: no database is given: {}", Part::Path.wanted());
+        return;
+    };
+    tell_commands(rt, commands);
+}

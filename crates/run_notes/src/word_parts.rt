@@ -1,0 +1,110 @@
+//! The parts of commands: how each is called, what may stand there, and whether a word does.
+use command_words::word_forms::{form_named, is_path, rule_named, symbol_named};
+
+/// What stands at a place of a command.
+#[derive(Clone, Copy, Debug, PartialEq, Eq)]
+pub(crate) enum Part {
+    Rule,
+    /// A rule that has a certificate.
+    BoundRule,
+    Symbol,
+    Label,
+    Log,
+    Form,
+    Path,
+    Start,
+    Count,
+    Phases,
+    Result,
+}
+
+/// How the cases end that a list may be asked for.
+const RESULTS: [&str; 17] = [
+    "accepted",
+    "duplicate-id",
+    "time-back",
+    "unknown-target",
+    "unpaired",
+    "duplicate-trade",
+    "unknown-order",
+    "inactive",
+    "limit",
+    "uniform-price",
+    "buy-quantity",
+    "sell-quantity",
+    "buy-priority",
+    "sell-priority",
+    "volume",
+    "spread",
+    "instant-order",
+];
+
+/// Whether a word is `accepted` or a property's.
+pub(crate) fn is_result(word: &str) -> bool {
+    for result in RESULTS {
+        if word == result {
+            return true;
+        }
+    }
+    false
+}
+
+fn is_bound_rule(word: &str) -> bool {
+    word == "uniform" || word == "maximum"
+}
+
+/// Whether a word has up to ten digits and nothing else.
+fn is_number(word: &str) -> bool {
+    !word.is_empty() && word.len() <= 10 && word.as_bytes().iter().all(|byte| byte.is_ascii_digit())
+}
+
+impl Part {
+    /// How the part is called.
+    pub(crate) fn name(self) -> &'static str {
+        match self {
+            Part::Rule | Part::BoundRule => "rule",
+            Part::Symbol => "symbol",
+            Part::Label => "label",
+            Part::Log => "log",
+            Part::Form => "form",
+            Part::Path => "path",
+            Part::Start => "start",
+            Part::Count => "count",
+            Part::Phases => "phases",
+            Part::Result => "result",
+        }
+    }
+
+    /// What may stand there.
+    pub(crate) fn wanted(self) -> &'static str {
+        match self {
+            Part::Rule => "matching, fair, uniform, maximum, continuous",
+            Part::BoundRule => "uniform, maximum",
+            Part::Symbol | Part::Label => {
+                "1 to 64 printable characters without comma and quote, the first of them not -"
+            }
+            Part::Log => "orders, trades",
+            Part::Form => "csv, fix",
+            Part::Path => "a path of a file, where one that begins with - is written as ./-",
+            Part::Start => "a number from 1 to 2147483646",
+            Part::Count => "a number from 1 to 1000000",
+            Part::Phases => "KIND@FIRST,.. of uniform, maximum, continuous, the first at 1",
+            Part::Result => "accepted, or a property, as limit or volume",
+        }
+    }
+
+    /// Whether the word may stand there, by its looks alone.
+    pub(crate) fn takes(self, word: &str) -> bool {
+        match self {
+            Part::Rule => rule_named(word).is_some(),
+            Part::BoundRule => is_bound_rule(word),
+            Part::Symbol | Part::Label => symbol_named(word).is_some(),
+            Part::Log => word == "orders" || word == "trades",
+            Part::Form => form_named(word).is_some(),
+            Part::Path => is_path(word),
+            Part::Start | Part::Count => is_number(word),
+            Part::Phases => word.contains('@'),
+            Part::Result => is_result(word),
+        }
+    }
+}
