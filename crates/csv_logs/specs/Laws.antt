@@ -8,7 +8,8 @@ use Rattle.log_source.specs.Collectors.{HasNineBytesEach}
 
 -- each log is good with exactly one list of records, or bad at exactly one place, and never both
 abbrev pub LogsAreReadOnce : {R : Type 0} → Row → Meaning R → Type 0
-LogsAreReadOnce names entry = (log : List ℕ) → IsOnlyReading names entry log (read_log names entry log)
+LogsAreReadOnce names entry = (log : List ℕ)
+    → IsOnlyReading names entry log (read_log names entry log)
 
 -- the numbers of each record of a good order log are in range
 abbrev pub OrdersAreInRange : Type 0
