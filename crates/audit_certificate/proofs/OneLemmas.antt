@@ -1,5 +1,5 @@
 -- Deals have one certificate, and a text one answer.
-use Rattle.std.proofs.Common.{◌≡◌, ◌<◌, ◌∙◌, sym, ap, refl, ℕ, suc, List, [], ◌∷◌, ◌++◌, length, Option, Some, None, arith, inl, inr}
+use Rattle.std.proofs.Common.{◌≡◌, ◌∙◌, sym, ap, refl, ℕ, List, [], ◌∷◌, ◌++◌, length, Option, Some, None, arith, inl, inr}
 use Rattle.std.specs.Prelude.{IsSomeAnd, option_map}
 use Rattle.std.proofs.lemmas.Bool.{cases_eq, cases_order}
 use Rattle.audit_base.specs.declared.terms.Rule.{Rule}
@@ -14,7 +14,7 @@ use Rattle.audit_base.specs.Orders.{order_at, place_at}
 use Rattle.audit_base.specs.RuleKinds.{rule_of_volume, volume_rule}
 use Rattle.audit_base.proofs.LeastLemmas.{one-least}
 use Rattle.audit_base.proofs.PriorityLemmas.{outranks-better, outranks-total}
-use Rattle.audit_certificate.specs.Agreement.{Agrees, IsLastOf, IsLastTrading, order_lines}
+use Rattle.audit_certificate.specs.Agreement.{Agrees, IsLastOf, order_lines}
 use Rattle.audit_certificate.specs.Lines.{behind_lines}
 use Rattle.audit_certificate.specs.OneAnswer.{AgreedRuleIsOne, CertificateIsOne, FirstRefusedIsOne}
 use Rattle.audit_certificate.specs.Texts.{bound_text, head_text, last_text}

@@ -1,12 +1,11 @@
 -- The numbers of each record of a good log are in range.
 use Rattle.std.proofs.Common.{◌≡◌, ◌<◌, ◌^◌, ℕ, List, Option, Some, None, Result, Ok, Err, refl}
-use Rattle.std.specs.Prelude.{⊤, IfOk}
+use Rattle.std.specs.Prelude.{IfOk}
 use Rattle.audit_base.specs.declared.faults.Reason.{Reason}
-use Rattle.audit_base.specs.declared.records.OrderRecord.{OrderRecord}
 use Rattle.audit_base.specs.declared.terms.Life.{Life}
 use Rattle.audit_base.specs.declared.terms.Life.TheVariants as life
 use Rattle.audit_base.specs.Columns.{order_columns, trade_columns}
-use Rattle.audit_base.specs.Numbers.{market_price, price_form, quantity_form}
+use Rattle.audit_base.specs.Numbers.{price_form, quantity_form}
 use Rattle.audit_base.specs.RecordRanges.{IsRecord}
 use Rattle.audit_base.specs.Trades.{IsTrade}
 use Rattle.audit_base.proofs.RangeLemmas.{IsQuantity, market-range, price-range, quantity-range}

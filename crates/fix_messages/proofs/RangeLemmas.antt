@@ -19,7 +19,7 @@ use Rattle.fix_messages.specs.OrderTables as table
 use Rattle.fix_messages.specs.OrderTables.{cancel, life_at, limit_at, limits_at, new_order, order_by, order_entry, price_by, replacement, resting_at, unconditional}
 use Rattle.fix_messages.specs.ReportTable as report_table
 use Rattle.fix_messages.specs.ReportTable.{is_passed_over, report_entry, trade_report}
-use Rattle.fix_messages.specs.Rows.{◌>>=◌, head_at, in_form, is_copy, is_word, name_at, only, price_at, quantity_at, required, side_at, type_at, type_of, word_at}
+use Rattle.fix_messages.specs.Rows.{head_at, in_form, is_copy, is_word, name_at, only, price_at, quantity_at, required, side_at, type_at, type_of, word_at}
 use Rattle.fix_messages.proofs.PricedLemmas.{behind, behind-known, log_sound}
 use Rattle.trade_reports.specs.declared.reports.Report.{Report}
 use Rattle.trade_reports.specs.Pairings.{pairing}

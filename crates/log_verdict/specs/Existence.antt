@@ -1,5 +1,5 @@
 -- That two logs have a verdict on every question, as a statement.
-use Rattle.std.specs.Prelude.{◌≡◌, ◌≤◌, ℕ, List, length}
+use Rattle.std.specs.Prelude.{◌≡◌, ◌≤◌, length}
 use Rattle.audit_report.specs.declared.verdicts.Verdict.{Verdict}
 use Rattle.log_source.specs.Sources.{longest_read}
 use Rattle.record_verdict.specs.declared.questions.Question.{Question}

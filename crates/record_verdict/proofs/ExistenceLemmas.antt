@@ -1,5 +1,5 @@
 -- The records of two logs have a verdict.
-use Rattle.std.proofs.Common.{◌≡◌, ◌<◌, ◌∙◌, sym, refl, subst, ℕ, Bool, List, [], ◌∷◌, length, Option, None, Some, Result, inl, inr}
+use Rattle.std.proofs.Common.{◌≡◌, ◌<◌, refl, subst, ℕ, List, [], ◌∷◌, length, Option, None, Some, Result}
 use Rattle.std.specs.Prelude.{◌^◌, MatchOption}
 use Rattle.audit_base.specs.declared.findings.Finding.{Finding}
 use Rattle.audit_base.specs.declared.orders.Cut.{Cut}
@@ -22,7 +22,7 @@ use Rattle.audit_base.specs.Rules.{Conforms}
 use Rattle.audit_base.specs.Trades.{AreTrades, deals_of, unsound_trade}
 use Rattle.audit_base.specs.Verdicts.{IsRuleVerdict, IsVerdict, call_finding, log_finding, paired_trades, pairing_finding}
 use Rattle.audit_base.proofs.HistoryLemmas.{order_list-is, order_list-regular}
-use Rattle.audit_base.proofs.LeastLemmas.{cases_Option, none_some, option_or-parts}
+use Rattle.audit_base.proofs.LeastLemmas.{none_some, option_or-parts}
 use Rattle.audit_base.proofs.RangeLemmas.{orders-range}
 use Rattle.audit_base.proofs.TradeLemmas.{deals-ranges}
 use Rattle.audit_base.proofs.VerdictLemmas.{one-greatest}

@@ -1,5 +1,5 @@
 -- The records of two logs have one verdict.
-use Rattle.std.proofs.Common.{◌≡◌, ◌∙◌, sym, ap, subst, ℕ, ◌<◌, List, Option, None, Some, Result, arith}
+use Rattle.std.proofs.Common.{◌≡◌, ◌∙◌, sym, ap, subst, ℕ, List, Option, None, Some, Result}
 use Rattle.std.specs.Prelude.{IsSomeAnd, MatchOption}
 use Rattle.audit_base.specs.declared.findings.Finding.{Finding}
 use Rattle.audit_base.specs.declared.orders.Cut.{Cut}

@@ -1,5 +1,5 @@
 -- That the records of two logs have a verdict on every question, as a statement.
-use Rattle.std.specs.Prelude.{◌<◌, ◌^◌, ℕ, List, Result, length}
+use Rattle.std.specs.Prelude.{◌<◌, ◌^◌, List, Result, length}
 use Rattle.audit_base.specs.declared.findings.Finding.{Finding}
 use Rattle.audit_base.specs.declared.records.OrderRecord.{OrderRecord}
 use Rattle.audit_base.specs.declared.records.TradeRecord.{TradeRecord}

@@ -8,7 +8,6 @@ use Rattle.audit_base.specs.declared.orders.Order.{Order}
 use Rattle.audit_base.specs.Deals.{AreDeals, NamesOrders}
 use Rattle.audit_base.specs.Orders.{missing_order}
 use Rattle.audit_base.specs.Verdicts.{IsFirstOffence}
-use Rattle.audit_base.proofs.LeastLemmas.{cases_Option}
 use Rattle.audit_base.proofs.VerdictLemmas.{one-offence}
 use Rattle.session_audit.specs.declared.phases.Phase.{Phase}
 use Rattle.session_audit.specs.Days.{instant_finding, IsPhaseOffence}

@@ -1,5 +1,5 @@
 -- Reports with numbers in range pair into trades with numbers in range.
-use Rattle.std.proofs.Common.{ℕ, ◌+◌, Option, Some, None, List, [], ◌∷◌, ◌++◌, length, reverse, subst, sym}
+use Rattle.std.proofs.Common.{◌+◌, Option, Some, None, List, [], ◌∷◌, length, reverse, subst, sym}
 use Rattle.std.specs.Prelude.{IfOk}
 use Rattle.std.specs.List.{All}
 use Rattle.std.proofs.lemmas.Grind.{reverse_onto}
@@ -11,7 +11,7 @@ use Rattle.trade_reports.specs.declared.reports.LoneReport.{LoneReport}
 use Rattle.trade_reports.specs.declared.reports.PlacedReport.{PlacedReport}
 use Rattle.trade_reports.specs.declared.reports.Report.{Report}
 use Rattle.trade_reports.specs.Pairings.{Pair, first_lone, pair_with, pairing, pairs, trade_of, trades_of, trades_unless, waiting}
-use Rattle.trade_reports.specs.Ranges.{AreReports, PairedTradesAreInRange}
+use Rattle.trade_reports.specs.Ranges.{PairedTradesAreInRange}
 
 abbrev IsReport : Report → Type 0
 IsReport report = AreInRange report.quantity report.price
