@@ -1,4 +1,4 @@
--- The order list of a well-formed history is an order list, and it is regular.
+-- The order list of a history is an order list, and that of a well-formed history is regular.
 use Rattle.std.proofs.Common.{◌≡◌, ◌≢◌, ◌≤◌, ◌<◌, ◌+◌, ◌^◌, ◌⊎◌, ℕ, zero, suc, List, [], ◌∷◌, length, take, get_or, Bool, true, false, cond, Option, Some, None, refl, sym, ap, ◌∙◌, arith, inl, inr, All, AllPairs, subst}
 use Rattle.std.specs.Prelude.{◌&&◌, is_some, is_none, option_map, filter, filter_map, count_by}
 use Rattle.std.specs.List.{enumerate_from, cons_option}
@@ -243,35 +243,12 @@ kept-length : {E O : Type 0} (f : ℕ → E → Option O) (xs : List E) (from : 
 kept-length f [] from = omega arith
 kept-length f (x ∷ xs) from = kept-longer (f from x) (kept f (from + 1) xs) (length xs) (kept-length f xs (from + 1))
 
-module _ (symbol : List ℕ) (entries : List OrderRecord) (formed : WellFormed symbol entries) where
+module _ (symbol : List ℕ) (entries : List OrderRecord) where
   abbrev records : List (ℕ × OrderRecord)
   records = history symbol entries
 
   abbrev orders : List Order
   orders = order_list symbol entries
-
-  no_finding : (k : ℕ) → k < length records → record_finding records k ≡ None
-  no_finding k lt = none-below (record_finding records) (length records) formed k lt
-
-  -- no two records have one key
-  pub distinct-keys : (j k : ℕ) → j < length records → k < length records → key_at records j ≡ key_at records k → j ≡ k
-  distinct-keys j k hj hk same = elim (cases_order j k) [
-    | inl e ↦ e
-    | inr ne ↦ elim ne [
-      | inl less ↦ absurd (distinct-none records j k less (first-none records k ((option_or-parts _ _ (no_finding k hk)).0)) same)
-      | inr more ↦ absurd (distinct-none records k j more (first-none records j ((option_or-parts _ _ (no_finding j hj)).0)) (sym same))
-    ]
-  ]
-
-  -- a record that ends the order at k names it as its target
-  pub ending-target : (j k : ℕ) → j < length records → k < length records → ends (key_at records k) (record_at records j) ≡ true → target_of records j ≡ Some k
-  ending-target j k hj hk e =
-      let names = ends-names (key_at records k) (record_at records j) e in
-      let found = third-none records j (last-none records j (no_finding j hj)) names.0 in
-      let t = target-is records j found.0 found.1 in
-      let earlier = t.earlier in
-      let same = distinct-keys found.0 k (omega arith) hk (names.1 (key_at records found.0) t.named) in
-      found.1 ∙ ap (λ (x : ℕ). Some x) same
 
   pub places : (j k : ℕ) → j < k → k < length records → record_place records j < record_place records k
   places j k lt below = place-rises symbol entries j k lt below
@@ -316,13 +293,14 @@ module _ (symbol : List ℕ) (entries : List OrderRecord) (formed : WellFormed s
     pub at : ℕ
     pub inside : at < length records
     pub index : order_index records at ≡ i
+    pub gives : order_of_record records (at, (get_or records at missing_entry).0, (get_or records at missing_entry).1) ≡ Some o
     pub fields : IsOrderOf records at (get_or records at missing_entry) o
 
   pub order-from : (i : ℕ) → i < length orders → IsFrom (order_at orders i) i
   order-from i lt =
       let r = kept-from (λ (k : ℕ) (e : ℕ × OrderRecord). order_of_record records (k, e.0, e.1)) (λ e. is_order e.1) (order-tells records) missing_entry missing_order records 0 i lt in
       let same : 0 + r.at ≡ r.at = omega arith in
-      record { at = r.at; inside = r.inside; index = r.index; fields = order-fields records r.at (get_or records r.at missing_entry) _ (rw same at r.gives) }
+      record { at = r.at; inside = r.inside; index = r.index; gives = rw same at r.gives; fields = order-fields records r.at (get_or records r.at missing_entry) _ (rw same at r.gives) }
 
   pub order-to : (k : ℕ) → k < length records → is_order (record_at records k) ≡ true → (order_index records k < length orders) × IsOrderOf records k (get_or records k missing_entry) (order_at orders (order_index records k))
   order-to k lt t =
@@ -349,59 +327,6 @@ module _ (symbol : List ℕ) (entries : List OrderRecord) (formed : WellFormed s
         (found.0, replaced-parts records k found.0 found.1, found.2)
   ]
 
-  -- the order list of a well-formed history is regular
-  pub order_list-regular : Regular orders
-  order_list-regular = record {
-    own = λ i c lt e.
-        let from = order-from i lt in
-        let k = from.at in
-        let f = from.fields in
-        let place = f.place in
-        elim (cancelled-cases k c (sym f.cancelled ∙ e)) [
-          | inl own ↦ let same = own.1 in omega arith
-          | inr ended ↦
-              let j = ended.1 in
-              let t = target-is records j k (ending-target j k ended.2 from.inside ended.3) in
-              let later = places k j t.earlier ended.2 in
-              let same = ended.4 in
-              omega arith
-        ];
-    same_sides = λ i j hi hj e.
-        let from = order-from i hi in
-        let to = order-from j hj in
-        let k = from.at in
-        let m = to.at in
-        let f = from.fields in
-        let g = to.fields in
-        let place_j = g.place in
-        elim (cancelled-cases k (place_at orders j) (sym f.cancelled ∙ e)) [
-          | inl own ↦
-              let same = own.1 in
-              let km : k ≡ m = same_record k m from.inside to.inside (omega arith) in
-              some-same _ _ (sym g.side ∙ ap (λ n. side_of (record_at records n)) (sym km) ∙ f.side)
-          | inr ended ↦
-              let n = ended.1 in
-              let same = ended.4 in
-              let nm : n ≡ m = same_record n m ended.2 to.inside (omega arith) in
-              let t = target-is records n k (ending-target n k ended.2 from.inside ended.3) in
-              sym (fits-same (side_at orders j) (side_at orders i) (side_of (record_at records n)) (side_of (record_at records k)) (ap (λ x. side_of (record_at records x)) nm ∙ g.side) f.side t.sided)
-        ];
-    targets = λ i t lt e.
-        let from = order-from i lt in
-        let k = from.at in
-        let f = from.fields in
-        let place = f.place in
-        let found = target-record k (order_at orders i) t f e in
-        let is = target-is records k found.0 found.1 in
-        let earlier = is.earlier in
-        let inside = from.inside in
-        let to = order-to found.0 (omega arith) is.ordered in
-        let upto = cancelled-upto found.0 k is.earlier from.inside is.named in
-        let g : IsOrderOf records found.0 (get_or records found.0 missing_entry) (order_at orders t) = subst (λ x. IsOrderOf records found.0 (get_or records found.0 missing_entry) (order_at orders x)) found.2 to.1 in
-        let least = upto.2 in
-        (upto.0, g.cancelled ∙ upto.1, omega arith);
-  }
-
   orders-few : length orders ≤ length entries
   orders-few =
       let a = kept-length (λ (k : ℕ) (e : ℕ × OrderRecord). order_of_record records (k, e.0, e.1)) records 0 in
@@ -410,52 +335,137 @@ module _ (symbol : List ℕ) (entries : List OrderRecord) (formed : WellFormed s
       let c = length-enumerate_from 1 entries in
       omega arith
 
-  -- and it is an order list
+  -- places rise strictly, and a target is a lower index of the same side, whether the history is well-formed or not
+  pub order_list-rising : AllPairs (λ o p. o.place < p.place) orders
+  order_list-rising i j d lt below =
+      let from = order-from i (omega arith) in
+      let to = order-from j below in
+      let f = from.fields in
+      let g = to.fields in
+      let index_i = from.index in
+      let index_j = to.index in
+      let inside = from.inside in
+      let k_lt : from.at < to.at = elim (cases_lt from.at to.at) [ inl less ↦ less | inr more ↦ let le = index-most to.at from.at more (omega arith) in absurd (omega arith) ] in
+      let p = places from.at to.at k_lt to.inside in
+      let place_i = f.place in
+      let place_j = g.place in
+      let first : get_or orders i d ≡ order_at orders i = get_or-default orders i d missing_order (omega arith) in
+      let second : get_or orders j d ≡ order_at orders j = get_or-default orders j d missing_order below in
+      let rise : place_at orders i < place_at orders j = omega arith in
+      rw (first, second) rise
+
+  pub order_list-targets : (i t : ℕ) → i < length orders → (order_at orders i).target ≡ Some t → (t < i) × (side_at orders t ≡ side_at orders i)
+  order_list-targets i t lt e =
+      let from = order-from i lt in
+      let k = from.at in
+      let f = from.fields in
+      let index = from.index in
+      let found = target-record k (order_at orders i) t f e in
+      let is = target-is records k found.0 found.1 in
+      let earlier = is.earlier in
+      let inside = from.inside in
+      let same = found.2 in
+      let to = order-to found.0 (omega arith) is.ordered in
+      let g : IsOrderOf records found.0 (get_or records found.0 missing_entry) (order_at orders t) = subst (λ x. IsOrderOf records found.0 (get_or records found.0 missing_entry) (order_at orders x)) found.2 to.1 in
+      let less = index-less found.0 k is.earlier (omega arith) is.ordered in
+      (omega arith, fits-same (side_at orders i) (side_at orders t) (side_of (record_at records k)) (side_of (record_at records found.0)) f.side g.side is.sided)
+
+  -- so it is an order list
   pub order_list-is : length entries < 2 ^ 32 → IsOrderList orders
   order_list-is small = record {
-    rising = λ i j d lt below.
-        let from = order-from i (omega arith) in
-        let to = order-from j below in
-        let f = from.fields in
-        let g = to.fields in
-        let index_i = from.index in
-        let index_j = to.index in
-        let inside = from.inside in
-        let k_lt : from.at < to.at = elim (cases_lt from.at to.at) [ inl less ↦ less | inr more ↦ let le = index-most to.at from.at more (omega arith) in absurd (omega arith) ] in
-        let p = places from.at to.at k_lt to.inside in
-        let place_i = f.place in
-        let place_j = g.place in
-        let first : get_or orders i d ≡ order_at orders i = get_or-default orders i d missing_order (omega arith) in
-        let second : get_or orders j d ≡ order_at orders j = get_or-default orders j d missing_order below in
-        let rise : place_at orders i < place_at orders j = omega arith in
-        rw (first, second) rise;
+    rising = order_list-rising;
     few = let le = orders-few in omega arith;
-    targets = λ i t lt e.
-        let from = order-from i lt in
-        let k = from.at in
-        let f = from.fields in
-        let index = from.index in
-        let found = target-record k (order_at orders i) t f e in
-        let is = target-is records k found.0 found.1 in
-        let earlier = is.earlier in
-        let inside = from.inside in
-        let same = found.2 in
-        let to = order-to found.0 (omega arith) is.ordered in
-        let g : IsOrderOf records found.0 (get_or records found.0 missing_entry) (order_at orders t) = subst (λ x. IsOrderOf records found.0 (get_or records found.0 missing_entry) (order_at orders x)) found.2 to.1 in
-        let less = index-less found.0 k is.earlier (omega arith) is.ordered in
-        (omega arith, fits-same (side_at orders i) (side_at orders t) (side_of (record_at records k)) (side_of (record_at records found.0)) f.side g.side is.sided);
+    targets = order_list-targets;
     resting = λ i t lt. (order-from i lt).fields.resting t;
   }
 
-  -- no two of its orders have one key
-  pub order_list-keys : HaveOwnKeys orders
-  order_list-keys i j d lt below same =
-      let from = order-from i (omega arith) in
-      let to = order-from j below in
-      let index_i = from.index in
-      let index_j = to.index in
-      let first : get_or orders i d ≡ order_at orders i = get_or-default orders i d missing_order (omega arith) in
-      let second : get_or orders j d ≡ order_at orders j = get_or-default orders j d missing_order below in
-      let one : key_at records from.at ≡ key_at records to.at = sym from.fields.key ∙ ap (λ (o : Order). o.key) (sym first) ∙ same ∙ ap (λ (o : Order). o.key) second ∙ to.fields.key in
-      let e = ap (order_index records) (distinct-keys from.at to.at from.inside to.inside one) in
-      omega arith
+  -- what holds where no record has a finding
+  module _ (formed : WellFormed symbol entries) where
+    no_finding : (k : ℕ) → k < length records → record_finding records k ≡ None
+    no_finding k lt = none-below (record_finding records) (length records) formed k lt
+
+    -- no two records have one key
+    pub distinct-keys : (j k : ℕ) → j < length records → k < length records → key_at records j ≡ key_at records k → j ≡ k
+    distinct-keys j k hj hk same = elim (cases_order j k) [
+      | inl e ↦ e
+      | inr ne ↦ elim ne [
+        | inl less ↦ absurd (distinct-none records j k less (first-none records k ((option_or-parts _ _ (no_finding k hk)).0)) same)
+        | inr more ↦ absurd (distinct-none records k j more (first-none records j ((option_or-parts _ _ (no_finding j hj)).0)) (sym same))
+      ]
+    ]
+
+    -- a record that ends the order at k names it as its target
+    pub ending-target : (j k : ℕ) → j < length records → k < length records → ends (key_at records k) (record_at records j) ≡ true → target_of records j ≡ Some k
+    ending-target j k hj hk e =
+        let names = ends-names (key_at records k) (record_at records j) e in
+        let found = third-none records j (last-none records j (no_finding j hj)) names.0 in
+        let t = target-is records j found.0 found.1 in
+        let earlier = t.earlier in
+        let same = distinct-keys found.0 k (omega arith) hk (names.1 (key_at records found.0) t.named) in
+        found.1 ∙ ap (λ (x : ℕ). Some x) same
+
+    -- the order list of a well-formed history is regular
+    pub order_list-regular : Regular orders
+    order_list-regular = record {
+      own = λ i c lt e.
+          let from = order-from i lt in
+          let k = from.at in
+          let f = from.fields in
+          let place = f.place in
+          elim (cancelled-cases k c (sym f.cancelled ∙ e)) [
+            | inl own ↦ let same = own.1 in omega arith
+            | inr ended ↦
+                let j = ended.1 in
+                let t = target-is records j k (ending-target j k ended.2 from.inside ended.3) in
+                let later = places k j t.earlier ended.2 in
+                let same = ended.4 in
+                omega arith
+          ];
+      same_sides = λ i j hi hj e.
+          let from = order-from i hi in
+          let to = order-from j hj in
+          let k = from.at in
+          let m = to.at in
+          let f = from.fields in
+          let g = to.fields in
+          let place_j = g.place in
+          elim (cancelled-cases k (place_at orders j) (sym f.cancelled ∙ e)) [
+            | inl own ↦
+                let same = own.1 in
+                let km : k ≡ m = same_record k m from.inside to.inside (omega arith) in
+                some-same _ _ (sym g.side ∙ ap (λ n. side_of (record_at records n)) (sym km) ∙ f.side)
+            | inr ended ↦
+                let n = ended.1 in
+                let same = ended.4 in
+                let nm : n ≡ m = same_record n m ended.2 to.inside (omega arith) in
+                let t = target-is records n k (ending-target n k ended.2 from.inside ended.3) in
+                sym (fits-same (side_at orders j) (side_at orders i) (side_of (record_at records n)) (side_of (record_at records k)) (ap (λ x. side_of (record_at records x)) nm ∙ g.side) f.side t.sided)
+          ];
+      targets = λ i t lt e.
+          let from = order-from i lt in
+          let k = from.at in
+          let f = from.fields in
+          let place = f.place in
+          let found = target-record k (order_at orders i) t f e in
+          let is = target-is records k found.0 found.1 in
+          let earlier = is.earlier in
+          let inside = from.inside in
+          let to = order-to found.0 (omega arith) is.ordered in
+          let upto = cancelled-upto found.0 k is.earlier from.inside is.named in
+          let g : IsOrderOf records found.0 (get_or records found.0 missing_entry) (order_at orders t) = subst (λ x. IsOrderOf records found.0 (get_or records found.0 missing_entry) (order_at orders x)) found.2 to.1 in
+          let least = upto.2 in
+          (upto.0, g.cancelled ∙ upto.1, omega arith);
+    }
+
+    -- no two of its orders have one key
+    pub order_list-keys : HaveOwnKeys orders
+    order_list-keys i j d lt below same =
+        let from = order-from i (omega arith) in
+        let to = order-from j below in
+        let index_i = from.index in
+        let index_j = to.index in
+        let first : get_or orders i d ≡ order_at orders i = get_or-default orders i d missing_order (omega arith) in
+        let second : get_or orders j d ≡ order_at orders j = get_or-default orders j d missing_order below in
+        let one : key_at records from.at ≡ key_at records to.at = sym from.fields.key ∙ ap (λ (o : Order). o.key) (sym first) ∙ same ∙ ap (λ (o : Order). o.key) second ∙ to.fields.key in
+        let e = ap (order_index records) (distinct-keys from.at to.at from.inside to.inside one) in
+        omega arith

@@ -2,7 +2,7 @@
 use Rattle.std.proofs.Common.{◌≡◌, ◌<◌, ◌⊎◌, ℕ, zero, suc, Bool, true, false, cond, Option, Some, None, refl, sym, ◌∙◌, arith, inl, inr, subst}
 use Rattle.std.specs.Option.{option_or}
 use Rattle.std.proofs.lemmas.Bool.{cases_Bool, cases_eq, or_cases, or_left, or_right, or_from, both_ways}
-use Rattle.audit_base.specs.Least.{least_answer, least_with, any_below}
+use Rattle.audit_base.specs.Least.{IsLeast, least_answer, least_with, any_below}
 
 pub cases_Option : {A : Type 0} (o : Option A) → (o ≡ None) ⊎ ((x : A) × (o ≡ Some x))
 cases_Option None = inl refl
@@ -11,6 +11,13 @@ cases_Option (Some x) = inr (x, refl)
 pub none_some : {A B : Type 0} (o : Option A) (x : A) → o ≡ None → o ≡ Some x → B
 none_some None x e f = absurd (cc)
 none_some (Some y) x e f = absurd (cc)
+
+-- there is one least number with a property
+pub one-least : (P : ℕ → Type 0) (a b : ℕ) → IsLeast P a → IsLeast P b → a ≡ b
+one-least P a b x y =
+    let at_least : a < b → ⊥ = λ lt. y.none_below a lt x.holds in
+    let at_most : b < a → ⊥ = λ lt. x.none_below b lt y.holds in
+    omega arith
 
 or-none : {A : Type 0} (o p : Option A) → option_or o p ≡ None → (o ≡ None) × (p ≡ None)
 or-none None p e = (refl, e)

@@ -15,6 +15,7 @@ pub mod OrderLemmas
 pub mod PairDealLemmas
 pub mod PlacedLemmas
 pub mod PriorityLemmas
+pub mod RangeLemmas
 pub mod RankLemmas
 pub mod SortedPairLemmas
 pub mod StampLemmas

@@ -23,7 +23,7 @@ use Rattle.audit_base.proofs.OffenceLemmas.{only-none}
 use Rattle.audit_base.proofs.HistoryLemmas.{enumerated-places}
 
 -- what a test leaves of a numbered list keeps what holds of each member
-numbered-All : {X : Type 0} (P : X → Type 0) (xs : List X) (test : ℕ × X → Bool) (n : ℕ) → All P xs → All (λ e. P e.1) (filter test (enumerate_from n xs))
+pub numbered-All : {X : Type 0} (P : X → Type 0) (xs : List X) (test : ℕ × X → Bool) (n : ℕ) → All P xs → All (λ e. P e.1) (filter test (enumerate_from n xs))
 numbered-All P [] test n h = All-nil (λ e. P e.1)
 numbered-All P (x ∷ xs) test n h =
     let tail = filter test (enumerate_from (n + 1) xs) in

@@ -14,6 +14,7 @@ use Rattle.audit_base.specs.declared.records.TradeRecord.{TradeRecord}
 use Rattle.audit_base.specs.declared.orders.Order.{Order}
 use Rattle.audit_base.specs.declared.orders.Deal.{Deal}
 use Rattle.audit_base.specs.declared.findings.Finding.{Finding}
+use Rattle.audit_base.specs.Bounds.{IsBound}
 use Rattle.audit_base.specs.Deals.{NamesOrders, AreDeals}
 use Rattle.audit_base.specs.Rules.{Conforms, Only}
 use Rattle.audit_base.specs.CallOffences.{early_offence, IsGreatestUnder, IsVolumeOffence, IsCallOffence}
@@ -22,7 +23,7 @@ use Rattle.audit_base.specs.Least.{first_of}
 use Rattle.audit_base.specs.Histories.{history_finding, order_list}
 use Rattle.audit_base.specs.Trades.{AreTrades, unsound_trade, deals_of}
 use Rattle.audit_base.specs.Verdicts.{IsFirstOffence, IsRuleVerdict, call_finding, pairing_finding, paired_trades, log_finding, IsVerdict}
-use Rattle.audit_base.proofs.LeastLemmas.{cases_Option, none_some, option_or-parts}
+use Rattle.audit_base.proofs.LeastLemmas.{cases_Option, none_some, one-least, option_or-parts}
 use Rattle.audit_base.proofs.OffenceLemmas.{option_or-none_both, matching-no_offence, fair-no_offence}
 use Rattle.audit_base.proofs.ContinuousOffenceLemmas.{conforms-no_fault, offence-fails}
 use Rattle.audit_base.proofs.TradeLemmas.{sound-names, deals-ranges}
@@ -56,6 +57,11 @@ one-greatest of_volume.Maximum orders u v a b =
     let x = a.reached in
     let y = b.reached in
     omega arith
+
+-- a volume has one bound
+pub one-bound : (r : VolumeRule) (orders : List Order) (reached a b : ℕ) → IsBound r orders reached a → IsBound r orders reached b → a ≡ b
+one-bound of_volume.Uniform orders reached a b x y = one-least _ a b x y
+one-bound of_volume.Maximum orders reached a b x y = one-least _ a b x y
 
 some-one : {A : Type 0} (o : Option A) (x y : A) → o ≡ Some x → o ≡ Some y → x ≡ y
 some-one o x y e f = some-same x y (sym e ∙ f)

@@ -7,6 +7,7 @@ pub mod Deals
 -- Histories and trades:
 pub mod Histories
 pub mod Trades
+pub mod RecordRanges
 -- The rules of a call and of continuous trading, and what a rule determines:
 pub mod Calls
 pub mod Bounds

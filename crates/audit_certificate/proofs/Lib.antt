@@ -2,6 +2,7 @@ mod CountLemmas
 mod LineLemmas
 mod HeadLemmas
 mod VerifyLemmas
+mod OneLemmas
 mod BoundLemmas
 mod SoundLemmas
 mod PriceLemmas

@@ -79,7 +79,7 @@ begins-once : (P Q : List ℕ → Type 0) (C : Type 0) (found : Option (List ℕ
 begins-once P Q C None both p q = absurd p
 begins-once P Q C (Some text) both p q = both text p q
 
-one-rule : (a b : VolumeRule) (symbol : List ℕ) (orders : List Order) (deals : List Deal) (bytes : List ℕ) → BeginsWith (IsHeadLine a symbol orders deals) bytes → BeginsWith (IsHeadLine b symbol orders deals) bytes → a ≡ b
+pub one-rule : (a b : VolumeRule) (symbol : List ℕ) (orders : List Order) (deals : List Deal) (bytes : List ℕ) → BeginsWith (IsHeadLine a symbol orders deals) bytes → BeginsWith (IsHeadLine b symbol orders deals) bytes → a ≡ b
 one-rule a b symbol orders deals bytes p q = begins-once (IsHeadLine a symbol orders deals) (IsHeadLine b symbol orders deals) (a ≡ b) (ended_line bytes)
     (λ text x y. head-once a b symbol text x.text_is y.text_is) p q
 

@@ -3,6 +3,7 @@ pub mod Texts
 pub mod Lines
 pub mod Agreement
 pub mod Laws
+pub mod OneAnswer
 -- What private functions pass on.
 pub mod Counting
 pub mod Bounds

@@ -14,3 +14,4 @@ mod ExpectLemmas
 mod AcceptLemmas
 mod GenerateLemmas
 mod MemoryLemmas
+mod OneReportLemmas

@@ -7,6 +7,7 @@ pub mod OtherTexts
 pub mod Certificates
 pub mod Sessions
 pub mod Laws
+pub mod OneReport
 pub mod ExpectedTrades
 pub mod InMemory
 pub mod Corollaries

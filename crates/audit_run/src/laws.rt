@@ -1,9 +1,36 @@
-//! That an audit accepts the trades that `expect` writes, what `generate` answers, and that a certificate
-//! that was written is verified. That two logs have one verdict stands in `log_verdict`.
+//! That a command has one report, that an audit accepts the trades that `expect` writes, what `generate` answers, and
+//! that a certificate that was written is verified. That two logs have one verdict stands in `log_verdict`.
 ghost use Rattle.audit_run.specs.ExpectedTrades.{AuditAcceptsExpectedTrades, ExpectedTradesAreAccepted};
 ghost use Rattle.audit_run.specs.Laws.{CertifiedIsVerified, GenerateWrites};
+ghost use Rattle.audit_run.specs.OneReport.{OneReport, RunsAgree};
 
+use audit_certificate::one_answer::{one_answer_for_a_text, one_certificate};
+use log_verdict::laws::records_are_in_range;
 pub use log_verdict::laws::{forms_agree, one_verdict};
+use session_audit::laws::one_day_offence;
+use verdict_laws::histories::expected_trades_are_one;
+
+/// Two reports on one request and the same logs have the same status and the same text, whatever the command is and
+/// however long the logs are. So what the headline of `run` says is written is one text.
+pub fn one_report()
+    ensures { OneReport }
+{
+    one_verdict();
+    one_certificate();
+    one_answer_for_a_text();
+    one_day_offence();
+    expected_trades_are_one();
+    records_are_in_range();
+}
+
+/// Of two calls of `run` on the same words, for both of which the same logs are there, within the size limit, and no
+/// fault rises, one runs out of memory, or both answer the same status and write the same text: whatever shelves and
+/// sinks they have, and however the bytes are cut.
+pub fn runs_agree()
+    ensures { RunsAgree }
+{
+    one_report();
+}
 
 /// Where a call of `run` on the words of `expect` answers 0, over a shelf and a sink that tell, the text that
 /// it wrote is accepted as a CSV trade log beside the same order log, under the same rule, with a table or

@@ -1,28 +1,19 @@
 -- Under each rule of a call some list of deals conforms, and each list of deals conforms or has a first offence.
-use Rattle.std.proofs.Common.{◌≡◌, Result, ℕ, [], ◌∷◌, length, ◌<◌, List, false, Option, Some, None, refl, sym, inl, inr, subst, All}
-use Rattle.std.specs.Prelude.{◌^◌, MatchOption}
+use Rattle.std.proofs.Common.{◌≡◌, ℕ, List, false, Option, Some, None, refl, inl, inr, All}
 use Rattle.std.proofs.lemmas.Bool.{cases_lt}
 use Rattle.audit_base.specs.declared.terms.Side.TheVariants.{Buy, Sell}
-use Rattle.audit_base.specs.declared.terms.Rule.{Rule}
 use Rattle.audit_base.specs.declared.terms.CallRule.{CallRule}
 use Rattle.audit_base.specs.declared.terms.CallRule.TheVariants as call
 use Rattle.audit_base.specs.declared.terms.VolumeRule.TheVariants as of_volume
 use Rattle.audit_base.specs.RuleKinds.{rule_of_call, asks_one_price}
 use Rattle.audit_base.specs.declared.orders.Order.{Order}
 use Rattle.audit_base.specs.declared.orders.Deal.{Deal}
-use Rattle.audit_base.specs.declared.records.OrderRecord.{OrderRecord}
-use Rattle.audit_base.specs.declared.records.TradeRecord.{TradeRecord}
 use Rattle.audit_base.specs.declared.findings.Finding.{Finding}
 use Rattle.audit_base.specs.Orders.{IsOrderList, AreOrders}
 use Rattle.audit_base.specs.Deals.{NamesOrders, traded, volume}
 use Rattle.audit_base.specs.CallOffences.{matching_offence, fair_offence, early_offence}
 use Rattle.audit_base.specs.Flaws.{finding_of}
-use Rattle.audit_base.specs.Least.{first_of}
-use Rattle.audit_base.specs.Histories.{history_finding, order_list}
-use Rattle.audit_base.specs.Trades.{AreTrades, unsound_trade, deals_of}
-use Rattle.audit_base.specs.Verdicts.{IsVerdict, IsRuleVerdict, call_finding, pairing_finding, paired_trades, log_finding}
-use Rattle.audit_base.proofs.HistoryLemmas.{order_list-is}
-use Rattle.audit_base.proofs.TradeLemmas.{sound-names, deals-ranges}
+use Rattle.audit_base.specs.Verdicts.{IsRuleVerdict}
 use Rattle.audit_base.proofs.LeastLemmas.{cases_Option, option_or-parts}
 use Rattle.audit_base.proofs.OffenceLemmas.{no_offence-matching, no_offence-fair}
 use Rattle.call_laws.specs.Existence.{ConformingListExists, ExpectedTradesExist, DuesExist, RuleVerdictExists}
@@ -87,41 +78,3 @@ verdict r orders deals count list ranges named range = elim (cases_Option (early
   | inr (f, some) ↦ (Some f, first-of_call r orders deals count f (early-offence r orders deals count f some))
   | inl none ↦ late_verdict r orders deals count none list ranges named
 ]
-
--- so two logs that have been read have a verdict
-module _ (symbol : List ℕ) (entries : List OrderRecord) (trades : Result (List TradeRecord) Finding) where
-  abbrev orders : List Order
-  orders = order_list symbol entries
-
-  abbrev deals : List Deal
-  deals = deals_of orders symbol (paired_trades trades)
-
-  abbrev count : ℕ
-  count = length (paired_trades trades)
-
-  -- what the verdict is where the phases before the rule have no finding
-  abbrev by_rule : Rule → Option Finding → Option Finding → Type 0
-  by_rule the_rule v found = MatchOption found (IsRuleVerdict the_rule orders deals count v) (λ f. v ≡ Some f)
-
-  record IsClean : Type 0 where
-    formed : history_finding symbol entries ≡ None
-    sound : unsound_trade orders symbol (paired_trades trades) ≡ None
-
-  clean : (the_rule : Rule) → log_finding the_rule symbol entries trades ≡ None → IsClean
-  clean the_rule none =
-      let last = unsound_trade orders symbol (paired_trades trades) in
-      let formed = option_or-parts (history_finding symbol entries) (first_of (call_finding the_rule orders ∷ pairing_finding trades ∷ last ∷ [])) none in
-      let later = option_or-parts (call_finding the_rule orders) (first_of (pairing_finding trades ∷ last ∷ [])) formed.1 in
-      let latest = option_or-parts (pairing_finding trades) (first_of (last ∷ [])) later.1 in
-      record { formed = formed.0; sound = (option_or-parts last None latest.1).0 }
-
-  pub logs-verdict : (r : CallRule) → length entries < 2 ^ 32 → AreOrders orders → AreTrades (paired_trades trades)
-      → (v : Option Finding) × IsVerdict (rule_of_call r) symbol entries trades v
-  logs-verdict r few ranges range = elim (cases_Option (log_finding (rule_of_call r) symbol entries trades)) [
-    | inr (f, some) ↦ (Some f, subst (by_rule (rule_of_call r) (Some f)) (sym some) refl)
-    | inl none ↦
-        let is = clean (rule_of_call r) none in
-        let v = verdict r orders deals count (order_list-is symbol entries is.formed few) ranges
-        (sound-names orders symbol (paired_trades trades) is.sound) (deals-ranges orders symbol (paired_trades trades) range) in
-        (v.0, subst (by_rule (rule_of_call r) v.0) (sym none) v.1)
-  ]

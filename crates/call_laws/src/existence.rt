@@ -1,6 +1,6 @@
 //! That a call always has an answer. These laws ask for no memory, so they hold where a computation
 //! of the same would run out of it.
-ghost use Rattle.call_laws.specs.Existence.{LeastCutExists, GreatestExecutableVolumeExists, ConformingListExists, ExpectedTradesExist, DuesExist, RuleVerdictExists, VerdictExists, VerdictIsTheOnlyOne};
+ghost use Rattle.call_laws.specs.Existence.{LeastCutExists, GreatestExecutableVolumeExists, ConformingListExists, ExpectedTradesExist, DuesExist, RuleVerdictExists};
 
 /// Each order list has a least cut, and a greatest executable volume, over the prices from 0 to 10^18,
 /// each with the least price that reaches it.
@@ -24,15 +24,4 @@ pub fn expected_trades_and_dues_exist()
 /// Under each of the four rules of a call every list of deals conforms or has a first offence.
 pub fn rule_verdict_exists()
     ensures { RuleVerdictExists }
-{}
-
-/// Under each of the four rules of a call two logs that have been read have a verdict: accepted, or one
-/// finding.
-pub fn verdict_exists()
-    ensures { VerdictExists }
-{}
-
-/// Under each of the five rules two logs that have been read have at most one verdict.
-pub fn verdict_is_the_only_one()
-    ensures { VerdictIsTheOnlyOne }
 {}

@@ -40,3 +40,8 @@ ExpectedConform = (orders : List Order) (deals : List Deal) → IsOrderList orde
 abbrev pub ExpectedExist : Type 0
 ExpectedExist = (orders : List Order) → IsOrderList orders
     → (deals : List Deal) × IsExpectedContinuous orders deals
+
+-- and only one
+abbrev pub ExpectedAreOne : Type 0
+ExpectedAreOne = (orders : List Order) (ds es : List Deal) → IsOrderList orders
+    → IsExpectedContinuous orders ds → IsExpectedContinuous orders es → ds ≡ es

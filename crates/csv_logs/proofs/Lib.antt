@@ -11,3 +11,4 @@ pub mod ReaderLemmas
 pub mod PricedLemmas
 pub mod SymbolLemmas
 mod ClosedLemmas
+pub mod RangeLemmas

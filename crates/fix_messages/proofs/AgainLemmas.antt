@@ -21,6 +21,7 @@ use Rattle.fix_messages.specs.Written.{IsReportInForm, IsTradeInForm, IsWritable
 use Rattle.fix_messages.proofs.BodyLemmas.{fields-say}
 use Rattle.fix_messages.proofs.MeaningLemmas.{IsBody, order-again, order-body, report-again, report-body}
 use Rattle.fix_messages.proofs.ReadingLemmas.{good-read}
+use Rattle.fix_messages.proofs.SayLemmas.{say-bodies}
 
 module _ {R : Type 0} (meaning : List TagValue → Result (Option R) MessageFault) (fields_of : R → List TagValue) where
   -- the message of a record, which means it
@@ -52,7 +53,7 @@ module _ {R : Type 0} (meaning : List TagValue → Result (Option R) MessageFaul
     bodies = map (λ entry. bytes_of (fields_of entry)) entries;
     messages = messages-again entries are;
     meanings = map (λ (entry : R). Some entry) entries;
-    good = good-again entries are;
+    good = say-bodies meaning _ _ (good-again entries are);
     records = records-again entries;
   })
 

@@ -146,10 +146,10 @@ next-found before bytes field h =
     })
 
 -- fields that were found from the front, up to bytes at whose front no field can be read
-record IsSplit (before : Option TagValue) (bytes : List ℕ) (split : Split) : Type 0 where
-  whole : bytes ≡ bytes_of split.fields ++ split.left
-  forms : AreFields before split.fields
-  none : NoField (last_of before split.fields) split.left
+pub record IsSplit (before : Option TagValue) (bytes : List ℕ) (split : Split) : Type 0 where
+  pub whole : bytes ≡ bytes_of split.fields ++ split.left
+  pub forms : AreFields before split.fields
+  pub none : NoField (last_of before split.fields) split.left
 
 nothing-found : (before : Option TagValue) (bytes : List ℕ) → next_field before bytes ≡ None → NoField before bytes
 nothing-found before bytes none field more is cut =
@@ -179,7 +179,7 @@ split-is (suc most) before bytes h =
     let left = length-drop (length (field_bytes field)) bytes in
     split-is most (Some field) (drop (length (field_bytes field)) bytes) (omega (arith, h, size, left)))
 
-body-split : (body : List ℕ) → IsSplit None body (split_of body)
+pub body-split : (body : List ℕ) → IsSplit None body (split_of body)
 unfolding split_of
 body-split body = split-is (length body) None body (omega arith)
 

@@ -26,11 +26,11 @@ use Rattle.fix_messages.specs.Logs.{Item, after_item, item_says, items_from, rea
 use Rattle.audit_base.specs.Histories.{HasMarketPrice}
 
 -- what holds of every value that a row may give holds behind the row
-behind : {A B : Type 0} (P : B → Type 0) (a : Result A MessageFault) (next : A → Result B MessageFault) → ((x : A) → IfOk (next x) P) → IfOk (a >>= next) P
+pub behind : {A B : Type 0} (P : B → Type 0) (a : Result A MessageFault) (next : A → Result B MessageFault) → ((x : A) → IfOk (next x) P) → IfOk (a >>= next) P
 behind P (Ok x) next each = each x
 behind P (Err why) next each = tt
 
-behind-known : {A B : Type 0} (Q : A → Type 0) (P : B → Type 0) (a : Result A MessageFault) (next : A → Result B MessageFault) → IfOk a Q → ((x : A) → Q x → IfOk (next x) P) → IfOk (a >>= next) P
+pub behind-known : {A B : Type 0} (Q : A → Type 0) (P : B → Type 0) (a : Result A MessageFault) (next : A → Result B MessageFault) → IfOk a Q → ((x : A) → Q x → IfOk (next x) P) → IfOk (a >>= next) P
 behind-known Q P (Ok x) next known each = each x known
 behind-known Q P (Err why) next known each = tt
 

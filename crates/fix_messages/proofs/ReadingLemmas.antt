@@ -15,6 +15,7 @@ use Rattle.fix_framing.proofs.MessageLemmas.{NoFault-IsFrame}
 use Rattle.fix_messages.specs.declared.meanings.MessageFault.{MessageFault}
 use Rattle.fix_messages.specs.Bodies.{body_says}
 use Rattle.fix_messages.specs.Logs.{AreMessages, HasBadBody, HasRecords, IsBad, IsGood, IsOnlyReading, LacksFrame, after_item, begins_otherwise, frame_reason, items_from, read_items, read_log, with_first}
+use Rattle.fix_messages.proofs.SayLemmas.{bodies-say, of-says, says-of}
 use Rattle.fix_messages.proofs.LogLemmas.{frame-first, items-breaks, items-fault, items-frame, prepend, prepend-bad, prepend-ok}
 
 -- a good item before others
@@ -91,7 +92,7 @@ module _ {R : Type 0} (meaning : List TagValue → Result (Option R) MessageFaul
   unfolding read_log
   good-read log entries is =
       ap (λ (t : List ℕ). read_items (body_says meaning) (items_from 0 0 t)) (sym (append-nil log))
-      ∙ messages-read 0 log [] is.bodies is.meanings is.messages is.good ∙ prepend-ok (flat_map option_to_list is.meanings) []
+      ∙ messages-read 0 log [] is.bodies is.meanings is.messages (bodies-say meaning is.bodies is.meanings is.good) ∙ prepend-ok (flat_map option_to_list is.meanings) []
       ∙ ap Ok (append-nil (flat_map option_to_list is.meanings) ∙ sym is.records)
 
   -- what is read at a bad place
@@ -109,7 +110,7 @@ module _ {R : Type 0} (meaning : List TagValue → Result (Option R) MessageFaul
   bad-left at left why (inr bad) =
       ap (λ (t : List ℕ). read_items (body_says meaning) (items_from 0 at t)) bad.cut
       ∙ ap (read_items (body_says meaning)) (items-frame at bad.frame bad.rest bad.body bad.message)
-      ∙ ap (λ (s : Result (Option R) Reason). after_item at s (read_items (body_says meaning) (items_from 0 (at + length bad.frame) bad.rest))) bad.fails
+      ∙ ap (λ (s : Result (Option R) Reason). after_item at s (read_items (body_says meaning) (items_from 0 (at + length bad.frame) bad.rest))) (says-of meaning bad.body (Err why) bad.fails)
 
   bad-read : (log : List ℕ) (bad : BadPlace) → IsBad meaning log bad → read_log meaning log ≡ Err bad
   unfolding read_log
@@ -117,7 +118,7 @@ module _ {R : Type 0} (meaning : List TagValue → Result (Option R) MessageFaul
       let good = is.good in
       let count : 1 + length (flat_map option_to_list good.meanings) ≡ length is.entries + 1 = omega (arith, ap length good.records) in
       ap (λ (t : List ℕ). read_items (body_says meaning) (items_from 0 0 t)) is.cut
-      ∙ messages-read 0 is.front is.left good.bodies good.meanings good.messages good.good
+      ∙ messages-read 0 is.front is.left good.bodies good.meanings good.messages (bodies-say meaning good.bodies good.meanings good.good)
       ∙ ap (prepend (flat_map option_to_list good.meanings)) (bad-left (0 + length is.front) is.left is.why is.fails)
       ∙ prepend-bad (flat_map option_to_list good.meanings) (record { place = 1; offset = 0 + length is.front; reason = is.why })
       ∙ ap (λ (k : ℕ). Err (record { place = k; offset = 0 + length is.front; reason = is.why })) count
@@ -135,7 +136,7 @@ module _ {R : Type 0} (meaning : List TagValue → Result (Option R) MessageFaul
     bodies = body ∷ is.bodies;
     messages = (gap, frame, rest, breaks, message, cut, is.messages);
     meanings = new ∷ is.meanings;
-    good = let this = says in let others = is.good in cc;
+    good = (of-says meaning body (Ok new) says, is.good);
     records = ap (λ (l : List R). option_to_list new ++ l) is.records;
   }
 
@@ -162,7 +163,7 @@ module _ {R : Type 0} (meaning : List TagValue → Result (Option R) MessageFaul
 
   -- CR and LF bytes alone are a good text
   breaks-good : (gap : List ℕ) → list_all is_break gap ≡ true → HasRecords meaning gap []
-  breaks-good gap breaks = record { bodies = []; messages = breaks; meanings = []; good = refl; records = refl }
+  breaks-good gap breaks = record { bodies = []; messages = breaks; meanings = []; good = tt; records = refl }
 
   outcome-bad : (log gap left : List ℕ) (why : Reason) → log ≡ gap ++ left → list_all is_break gap ≡ true → LacksFrame left why ⊎ HasBadBody meaning left why → Outcome log
   outcome-bad log gap left why cut breaks fails =
@@ -183,7 +184,7 @@ module _ {R : Type 0} (meaning : List TagValue → Result (Option R) MessageFaul
       let whole : log ≡ gap ++ (frame ++ rest) = cut ∙ ap (λ (t : List ℕ). gap ++ t) split in
       elim (cases-result (body_says meaning (body_of left))) [
         | inl good ↦ outcome-more log gap frame (body_of left) rest good.0 whole breaks message good.1 (later rest (omega (arith, some, sizes)))
-        | inr bad ↦ outcome-bad log gap left bad.0 cut breaks (inr (record { frame = frame; body = body_of left; rest = rest; cut = split; message = message; fails = bad.1 }))
+        | inr bad ↦ outcome-bad log gap left bad.0 cut breaks (inr (record { frame = frame; body = body_of left; rest = rest; cut = split; message = message; fails = of-says meaning (body_of left) (Err bad.0) bad.1 }))
       ]
 
   outcome-left : (log gap left : List ℕ) → log ≡ gap ++ left → list_all is_break gap ≡ true → begins_otherwise left ≡ true

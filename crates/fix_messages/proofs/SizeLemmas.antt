@@ -13,6 +13,7 @@ use Rattle.fix_messages.specs.Bodies.{body_says}
 use Rattle.fix_messages.specs.Logs.{AreMessages, IsGood, read_log}
 use Rattle.fix_messages.proofs.LogLemmas.{frame-size}
 use Rattle.fix_messages.proofs.ReadingLemmas.{only_reading}
+use Rattle.fix_messages.proofs.SayLemmas.{bodies-say}
 
 messages-size : (text : List ℕ) (bodies : List (List ℕ)) → AreMessages text bodies → 9 * length bodies ≤ length text
 messages-size text [] messages = omega arith
@@ -34,7 +35,7 @@ all-ok (Err bad) holds all = tt
 module _ {R : Type 0} (meaning : List TagValue → Result (Option R) MessageFault) where
   good-size : (log : List ℕ) (entries : List R) → IsGood meaning log entries → 9 * length entries ≤ length log
   good-size log entries good =
-      let said = ap length good.good in
+      let said = ap length (bodies-say meaning good.bodies good.meanings good.good) in
       let bodies = length-map good.bodies (body_says meaning) in
       let meanings = length-map {B = Result (Option R) Reason} good.meanings Ok in
       omega (arith, said, bodies, meanings, ap length good.records, records-few good.meanings, messages-size log good.bodies good.messages)

@@ -1,5 +1,5 @@
 -- What the body of a message says, by what its fields mean in a kind of log.
-use Rattle.std.specs.Prelude.{◌≡◌, ◌⊎◌, ℕ, Option, Result, Ok, Err, List, [], ◌∷◌, length, if◌then◌else◌}
+use Rattle.std.specs.Prelude.{◌≡◌, ◌⊎◌, ⊤, ℕ, Option, Result, Ok, Err, List, [], ◌∷◌, length, if◌then◌else◌}
 use Rattle.audit_base.specs.declared.faults.Reason.{Reason}
 use Rattle.audit_base.specs.declared.faults.Reason.TheVariants as reason
 use Rattle.fix_fields.specs.Grammar.{TagValue, Fields, IsUnreadable, LacksType, begins_with_type, bytes_of}
@@ -43,11 +43,19 @@ pub record SaysUntyped {R : Type 0} (body : List ℕ) (said : Result (Option R) 
 abbrev pub BodySays : {R : Type 0} → Meaning R → List ℕ → Result (Option R) Reason → Type 0
 BodySays meaning body said = SaysFields meaning body said ⊎ (SaysUnreadable body said ⊎ SaysUntyped body said)
 
+-- the bodies say these records in turn, each its own one or nothing, and there are no more
+abbrev pub BodiesSay : {R : Type 0} → Meaning R → List (List ℕ) → List (Option R) → Type 0
+BodiesSay meaning [] [] = ⊤
+BodiesSay meaning [] (said ∷ others) = ⊥
+BodiesSay meaning (body ∷ bodies) [] = ⊥
+BodiesSay meaning (body ∷ bodies) (said ∷ others) =
+    BodySays meaning body (Ok said) × BodiesSay meaning bodies others
+
 -- what fields say behind which these bytes are left
 abbrev pub says_of : {R : Type 0} → Meaning R → List TagValue → List ℕ → Result (Option R) Reason
 says_of meaning fields [] = if begins_with_type fields then reasoned (meaning fields) else Err reason.MsgType
 says_of meaning fields (byte ∷ left) = Err (reason.Field (length (bytes_of fields)))
 
--- the same, found from the front of the body: `BodySays` holds of it and of nothing else
+-- what a body says, found from its front: `BodySays` holds of it and of nothing else (`BodySaysOnce`)
 unfoldable pub body_says : {R : Type 0} → Meaning R → List ℕ → Result (Option R) Reason
 body_says meaning body = says_of meaning (split_of body).fields (split_of body).left

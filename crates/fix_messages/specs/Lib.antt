@@ -9,6 +9,8 @@ pub mod BodyFields
 pub mod Bodies
 pub mod Logs
 pub mod Feeds
+-- each body says one thing, and each log is read in one way, with numbers in range
+pub mod Laws
 -- how reports are paired, and records written
 pub mod Pairings
 pub mod Written

@@ -1,7 +1,7 @@
 -- What a FIX log says: its records, or its first bad message. The words take what the fields of a message mean, so
 -- that they serve
 -- order logs and trade logs.
-use Rattle.std.specs.Prelude.{◌≡◌, ◌↔◌, ◌⊎◌, Bool, false, not, ℕ, zero, suc, ◌+◌, ◌-◌, Option, Some, None, Result, Ok, Err, List, [], ◌∷◌, ◌++◌, length, map, IsTrue, if◌then◌else◌}
+use Rattle.std.specs.Prelude.{◌≡◌, ◌↔◌, ◌⊎◌, Bool, false, not, ℕ, zero, suc, ◌+◌, ◌-◌, Option, Some, None, Result, Ok, Err, List, [], ◌∷◌, ◌++◌, length, IsTrue, if◌then◌else◌}
 use Rattle.std.specs.List.{list_all, flat_map}
 use Rattle.std.specs.Option.{option_to_list}
 use Rattle.audit_base.specs.declared.faults.Reason.{Reason}
@@ -13,7 +13,7 @@ use Rattle.fix_framing.specs.Frames.{IsFrame, frame_fault, frame_size, body_of}
 use Rattle.fix_framing.specs.declared.frames.FrameFault.{FrameFault}
 use Rattle.fix_framing.specs.declared.frames.FrameFault.TheVariants.{Begin, Length, Truncated, Trailer, Checksum}
 use Rattle.trade_reports.specs.declared.reports.Report.{Report}
-use Rattle.fix_messages.specs.Bodies.{Meaning, body_says}
+use Rattle.fix_messages.specs.Bodies.{Meaning, BodySays, BodiesSay, body_says}
 use Rattle.fix_messages.specs.OrderTables.{order_entry}
 use Rattle.fix_messages.specs.ReportTable.{report_entry}
 
@@ -92,7 +92,7 @@ pub record HasRecords {R : Type 0} (meaning : Meaning R) (text : List ℕ) (entr
   pub bodies : List (List ℕ)
   pub messages : AreMessages text bodies
   pub meanings : List (Option R)
-  pub good : map (body_says meaning) bodies ≡ map Ok meanings
+  pub good : BodiesSay meaning bodies meanings
   pub records : entries ≡ flat_map option_to_list meanings
 
 -- the log is good with these records
@@ -118,7 +118,7 @@ pub record HasBadBody {R : Type 0} (meaning : Meaning R) (text : List ℕ) (why 
   pub rest : List ℕ
   pub cut : text ≡ frame ++ rest
   pub message : IsFrame frame body
-  pub fails : body_says meaning body ≡ Err why
+  pub fails : BodySays meaning body (Err why)
 
 -- The log is bad there: behind messages that are good, and CR and LF bytes, no message begins, or one that fails a
 -- test. The place is one

@@ -3,7 +3,8 @@
 //!
 //! `orders` and `reports` read one message by the table of its type, `meanings` has their answers, and
 //! `entries` is the trait by which both kinds of log are read from their bodies: by `feeds` in pieces,
-//! by `logs` as a whole. `writers` writes messages, and `laws` says that they are read again. `pairing` and
+//! by `logs` as a whole; `reading_laws` says that each log is read in one way. `writers` writes messages,
+//! and `laws` says that they are read again. `pairing` and
 //! `pairing_draft`, which make trades of reports, are given on from `trade_reports`. What the tables are
 //! stands in `specs/`: `Rows` (how a tag is tested and read), `OrderTables`, `ReportTable`, `Bodies` (what a
 //! body says, its fields' faults included) and `Written` (what is written).
@@ -19,6 +20,7 @@ mod message;
 mod name_text;
 mod order_texts;
 pub mod orders;
+pub mod reading_laws;
 pub mod reports;
 mod rows;
 pub mod writers;

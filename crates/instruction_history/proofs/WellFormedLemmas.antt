@@ -49,7 +49,7 @@ pub history-is : (symbol : List ℕ) (entries : List OrderRecord) (d : HistorySo
 history-is symbol entries d few is =
     let same : d.orders.items ≡ order_list symbol entries = is.orders in
     record {
-      order_list = subst (λ (orders : List Order). IsOrderList orders) (sym same) (order_list-is symbol entries is.clean few);
+      order_list = subst (λ (orders : List Order). IsOrderList orders) (sym same) (order_list-is symbol entries few);
       regular = subst (λ (orders : List Order). Regular orders) (sym same) (order_list-regular symbol entries is.clean);
       numbers = is.numbers;
       own_keys = subst (λ (orders : List Order). HaveOwnKeys orders) (sym same) (order_list-keys symbol entries is.clean);

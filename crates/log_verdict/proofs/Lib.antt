@@ -2,3 +2,5 @@ mod CollectLemmas
 mod AuditLemmas
 mod VerdictLemmas
 mod LawLemmas
+mod RangeLemmas
+mod ExistenceLemmas

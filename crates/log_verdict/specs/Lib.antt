@@ -2,6 +2,8 @@
 -- read them from.
 pub mod LogVerdicts
 pub mod Laws
+pub mod Ranges
+pub mod Existence
 pub mod Steps
 -- What functions pass on to one another: one log, and two.
 pub mod Collecting

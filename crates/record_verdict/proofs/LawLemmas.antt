@@ -1,5 +1,5 @@
 -- The records of two logs have one verdict.
-use Rattle.std.proofs.Common.{◌≡◌, ◌∙◌, sym, ap, subst, ℕ, ◌<◌, List, Option, None, Some, Result, arith}
+use Rattle.std.proofs.Common.{◌≡◌, ◌∙◌, sym, ap, subst, ℕ, List, Option, None, Some, Result}
 use Rattle.std.specs.Prelude.{IsSomeAnd, MatchOption}
 use Rattle.audit_base.specs.declared.findings.Finding.{Finding}
 use Rattle.audit_base.specs.declared.orders.Cut.{Cut}
@@ -9,14 +9,12 @@ use Rattle.audit_base.specs.declared.records.OrderRecord.{OrderRecord}
 use Rattle.audit_base.specs.declared.records.TradeRecord.{TradeRecord}
 use Rattle.audit_base.specs.declared.terms.Rule.{Rule}
 use Rattle.audit_base.specs.declared.terms.VolumeRule.{VolumeRule}
-use Rattle.audit_base.specs.declared.terms.VolumeRule.TheVariants as of_volume
 use Rattle.audit_base.specs.RuleKinds.{volume_rule}
-use Rattle.audit_base.specs.Bounds.{IsBound}
 use Rattle.audit_base.specs.Deals.{volume}
 use Rattle.audit_base.specs.Histories.{order_list}
-use Rattle.audit_base.specs.Least.{IsLeast}
 use Rattle.audit_base.specs.Trades.{deals_of}
 use Rattle.audit_base.specs.Verdicts.{paired_trades}
+use Rattle.audit_base.proofs.VerdictLemmas.{one-bound}
 use Rattle.audit_report.specs.declared.tables.Line.{Line}
 use Rattle.audit_report.specs.declared.verdicts.Accepted.{Accepted}
 use Rattle.audit_report.specs.declared.verdicts.Verdict.{Verdict}
@@ -25,31 +23,20 @@ use Rattle.call_auction.specs.Audits.{IsBoundOf}
 use Rattle.record_verdict.specs.declared.questions.Question.{Question}
 use Rattle.record_verdict.specs.Judgements.{IsAcceptance, IsAcceptedLog, IsJudged, IsOutcome}
 
--- there is one least number with a property
-one-least : (P : ℕ → Type 0) (a b : ℕ) → IsLeast P a → IsLeast P b → a ≡ b
-one-least P a b x y =
-    let at_least : a < b → ⊥ = λ lt. y.none_below a lt x.holds in
-    let at_most : b < a → ⊥ = λ lt. x.none_below b lt y.holds in
-    omega arith
-
-one-price : (r : VolumeRule) (orders : List Order) (reached a b : ℕ) → IsBound r orders reached a → IsBound r orders reached b → a ≡ b
-one-price of_volume.Uniform orders reached a b x y = one-least _ a b x y
-one-price of_volume.Maximum orders reached a b x y = one-least _ a b x y
-
 same-cut : (c d : Cut) → c.price ≡ d.price → c.volume ≡ d.volume → c ≡ d
 same-cut c d price volume =
     ap (λ (p : ℕ). record { price = p; volume = c.volume }) price ∙ ap (λ (v : ℕ). record { price = d.price; volume = v }) volume
 
 one-cut : (r : VolumeRule) (orders : List Order) (reached : ℕ) (a b : Option Cut) → IsSomeAnd a (IsBoundOf r orders reached) → IsSomeAnd b (IsBoundOf r orders reached) → a ≡ b
 one-cut r orders reached (Some c) (Some d) x y =
-    ap (λ (z : Cut). Some z) (same-cut c d (one-price r orders reached c.price d.price x.shows y.shows) (x.volume_is ∙ sym y.volume_is))
+    ap (λ (z : Cut). Some z) (same-cut c d (one-bound r orders reached c.price d.price x.shows y.shows) (x.volume_is ∙ sym y.volume_is))
 one-cut r orders reached (Some c) None x y = absurd y
 one-cut r orders reached None b x y = absurd x
 
-one-bound : (r : Option VolumeRule) (orders : List Order) (reached : ℕ) (a b : Option Cut)
+one-shown : (r : Option VolumeRule) (orders : List Order) (reached : ℕ) (a b : Option Cut)
     → MatchOption r (a ≡ None) (λ v. IsSomeAnd a (IsBoundOf v orders reached)) → MatchOption r (b ≡ None) (λ v. IsSomeAnd b (IsBoundOf v orders reached)) → a ≡ b
-one-bound (Some r) orders reached a b x y = one-cut r orders reached a b x y
-one-bound None orders reached a b x y = x ∙ sym y
+one-shown (Some r) orders reached a b x y = one-cut r orders reached a b x y
+one-shown None orders reached a b x y = x ∙ sym y
 
 same-accepted : (a b : Accepted) → a.rule ≡ b.rule → a.symbol ≡ b.symbol → a.orders ≡ b.orders → a.trades ≡ b.trades → a.volume ≡ b.volume → a.bound ≡ b.bound → a.table ≡ b.table → a ≡ b
 same-accepted a b r s o t v c l =
@@ -65,7 +52,7 @@ module _ (q : Question) (orders : List Order) (deals : List Deal) where
   one-accepted : (a b : Accepted) → IsAcceptedLog q orders deals a → IsAcceptedLog q orders deals b → a ≡ b
   one-accepted a b x y =
       same-accepted a b (x.rule_is ∙ sym y.rule_is) (x.symbol_is ∙ sym y.symbol_is) (x.orders_are ∙ sym y.orders_are) (x.trades_are ∙ sym y.trades_are)
-      (x.volume_is ∙ sym y.volume_is) (one-bound (volume_rule q.rule) orders (volume deals) a.bound b.bound x.bound_is y.bound_is) (x.table_is ∙ sym y.table_is)
+      (x.volume_is ∙ sym y.volume_is) (one-shown (volume_rule q.rule) orders (volume deals) a.bound b.bound x.bound_is y.bound_is) (x.table_is ∙ sym y.table_is)
 
   one-acceptance : (a b : Verdict) → IsAcceptance q orders deals a → IsAcceptance q orders deals b → a ≡ b
   one-acceptance (verdict.Accepted x) (verdict.Accepted y) is same = ap (λ (z : Accepted). verdict.Accepted z) (one-accepted x y is same)

@@ -4,3 +4,4 @@ mod JudgeLemmas
 mod RuleLemmas
 mod VerdictLemmas
 mod LawLemmas
+mod ExistenceLemmas

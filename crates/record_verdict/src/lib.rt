@@ -4,10 +4,12 @@
 //! `questions` has what is asked, `scopes` what of it a reading needs to know. `before_rule` has what two logs
 //! come to before the rule is looked at, `rules` hands sound trades to the audit of the rule, `tables` makes the
 //! table of an accepted log, and `verdicts` puts them together. `judging` is the same for records that are there
-//! as a whole, and `laws` has what follows. Nothing here reads a log: that is for `log_verdict`, which stands on this crate.
+//! as a whole, `laws` has what follows, and `existence` that there is a verdict. Nothing here reads a log: that
+//! is for `log_verdict`, which stands on this crate.
 #![tactic(auto)]
 
 pub mod before_rule;
+pub mod existence;
 pub mod judging;
 pub mod laws;
 pub mod questions;

@@ -34,10 +34,10 @@ module _ (phases : List Phase) (orders : List Order) (list : IsOrderList orders)
   amount k = brought orders (first_place phases k) (rest_before phases orders deals k) (chain_earlier phases orders deals k)
 
   at : (k i : ℕ) → i < length (here k) → order_at (here k) i ≡ phase_order (first_place phases k) (end_place phases k) (amount k i) (order_at orders i)
-  at k i lt = phase-at orders list (end_place phases k) (first_place phases k) (rest_before phases orders deals k) (chain_earlier phases orders deals k) i lt
+  at k i lt = phase-at orders (end_place phases k) (first_place phases k) (rest_before phases orders deals k) (chain_earlier phases orders deals k) i lt
 
   inside : (k i : ℕ) → i < length (here k) → i < length orders
-  inside k i lt = phase-inside orders list (end_place phases k) (first_place phases k) (rest_before phases orders deals k) (chain_earlier phases orders deals k) i lt
+  inside k i lt = phase-inside orders (end_place phases k) (first_place phases k) (rest_before phases orders deals k) (chain_earlier phases orders deals k) i lt
 
   -- the quantity of an order of a phase is that which it brings, or its written one
   quantity-is : (first last a : ℕ) (o : Order) → a ≤ o.quantity → 0 < o.quantity → (0 < (phase_order first last a o).quantity) × ((phase_order first last a o).quantity ≤ o.quantity)
@@ -125,8 +125,8 @@ carried-apart law phases orders deals k list numbers ranges call conforms bid as
     let left_ask = call-left (kind_at phases k) here dealt last ask call in
     let in_bid : bid < length here = elim (cases_lt bid (length here)) [ inl lt ↦ lt | inr past ↦ let z = left-past (kind_at phases k) here dealt last bid past in absurd (omega arith) ] in
     let in_ask : ask < length here = elim (cases_lt ask (length here)) [ inl lt ↦ lt | inr past ↦ let z = left-past (kind_at phases k) here dealt last ask past in absurd (omega arith) ] in
-    let side_bid = phase-side orders list last (first_place phases k) (rest_before phases orders deals k) (chain_earlier phases orders deals k) bid in_bid in
-    let side_ask = phase-side orders list last (first_place phases k) (rest_before phases orders deals k) (chain_earlier phases orders deals k) ask in_ask in
+    let side_bid = phase-side orders last (first_place phases k) (rest_before phases orders deals k) (chain_earlier phases orders deals k) bid in_bid in
+    let side_ask = phase-side orders last (first_place phases k) (rest_before phases orders deals k) (chain_earlier phases orders deals k) ask in_ask in
     let apart = call-apart law (kind_at phases k) here dealt call (phase-numbers phases orders list deals numbers k) (deals-numbers phases orders deals k ranges) conforms bid ask
     (short-of here dealt Buy bid (side_bid ∙ buys) (omega arith)) (short-of here dealt Sell ask (side_ask ∙ sells) (omega arith)) in
     let limit_of : (i : ℕ) → i < length here → limit_at here i ≡ limit_at orders i = λ i lt.

@@ -12,6 +12,7 @@ use Rattle.audit_base.specs.Histories.{Regular}
 use Rattle.audit_base.specs.Rules.{Conforms}
 use Rattle.audit_base.specs.CallOffences.{is_cancelled}
 use Rattle.audit_base.specs.Continuous.{size, entered, before, traded_before, rests, rests_after, left_after, size_of}
+use Rattle.audit_base.proofs.OrderLemmas.{place-rises}
 use Rattle.continuous_laws.proofs.StepLemmas.{rests-parts}
 use Rattle.session_audit.specs.declared.phases.Phase.{Phase}
 use Rattle.session_audit.specs.declared.phases.PhaseKind.{PhaseKind}
@@ -121,8 +122,8 @@ module _ (phases : List Phase) (are : ArePhases phases) (orders : List Order) (l
 
     quantity-le : (i : ℕ) → i < length here → quantity_at here i ≤ quantity_at orders i
     quantity-le i lt =
-        let at = ap (λ (o : Order). o.quantity) (phase-at orders list (end_place phases k) (first_place phases k) (rest_before phases orders deals k) (chain_earlier phases orders deals k) i lt) in
-        let in_orders = phase-inside orders list (end_place phases k) (first_place phases k) (rest_before phases orders deals k) (chain_earlier phases orders deals k) i lt in
+        let at = ap (λ (o : Order). o.quantity) (phase-at orders (end_place phases k) (first_place phases k) (rest_before phases orders deals k) (chain_earlier phases orders deals k) i lt) in
+        let in_orders = phase-inside orders (end_place phases k) (first_place phases k) (rest_before phases orders deals k) (chain_earlier phases orders deals k) i lt in
         let m = brought-le orders list (first_place phases k) (rest_before phases orders deals k) (chain_earlier phases orders deals k) i in_orders (rest-le i) in
         let a = amount-le (brought orders (first_place phases k) (rest_before phases orders deals k) (chain_earlier phases orders deals k) i) (order_at orders i) m in
         omega arith
@@ -181,10 +182,10 @@ ready phases are orders list regular deals dl ranges k inside here dealt last he
     let at : IsReady orders (phase_orders phases orders deals k) (phase_deals phases orders deals k) (end_place phases k) = record {
       order_list = phase-is_list orders list (end_place phases k) (first_place phases k) (rest_before phases orders deals k) (chain_earlier phases orders deals k);
       regular = phase-is_regular orders list (end_place phases k) (first_place phases k) (rest_before phases orders deals k) (chain_earlier phases orders deals k) regular;
-      deal_list = deals-list phases orders list deals k dl;
-      ends = causes-upto phases orders list deals k dl.named;
+      deal_list = deals-list phases orders (place-rises orders list) deals k dl;
+      ends = causes-upto phases orders (place-rises orders list) deals k dl.named;
       more = λ i. let m = in-le phases are orders deals k i inside in let s = traded-small deals ranges dl.few i in omega arith;
-      few = let e = phase-length orders list (end_place phases k) (first_place phases k) (rest_before phases orders deals k) (chain_earlier phases orders deals k) in let m = upto-inside orders list (end_place phases k) in omega arith;
+      few = let e = phase-length orders (end_place phases k) (first_place phases k) (rest_before phases orders deals k) (chain_earlier phases orders deals k) in let m = upto-inside orders (end_place phases k) in omega arith;
     } in
     subst (λ h. IsReady orders h dealt last) (sym here_is) (subst (λ d. IsReady orders (phase_orders phases orders deals k) d last) (sym dealt_is) (subst (IsReady orders (phase_orders phases orders deals k) (phase_deals phases orders deals k)) (sym last_is) at))
 

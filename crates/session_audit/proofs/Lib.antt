@@ -13,6 +13,7 @@ pub mod ListedLemmas
 pub mod PhaseListLemmas
 pub mod PartLemmas
 pub mod PhaseDealLemmas
+pub mod OneOffenceLemmas
 pub mod TotalLemmas
 pub mod UniqueLemmas
 pub mod TextLemmas

@@ -70,7 +70,11 @@ order-cancelled first last amount o c e = elim (cases_lt 0 amount) [
   | inr none ↦ inr (some-same c o.place (sym e ∙ ap (λ (p : Order). p.cancelled) (order-gone first last amount o (omega arith))))
 ]
 
-module _ (orders : List Order) (list : IsOrderList orders) (last : ℕ) where
+-- places rise from index to index
+abbrev pub Rises : List Order → Type 0
+Rises orders = (i j : ℕ) → i < j → j < length orders → place_at orders i < place_at orders j
+
+module _ (orders : List Order) (last : ℕ) where
   -- the orders up to a place are those of at most this place
   pub upto-inside : orders_upto orders last ≤ length orders
   upto-inside = prefix_len-le-length (λ (o : Order). nat_le o.place last) orders
@@ -78,15 +82,15 @@ module _ (orders : List Order) (list : IsOrderList orders) (last : ℕ) where
   pub upto-below : (i : ℕ) → i < orders_upto orders last → place_at orders i ≤ last
   upto-below i lt = leb-true _ _ (prefix_len_passes (λ (o : Order). nat_le o.place last) orders i missing_order lt)
 
-  pub below-upto : (i : ℕ) → i < length orders → place_at orders i ≤ last → i < orders_upto orders last
-  below-upto i lt le = elim (cases_lt i (orders_upto orders last)) [
+  pub below-upto : Rises orders → (i : ℕ) → i < length orders → place_at orders i ≤ last → i < orders_upto orders last
+  below-upto rises i lt le = elim (cases_lt i (orders_upto orders last)) [
     | inl below ↦ below
     | inr above ↦
         let n : ℕ = orders_upto orders last in
         let stops : nat_le (place_at orders n) last ≡ false = prefix_len_stops (λ (o : Order). nat_le o.place last) orders missing_order (omega arith) in
         let rises : place_at orders n ≤ place_at orders i = elim (cases_order n i) [
           | inl e ↦ let s : place_at orders n ≡ place_at orders i = ap (place_at orders) e in omega arith
-          | inr ne ↦ elim ne [ inl less ↦ let r = place-rises orders list n i less lt in omega arith | inr more ↦ absurd (omega arith) ]
+          | inr ne ↦ elim ne [ inl less ↦ let r = rises n i less lt in omega arith | inr more ↦ absurd (omega arith) ]
         ] in
         absurd (both_ways _ stops (le-leb (place_at orders n) last (omega arith)))
   ]
@@ -124,61 +128,68 @@ module _ (orders : List Order) (list : IsOrderList orders) (last : ℕ) where
     pub phase-upto : (i : ℕ) → i < length phase → place_at orders i ≤ last
     phase-upto i lt = upto-below i (let e = phase-length in omega arith)
 
-    pub phase-below : (i : ℕ) → i < length orders → place_at orders i ≤ last → i < length phase
-    phase-below i lt le = let e = phase-length in let b = below-upto i lt le in omega arith
+    pub phase-below : Rises orders → (i : ℕ) → i < length orders → place_at orders i ≤ last → i < length phase
+    phase-below rises i lt le = let e = phase-length in let b = below-upto rises i lt le in omega arith
 
     pub phase-target : (i t : ℕ) → i < length phase → (order_at phase i).target ≡ Some t → (0 < amount i) × (first ≤ place_at orders i) × ((order_at orders i).target ≡ Some t)
     phase-target i t lt e = order-target first last (amount i) (order_at orders i) t (sym (ap (λ (o : Order). o.target) (phase-at i lt)) ∙ e)
 
-    pub phase-is_list : IsOrderList phase
-    phase-is_list = record {
-      rising = λ i j d less lt.
-          let inside = phase-inside j lt in
-          let r = place-rises orders list i j less inside in
-          let a : (get_or phase i d).place ≡ place_at phase i = ap (λ (o : Order). o.place) (get_or-default phase i d missing_order (omega arith)) in
-          let b : (get_or phase j d).place ≡ place_at phase j = ap (λ (o : Order). o.place) (get_or-default phase j d missing_order lt) in
-          let x = phase-place i (omega arith) in
-          let y = phase-place j lt in
-          omega arith;
-      few = let f = list.few in let e = phase-length in let m = upto-inside in omega arith;
-      targets = λ i t lt e.
-          let p = phase-target i t lt e in
-          let is = list.targets i t (phase-inside i lt) p.2 in
-          let less = is.0 in
-          (less, phase-side t (omega arith) ∙ is.1 ∙ sym (phase-side i lt));
-      resting = λ i t lt e. phase-life i lt ∙ list.resting i t (phase-inside i lt) (phase-target i t lt e).2;
-    }
-
     phase-cancelled : (i c : ℕ) → i < length phase → (order_at phase i).cancelled ≡ Some c → (((order_at orders i).cancelled ≡ Some c) × (c ≤ last)) ⊎ (c ≡ place_at orders i)
     phase-cancelled i c lt e = order-cancelled first last (amount i) (order_at orders i) c (sym (ap (λ (o : Order). o.cancelled) (phase-at i lt)) ∙ e)
 
-    pub phase-is_regular : Regular orders → Regular phase
-    phase-is_regular regular = record {
-      own = λ i c lt e.
-          let p = phase-place i lt in
-          elim (phase-cancelled i c lt e) [
-            | inl of ↦ let o = regular.own i c (phase-inside i lt) of.0 in omega arith
-            | inr gone ↦ omega arith
-          ];
-      same_sides = λ i j hi hj e.
-          let p = phase-place j hj in
-          let inside = phase-inside i hi in
-          let inside_j = phase-inside j hj in
-          elim (phase-cancelled i (place_at phase j) hi e) [
-            | inl of ↦ phase-side j hj ∙ regular.same_sides i j inside inside_j (of.0 ∙ ap Some p) ∙ sym (phase-side i hi)
-            | inr gone ↦ ap (side_at phase) (same_place orders list j i inside_j inside (sym p ∙ gone))
-          ];
-      targets = λ i t lt e.
-          let p = phase-target i t lt e in
-          let inside = phase-inside i lt in
-          let is = list.targets i t inside p.2 in
-          let less = is.0 in
-          let r = regular.targets i t inside p.2 in
-          let le = r.2 in
-          let brings = target-brings orders list first rest spent i t inside p.2 p.1 p.0 in
-          let upto = phase-upto i lt in
-          let t_at : order_at phase t ≡ record (order_at orders t) { quantity = amount t; cancelled = ended_upto last (order_at orders t).cancelled; target = cond (nat_lt (place_at orders t) first) None (order_at orders t).target }
-          = phase-at t (omega arith) ∙ order-present first last (amount t) (order_at orders t) brings in
-          let here = phase-place i lt in
-          (r.0, ap (λ (o : Order). o.cancelled) t_at ∙ is-ended last r.0 (order_at orders t).cancelled r.1 (omega arith), omega arith);
-    }
+    module _ (list : IsOrderList orders) where
+      pub listed-phase : IsOrderList phase
+      listed-phase = record {
+        rising = λ i j d less lt.
+            let inside = phase-inside j lt in
+            let r = place-rises orders list i j less inside in
+            let a : (get_or phase i d).place ≡ place_at phase i = ap (λ (o : Order). o.place) (get_or-default phase i d missing_order (omega arith)) in
+            let b : (get_or phase j d).place ≡ place_at phase j = ap (λ (o : Order). o.place) (get_or-default phase j d missing_order lt) in
+            let x = phase-place i (omega arith) in
+            let y = phase-place j lt in
+            omega arith;
+        few = let f = list.few in let e = phase-length in let m = upto-inside in omega arith;
+        targets = λ i t lt e.
+            let p = phase-target i t lt e in
+            let is = list.targets i t (phase-inside i lt) p.2 in
+            let less = is.0 in
+            (less, phase-side t (omega arith) ∙ is.1 ∙ sym (phase-side i lt));
+        resting = λ i t lt e. phase-life i lt ∙ list.resting i t (phase-inside i lt) (phase-target i t lt e).2;
+      }
+
+      pub regular-phase : Regular orders → Regular phase
+      regular-phase regular = record {
+        own = λ i c lt e.
+            let p = phase-place i lt in
+            elim (phase-cancelled i c lt e) [
+              | inl of ↦ let o = regular.own i c (phase-inside i lt) of.0 in omega arith
+              | inr gone ↦ omega arith
+            ];
+        same_sides = λ i j hi hj e.
+            let p = phase-place j hj in
+            let inside = phase-inside i hi in
+            let inside_j = phase-inside j hj in
+            elim (phase-cancelled i (place_at phase j) hi e) [
+              | inl of ↦ phase-side j hj ∙ regular.same_sides i j inside inside_j (of.0 ∙ ap Some p) ∙ sym (phase-side i hi)
+              | inr gone ↦ ap (side_at phase) (same_place orders list j i inside_j inside (sym p ∙ gone))
+            ];
+        targets = λ i t lt e.
+            let p = phase-target i t lt e in
+            let inside = phase-inside i lt in
+            let is = list.targets i t inside p.2 in
+            let less = is.0 in
+            let r = regular.targets i t inside p.2 in
+            let le = r.2 in
+            let brings = target-brings orders list first rest spent i t inside p.2 p.1 p.0 in
+            let upto = phase-upto i lt in
+            let t_at : order_at phase t ≡ record (order_at orders t) { quantity = amount t; cancelled = ended_upto last (order_at orders t).cancelled; target = cond (nat_lt (place_at orders t) first) None (order_at orders t).target }
+            = phase-at t (omega arith) ∙ order-present first last (amount t) (order_at orders t) brings in
+            let here = phase-place i lt in
+            (r.0, ap (λ (o : Order). o.cancelled) t_at ∙ is-ended last r.0 (order_at orders t).cancelled r.1 (omega arith), omega arith);
+      }
+
+pub phase-is_list : (orders : List Order) → IsOrderList orders → (last first : ℕ) (rest spent : ℕ → ℕ) → IsOrderList (phase_list orders first last rest spent)
+phase-is_list orders list last first rest spent = listed-phase orders last first rest spent list
+
+pub phase-is_regular : (orders : List Order) → IsOrderList orders → (last first : ℕ) (rest spent : ℕ → ℕ) → Regular orders → Regular (phase_list orders first last rest spent)
+phase-is_regular orders list last first rest spent = regular-phase orders last first rest spent list

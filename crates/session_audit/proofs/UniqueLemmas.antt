@@ -28,7 +28,7 @@ use Rattle.session_audit.specs.Laws.{DayUniqueness, DayPairs}
 use Rattle.session_audit.proofs.PhaseListLemmas.{phase-is_list, phase-is_regular}
 
 -- the deals of a phase have numbers in range where all deals have
-in-range : (phases : List Phase) (orders : List Order) (deals : List Deal) (k : ℕ) → AreDeals deals → AreDeals (phase_deals phases orders deals k)
+pub in-range : (phases : List Phase) (orders : List Order) (deals : List Deal) (k : ℕ) → AreDeals deals → AreDeals (phase_deals phases orders deals k)
 unfolding phase_deals
 in-range phases orders deals k ranges = All-filter (λ d. lies_in phases k (cause orders d)) IsDeal deals ranges
 

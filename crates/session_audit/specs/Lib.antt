@@ -6,6 +6,7 @@ pub mod Days
 pub mod Audits
 pub mod Texts
 pub mod Laws
+pub mod OneOffence
 -- What private functions pass on.
 pub mod Numbers
 pub mod Entering

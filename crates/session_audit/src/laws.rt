@@ -1,6 +1,7 @@
 //! What holds of every trading day. Nothing is computed here: a law is a function's contract, so that
 //! the check proves it.
 ghost use Rattle.session_audit.specs.Laws.{CarriedOrdersDoNotMeet, DayUniqueness, DayPairs, PhaseOrdersAreListed, PhaseOrdersAreRegular};
+ghost use Rattle.session_audit.specs.OneOffence.{DayOffenceIsOne};
 
 use call_laws::laws::short_orders_do_not_meet;
 use continuous_laws::laws::continuous_uniqueness;
@@ -30,3 +31,9 @@ pub fn carried_orders_do_not_meet()
 {
     short_orders_do_not_meet();
 }
+
+/// A day has at most one first offence, however long its logs are: finding 16, or else that of the least phase
+/// that fails.
+pub fn one_day_offence()
+    ensures { DayOffenceIsOne }
+{}

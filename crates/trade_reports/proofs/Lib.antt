@@ -1,3 +1,4 @@
 mod FirstLemmas
 mod PairLemmas
 mod AgainLemmas
+mod RangeLemmas

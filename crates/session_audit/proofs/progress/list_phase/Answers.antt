@@ -13,20 +13,20 @@ use Rattle.session_audit.proofs.progress.list_phase.Goals as goal
 pub amounts_of-requires-clause-inside : goal.amounts_of-requires-clause-inside
 amounts_of-requires-clause-inside c =
     let e = c.orders_upto-count.ensures in
-    let m = upto-inside c.args.orders.now c.requires.order_list c.end_place-last.result in
+    let m = upto-inside c.args.orders.now c.end_place-last.result in
     omega arith
 
 pub amounts_of-requires-clause-counted : goal.amounts_of-requires-clause-counted
 amounts_of-requires-clause-counted c =
     let e = c.orders_upto-count.ensures in
-    let m = upto-inside c.args.orders.now c.requires.order_list c.end_place-last.result in
+    let m = upto-inside c.args.orders.now c.end_place-last.result in
     let long : length c.deref-3.result.now ≡ length c.args.orders.now = ap length (c.deref-3.ensures.value ∙ c.in_ok-spent.ensures.are) ∙ length-listed (chain_total c.args.orders.now c.deref.result.now) (length c.args.orders.now) in
     omega arith
 
 pub list_orders-requires-clause-inside : goal.list_orders-requires-clause-inside
 list_orders-requires-clause-inside c =
     let e = c.orders_upto-count.ensures in
-    let m = upto-inside c.args.orders.now c.requires.order_list c.end_place-last.result in
+    let m = upto-inside c.args.orders.now c.end_place-last.result in
     let long : length c.deref-4.result.now ≡ c.orders_upto-count.result = ap length (c.deref-4.ensures.value ∙ c.in_ok-amounts.ensures)
     ∙ length-listed (brought c.args.orders.now c.first_place-first.result (number_in c.deref-2.result.now) (number_in c.deref-3.result.now)) c.orders_upto-count.result in
     omega arith
@@ -35,7 +35,7 @@ pub list_orders-requires-clause-most : goal.list_orders-requires-clause-most
 list_orders-requires-clause-most c =
     let orders = c.args.orders.now in
     let e = c.orders_upto-count.ensures in
-    let m = upto-inside orders c.requires.order_list c.end_place-last.result in
+    let m = upto-inside orders c.end_place-last.result in
     let left : AreLeft orders c.deref-2.result.now = subst (AreLeft orders) (sym c.deref-2.ensures.value) c.requires.most in
     amounts-most orders c.requires.order_list c.first_place-first.result c.deref-2.result.now c.deref-3.result.now c.orders_upto-count.result c.deref-4.result.now (omega arith) (c.deref-4.ensures.value ∙ c.in_ok-amounts.ensures) left
 

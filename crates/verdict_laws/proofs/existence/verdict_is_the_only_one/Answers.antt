@@ -1,5 +1,5 @@
 use Rattle.audit_base.proofs.VerdictLemmas.{one-verdict}
-use Rattle.call_laws.proofs.existence.verdict_is_the_only_one.Goals as goal
+use Rattle.verdict_laws.proofs.existence.verdict_is_the_only_one.Goals as goal
 
 pub returns : goal.returns
 returns c = one-verdict
