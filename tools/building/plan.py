@@ -6,9 +6,10 @@ above it, up to the program: the program comes no sooner than the longest way th
 
 import os
 
-# The memory of a check, and what each further job adds: the most that was measured, in bytes.
-FIRST_JOB = 2_000_000_000
-NEXT_JOB = 700_000_000
+# The memory of a check, and what each further job adds, in bytes, as measured: 0.6 to 1.0 GB, and 0.2 to 0.5 GB. A
+# program takes 2.6 GB, but nothing is left then that could run beside it.
+FIRST_JOB = 1_200_000_000
+NEXT_JOB = 500_000_000
 
 # The part of a check's work that its jobs share: three jobs were measured to be 2.2 to 2.6 times as fast as one.
 SHARED = 0.85
