@@ -11,8 +11,9 @@ from machine import free_memory
 from plan import Plan, read_measured, work_of
 from progress import minutes
 
-# How long to wait before the children are looked at again, in seconds.
+# How long to wait before the children are looked at again, and before the line that moves is made anew, in seconds.
 TICK = 0.1
+SHOWN = 1
 
 
 class NotBuilt(Exception):
@@ -48,7 +49,7 @@ class Build:
         if name not in left:
             left.append(name)
         self.plan = Plan(self.crates, left, work, processors, 0.85 * free_memory())
-        self.children, self.times = {}, []
+        self.children, self.times, self.last_shown = {}, [], 0
         self.began, self.first_left = time.monotonic(), self.plan.seconds_left({}, 1)
 
     def run(self, group):
@@ -124,7 +125,7 @@ class Build:
         if crate.is_program:
             record["sha256"] = sum_of(self.kept.made(crate))
         self.kept.keep(crate, record)
-        self.times.append((name, child.began - self.began, child.ended - self.began, took))
+        self.times.append((name, child.ended - self.began, took))
 
     # ---- What is shown ----
 
@@ -142,6 +143,9 @@ class Build:
         return f"{minutes(so_far)} so far, about {minutes(left)} left"
 
     def show(self):
+        if time.monotonic() < self.last_shown + SHOWN:
+            return
+        self.last_shown = time.monotonic()
         done = len(self.names) - len(self.plan.left)
         proving = ", ".join(self.plan.running)
         text = f"{done} of {len(self.names)} crates proved, {self.times_so_far()} (proving {proving})"
@@ -151,7 +155,7 @@ class Build:
         """Returns when each crate was proved and what it took, and the chain of crates that the program waited for."""
         lines = ["ended  seconds  jobs  processor seconds  greatest process (MB)  crate"]
         ends = {}
-        for name, _, ended, took in self.times:
+        for name, ended, took in self.times:
             ends[name] = ended
             lines.append(
                 f"{ended:7.1f} {took['seconds']:7.1f} {took['jobs']:3} {took['processor_seconds']:8.1f}"
