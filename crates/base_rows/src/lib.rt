@@ -4,7 +4,8 @@
 //!
 //! `values` has names, numbers, prices, times and words, `reports` whole texts of verdicts. `bodies` has bodies
 //! of FIX messages with their fields, `tags` what is found and written in them. `taking` reads logs from shelves,
-//! and `putting` writes to sinks. `seeds` has seeds of hashes, and `casebooks` files and lists cases.
+//! `opening` reads them from the files in memory of `stored_files`, and `putting` writes to sinks. `seeds` has
+//! seeds of hashes, and `casebooks` files and lists cases.
 #![tactic(auto)]
 
 #[cfg(test)]
@@ -12,11 +13,14 @@ mod bodies;
 #[cfg(test)]
 mod casebooks;
 #[cfg(test)]
+mod opening;
+#[cfg(test)]
 mod putting;
 #[cfg(test)]
 mod reports;
 #[cfg(test)]
 mod seeds;
+pub mod stored_files;
 #[cfg(test)]
 mod tags;
 #[cfg(test)]

@@ -1,4 +1,4 @@
-//! The run of one example, over its files.
+//! The run of one folder, over its files.
 use super::comparison::{Difference, compare};
 use audit_run::running::run;
 use log_source::file_shelf::FileShelf;
@@ -37,4 +37,9 @@ pub(crate) fn run_example<R: Files + AllocGlobal + Clone + Drop>(
     let mut out = sink(rt.alloc())?;
     let status = run(rt.alloc(), &words, &mut shelf, &mut out);
     Ok(compare(report.as_slice(), status, out.bytes()))
+}
+
+/// The difference that the canary must show in whose folder the process stands.
+pub(crate) fn wanted_difference<R: Files + AllocGlobal>(rt: &R) -> io::Result<String> {
+    fs::read_to_string(rt, "difference")
 }

@@ -1,26 +1,45 @@
 //! Runs every example: `examples FOLDER`. An example is a folder with the words of a command line,
 //! the logs that they name, and the report; each is run as the program would, in its folder.
+//!
+//! The folder `canaries` has examples whose reports are wrong. Each of them must differ, in the way that its
+//! file `difference` tells, so that a comparison which finds no difference is noticed.
 #![tactic(auto)]
 
 mod comparison;
 mod example;
 
-use example::run_example;
+use example::{run_example, wanted_difference};
 use std::process::ExitCode;
 use std::rt::Files;
 use std::{env, fs, io};
 
-/// Writes a line for each example that differs, and one at the end where none does. Ends with 1 where
-/// one differs.
+/// The folder of the canaries.
+const CANARIES: &str = "canaries";
+
+/// What a folder is: an example, which holds, or a canary, which differs.
+#[derive(Clone, Copy)]
+enum Kind {
+    Example,
+    Canary,
+}
+
+/// How many folders came out as they must, of how many.
+#[derive(Clone, Copy)]
+struct Tally {
+    right: usize,
+    all: usize,
+}
+
+/// Writes a line for each folder that does not come out as it must, and the numbers of those that do.
+/// Ends with 1 where one does not.
 fn main(rt: HostRuntime) -> io::Result<ExitCode> {
     enter_folder(&rt)?;
-    let names = example_names(&rt)?;
-    let mut all_hold = true;
-    for name in &names {
-        all_hold = holds(&rt, name.as_str())? && all_hold;
-    }
-    if all_hold {
-        println!(rt; "{} examples hold", names.len())?;
+    let examples = run_folders(&rt, Kind::Example)?;
+    env::set_current_dir(&rt, CANARIES)?;
+    let canaries = run_folders(&rt, Kind::Canary)?;
+    println!(rt; "{} examples hold", examples.right)?;
+    println!(rt; "{} canaries differ as they must", canaries.right)?;
+    if examples.right == examples.all && canaries.right == canaries.all {
         return Ok(ExitCode::SUCCESS);
     }
     Ok(ExitCode::FAILURE)
@@ -34,17 +53,38 @@ fn enter_folder(rt: &HostRuntime) -> io::Result<()> {
     Ok(())
 }
 
-/// The names of the folders here, in order.
-fn example_names<R: Files + AllocGlobal + Clone + Drop>(rt: &R) -> io::Result<Vec<String>> {
+/// The names of the folders here but that of the canaries, in order.
+fn names_here<R: Files + AllocGlobal + Clone + Drop>(rt: &R) -> io::Result<Vec<String>> {
     let mut names = Vec::new(rt.alloc());
     for entry in fs::read_dir(rt, ".")? {
         let entry = entry?;
-        if entry.file_type()?.is_dir() {
+        if entry.file_type()?.is_dir() && entry.file_name() != CANARIES {
             names.push(String::from_str(rt.alloc(), entry.file_name())?)?;
         }
     }
     names.sort()?;
     Ok(names)
+}
+
+/// Runs the folders here, which are all of this kind.
+fn run_folders(rt: &HostRuntime, kind: Kind) -> io::Result<Tally> {
+    let names = names_here(rt)?;
+    let mut right = 0usize;
+    for name in &names {
+        if comes_out_right(rt, kind, name.as_str())? {
+            right = right.saturating_add(1);
+        }
+    }
+    let all = names.len();
+    Ok(Tally { right, all })
+}
+
+/// Whether the folder of this name comes out as one of its kind must.
+fn comes_out_right(rt: &HostRuntime, kind: Kind, name: &str) -> io::Result<bool> {
+    match kind {
+        Kind::Example => holds(rt, name),
+        Kind::Canary => differs_as_it_must(rt, name),
+    }
 }
 
 /// Whether the example of this name holds. Where it doesn't, a line tells how it differs.
@@ -56,6 +96,27 @@ fn holds(rt: &HostRuntime, name: &str) -> io::Result<bool> {
         Ok(None) => return Ok(true),
         Ok(Some(difference)) => println!(rt; "{name}: {difference}")?,
         Err(error) => println!(rt; "{name}: {error}")?,
+    }
+    Ok(false)
+}
+
+/// Whether the canary of this name differs, in the way that its folder tells. Where it doesn't, a line
+/// tells what came instead.
+fn differs_as_it_must(rt: &HostRuntime, name: &str) -> io::Result<bool> {
+    env::set_current_dir(rt, name)?;
+    let answer = run_example(rt);
+    let wanted = wanted_difference(rt);
+    env::set_current_dir(rt, "..")?;
+    match (answer, wanted) {
+        (Ok(Some(difference)), Ok(wanted)) => {
+            let shown = difference.to_string(rt.alloc())?;
+            if shown.as_str() == wanted.as_str().trim_end() {
+                return Ok(true);
+            }
+            println!(rt; "{name}: {difference}")?;
+        }
+        (Ok(None), _) => println!(rt; "{name}: it does not differ")?,
+        (Err(error), _) | (_, Err(error)) => println!(rt; "{name}: {error}")?,
     }
     Ok(false)
 }

@@ -8,12 +8,13 @@ pub mod Feeds
 pub mod Pumping
 pub mod Collectors
 -- What the shelves and sinks of this crate stand at. The counts and the failing calls of those in
--- memory are in Calls; the shelf over files and the sink over a writer tell nothing.
+-- memory are in Calls; the shelf over files and the sink over a writer tell what these tell.
 pub mod Calls
 pub mod MemoryShelves
 pub mod QuietShelves
 pub mod EndlessShelves
 pub mod FileShelves
+pub mod FileSystems
 pub mod MemorySinks
 pub mod StdSinks
 -- What private functions pass on.

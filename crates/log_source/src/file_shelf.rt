@@ -1,14 +1,13 @@
 //! The shelf of the program: files, each opened under its path.
-ghost use Rattle.std.specs.Prelude.{◌≡◌, ◌<◌, ◌≤◌, true, false, length, None, IsErrOf};
+ghost use Rattle.std.specs.Prelude.{◌≡◌, ◌<◌, ◌≤◌, true, false, length, None, IsErrOf, ℕ, List};
 ghost use Rattle.audit_base.specs.declared.terms.Which.{Which};
 ghost use Rattle.log_source.specs.Sources.{ChangesOnly, Starts, Reads, fresh_slot, longest_read};
 ghost use Rattle.log_source.specs.FileShelves.{file_state, file_slot};
 
+use crate::file_system::FileSystem;
 use crate::shelf::{Failed, Shelf, StartFault};
 use audit_base::terms::Which;
-use std::fs;
 use std::io::{ErrorKind, Read};
-use std::rt::Files;
 
 /// One slot and the file that is open in it.
 #[derive(Drop)]
@@ -31,15 +30,17 @@ impl<X: Read + Drop> FileSlot<X> {
         }
     }
 
-    fn start<R: Files<File = X>>(&mut self, files: &R, name: &str) -> Result<(), StartFault>
+    /// Opens the file under this name in the slot, in which none is open: it never has two.
+    fn open<S: FileSystem<File = X>>(&mut self, files: &S, name: &str) -> Result<(), StartFault>
+        requires closed { (file_state X.remaining self.old).started ≡ false }
         ensures slot { let state = file_state X.remaining in
-            Starts false None (state self.old) (state self.new) result }
+            let file = S.file_at files.now name.now in
+            Starts (S.tells files.now) file (state self.old) (state self.new) result }
         ensures memory { IsErrOf result StartFault.Memory → self.new.faults ≡ self.old.faults }
     {
-        self.file = None;
         self.taken = 0;
         self.starts = self.starts.saturating_add(1);
-        match fs::open(files, name) {
+        match files.open(name) {
             Ok(file) => {
                 self.file = Some(file);
                 Ok(())
@@ -50,6 +51,17 @@ impl<X: Read + Drop> FileSlot<X> {
                 Err(StartFault::Failed)
             }
         }
+    }
+
+    /// Closes the file that is open, if one is, and then opens the one under this name.
+    fn start<S: FileSystem<File = X>>(&mut self, files: &S, name: &str) -> Result<(), StartFault>
+        ensures slot { let state = file_state X.remaining in
+            let file = S.file_at files.now name.now in
+            Starts (S.tells files.now) file (state self.old) (state self.new) result }
+        ensures memory { IsErrOf result StartFault.Memory → self.new.faults ≡ self.old.faults }
+    {
+        self.file = None;
+        self.open(files, name)
     }
 
     fn read(&mut self, buf: &mut [u8]) -> Result<usize, Failed>
@@ -75,21 +87,25 @@ impl<X: Read + Drop> FileSlot<X> {
     }
 }
 
-/// A shelf over the files of the runtime, where a log's name is its path. It tells nothing of what
-/// is under a name. An open or a read that is refused is counted as a fault of its slot, as of
-/// a file that is not there, a directory, or a file that may not be read. An open that finds no
-/// memory is no fault.
+/// A shelf over files, where a log's name is its path. It tells what its file system tells: over the
+/// runtime's files that is nothing, and over one that tells, each slot reads the file under the path that
+/// was named, from its first byte to its last. A start closes the file that was open in its slot. An open or
+/// a read that is refused is counted as a fault of its slot, as of a file that is not there, a directory,
+/// or a file that may not be read. An open that finds no memory is no fault.
 #[derive(Drop)]
-pub struct FileShelf<R: Files> {
-    files: R,
-    orders: FileSlot<R::File>,
-    trades: FileSlot<R::File>,
+pub struct FileShelf<S: FileSystem> {
+    files: S,
+    orders: FileSlot<S::File>,
+    trades: FileSlot<S::File>,
 }
 
-impl<R: Files + Drop> FileShelf<R> {
+impl<S: FileSystem + Drop> FileShelf<S> {
     /// A shelf over these files, with nothing started and no fault counted.
-    pub fn new(files: R) -> FileShelf<R>
-        ensures { (w : Which) → ⟦<FileShelf<R> as Shelf>⟧.slot result w ≡ fresh_slot None }
+    pub fn new(files: S) -> FileShelf<S>
+        ensures slots { (w : Which) → ⟦<FileShelf<S> as Shelf>⟧.slot result w ≡ fresh_slot None }
+        ensures tells { ⟦<FileShelf<S> as Shelf>⟧.tells result ≡ S.tells files }
+        ensures logs { (w : Which) (path : List ℕ) →
+            ⟦<FileShelf<S> as Shelf>⟧.log_of result w path ≡ S.file_at files path }
     {
         FileShelf {
             files,
@@ -99,19 +115,20 @@ impl<R: Files + Drop> FileShelf<R> {
     }
 }
 
-impl<R: Files + Drop> Shelf for FileShelf<R> {
-    ghost tells = { λ _. false };
+impl<S: FileSystem + Drop> Shelf for FileShelf<S> {
+    ghost tells = { λ shelf. S.tells shelf.files };
 
-    ghost log_of = { λ _ _ _. None };
+    ghost log_of = { λ shelf _ path. S.file_at shelf.files path };
 
-    ghost slot = { λ shelf which. file_slot R.File.remaining shelf.orders shelf.trades which };
+    ghost slot = { λ shelf which. file_slot S.File.remaining shelf.orders shelf.trades which };
 
     fn start(&mut self, which: Which, name: &str) -> Result<(), StartFault>
-        ensures only { let shelf = ⟦<FileShelf<R> as Shelf>⟧ in
+        ensures only { let shelf = ⟦<FileShelf<S> as Shelf>⟧ in
             ChangesOnly shelf.tells shelf.log_of shelf.slot which self.old self.new }
-        ensures slot { let slot = ⟦<FileShelf<R> as Shelf>⟧.slot in
-            Starts false None (slot self.old which) (slot self.new which) result }
-        ensures memory { let slot = ⟦<FileShelf<R> as Shelf>⟧.slot in
+        ensures slot { let shelf = ⟦<FileShelf<S> as Shelf>⟧ in
+            Starts (shelf.tells self.old) (shelf.log_of self.old which name.now)
+            (shelf.slot self.old which) (shelf.slot self.new which) result }
+        ensures memory { let slot = ⟦<FileShelf<S> as Shelf>⟧.slot in
             IsErrOf result StartFault.Memory
             → (slot self.new which).faults ≡ (slot self.old which).faults }
     {

@@ -1,7 +1,8 @@
 //! Where the logs come from and where the report goes: shelves that give two logs piece by piece,
 //! sinks that take a text piece by piece, and the calls that take a log whole or pump it into a
-//! feed. What a shelf holds in memory is known to contracts; over real files nothing of content is
-//! claimed, and the causes of every failure still are.
+//! feed. What a shelf holds in memory is known to contracts. A shelf over files and a sink over a writer tell
+//! what these tell: the runtime's files and standard output tell nothing of their bytes, so over them the
+//! causes of every failure are claimed, and nothing of content.
 #![tactic(auto)]
 
 pub mod collector;
@@ -10,10 +11,12 @@ mod cursors;
 pub mod endless_shelf;
 pub mod feed;
 pub mod file_shelf;
+pub mod file_system;
 mod in_memory;
 pub mod limits;
 pub mod memory_shelf;
 pub mod memory_sink;
+pub mod output;
 pub mod pump;
 pub mod put;
 pub mod quiet_shelf;

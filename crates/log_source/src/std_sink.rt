@@ -1,43 +1,37 @@
 //! The sink of the program: standard output, or any writer of the system.
-ghost use Rattle.std.specs.Prelude.{◌≡◌, ◌<◌, length, None};
-ghost use Rattle.std.specs.Io.KnownBytes.{WriteAppends};
+ghost use Rattle.std.specs.Prelude.{◌≡◌, ◌<◌, length};
 ghost use Rattle.log_source.specs.Sinks.{Writes};
 
+use crate::output::Output;
 use crate::shelf::Failed;
 use crate::sink::Sink;
-use std::io::Write;
 
-/// A sink over a writer. What reaches the system is not known to contracts. A write that fails, or
-/// that takes nothing of its piece, is counted as a fault.
+/// A sink over a writer, which tells what its writer tells. A write that fails, or that takes nothing of
+/// its piece, is counted as a fault.
 #[derive(Drop)]
 pub struct StdSink<W> {
     writer: W,
     faults: u64,
 }
 
-impl<W: Write> StdSink<W> {
+impl<W: Output> StdSink<W> {
     ghost use Rattle.log_source.specs.StdSinks.{std_state};
 
-    /// A sink over this writer, with no fault counted.
+    /// A sink over this writer, with no fault counted. What the writer holds is what was written.
     pub fn new(writer: W) -> StdSink<W>
-        ensures { std_state result ≡ record { wrote = None; faults = 0; sure = 0 } }
+        ensures { let held = W.contents writer in
+            std_state W.contents result ≡ record { wrote = held; faults = 0; sure = 0 } }
     {
         StdSink { writer, faults: 0 }
     }
 }
 
-impl<W: Write> Sink for StdSink<W> {
-    ghost use Rattle.log_source.specs.StdSinks.{std_state, writer_contents};
+impl<W: Output> Sink for StdSink<W> {
+    ghost use Rattle.log_source.specs.StdSinks.{std_state};
 
-    ghost state = { std_state };
+    ghost state = { std_state W.contents };
 
-    fn write(&mut self, piece: &[u8]) -> Result<usize, Failed>
-        requires { 0 < length piece.now }
-        ensures written { Writes (std_state self.old) (std_state self.new) result piece.now }
-        // Where the writer tells what it holds, that is what was written.
-        ensures writer { let contents = writer_contents W.contents in
-            WriteAppends (contents self.old) (contents self.new) result piece.now }
-    {
+    fn write(&mut self, piece: &[u8]) -> Result<usize, Failed> {
         match self.writer.write(piece) {
             Ok(count) if count > 0 => Ok(count),
             _ => {

@@ -1,0 +1,2 @@
+-- What the files in memory hold that the tests read.
+pub mod StoredFiles
