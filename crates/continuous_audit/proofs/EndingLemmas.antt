@@ -10,7 +10,7 @@ use Rattle.std.proofs.lemmas.List.Sorted.{All-permutation, Contains-permutation,
 use Rattle.audit_base.specs.declared.terms.Side.{Side}
 use Rattle.audit_base.specs.declared.terms.Side.TheVariants.{Buy, Sell}
 use Rattle.audit_base.specs.declared.orders.Order.{Order}
-use Rattle.audit_base.specs.Orders.{order_at, missing_order, side_at, limit_at}
+use Rattle.audit_base.specs.Orders.{order_at, side_at, limit_at}
 use Rattle.audit_base.specs.Continuous.{uncancelled_before}
 use Rattle.audit_base.proofs.SumLemmas.{Contains-front}
 use Rattle.audit_base.proofs.OrderLemmas.{not_both_sides}

@@ -7,13 +7,12 @@ use Rattle.audit_base.specs.declared.orders.Order.{Order}
 use Rattle.audit_base.specs.declared.orders.Deal.{Deal}
 use Rattle.audit_base.specs.declared.terms.Side.{Side}
 use Rattle.audit_base.specs.declared.terms.Side.TheVariants.{Buy, Sell}
-use Rattle.audit_base.specs.Orders.{missing_order, order_at, place_at, side_at, other_side, IsOrderList}
+use Rattle.audit_base.specs.Orders.{order_at, place_at, side_at, other_side, IsOrderList}
 use Rattle.audit_base.specs.Deals.{names, NamesOrders}
 use Rattle.audit_base.specs.Continuous.{cause, chain, chain_within, before, resting, traded_before, before_of, rests, uncancelled_before}
 use Rattle.audit_base.specs.ContinuousRules.{ConformsAt}
 use Rattle.audit_base.proofs.SumLemmas.{sum_by-same}
 use Rattle.audit_base.proofs.OrderLemmas.{place-rises}
-use Rattle.audit_base.proofs.OffenceLemmas.{get_or-default}
 use Rattle.audit_base.proofs.ContinuousLemmas.{target-below, chain-none, chain-some, before-is, before-some}
 use Rattle.continuous_audit.specs.Chains.{IsClosed, ends_by}
 use Rattle.continuous_audit.specs.Scans.{number_in}

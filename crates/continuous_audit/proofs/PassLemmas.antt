@@ -4,7 +4,7 @@ use Rattle.std.proofs.lemmas.Bool.{cases_eq, cases_lt}
 use Rattle.audit_base.specs.declared.orders.Order.{Order}
 use Rattle.audit_base.specs.declared.orders.Deal.{Deal}
 use Rattle.audit_base.specs.Least.{least_answer}
-use Rattle.audit_base.specs.Orders.{missing_order, order_at, place_at, side_at, other_side, IsOrderList}
+use Rattle.audit_base.specs.Orders.{order_at, place_at, side_at, other_side, IsOrderList}
 use Rattle.audit_base.specs.Priority.{better}
 use Rattle.audit_base.specs.Deals.{deal_at, missing_deal, IsDealList}
 use Rattle.audit_base.specs.Continuous.{cause, resting, incoming, traded_before}

@@ -13,7 +13,7 @@ use Rattle.audit_base.specs.declared.flaws.Evidence.{Evidence}
 use Rattle.audit_base.specs.declared.flaws.Evidence.TheVariants.{Inactive, Limit, Quantity}
 use Rattle.audit_base.specs.declared.terms.Side.TheVariants.{Buy, Sell}
 use Rattle.audit_base.specs.Least.{least_answer, first_of, only_if}
-use Rattle.audit_base.specs.Orders.{missing_order, order_at, place_at, side_at, is_rests, IsOrderList}
+use Rattle.audit_base.specs.Orders.{order_at, place_at, side_at, is_rests, IsOrderList}
 use Rattle.audit_base.specs.Deals.{is_within, names, deal_at, missing_deal, part_of, NamesOrders, IsDealList}
 use Rattle.audit_base.specs.Continuous.{cause, resting, incoming, traded_before, traded_at, entered_of, size_of, rests, size, uncancelled_before}
 use Rattle.audit_base.specs.CallOffences.{keeps_limits}

@@ -1,4 +1,4 @@
-use Rattle.audit_base.specs.Orders.{side_at, order_at}
+use Rattle.audit_base.specs.Orders.{order_at}
 use Rattle.audit_base.specs.Units as units
 use Rattle.order_list.specs.Sums.{IsSumUpto}
 use Rattle.call_auction.proofs.dues.ahead_of.Given as goal

@@ -1,4 +1,4 @@
-use Rattle.std.proofs.Common.{◌<◌, ◌∙◌, arith, length, sym}
+use Rattle.std.proofs.Common.{◌∙◌, arith, sym}
 use Rattle.audit_base.proofs.ContinuousLemmas.{target-below}
 use Rattle.continuous_audit.proofs.KeptLemmas.{target-read, none-read, ends-read, closed-none, closed-some}
 use Rattle.continuous_audit.proofs.chains.is_closed.Goals as goal

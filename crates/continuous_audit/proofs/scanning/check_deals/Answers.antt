@@ -1,4 +1,4 @@
-use Rattle.std.proofs.Common.{◌≡◌, ◌∙◌, Option, None, IfSome, inl, inr, sym, ap, refl, subst, arith, option_map, rules}
+use Rattle.std.proofs.Common.{◌≡◌, ◌∙◌, Option, None, IfSome, inl, inr, sym, ap, subst, arith, option_map, rules}
 use Rattle.std.proofs.lemmas.Bool.{cases_eq}
 use Rattle.audit_base.specs.declared.flaws.Evidence.{Evidence}
 use Rattle.audit_base.specs.Flaws.{IsInside}
