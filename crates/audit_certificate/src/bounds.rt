@@ -8,8 +8,9 @@ ghost use Rattle.audit_certificate.specs.Texts.{bound_text};
 use super::texts::append_bound;
 use audit_base::faults::NoMemory;
 use audit_base::numbers::read_price;
-use audit_base::orders::Order;
 use audit_base::terms::{Side, VolumeRule};
+use order_list::listed::ListedOrder;
+use order_list::lists::OrderList;
 use std::alloc::Global;
 use volume_bound::direct::{demand_at, supply_below};
 use volume_bound::extremes::least_cut;
@@ -18,7 +19,7 @@ use volume_bound::extremes::least_cut;
 const ABOVE_ALL_PRICES: u64 = 1_000_000_000_000_000_000;
 
 /// Whether the price shows that no volume is greater than this one.
-fn shows_bound(rule: VolumeRule, orders: &[Order], volume: u128, price: u64) -> bool
+fn shows_bound(rule: VolumeRule, orders: &OrderList<'_>, volume: u128, price: u64) -> bool
     requires { length orders.now < 2 ^ 32 }
     ensures { IsTrue result ↔ ShowsBound rule orders.now volume price }
 {
@@ -90,7 +91,7 @@ fn is_bound_text(
 pub fn is_bound_line(
     alloc: Global,
     rule: VolumeRule,
-    orders: &[Order],
+    orders: &OrderList<'_>,
     volume: u128,
     line: &[u8],
     text: &mut Vec<u8>,
@@ -107,27 +108,27 @@ pub fn is_bound_line(
 
 /// One unit above the limit of an order, if it is a bid that takes part and trades less than its
 /// quantity; else 0.
-fn above_if_short(order: &Order, traded: u128) -> u64
+fn above_if_short(order: &ListedOrder<'_>, traded: u128) -> u64
     ensures same { result ≡ bound.above_if_short order.now traded }
     ensures in_range { result ≤ 10 ^ 18 }
 {
-    let quantity = order.quantity.value();
+    let quantity = order.quantity().value();
     if order.stands_on(Side::Buy) && traded < u128::from(quantity) {
-        order.limit.units() + 1
+        order.limit().units() + 1
     } else {
         0
     }
 }
 
 /// One unit above the greatest limit of a bid that is not fully traded; 0 where there is none.
-fn above_short_bids(orders: &[Order], traded: &[u128]) -> u64
+fn above_short_bids(orders: &OrderList<'_>, traded: &[u128]) -> u64
     requires { length traded.now ≡ length orders.now }
     ensures same { result ≡ bound.above_short_bids orders.now traded.now (length orders.now) }
     ensures in_range { result ≤ 10 ^ 18 }
 {
     let mut price = 0;
     for index in 0..orders.len() {
-        price = above_if_short(&orders[index], traded[index]).max(price);
+        price = above_if_short(&orders.at(index), traded[index]).max(price);
     }
     price
 }
@@ -138,7 +139,7 @@ fn above_short_bids(orders: &[Order], traded: &[u128]) -> u64
 pub fn least_price(
     alloc: Global,
     rule: VolumeRule,
-    orders: &[Order],
+    orders: &OrderList<'_>,
     traded: &[u128],
 ) -> Result<u64, NoMemory>
     requires few { length orders.now < 2 ^ 32 }

@@ -14,17 +14,18 @@ use super::order_lines::append_order_lines;
 use super::texts::{append, append_bound, append_head, append_last};
 use audit_base::faults::NoMemory;
 use audit_base::names::Name;
-use audit_base::orders::{Deal, Order};
-use audit_base::ranges::{deals_in_range, orders_in_range};
+use audit_base::orders::Deal;
+use audit_base::ranges::deals_in_range;
 use audit_base::terms::{Rule, Side, VolumeRule};
 use call_laws::laws::short_orders_do_not_meet;
 use call_laws::optimum::greatest_matching_reaches_the_least_cut;
+use order_list::lists::OrderList;
 use std::alloc::Global;
 
 /// Appends line 3 or 4.
 fn append_last_line(
     alloc: Global,
-    orders: &[Order],
+    orders: &OrderList<'_>,
     traded: &[u128],
     side: Side,
     out: &mut Vec<u8>,
@@ -62,7 +63,7 @@ fn certificate_of(
     alloc: Global,
     rule: VolumeRule,
     symbol: &Name,
-    orders: &[Order],
+    orders: &OrderList<'_>,
     counts: &Counts,
     price: u64,
 ) -> Result<Vec<u8>, NoMemory>
@@ -85,7 +86,7 @@ pub fn certify(
     alloc: Global,
     rule: Rule,
     symbol: &Name,
-    orders: &[Order],
+    orders: &OrderList<'_>,
     deals: &[Deal],
 ) -> Result<Vec<u8>, NoMemory>
     requires order_list { IsOrderList orders.now }
@@ -101,7 +102,7 @@ pub fn certify(
     greatest_matching_reaches_the_least_cut();
     short_orders_do_not_meet();
     // These calls tell the proof the ranges of the numbers and the form that a name keeps.
-    orders_in_range(orders);
+    orders.in_range();
     deals_in_range(deals);
     let _ = symbol.bytes();
     let rule = rule.volume_rule().unwrap();

@@ -4,8 +4,9 @@ ghost use Rattle.audit_base.specs.Deals.{IsDealList};
 ghost use Rattle.audit_certificate.specs.Counting.{AreCounts};
 
 use audit_base::faults::NoMemory;
-use audit_base::orders::{Deal, Order};
+use audit_base::orders::Deal;
 use audit_base::ranges::deals_in_range;
+use order_list::lists::OrderList;
 use std::alloc::Global;
 
 /// What deals come to.
@@ -28,7 +29,7 @@ fn add(traded: &mut Vec<u128>, index: usize, quantity: u64)
 }
 
 /// What each order trades in the deals, and the volume. Err only out of memory.
-pub fn count(alloc: Global, orders: &[Order], deals: &[Deal]) -> Result<Counts, NoMemory>
+pub fn count(alloc: Global, orders: &OrderList<'_>, deals: &[Deal]) -> Result<Counts, NoMemory>
     requires { IsDealList orders.now deals.now }
     ensures { IfOk result (AreCounts orders.now deals.now) }
 {

@@ -10,23 +10,25 @@ use super::texts::append_head;
 use audit_base::faults::NoMemory;
 use audit_base::names::Name;
 use audit_base::numbers::Price;
-use audit_base::orders::{Deal, Order};
+use audit_base::orders::Deal;
 use audit_base::terms::{Side, VolumeRule};
+use order_list::listed::is_within;
+use order_list::lists::OrderList;
 use std::alloc::Global;
 
 /// Whether a deal is between a bid and an ask that no record cancels, at a price within both limits.
-fn keeps(orders: &[Order], deal: &Deal) -> bool
+fn keeps(orders: &OrderList<'_>, deal: &Deal) -> bool
     requires bid { deal.now.bid < length orders.now }
     requires ask { deal.now.ask < length orders.now }
     ensures { IsTrue result ↔ Keeps orders.now deal.now }
 {
-    let bid = &orders[deal.bid];
-    let ask = &orders[deal.ask];
-    bid.stands_on(Side::Buy) && ask.stands_on(Side::Sell) && deal.is_within(bid, ask)
+    let bid = orders.at(deal.bid);
+    let ask = orders.at(deal.ask);
+    bid.stands_on(Side::Buy) && ask.stands_on(Side::Sell) && is_within(deal, &bid, &ask)
 }
 
 /// Whether all deals are such ones.
-fn all_keep(orders: &[Order], deals: &[Deal]) -> bool
+fn all_keep(orders: &OrderList<'_>, deals: &[Deal]) -> bool
     requires { IsDealList orders.now deals.now }
     ensures { IsTrue result ↔ All (Keeps orders.now) deals.now }
 {
@@ -94,7 +96,7 @@ fn prices_fit(rule: VolumeRule, deals: &[Deal]) -> bool
 /// The rule of line 1, where the line passes; None where it passes under no rule.
 pub fn head_rule(
     symbol: &Name,
-    orders: &[Order],
+    orders: &OrderList<'_>,
     deals: &[Deal],
     line: &[u8],
     text: &mut Vec<u8>,

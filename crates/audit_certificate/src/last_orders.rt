@@ -6,22 +6,22 @@ ghost use Rattle.audit_certificate.specs.Texts.{last_text};
 
 use super::texts::append_last;
 use audit_base::faults::NoMemory;
-use audit_base::orders::Order;
 use audit_base::terms::Side;
+use order_list::lists::OrderList;
 use rank_order::comparing::better;
 use std::alloc::Global;
 
 /// Whether the order at this index takes part on the side and trades.
-fn trades_on(orders: &[Order], traded: &[u128], side: Side, index: usize) -> bool
+fn trades_on(orders: &OrderList<'_>, traded: &[u128], side: Side, index: usize) -> bool
     requires inside { index < length orders.now }
     requires count { length traded.now ≡ length orders.now }
     ensures { result ≡ spec.trades_on orders.now traded.now side index }
 {
-    orders[index].stands_on(side) && 0 < traded[index]
+    orders.at(index).stands_on(side) && 0 < traded[index]
 }
 
 /// The worse of the last one so far and the order at this index.
-fn worse_of(orders: &[Order], last: Option<usize>, index: usize) -> usize
+fn worse_of(orders: &OrderList<'_>, last: Option<usize>, index: usize) -> usize
     requires inside { index < length orders.now }
     requires last_inside { IfSome last (λ l. l < length orders.now) }
     requires sides { IfSome last (λ l. side_at orders.now l ≡ side_at orders.now index) }
@@ -30,7 +30,7 @@ fn worse_of(orders: &[Order], last: Option<usize>, index: usize) -> usize
     match last {
         None => index,
         Some(last) => {
-            if better(&orders[last], &orders[index]) {
+            if better(&orders.at(last), &orders.at(index)) {
                 index
             } else {
                 last
@@ -41,7 +41,7 @@ fn worse_of(orders: &[Order], last: Option<usize>, index: usize) -> usize
 
 /// The last order that trades, with that at this index.
 fn later_of(
-    orders: &[Order],
+    orders: &OrderList<'_>,
     traded: &[u128],
     side: Side,
     last: Option<usize>,
@@ -61,7 +61,7 @@ fn later_of(
 }
 
 /// The worst order of the side that trades: in rank order the last one. None where none trades.
-pub fn last_trading(orders: &[Order], traded: &[u128], side: Side) -> Option<usize>
+pub fn last_trading(orders: &OrderList<'_>, traded: &[u128], side: Side) -> Option<usize>
     requires { length traded.now ≡ length orders.now }
     ensures same { result ≡ spec.last_trading orders.now traded.now side (length orders.now) }
     ensures on { IfSome result (λ l. spec.IsOn orders.now side l) }
@@ -75,24 +75,35 @@ pub fn last_trading(orders: &[Order], traded: &[u128], side: Side) -> Option<usi
 
 /// Whether the order at this index is fully traded, if it takes part on the side and is better than the
 /// last.
-fn is_filled_ahead(orders: &[Order], traded: &[u128], side: Side, last: usize, index: usize) -> bool
+fn is_filled_ahead(
+    orders: &OrderList<'_>,
+    traded: &[u128],
+    side: Side,
+    last: usize,
+    index: usize,
+) -> bool
     requires inside { index < length orders.now }
     requires count { length traded.now ≡ length orders.now }
     requires last { spec.IsOn orders.now side last }
     ensures { result ≡ spec.is_filled_ahead orders.now traded.now side last index }
 {
-    let order = &orders[index];
+    let order = orders.at(index);
     if !order.stands_on(side) {
         return true;
     }
-    if !better(order, &orders[last]) {
+    if !better(&order, &orders.at(last)) {
         return true;
     }
-    traded[index] == u128::from(order.quantity.value())
+    traded[index] == u128::from(order.quantity().value())
 }
 
 /// Whether each order that is better than the last is fully traded.
-fn all_filled_ahead(orders: &[Order], traded: &[u128], side: Side, last: Option<usize>) -> bool
+fn all_filled_ahead(
+    orders: &OrderList<'_>,
+    traded: &[u128],
+    side: Side,
+    last: Option<usize>,
+) -> bool
     requires count { length traded.now ≡ length orders.now }
     requires last { IfSome last (λ l. spec.IsOn orders.now side l) }
     ensures { IsTrue result ↔ spec.AreFilledAhead orders.now traded.now side last }
@@ -109,13 +120,13 @@ fn all_filled_ahead(orders: &[Order], traded: &[u128], side: Side, last: Option<
 }
 
 /// The place of the order at the index, if there is one.
-pub fn place_of(orders: &[Order], index: Option<usize>) -> Option<u32>
+pub fn place_of(orders: &OrderList<'_>, index: Option<usize>) -> Option<u32>
     requires { IfSome index (λ i. i < length orders.now) }
     ensures { result ≡ option_map (place_at orders.now) index }
 {
     match index {
         None => None,
-        Some(index) => Some(orders[index].place),
+        Some(index) => Some(orders.at(index).place()),
     }
 }
 
@@ -137,7 +148,7 @@ fn is_last_text(
 /// Whether the line is a line 3 or 4 of the side. `text` is a buffer that each call uses anew.
 pub fn is_last_line(
     alloc: Global,
-    orders: &[Order],
+    orders: &OrderList<'_>,
     traded: &[u128],
     side: Side,
     line: &[u8],

@@ -11,7 +11,7 @@ use super::faults::VerifyFault;
 use super::lines::{behind_line, first_line};
 use super::texts::{append, append_order};
 use audit_base::faults::NoMemory;
-use audit_base::orders::Order;
+use order_list::lists::OrderList;
 use std::alloc::Global;
 
 /// Whether the line is the canonical one of the place and the number.
@@ -32,7 +32,7 @@ fn is_order_text(
 /// Whether the line is that of the order at the index. `text` is a buffer that each call uses anew.
 fn is_order_line(
     alloc: Global,
-    orders: &[Order],
+    orders: &OrderList<'_>,
     traded: &[u128],
     index: usize,
     line: &[u8],
@@ -42,17 +42,17 @@ fn is_order_line(
     requires count { length traded.now ≡ length orders.now }
     ensures { IfOk result (TellsOrderLine orders.now traded.now index line.now) }
 {
-    let order = &orders[index];
-    if u128::from(order.quantity.value()) < traded[index] {
+    let order = orders.at(index);
+    if u128::from(order.quantity().value()) < traded[index] {
         return Ok(false);
     }
-    is_order_text(alloc, order.place, traded[index], line, text)
+    is_order_text(alloc, order.place(), traded[index], line, text)
 }
 
 /// Whether the text begins with the line of the order at the index; what is behind it if so.
 fn behind_order<'a>(
     alloc: Global,
-    orders: &[Order],
+    orders: &OrderList<'_>,
     traded: &[u128],
     index: usize,
     rest: &'a [u8],
@@ -77,7 +77,7 @@ fn behind_order<'a>(
 /// that is missing, not ended, too many, or fails its test.
 pub fn check_order_lines(
     alloc: Global,
-    orders: &[Order],
+    orders: &OrderList<'_>,
     traded: &[u128],
     bytes: &[u8],
     text: &mut Vec<u8>,
@@ -104,7 +104,7 @@ pub fn check_order_lines(
 /// Appends the lines of the orders.
 pub fn append_order_lines(
     alloc: Global,
-    orders: &[Order],
+    orders: &OrderList<'_>,
     traded: &[u128],
     out: &mut Vec<u8>,
 ) -> Result<(), NoMemory>
@@ -113,7 +113,7 @@ pub fn append_order_lines(
         ≡ out.old.items ++ spec.lines_upto orders.now traded.now (length orders.now)) }
 {
     for index in 0..orders.len() {
-        append_order(alloc, orders[index].place, traded[index], out)?;
+        append_order(alloc, orders.at(index).place(), traded[index], out)?;
         append(b"\n", out)?;
     }
     Ok(())

@@ -20,14 +20,15 @@ use super::lines::{behind_line, first_line};
 use super::order_lines::check_order_lines;
 use audit_base::faults::NoMemory;
 use audit_base::names::Name;
-use audit_base::orders::{Deal, Order};
+use audit_base::orders::Deal;
 use audit_base::terms::{Rule, Side, VolumeRule};
+use order_list::lists::OrderList;
 use std::alloc::Global;
 
 /// The rule under which line 1 passes, and what is behind the line.
 fn check_head<'a>(
     symbol: &Name,
-    orders: &[Order],
+    orders: &OrderList<'_>,
     deals: &[Deal],
     bytes: &'a [u8],
     text: &mut Vec<u8>,
@@ -51,7 +52,7 @@ fn check_head<'a>(
 fn check_bound<'a>(
     alloc: Global,
     rule: VolumeRule,
-    orders: &[Order],
+    orders: &OrderList<'_>,
     volume: u128,
     bytes: &'a [u8],
     text: &mut Vec<u8>,
@@ -84,7 +85,7 @@ fn last_number(side: Side) -> u32
 /// What is behind line 3 or 4, where it passes.
 fn check_last<'a>(
     alloc: Global,
-    orders: &[Order],
+    orders: &OrderList<'_>,
     traded: &[u128],
     side: Side,
     bytes: &'a [u8],
@@ -110,7 +111,7 @@ fn check_last<'a>(
 fn check_lines(
     alloc: Global,
     symbol: &Name,
-    orders: &[Order],
+    orders: &OrderList<'_>,
     deals: &[Deal],
     bytes: &[u8],
 ) -> Result<VolumeRule, VerifyFault>
@@ -138,7 +139,7 @@ fn check_lines(
 pub fn verify(
     alloc: Global,
     symbol: &Name,
-    orders: &[Order],
+    orders: &OrderList<'_>,
     deals: &[Deal],
     bytes: &[u8],
 ) -> Result<Rule, VerifyFault>

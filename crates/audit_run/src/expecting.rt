@@ -23,7 +23,7 @@ ghost use Rattle.log_verdict.specs.Steps.{reading_by, KeepsLogs};
 use super::reports::{Report, done_report, finding_report, report_without};
 use audit_base::faults::NoMemory;
 use audit_base::names::Name;
-use audit_base::orders::{Deal, Order};
+use audit_base::orders::Deal;
 use audit_base::ranges::trades_in_range;
 use audit_base::terms::{Rule, VolumeRule, Which};
 use call_laws::existence::extremes_exist;
@@ -39,6 +39,7 @@ use log_verdict::reading::collect_orders;
 use log_verdict::sources::Source;
 use log_verdict::stops::Stop;
 use maximum_audit::expecting::greatest_matching;
+use order_list::lists::OrderList;
 use record_verdict::judging::call_finding;
 use record_verdict::laws::sound_trades_are_judged;
 use std::alloc::Global;
@@ -46,7 +47,7 @@ use std::marker::Brand;
 use uniform_audit::expecting::expected_uniform;
 
 /// The Expected trades of a rule that has such.
-fn expected_deals(alloc: Global, rule: Rule, orders: &[Order]) -> Result<Vec<Deal>, NoMemory>
+fn expected_deals(alloc: Global, rule: Rule, orders: &OrderList<'_>) -> Result<Vec<Deal>, NoMemory>
     requires rule { IsTrue (has_table rule) }
     requires order_list { IsOrderList orders.now }
     requires regular { Regular orders.now }
@@ -67,7 +68,7 @@ fn conforming_log(
     alloc: Global,
     rule: Rule,
     symbol: &Name,
-    orders: &[Order],
+    orders: &OrderList<'_>,
 ) -> Result<Vec<u8>, NoMemory>
     requires rule { IsTrue (has_table rule) }
     requires order_list { IsOrderList orders.now }
@@ -87,7 +88,7 @@ fn expected_log(
     alloc: Global,
     rule: Rule,
     symbol: &Name,
-    orders: &[Order],
+    orders: &OrderList<'_>,
 ) -> Result<Vec<u8>, NoMemory>
     requires rule { IsTrue (has_table rule) }
     requires order_list { IsOrderList orders.now }
@@ -126,9 +127,9 @@ fn report_records<S: AuditedSymbol>(
         Err(finding) => return finding_report(alloc, finding),
     };
     let orders = history.orders();
-    match call_finding(rule, orders) {
+    match call_finding(rule, &orders) {
         Some(finding) => finding_report(alloc, finding),
-        None => Ok(done_report(expected_log(alloc, rule, symbol, orders)?)),
+        None => Ok(done_report(expected_log(alloc, rule, symbol, &orders)?)),
     }
 }
 

@@ -10,7 +10,7 @@ ghost use Rattle.audit_run.specs.Reporting.{AddsLine, SaysReport};
 
 use super::reports::{Report, done_report};
 use audit_base::faults::NoMemory;
-use audit_base::orders::{Deal, Order};
+use audit_base::orders::Deal;
 use audit_base::terms::Rule;
 use audit_report::summaries::{append_call_line, append_continuous_line, append_generated_line};
 use call_laws::optimum::{
@@ -23,6 +23,7 @@ use instruction_history::history::History;
 use log_maker::generator::{generated_symbol, make_orders};
 use matching_core::totals::volume_of;
 use maximum_audit::expecting::greatest_matching;
+use order_list::lists::OrderList;
 use std::alloc::Global;
 use uniform_audit::expecting::expected_uniform;
 use volume_bound::extremes::{best_uniform, least_cut};
@@ -51,7 +52,7 @@ fn count_of(deals: &[Deal]) -> u32
 }
 
 /// Adds the line of the Expected trades of `uniform`.
-fn append_uniform(alloc: Global, orders: &[Order], out: &mut Vec<u8>) -> Result<(), NoMemory>
+fn append_uniform(alloc: Global, orders: &OrderList<'_>, out: &mut Vec<u8>) -> Result<(), NoMemory>
     requires { IsOrderList orders.now }
     ensures { OnOk result
         (AddsLine (IsCallLine of_volume.Uniform orders.now) out.old.items out.new.items) }
@@ -65,7 +66,7 @@ fn append_uniform(alloc: Global, orders: &[Order], out: &mut Vec<u8>) -> Result<
 }
 
 /// Adds the line of the Expected trades of `maximum`.
-fn append_maximum(alloc: Global, orders: &[Order], out: &mut Vec<u8>) -> Result<(), NoMemory>
+fn append_maximum(alloc: Global, orders: &OrderList<'_>, out: &mut Vec<u8>) -> Result<(), NoMemory>
     requires { IsOrderList orders.now }
     ensures { OnOk result
         (AddsLine (IsCallLine of_volume.Maximum orders.now) out.old.items out.new.items) }
@@ -79,7 +80,11 @@ fn append_maximum(alloc: Global, orders: &[Order], out: &mut Vec<u8>) -> Result<
 }
 
 /// Adds the line of the Expected trades of `continuous`.
-fn append_continuous(alloc: Global, orders: &[Order], out: &mut Vec<u8>) -> Result<(), NoMemory>
+fn append_continuous(
+    alloc: Global,
+    orders: &OrderList<'_>,
+    out: &mut Vec<u8>,
+) -> Result<(), NoMemory>
     requires order_list { IsOrderList orders.now }
     requires regular { Regular orders.now }
     ensures { OnOk result
@@ -90,7 +95,12 @@ fn append_continuous(alloc: Global, orders: &[Order], out: &mut Vec<u8>) -> Resu
 }
 
 /// The summary of a generated log whose history has these orders.
-fn summary(alloc: Global, start: u32, count: u32, orders: &[Order]) -> Result<Vec<u8>, NoMemory>
+fn summary(
+    alloc: Global,
+    start: u32,
+    count: u32,
+    orders: &OrderList<'_>,
+) -> Result<Vec<u8>, NoMemory>
     requires order_list { IsOrderList orders.now }
     requires regular { Regular orders.now }
     ensures { IfOk result (λ text. IsSummaryOf orders.now start count text.items) }
@@ -110,6 +120,6 @@ pub(crate) fn report_generate(alloc: Global, start: u32, count: u32) -> Result<R
     ensures { IfOk result (SaysReport (IsDone (IsSummary start count))) }
 {
     let history = generated_history(alloc, start, count)?;
-    let text = summary(alloc, start, count, history.orders())?;
+    let text = summary(alloc, start, count, &history.orders())?;
     Ok(done_report(text))
 }

@@ -35,7 +35,7 @@ fn certified_report(
             alloc,
             question.rule,
             &question.symbol,
-            resolved.history.orders(),
+            &resolved.history.orders(),
             &resolved.deals,
         )?)),
         Verdict::Rejected(_) | Verdict::Malformed { .. } => verdict_report(alloc, verdict),

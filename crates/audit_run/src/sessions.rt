@@ -16,12 +16,13 @@ ghost use Rattle.session_audit.specs.Phases.{ArePhases};
 use super::reports::{Report, done_report, finding_report, malformed_report};
 use audit_base::faults::NoMemory;
 use audit_base::names::Name;
-use audit_base::orders::{Deal, Order};
+use audit_base::orders::Deal;
 use log_source::shelf::Shelf;
 use log_verdict::both_logs::read_both;
 use log_verdict::sources::Source;
 use log_verdict::stops::Stop;
 use matching_core::deals_draft::ResolvedTrades;
+use order_list::lists::OrderList;
 use record_verdict::before_rule::BeforeRule;
 use record_verdict::scopes::{Admission, Scope};
 use session_audit::auditing::audit_session;
@@ -32,7 +33,7 @@ use session_audit::texts::session_text;
 use std::alloc::Global;
 
 /// The quantities of a day that conforms are the only ones: the law of days, over these deals.
-fn only_of_day(orders: &[Order], phases: &[Phase], deals: &[Deal])
+fn only_of_day(orders: &OrderList<'_>, phases: &[Phase], deals: &[Deal])
     requires order_list { IsOrderList orders.now }
     requires regular { Regular orders.now }
     requires numbers { AreDeals deals.now }
@@ -57,11 +58,11 @@ fn report_day(
 {
     let orders = resolved.history.orders();
     let deals = &resolved.deals;
-    match audit_session(alloc, orders, phases, deals, resolved.count)? {
+    match audit_session(alloc, &orders, phases, deals, resolved.count)? {
         Day::Conforms(totals) => {
-            only_of_day(orders, phases, deals);
+            only_of_day(&orders, phases, deals);
             let trades = deals.len() as u32;
-            let text = session_text(alloc, symbol, phases, orders, &totals, trades, table)?;
+            let text = session_text(alloc, symbol, phases, &orders, &totals, trades, table)?;
             Ok(done_report(text))
         }
         Day::Broken(finding) => finding_report(alloc, finding),

@@ -73,7 +73,7 @@ fn report_sound(
         resolved.now.deals.items certificate.now)) }
 {
     let orders = resolved.history.orders();
-    match verify(alloc, symbol, orders, &resolved.deals, certificate) {
+    match verify(alloc, symbol, &orders, &resolved.deals, certificate) {
         Ok(rule) => verified_report(alloc, rule, symbol, volume_of(&resolved.deals)),
         Err(VerifyFault::No(line)) => refused_report(alloc, line),
         Err(VerifyFault::Memory) => Err(NoMemory),

@@ -12,15 +12,16 @@ use super::fair_matchings::{FairMatching, fair_matching};
 use audit_base::faults::NoMemory;
 use audit_base::findings::{Finding, Short};
 use audit_base::flaws::{DueOrder, Evidence, Flaw, TradedOrder};
-use audit_base::orders::{Cut, Deal, Order};
+use audit_base::orders::{Cut, Deal};
 use audit_base::terms::VolumeRule;
 use matching_core::outcomes::{CheckFault, Outcome, Reached};
+use order_list::lists::OrderList;
 use short_order::searching::best_short;
 use std::alloc::Global;
 
 /// The best of the ranked orders that is not fully traded, with what it traded and its due.
 fn short_with_due(
-    orders: &[Order],
+    orders: &OrderList<'_>,
     ranked: &[usize],
     traded: &[u128],
     greatest: u128,
@@ -43,7 +44,12 @@ fn short_with_due(
 
 /// Finding 14: the volume is below the greatest. It stands behind the last trade of the log, and shows
 /// the best short order of both sides with their dues.
-fn volume_finding(orders: &[Order], fair: &FairMatching, count: u32, greatest: u128) -> Finding
+fn volume_finding(
+    orders: &OrderList<'_>,
+    fair: &FairMatching,
+    count: u32,
+    greatest: u128,
+) -> Finding
     requires few { length orders.now < 2 ^ 32 }
     requires ranked { AreRanked orders.now fair.now.sides }
     requires totals { length fair.now.totals.0 ≡ length orders.now }
@@ -58,11 +64,11 @@ fn volume_finding(orders: &[Order], fair: &FairMatching, count: u32, greatest: u
         place: count + 1,
         evidence: Evidence::Volume(Short { reached, greatest }, bid, ask),
     };
-    flaw.finding(orders)
+    orders.finding(flaw)
 }
 
 /// What a fair matching comes to: whether its volume is the greatest.
-fn outcome_of(orders: &[Order], fair: FairMatching, count: u32, most: Cut) -> Outcome
+fn outcome_of(orders: &OrderList<'_>, fair: FairMatching, count: u32, most: Cut) -> Outcome
     requires few { length orders.now < 2 ^ 32 }
     requires ranked { AreRanked orders.now fair.sides }
     requires totals { length fair.totals.0 ≡ length orders.now }
@@ -85,7 +91,7 @@ fn outcome_of(orders: &[Order], fair: FairMatching, count: u32, most: Cut) -> Ou
 pub fn audit_call(
     alloc: Global,
     rule: VolumeRule,
-    orders: &[Order],
+    orders: &OrderList<'_>,
     deals: &[Deal],
     count: u32,
     most: Cut,

@@ -5,12 +5,13 @@ ghost use Rattle.audit_base.specs.Deals.{IsDealList, AreDeals};
 ghost use Rattle.call_auction.specs.FairMatchings.{IsFairMatching, IsFairMatchingOffence};
 ghost use Rattle.matching_core.specs.Answers.{IfFound};
 
-use audit_base::orders::{Deal, Order};
+use audit_base::orders::Deal;
 use audit_base::ranges::deals_in_range;
 use fairness::checking::check_fair;
 use matching_core::checking::check_matching;
 use matching_core::outcomes::CheckFault;
 use matching_core::totals::Totals;
+use order_list::lists::OrderList;
 use rank_order::ranking::{RankedSides, ranked_sides};
 use std::alloc::Global;
 
@@ -29,7 +30,7 @@ pub struct FairMatching {
 /// are such a matching and Found exactly where they are not, out of memory aside.
 pub fn fair_matching(
     alloc: Global,
-    orders: &[Order],
+    orders: &OrderList<'_>,
     deals: &[Deal],
     uniform: bool,
 ) -> Result<FairMatching, CheckFault>

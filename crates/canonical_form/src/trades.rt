@@ -7,10 +7,12 @@ ghost use Rattle.canonical_form.specs.Trades.{ExpectedHavePlaces, TradesAreSound
 
 use audit_base::faults::NoMemory;
 use audit_base::names::{Name, read_name};
-use audit_base::orders::{Deal, Order};
+use audit_base::orders::Deal;
 use audit_base::records::TradeRecord;
 use audit_base::stamps::Stamp;
 use audit_base::texts::write_number;
+use order_list::listed::ListedOrder;
+use order_list::lists::OrderList;
 use std::alloc::Global;
 
 /// The trade id with a number: `T1`, `T2` and so on. `text` is overwritten.
@@ -28,29 +30,29 @@ fn trade_id(alloc: Global, text: &mut Vec<u8>, number: u64) -> Result<Name, NoMe
 }
 
 /// The time of the later of a deal's two orders.
-fn time_of(bid: &Order, ask: &Order) -> Stamp
+fn time_of(bid: &ListedOrder<'_>, ask: &ListedOrder<'_>) -> Stamp
     ensures { result ≡ (if nat_lt bid.now.place ask.now.place then ask.now.time else bid.now.time) }
 {
-    if bid.place < ask.place {
-        ask.time
+    if bid.place() < ask.place() {
+        ask.time()
     } else {
-        bid.time
+        bid.time()
     }
 }
 
 /// The trade record of a deal with its number.
-fn trade_of_deal(id: Name, orders: &[Order], deal: &Deal, symbol: &Name) -> TradeRecord
+fn trade_of_deal(id: Name, orders: &OrderList<'_>, deal: &Deal, symbol: &Name) -> TradeRecord
     requires { NamesOrders orders.now deal.now }
     ensures { result ≡ record (trade_of_deal orders.now symbol.now 0 deal.now) { trade = id } }
 {
-    let bid = &orders[deal.bid];
-    let ask = &orders[deal.ask];
+    let bid = orders.at(deal.bid);
+    let ask = orders.at(deal.ask);
     TradeRecord {
         trade: id,
-        time: time_of(bid, ask),
+        time: time_of(&bid, &ask),
         symbol: *symbol,
-        buy: bid.key,
-        sell: ask.key,
+        buy: bid.key(),
+        sell: ask.key(),
         quantity: deal.quantity,
         price: deal.price,
     }
@@ -60,7 +62,7 @@ fn trade_of_deal(id: Name, orders: &[Order], deal: &Deal, symbol: &Name) -> Trad
 /// at the time of the later of its two orders. Err only out of memory.
 pub fn trades_of_deals(
     alloc: Global,
-    orders: &[Order],
+    orders: &OrderList<'_>,
     deals: &[Deal],
     symbol: &Name,
 ) -> Result<Vec<TradeRecord>, NoMemory>

@@ -10,7 +10,7 @@ use Rattle.std.proofs.lemmas.List.Sorted.{All-permutation, Contains-permutation,
 use Rattle.audit_base.specs.declared.terms.Side.{Side}
 use Rattle.audit_base.specs.declared.terms.Side.TheVariants.{Buy, Sell}
 use Rattle.audit_base.specs.declared.orders.Order.{Order}
-use Rattle.audit_base.specs.Orders.{order_at, missing_order, side_at, limit_at}
+use Rattle.audit_base.specs.Orders.{order_at, side_at, limit_at}
 use Rattle.audit_base.specs.Continuous.{uncancelled_before}
 use Rattle.audit_base.proofs.SumLemmas.{Contains-front}
 use Rattle.audit_base.proofs.OrderLemmas.{not_both_sides}
@@ -72,10 +72,9 @@ standing-more orders endings from at amount b le h =
     or-off false b e = e
 
 -- the same, in the words of the code
-pub standing-read : (orders : List Order) (endings : List Ending) (from at : ℕ) (amount : ℕ → ℕ) (b after : Books) (o : Order) → from ≤ at → index_in endings at < length orders → o ≡ get_or orders (index_in endings at) o
+pub standing-read : (orders : List Order) (endings : List Ending) (from at : ℕ) (amount : ℕ → ℕ) (b after : Books) (o : Order) → from ≤ at → index_in endings at < length orders → o ≡ order_at orders (index_in endings at)
     → after ≡ books_without o.side (index_in endings at) o.limit b → BooksHold orders (amount_without endings from at amount) b → BooksHold orders (amount_without endings from (at + 1) amount) after
-standing-read orders endings from at amount b after o le inside is e h =
-    let here : o ≡ order_at orders (index_in endings at) = is ∙ get_or-default orders (index_in endings at) o missing_order inside in
+standing-read orders endings from at amount b after o le inside here e h =
     let same : after ≡ books_without (side_at orders (index_in endings at)) (index_in endings at) (limit_at orders (index_in endings at)) b = e ∙ ap (λ (x : Order). books_without x.side (index_in endings at) x.limit b) here in
     subst (λ (n : ℕ). BooksHold orders (amount_without endings from n amount) after) (sym (add-one at)) (subst (BooksHold orders (amount_without endings from (suc at) amount)) (sym same) (standing-more orders endings from at amount b le h))
 

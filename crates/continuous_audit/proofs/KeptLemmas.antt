@@ -7,13 +7,12 @@ use Rattle.audit_base.specs.declared.orders.Order.{Order}
 use Rattle.audit_base.specs.declared.orders.Deal.{Deal}
 use Rattle.audit_base.specs.declared.terms.Side.{Side}
 use Rattle.audit_base.specs.declared.terms.Side.TheVariants.{Buy, Sell}
-use Rattle.audit_base.specs.Orders.{missing_order, order_at, place_at, side_at, other_side, IsOrderList}
+use Rattle.audit_base.specs.Orders.{order_at, place_at, side_at, other_side, IsOrderList}
 use Rattle.audit_base.specs.Deals.{names, NamesOrders}
 use Rattle.audit_base.specs.Continuous.{cause, chain, chain_within, before, resting, traded_before, before_of, rests, uncancelled_before}
 use Rattle.audit_base.specs.ContinuousRules.{ConformsAt}
 use Rattle.audit_base.proofs.SumLemmas.{sum_by-same}
 use Rattle.audit_base.proofs.OrderLemmas.{place-rises}
-use Rattle.audit_base.proofs.OffenceLemmas.{get_or-default}
 use Rattle.audit_base.proofs.ContinuousLemmas.{target-below, chain-none, chain-some, before-is, before-some}
 use Rattle.continuous_audit.specs.Chains.{IsClosed, ends_by}
 use Rattle.continuous_audit.specs.Scans.{number_in}
@@ -21,15 +20,18 @@ use Rattle.continuous_laws.proofs.StepLemmas.{rests-parts}
 use Rattle.continuous_audit.proofs.RecordLemmas.{ends}
 
 -- the target that the code reads
-pub target-read : (orders : List Order) (n t : ℕ) (d : Order) → n < length orders → (get_or orders n d).target ≡ Some t → (order_at orders n).target ≡ Some t
-target-read orders n t d inside e = sym (ap (λ (o : Order). o.target) (get_or-default orders n d missing_order inside)) ∙ e
+pub target-read : (orders : List Order) (n t : ℕ) (o : Order) (target : Option ℕ) → o ≡ order_at orders n → target ≡ o.target → target ≡ Some t → (order_at orders n).target ≡ Some t
+target-read orders n t o target is same e = sym (same ∙ ap (λ (x : Order). x.target) is) ∙ e
 
-pub none-read : (orders : List Order) (n : ℕ) (d : Order) → n < length orders → (get_or orders n d).target ≡ None → (order_at orders n).target ≡ None
-none-read orders n d inside e = sym (ap (λ (o : Order). o.target) (get_or-default orders n d missing_order inside)) ∙ e
+pub none-read : (orders : List Order) (n : ℕ) (o : Order) (target : Option ℕ) → o ≡ order_at orders n → target ≡ o.target → target ≡ None → (order_at orders n).target ≡ None
+none-read orders n o target is same e = sym (same ∙ ap (λ (x : Order). x.target) is) ∙ e
 
-pub ends-read : (orders : List Order) (n t : ℕ) (d e : Order) (r : Bool) → n < length orders → t < length orders → r ≡ ends_by (get_or orders t d).cancelled (get_or orders n e).place → r ≡ true
-    → ends_by (order_at orders t).cancelled (place_at orders n) ≡ true
-ends-read orders n t d e r n_inside t_inside is on = (λ i. ends_by (sym (get_or-default orders t d missing_order t_inside) i).cancelled (sym (get_or-default orders n e missing_order n_inside) i).place) ∙ sym is ∙ on
+pub ends-read : (orders : List Order) (n t : ℕ) (own replaced : Order) (cancelled : Option ℕ) (place : ℕ) (r : Bool) → own ≡ order_at orders n → replaced ≡ order_at orders t → cancelled ≡ replaced.cancelled → place ≡ own.place
+    → r ≡ ends_by cancelled place → r ≡ true → ends_by (order_at orders t).cancelled (place_at orders n) ≡ true
+ends-read orders n t own replaced cancelled place r own_is replaced_is cancelled_is place_is is on =
+    let end : cancelled ≡ (order_at orders t).cancelled = cancelled_is ∙ ap (λ (x : Order). x.cancelled) replaced_is in
+    let at : place ≡ place_at orders n = place_is ∙ ap (λ (x : Order). x.place) own_is in
+    sym (λ i. ends_by (end i) (at i)) ∙ sym is ∙ on
 
 -- ended up to p, and by no record below c: then c is at most p
 ended-late : (x : Option ℕ) (p c : ℕ) → ends_by x p ≡ true → uncancelled_before x c ≡ true → c ≤ p

@@ -4,7 +4,7 @@ use Rattle.std.proofs.lemmas.Bool.{cases_eq, cases_lt}
 use Rattle.audit_base.specs.declared.orders.Order.{Order}
 use Rattle.audit_base.specs.declared.orders.Deal.{Deal}
 use Rattle.audit_base.specs.Least.{least_answer}
-use Rattle.audit_base.specs.Orders.{missing_order, order_at, place_at, side_at, other_side, IsOrderList}
+use Rattle.audit_base.specs.Orders.{order_at, place_at, side_at, other_side, IsOrderList}
 use Rattle.audit_base.specs.Priority.{better}
 use Rattle.audit_base.specs.Deals.{deal_at, missing_deal, IsDealList}
 use Rattle.audit_base.specs.Continuous.{cause, resting, incoming, traded_before}
@@ -130,6 +130,6 @@ pass-found-first orders list deals deal_list causes are n n_inside start end wit
 
 -- the order that the code reads of the deal of a cause
 pub resting-read : (orders : List Order) (deals : List Deal) (causes : List Cause) (are : AreCauses orders deals causes) (at : ℕ) → at < length causes → (d : Deal) → d ≡ get_or deals (deal_in causes at) d → (r : ℕ) → r ≡ resting orders d → r < length orders
-    → (o : Order) → o ≡ get_or orders r o → o ≡ order_at orders (resting orders (deal_at deals (deal_in causes at)))
+    → (o : Order) → o ≡ order_at orders r → o ≡ order_at orders (resting orders (deal_at deals (deal_in causes at)))
 resting-read orders deals causes are at lt d d_read r r_is inside o o_read =
-    o_read ∙ get_or-default orders r o missing_order inside ∙ ap (order_at orders) (r_is ∙ ap (resting orders) (d_read ∙ get_or-default deals (deal_in causes at) d missing_deal (are.only at missing_cause lt).0))
+    o_read ∙ ap (order_at orders) (r_is ∙ ap (resting orders) (d_read ∙ get_or-default deals (deal_in causes at) d missing_deal (are.only at missing_cause lt).0))

@@ -13,7 +13,7 @@ use Rattle.audit_base.specs.declared.flaws.Evidence.{Evidence}
 use Rattle.audit_base.specs.declared.flaws.Evidence.TheVariants.{Inactive, Limit, Quantity}
 use Rattle.audit_base.specs.declared.terms.Side.TheVariants.{Buy, Sell}
 use Rattle.audit_base.specs.Least.{least_answer, first_of, only_if}
-use Rattle.audit_base.specs.Orders.{missing_order, order_at, place_at, side_at, is_rests, IsOrderList}
+use Rattle.audit_base.specs.Orders.{order_at, place_at, side_at, is_rests, IsOrderList}
 use Rattle.audit_base.specs.Deals.{is_within, names, deal_at, missing_deal, part_of, NamesOrders, IsDealList}
 use Rattle.audit_base.specs.Continuous.{cause, resting, incoming, traded_before, traded_at, entered_of, size_of, rests, size, uncancelled_before}
 use Rattle.audit_base.specs.CallOffences.{keeps_limits}
@@ -313,14 +313,14 @@ module _ (orders : List Order) (list : IsOrderList orders) (deals : List Deal) (
   pub running-read : (zs : List ℕ) → zs ≡ slice_set (slice_set xs d.bid (get_or xs d.bid 0 + q)) d.ask (get_or xs d.ask 0 + q) → AreRunningTotals orders deals causes (at + 1) zs
   running-read zs made = running-after orders deals causes at lt xs run d d_is named q q_is (omega arith) zs made
 
-  pub finding-read : (of : order_in causes at ≡ n) (coming : Coming) (sheet : Sheet) (known : IsKnown orders deals n coming.entered sheet) (own bid ask : Order) → own ≡ get_or orders n own → bid ≡ get_or orders d.bid bid → ask ≡ get_or orders d.ask ask → coming.place ≡ own.place
+  pub finding-read : (of : order_in causes at ≡ n) (coming : Coming) (sheet : Sheet) (known : IsKnown orders deals n coming.entered sheet) (own bid ask : Order) → own ≡ order_at orders n → bid ≡ order_at orders d.bid → ask ≡ order_at orders d.ask → coming.place ≡ own.place
       → (accounts : Accounts) (bt at' : ℕ) → accounts.bid ≡ by_deal.account_of sheet d.bid bt → accounts.ask ≡ by_deal.account_of sheet d.ask at' → bt ≡ get_or xs d.bid 0 + q → at' ≡ get_or xs d.ask 0 + q
       → conservation_finding orders deals (place_at orders n) (deal_in causes at) ≡ option_map (finding_by orders list deals deal_list causes are n n_inside d) (by_deal.deal_evidence d bid ask coming accounts)
   finding-read of coming sheet known own bid ask own_read bid_read ask_read p_is accounts bt at' b_is a_is bt_is at_is =
       let e = deal_at deals (deal_in causes at) in
-      let place : coming.place ≡ place_at orders n = p_is ∙ ap (λ (o : Order). o.place) (own_read ∙ get_or-default orders n own missing_order n_inside) in
-      let b : bid ≡ order_at orders e.bid = bid_read ∙ get_or-default orders d.bid bid missing_order named.bid_inside ∙ ap (λ (x : Deal). order_at orders x.bid) d_is in
-      let a : ask ≡ order_at orders e.ask = ask_read ∙ get_or-default orders d.ask ask missing_order named.ask_inside ∙ ap (λ (x : Deal). order_at orders x.ask) d_is in
+      let place : coming.place ≡ place_at orders n = p_is ∙ ap (λ (o : Order). o.place) own_read in
+      let b : bid ≡ order_at orders e.bid = bid_read ∙ ap (λ (x : Deal). order_at orders x.bid) d_is in
+      let a : ask ≡ order_at orders e.ask = ask_read ∙ ap (λ (x : Deal). order_at orders x.ask) d_is in
       let kb : accounts.bid ≡ by_deal.account_of sheet e.bid bt = b_is ∙ ap (λ (x : Deal). by_deal.account_of sheet x.bid bt) d_is in
       let ka : accounts.ask ≡ by_deal.account_of sheet e.ask at' = a_is ∙ ap (λ (x : Deal). by_deal.account_of sheet x.ask at') d_is in
       let tb = bt_is ∙ bid-now orders deals causes at lt xs run d d_is named q q_is (omega arith) ∙ ap (λ (x : Deal). running_total deals causes (at + 1) x.bid) d_is in

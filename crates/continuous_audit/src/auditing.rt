@@ -9,11 +9,12 @@ use super::endings::sort_endings;
 use super::market::Market;
 use super::state::State;
 use audit_base::faults::NoMemory;
-use audit_base::orders::{Deal, Order};
+use audit_base::orders::Deal;
 use audit_base::ranges::deals_in_range;
 use continuous_laws::laws::continuous_uniqueness;
 use matching_core::outcomes::{Outcome, Reached};
 use matching_core::totals::{Totals, volume_of};
+use order_list::lists::OrderList;
 use std::alloc::Global;
 
 /// The audit of the rule of continuous trading. Conforms exactly where it holds, unless it is out of memory: with
@@ -21,7 +22,7 @@ use std::alloc::Global;
 /// quantity, a priority or the spread.
 pub fn audit_continuous(
     alloc: Global,
-    orders: &[Order],
+    orders: &OrderList<'_>,
     deals: &[Deal],
 ) -> Result<Outcome, NoMemory>
     requires order_list { IsOrderList orders.now }

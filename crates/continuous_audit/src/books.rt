@@ -14,9 +14,9 @@ use super::endings::Ending;
 use super::filling::fill_best;
 use audit_base::faults::NoMemory;
 use audit_base::numbers::Price;
-use audit_base::orders::Order;
 use audit_base::terms::Side;
 use order_book::books::{Book, Resting};
+use order_list::lists::OrderList;
 use std::alloc::Global;
 
 /// The books of both sides.
@@ -94,14 +94,16 @@ pub struct Standing {
 }
 
 /// The place of the order after the one at `order`, or one past its place if it is the last.
-fn next_place(orders: &[Order], order: usize) -> u64
+fn next_place(orders: &OrderList<'_>, order: usize) -> u64
     requires { order < length orders.now }
     ensures { result ≡ ready_place orders.now (suc order) }
 {
-    if order + 1 < orders.len() {
-        orders[order + 1].place as u64
+    let count = orders.len();
+    if order + 1 < count {
+        orders.at(order + 1).place() as u64
     } else {
-        orders[order].place as u64 + 1
+        let place = orders.at(order).place();
+        place as u64 + 1
     }
 }
 
@@ -120,7 +122,7 @@ impl Standing {
     }
 
     /// Takes the orders out of the books that records before a place end.
-    fn drop_ended(&mut self, orders: &[Order], endings: &[Ending], upto: u64)
+    fn drop_ended(&mut self, orders: &OrderList<'_>, endings: &[Ending], upto: u64)
         requires inside { All (IsEnding orders.now) endings.now }
         requires from { self.old.start ≤ length endings.now }
         ensures ended { AreEndedBelow endings.now self.old.start self.new.start upto }
@@ -134,14 +136,14 @@ impl Standing {
             if upto <= ending.place as u64 {
                 return;
             }
-            let order = &orders[ending.index];
-            self.books.cancel(order.side, ending.index, order.limit);
+            let order = orders.at(ending.index);
+            self.books.cancel(order.side(), ending.index, order.limit());
             self.start += 1;
         }
     }
 
     /// Takes out of the books what the record of an order ends, after its deals.
-    pub fn drop_own(&mut self, orders: &[Order], endings: &[Ending], order: usize)
+    pub fn drop_own(&mut self, orders: &OrderList<'_>, endings: &[Ending], order: usize)
         requires list { IsOrderList orders.now }
         requires order { order < length orders.now }
         requires endings { AreEndings orders.now endings.now }
@@ -152,12 +154,12 @@ impl Standing {
             → HoldWithoutOwn orders.now deals order self.new.books }
         ensures fewer { resting_count self.new.books ≤ resting_count self.old.books }
     {
-        let place = orders[order].place;
+        let place = orders.at(order).place();
         self.drop_ended(orders, endings, place as u64 + 1);
     }
 
     /// Takes out of the books what is ended between the record of an order and that of the next.
-    pub fn drop_before_next(&mut self, orders: &[Order], endings: &[Ending], order: usize)
+    pub fn drop_before_next(&mut self, orders: &OrderList<'_>, endings: &[Ending], order: usize)
         requires list { IsOrderList orders.now }
         requires order { order < length orders.now }
         requires endings { AreEndings orders.now endings.now }

@@ -6,7 +6,8 @@ ghost use Rattle.audit_base.specs.Continuous.{incoming, resting};
 ghost use Rattle.continuous_audit.specs.Causes.{AreCauses, causes_upto};
 
 use audit_base::faults::NoMemory;
-use audit_base::orders::{Deal, Order};
+use audit_base::orders::Deal;
+use order_list::lists::OrderList;
 use std::alloc::Global;
 
 /// A deal by the index of its incoming order and its own index.
@@ -17,12 +18,12 @@ pub struct Cause {
 }
 
 /// The order of a deal whose record is the cause.
-pub fn incoming(orders: &[Order], deal: &Deal) -> usize
+pub fn incoming(orders: &OrderList<'_>, deal: &Deal) -> usize
     requires { NamesOrders orders.now deal.now }
     ensures same { result ≡ incoming orders.now deal.now }
     ensures inside { result < length orders.now }
 {
-    if orders[deal.bid].place < orders[deal.ask].place {
+    if orders.at(deal.bid).place() < orders.at(deal.ask).place() {
         deal.ask
     } else {
         deal.bid
@@ -30,12 +31,12 @@ pub fn incoming(orders: &[Order], deal: &Deal) -> usize
 }
 
 /// The order of a deal that rested.
-pub fn resting_of(orders: &[Order], deal: &Deal) -> usize
+pub fn resting_of(orders: &OrderList<'_>, deal: &Deal) -> usize
     requires { NamesOrders orders.now deal.now }
     ensures same { result ≡ resting orders.now deal.now }
     ensures inside { result < length orders.now }
 {
-    if orders[deal.bid].place < orders[deal.ask].place {
+    if orders.at(deal.bid).place() < orders.at(deal.ask).place() {
         deal.bid
     } else {
         deal.ask
@@ -43,7 +44,11 @@ pub fn resting_of(orders: &[Order], deal: &Deal) -> usize
 }
 
 /// The deals with their incoming orders, in log order.
-fn collect_causes(alloc: Global, orders: &[Order], deals: &[Deal]) -> Result<Vec<Cause>, NoMemory>
+fn collect_causes(
+    alloc: Global,
+    orders: &OrderList<'_>,
+    deals: &[Deal],
+) -> Result<Vec<Cause>, NoMemory>
     requires { All (NamesOrders orders.now) deals.now }
     ensures { IfOk result (λ causes.
         causes.items ≡ causes_upto orders.now deals.now (length deals.now)) }
@@ -60,7 +65,11 @@ fn collect_causes(alloc: Global, orders: &[Order], deals: &[Deal]) -> Result<Vec
 }
 
 /// The deals by their incoming orders, and those of one order as they stand in the log.
-pub fn sort_causes(alloc: Global, orders: &[Order], deals: &[Deal]) -> Result<Vec<Cause>, NoMemory>
+pub fn sort_causes(
+    alloc: Global,
+    orders: &OrderList<'_>,
+    deals: &[Deal],
+) -> Result<Vec<Cause>, NoMemory>
     requires { All (NamesOrders orders.now) deals.now }
     ensures { IfOk result (λ causes. AreCauses orders.now deals.now causes.items) }
 {

@@ -7,10 +7,10 @@ ghost use Rattle.continuous_audit.specs.Chains.{IsClosed, IsOpenSheet, IsOpening
 ghost use Rattle.continuous_audit.specs.Scans.{AreSmall, number_in};
 
 use super::sheet::Sheet;
-use audit_base::orders::Order;
+use order_list::lists::OrderList;
 
 /// What the orders of the chain of an order have traded: its target, the target's target, and so on.
-fn chain_total(orders: &[Order], traded: &[u128], order: usize) -> u128
+fn chain_total(orders: &OrderList<'_>, traded: &[u128], order: usize) -> u128
     requires list { IsOrderList orders.now }
     requires order { order < length orders.now }
     requires traded { AreSmall orders.now traded.now }
@@ -18,17 +18,17 @@ fn chain_total(orders: &[Order], traded: &[u128], order: usize) -> u128
     ensures bounded { result ≤ order * 2 ^ 72 }
 {
     let mut total: u128 = 0;
-    let mut target = orders[order].target;
+    let mut target = orders.at(order).target();
     while let Some(index) = target {
         total += traded[index];
-        target = orders[index].target;
+        target = orders.at(index).target();
     }
     total
 }
 
 /// Before of an order: what its chain has traded. Where the records of its target's chain end one another, as in
 /// every history, this is what the target has traded, and the target's own Before.
-pub fn chain_before(orders: &[Order], traded: &[u128], sheet: &Sheet, order: usize) -> u128
+pub fn chain_before(orders: &OrderList<'_>, traded: &[u128], sheet: &Sheet, order: usize) -> u128
     requires list { IsOrderList orders.now }
     requires order { order < length orders.now }
     requires traded { AreSmall orders.now traded.now }
@@ -37,7 +37,7 @@ pub fn chain_before(orders: &[Order], traded: &[u128], sheet: &Sheet, order: usi
         → result ≡ before_of orders.now deals order }
     ensures bounded { result ≤ order * 2 ^ 72 }
 {
-    if let Some(target) = orders[order].target {
+    if let Some(target) = orders.at(order).target() {
         if sheet.is_closed(target) {
             return traded[target] + sheet.before_of(target);
         }
@@ -56,15 +56,18 @@ fn ends_by(cancelled: Option<u32>, place: u32) -> bool
 }
 
 /// Whether the records of the chain of an order end one another.
-pub fn is_closed(orders: &[Order], sheet: &Sheet, order: usize) -> bool
+pub fn is_closed(orders: &OrderList<'_>, sheet: &Sheet, order: usize) -> bool
     requires list { IsOrderList orders.now }
     requires order { order < length orders.now }
     requires sheet { IsOpenSheet orders.now order sheet.now }
     ensures { result ≡ true → IsClosed orders.now order }
 {
-    match orders[order].target {
-        Some(target) => sheet.is_closed(target)
-            && ends_by(orders[target].cancelled, orders[order].place),
+    let own = orders.at(order);
+    match own.target() {
+        Some(target) => {
+            let replaced = orders.at(target);
+            sheet.is_closed(target) && ends_by(replaced.cancelled(), own.place())
+        }
         None => true,
     }
 }

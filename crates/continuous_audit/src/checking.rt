@@ -3,8 +3,9 @@ ghost use Rattle.std.specs.Prelude.{◌≡◌};
 ghost use Rattle.continuous_audit.specs.DealFindings as by_deal;
 
 use audit_base::flaws::{Evidence, TradedOrder};
-use audit_base::orders::{Deal, Order};
+use audit_base::orders::Deal;
 use audit_base::terms::Side;
+use order_list::listed::{ListedOrder, is_within};
 
 /// Whether no record before a place ends the order.
 fn is_uncancelled(cancelled: Option<u32>, place: u32) -> bool
@@ -17,10 +18,10 @@ fn is_uncancelled(cancelled: Option<u32>, place: u32) -> bool
 }
 
 /// Whether an earlier order with so much left rests before a place.
-pub fn waits(order: &Order, place: u32, left: u64) -> bool
+pub fn waits(order: &ListedOrder<'_>, place: u32, left: u64) -> bool
     ensures { result ≡ by_deal.waits order.now place left }
 {
-    order.life.rests() && is_uncancelled(order.cancelled, place) && left > 0
+    order.life().rests() && is_uncancelled(order.cancelled(), place) && left > 0
 }
 
 /// What is known of one of a deal's orders.
@@ -60,10 +61,10 @@ pub struct Coming {
 }
 
 /// Whether the earlier one of a bid and an ask that trade rests before a place.
-fn resting_waits(bid: &Order, ask: &Order, place: u32, known: Accounts) -> bool
+fn resting_waits(bid: &ListedOrder<'_>, ask: &ListedOrder<'_>, place: u32, known: Accounts) -> bool
     ensures { result ≡ by_deal.resting_waits bid.now ask.now place known }
 {
-    if bid.place < ask.place {
+    if bid.place() < ask.place() {
         waits(bid, place, known.bid.left)
     } else {
         waits(ask, place, known.ask.left)
@@ -71,10 +72,10 @@ fn resting_waits(bid: &Order, ask: &Order, place: u32, known: Accounts) -> bool
 }
 
 /// The account of the earlier one of a bid and an ask that trade, which rested.
-fn resting_account(bid: &Order, ask: &Order, known: Accounts) -> Account
+fn resting_account(bid: &ListedOrder<'_>, ask: &ListedOrder<'_>, known: Accounts) -> Account
     ensures { result ≡ by_deal.resting_account bid.now ask.now known }
 {
-    if bid.place < ask.place {
+    if bid.place() < ask.place() {
         known.bid
     } else {
         known.ask
@@ -82,10 +83,10 @@ fn resting_account(bid: &Order, ask: &Order, known: Accounts) -> Account
 }
 
 /// The account of the later one, which came.
-fn incoming_account(bid: &Order, ask: &Order, known: Accounts) -> Account
+fn incoming_account(bid: &ListedOrder<'_>, ask: &ListedOrder<'_>, known: Accounts) -> Account
     ensures { result ≡ by_deal.incoming_account bid.now ask.now known }
 {
-    if bid.place < ask.place {
+    if bid.place() < ask.place() {
         known.ask
     } else {
         known.bid
@@ -95,8 +96,8 @@ fn incoming_account(bid: &Order, ask: &Order, known: Accounts) -> Account
 /// What is wrong with a deal by itself, from what is known of its orders: the first rule that it breaks.
 pub fn deal_evidence(
     deal: &Deal,
-    bid: &Order,
-    ask: &Order,
+    bid: &ListedOrder<'_>,
+    ask: &ListedOrder<'_>,
     coming: Coming,
     known: Accounts,
 ) -> Option<Evidence>
@@ -108,7 +109,7 @@ pub fn deal_evidence(
     if !coming.entered {
         return Some(Evidence::Inactive(incoming_account(bid, ask, known).shown));
     }
-    if !deal.is_within(bid, ask) {
+    if !is_within(deal, bid, ask) {
         return Some(Evidence::Limit(known.bid.shown, known.ask.shown));
     }
     if known.bid.is_over() {

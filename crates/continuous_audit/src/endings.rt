@@ -3,7 +3,8 @@ ghost use Rattle.std.specs.Prelude.{◌≡◌, ◌++◌, OnOk, IfOk, length};
 ghost use Rattle.continuous_audit.specs.Endings.{AreEndings, endings_of, endings_upto};
 
 use audit_base::faults::NoMemory;
-use audit_base::orders::Order;
+use order_list::listed::ListedOrder;
+use order_list::lists::OrderList;
 use std::alloc::Global;
 
 /// An order that a record ends, by its index, with the place of the record.
@@ -14,10 +15,14 @@ pub struct Ending {
 }
 
 /// Adds an order, if a record ends it.
-fn add_ending(endings: &mut Vec<Ending>, index: usize, order: &Order) -> Result<(), NoMemory>
+fn add_ending(
+    endings: &mut Vec<Ending>,
+    index: usize,
+    order: &ListedOrder<'_>,
+) -> Result<(), NoMemory>
     ensures { OnOk result (endings.new.items ≡ endings.old.items ++ endings_of index order.now) }
 {
-    match order.cancelled {
+    match order.cancelled() {
         Some(place) => {
             endings.push(Ending { place, index })?;
             Ok(())
@@ -27,18 +32,18 @@ fn add_ending(endings: &mut Vec<Ending>, index: usize, order: &Order) -> Result<
 }
 
 /// The orders that a record ends, in log order.
-fn collect_endings(alloc: Global, orders: &[Order]) -> Result<Vec<Ending>, NoMemory>
+fn collect_endings(alloc: Global, orders: &OrderList<'_>) -> Result<Vec<Ending>, NoMemory>
     ensures { IfOk result (λ endings. endings.items ≡ endings_upto orders.now (length orders.now)) }
 {
     let mut endings = Vec::with_capacity(alloc, orders.len())?;
-    for (index, order) in orders.iter().enumerate() {
-        add_ending(&mut endings, index, order)?;
+    for index in 0..orders.len() {
+        add_ending(&mut endings, index, &orders.at(index))?;
     }
     Ok(endings)
 }
 
 /// The orders that a record ends, by the place of this record.
-pub fn sort_endings(alloc: Global, orders: &[Order]) -> Result<Vec<Ending>, NoMemory>
+pub fn sort_endings(alloc: Global, orders: &OrderList<'_>) -> Result<Vec<Ending>, NoMemory>
     ensures { IfOk result (λ endings. AreEndings orders.now endings.items) }
 {
     let mut endings = collect_endings(alloc, orders)?;

@@ -15,8 +15,9 @@ use super::matching::{TradesSoFar, match_record};
 use super::pairs::{number_pairs, sort_pairs};
 use super::sheet::Sheet;
 use audit_base::faults::NoMemory;
-use audit_base::orders::{Deal, Order};
+use audit_base::orders::Deal;
 use matching_core::totals::zeros;
+use order_list::lists::OrderList;
 use std::alloc::Global;
 
 /// Nothing has traded before the first of so many orders.
@@ -36,7 +37,7 @@ fn no_trades(alloc: Global, count: usize) -> Result<TradesSoFar, NoMemory>
 
 /// Goes over the records of the orders.
 fn match_records(
-    orders: &[Order],
+    orders: &OrderList<'_>,
     endings: &[Ending],
     so_far: &mut TradesSoFar,
 ) -> Result<(), NoMemory>
@@ -60,7 +61,7 @@ fn match_records(
 /// its own record each order trades with the best orders that rest on the other side, as long as their limits meet,
 /// at their limits. One deal for each bid and ask that trade, in order of the bid's place, then of the ask's. They
 /// conform to the rule. In n log n steps for n orders. Err only out of memory.
-pub fn continuous_matching(alloc: Global, orders: &[Order]) -> Result<Vec<Deal>, NoMemory>
+pub fn continuous_matching(alloc: Global, orders: &OrderList<'_>) -> Result<Vec<Deal>, NoMemory>
     requires order_list { IsOrderList orders.now }
     requires regular { Regular orders.now }
     ensures expected { IfOk result (λ deals. IsExpectedContinuous orders.now deals.items) }

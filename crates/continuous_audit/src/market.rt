@@ -1,12 +1,13 @@
 //! What is judged: the orders and the deals, and which of them belong to which record.
 use super::causes::Cause;
 use super::endings::Ending;
-use audit_base::orders::{Deal, Order};
+use audit_base::orders::Deal;
+use order_list::lists::OrderList;
 
 /// The orders and the deals, which stay the same for the whole audit.
 #[derive(Clone, Copy)]
 pub struct Market<'a> {
-    pub orders: &'a [Order],
+    pub orders: &'a OrderList<'a>,
     pub deals: &'a [Deal],
     /// The deals by their incoming orders.
     pub causes: &'a [Cause],

@@ -17,9 +17,10 @@ use super::pairs::{Pair, push_pairs};
 use super::sheet::Sheet;
 use super::spreading::enter_own;
 use audit_base::faults::NoMemory;
-use audit_base::orders::Order;
 use audit_base::terms::Side;
 use matching_core::totals::left_of;
+use order_list::listed::ListedOrder;
+use order_list::lists::OrderList;
 
 /// What the Expected trades so far come to: what is known of the orders, by their indices, the books, and the pairs
 /// that have traded.
@@ -70,7 +71,7 @@ fn apply_fills(fills: &[Fill], traded: &mut Vec<u128>, left: &mut Vec<u64>)
 /// Trades an order with the best orders of the other side's book. `fills` is overwritten with what it trades; gives
 /// what is left of its size.
 fn fill_order(
-    own: &Order,
+    own: &ListedOrder<'_>,
     size: u64,
     books: &mut Books,
     fills: &mut Vec<Fill>,
@@ -82,14 +83,18 @@ fn fill_order(
         books.old) }
     ensures left { IfOk result (λ left. left + total_filled fills.new.items ≡ size) }
 {
-    match own.side {
-        Side::Buy => take_fills(&mut books.asks, own.side, own.limit, size, fills),
-        Side::Sell => take_fills(&mut books.bids, own.side, own.limit, size, fills),
+    match own.side() {
+        Side::Buy => take_fills(&mut books.asks, own.side(), own.limit(), size, fills),
+        Side::Sell => take_fills(&mut books.bids, own.side(), own.limit(), size, fills),
     }
 }
 
 /// Trades the order of a record with the best orders of the other side.
-fn trade_order(orders: &[Order], order: usize, so_far: &mut TradesSoFar) -> Result<(), NoMemory>
+fn trade_order(
+    orders: &OrderList<'_>,
+    order: usize,
+    so_far: &mut TradesSoFar,
+) -> Result<(), NoMemory>
     requires list { IsOrderList orders.now }
     requires regular { Regular orders.now }
     requires order { order < length orders.now }
@@ -102,9 +107,9 @@ fn trade_order(orders: &[Order], order: usize, so_far: &mut TradesSoFar) -> Resu
 {
     let opening = open_order(orders, &so_far.traded, &so_far.sheet, order);
     so_far.sheet.note(order, &opening);
-    let own = &orders[order];
+    let own = orders.at(order);
     let left = fill_order(
-        own,
+        &own,
         opening.size,
         &mut so_far.standing.books,
         &mut so_far.fills,
@@ -112,12 +117,12 @@ fn trade_order(orders: &[Order], order: usize, so_far: &mut TradesSoFar) -> Resu
     apply_fills(&so_far.fills, &mut so_far.traded, &mut so_far.sheet.left);
     set_total(&mut so_far.traded, order, (opening.size - left) as u128);
     set_amount(&mut so_far.sheet.left, order, left);
-    push_pairs(own.side, order, &so_far.fills, &mut so_far.pairs)
+    push_pairs(own.side(), order, &so_far.fills, &mut so_far.pairs)
 }
 
 /// The record of an order: what it trades, and what rests after it, up to the next order's record.
 pub fn match_record(
-    orders: &[Order],
+    orders: &OrderList<'_>,
     endings: &[Ending],
     order: usize,
     so_far: &mut TradesSoFar,

@@ -11,28 +11,29 @@ use super::chains::{chain_before, is_closed};
 use super::checking::waits;
 use super::sheet::Sheet;
 use audit_base::numbers::Quantity;
-use audit_base::orders::Order;
+use order_list::listed::ListedOrder;
+use order_list::lists::OrderList;
 
 /// Whether an order is placed, where its target rests if it has one.
-fn enters(order: &Order, target_rests: bool) -> bool
+fn enters(order: &ListedOrder<'_>, target_rests: bool) -> bool
     ensures { result ≡ enters order.now target_rests }
 {
-    match order.cancelled {
-        Some(end) => end != order.place && target_rests,
+    match order.cancelled() {
+        Some(end) => end != order.place() && target_rests,
         None => target_rests,
     }
 }
 
 /// Whether the target of an order rests before its place, or there is none.
-fn target_rests(orders: &[Order], sheet: &Sheet, order: &Order) -> bool
+fn target_rests(orders: &OrderList<'_>, sheet: &Sheet, order: &ListedOrder<'_>) -> bool
     requires inside { (t : ℕ) → order.now.target ≡ Some t → t < length orders.now }
     requires count { length sheet.now.left.items ≡ length orders.now }
     ensures none { order.now.target ≡ None → result ≡ true }
     ensures some { (t : ℕ) → order.now.target ≡ Some t
         → result ≡ waits_in orders.now sheet.now.left.items order.now.place t }
 {
-    match order.target {
-        Some(index) => waits(&orders[index], order.place, sheet.left[index]),
+    match order.target() {
+        Some(index) => waits(&orders.at(index), order.place(), sheet.left[index]),
         None => true,
     }
 }
@@ -61,7 +62,7 @@ pub struct Opening {
 }
 
 /// What an order brings at its own record, from what the earlier ones have traded and have left.
-pub fn open_order(orders: &[Order], traded: &[u128], sheet: &Sheet, order: usize) -> Opening
+pub fn open_order(orders: &OrderList<'_>, traded: &[u128], sheet: &Sheet, order: usize) -> Opening
     requires list { IsOrderList orders.now }
     requires order { order < length orders.now }
     requires traded { AreSmall orders.now traded.now }
@@ -72,12 +73,12 @@ pub fn open_order(orders: &[Order], traded: &[u128], sheet: &Sheet, order: usize
     ensures fits { FitsOrder orders.now order result }
 {
     let before = chain_before(orders, traded, sheet, order);
-    let opened = &orders[order];
-    let entered = enters(opened, target_rests(orders, sheet, opened));
+    let opened = orders.at(order);
+    let entered = enters(&opened, target_rests(orders, sheet, &opened));
     Opening {
         entered,
         before,
         closed: is_closed(orders, sheet, order),
-        size: size_left(entered, opened.quantity, before),
+        size: size_left(entered, opened.quantity(), before),
     }
 }

@@ -8,9 +8,10 @@ ghost use Rattle.continuous_audit.specs.Pairs.{AreNumbered, IsDealt, pair_cmp, p
 use super::fills::Fill;
 use audit_base::faults::NoMemory;
 use audit_base::numbers::{Price, Quantity};
-use audit_base::orders::{Deal, Order};
+use audit_base::orders::Deal;
 use audit_base::ranges::deals_in_range;
 use audit_base::terms::Side;
+use order_list::lists::OrderList;
 use std::alloc::Global;
 
 /// A bid and an ask, by their indices, and what they trade with each other.
@@ -63,16 +64,16 @@ pub fn sort_pairs(pairs: &mut Vec<Pair>) -> Result<(), NoMemory>
 }
 
 /// The limit of the earlier of two orders.
-fn resting_limit(orders: &[Order], bid: usize, ask: usize) -> Price
+fn resting_limit(orders: &OrderList<'_>, bid: usize, ask: usize) -> Price
     requires bid { bid < length orders.now }
     requires ask { ask < length orders.now }
     ensures { result ≡ resting_limit orders.now bid ask }
 {
-    let (bid, ask) = (&orders[bid], &orders[ask]);
-    if bid.place < ask.place {
-        bid.limit
+    let (bid, ask) = (orders.at(bid), orders.at(ask));
+    if bid.place() < ask.place() {
+        bid.limit()
     } else {
-        ask.limit
+        ask.limit()
     }
 }
 
@@ -89,7 +90,11 @@ fn quantity_of(pair: &Pair) -> Quantity
 }
 
 /// One deal for each pair, numbered from 1 in their order, at the limit of the earlier order.
-pub fn number_pairs(alloc: Global, orders: &[Order], pairs: &[Pair]) -> Result<Vec<Deal>, NoMemory>
+pub fn number_pairs(
+    alloc: Global,
+    orders: &OrderList<'_>,
+    pairs: &[Pair],
+) -> Result<Vec<Deal>, NoMemory>
     requires few { length pairs.now < 2 ^ 32 }
     requires dealt { All (IsDealt (length orders.now)) pairs.now }
     ensures numbered { IfOk result (λ deals. AreNumbered orders.now pairs.now deals.items) }

@@ -31,7 +31,7 @@ fn outranks(market: &Market<'_>, over: usize, at: usize) -> bool
     let (orders, deals, causes) = (market.orders, market.deals, market.causes);
     let deal = &deals[causes[at].deal];
     let index = resting_of(orders, deal);
-    better(&orders[over], &orders[index])
+    better(&orders.at(over), &orders.at(index))
 }
 
 /// The flaw of the deal of a cause, which passes over the order at `over`.
@@ -47,7 +47,7 @@ fn priority_flaw(market: &Market<'_>, numbers: &Numbers, over: usize, at: usize)
     let deal = &deals[causes[at].deal];
     let index = resting_of(orders, deal);
     let (side, first, second) = (
-        orders[index].side,
+        orders.at(index).side(),
         numbers.shown(over),
         numbers.shown(index),
     );
@@ -99,7 +99,7 @@ pub fn pass_deals(
     ensures holds { result ≡ None
         → HoldAfterDeals market.now.orders.now market.now.deals.now order books.new }
 {
-    let side = market.orders[order].side.other();
+    let side = market.orders.at(order).side().other();
     books.fill(side, &numbers.sheet.left);
     match books.best(side) {
         Some(best) => check_priority(market, order, numbers, best),

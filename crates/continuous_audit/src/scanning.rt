@@ -37,7 +37,7 @@ pub fn check_deals(
 {
     let (orders, deals, causes) = (market.orders, market.deals, market.causes);
     let coming = Coming {
-        place: orders[order].place,
+        place: orders.at(order).place(),
         entered,
     };
     while running.at < causes.len() {
@@ -53,8 +53,8 @@ pub fn check_deals(
             bid: sheet.account(deal.bid, bid_traded),
             ask: sheet.account(deal.ask, ask_traded),
         };
-        let (bid, ask) = (&orders[deal.bid], &orders[deal.ask]);
-        if let Some(evidence) = deal_evidence(deal, bid, ask, coming, known) {
+        let (bid, ask) = (orders.at(deal.bid), orders.at(deal.ask));
+        if let Some(evidence) = deal_evidence(deal, &bid, &ask, coming, known) {
             let place = deal.place;
             return Some(Flaw { place, evidence });
         }

@@ -16,25 +16,26 @@ use super::numbers::Numbers;
 use audit_base::faults::NoMemory;
 use audit_base::flaws::{Evidence, Flaw, TradedOrder};
 use audit_base::numbers::Price;
-use audit_base::orders::Order;
 use audit_base::terms::Side;
+use order_list::listed::ListedOrder;
+use order_list::lists::OrderList;
 
 /// Whether an order is active after its own record, where so much is left of it.
-fn is_active(order: &Order, left: u64) -> bool
+fn is_active(order: &ListedOrder<'_>, left: u64) -> bool
     ensures { result ≡ is_active_with order.now left }
 {
-    let uncancelled = match order.cancelled {
-        Some(end) => order.place < end,
+    let uncancelled = match order.cancelled() {
+        Some(end) => order.place() < end,
         None => true,
     };
     uncancelled && left > 0
 }
 
 /// Whether an order rests after its own record.
-fn stays(order: &Order, left: u64) -> bool
+fn stays(order: &ListedOrder<'_>, left: u64) -> bool
     ensures { result ≡ stays_with order.now left }
 {
-    order.life.rests() && is_active(order, left)
+    order.life().rests() && is_active(order, left)
 }
 
 /// Whether a limit of a side meets one of the other side.
@@ -48,15 +49,15 @@ pub fn limits_meet(side: Side, limit: Price, other: Price) -> bool
 }
 
 /// Whether an order is active after its own record, where so much is left of it, and meets a limit of the other side.
-fn meets(order: &Order, left: u64, other: Price) -> bool
+fn meets(order: &ListedOrder<'_>, left: u64, other: Price) -> bool
     ensures { result ≡ is_active_with order.now left && limits_meet order.now.side
         order.now.limit other }
 {
-    is_active(order, left) && limits_meet(order.side, order.limit, other)
+    is_active(order, left) && limits_meet(order.side(), order.limit(), other)
 }
 
 /// The best order of the other side, by its index, if the order of a record is active after it and meets that one.
-pub fn spread_of(orders: &[Order], order: usize, left: u64, books: &Books) -> Option<usize>
+pub fn spread_of(orders: &OrderList<'_>, order: usize, left: u64, books: &Books) -> Option<usize>
     requires list { IsOrderList orders.now }
     requires order { order < length orders.now }
     requires earlier { HoldBelow order books.now }
@@ -67,10 +68,10 @@ pub fn spread_of(orders: &[Order], order: usize, left: u64, books: &Books) -> Op
         result }
     ensures upto { (other : ℕ) → result ≡ Some other → other ≤ order }
 {
-    let own = &orders[order];
-    match books.best(own.side.other()) {
+    let own = orders.at(order);
+    match books.best(own.side().other()) {
         Some(best) => {
-            if !meets(own, left, best.limit) {
+            if !meets(&own, left, best.limit) {
                 return None;
             }
             Some(best.index)
@@ -90,22 +91,22 @@ fn spread_by(side: Side, own: TradedOrder, other: TradedOrder) -> Evidence
 }
 
 /// The flaw of the record of the order at `order`, which meets the one at `other`.
-pub fn spread_flaw(orders: &[Order], numbers: &Numbers, order: usize, other: usize) -> Flaw
+pub fn spread_flaw(orders: &OrderList<'_>, numbers: &Numbers, order: usize, other: usize) -> Flaw
     requires order { order < length orders.now }
     requires own { HasShown numbers.now order }
     requires other { HasShown numbers.now other }
     ensures { result ≡ spread_flaw orders.now (shown_in numbers.now) order other }
 {
-    let own = &orders[order];
+    let own = orders.at(order);
     Flaw {
-        place: own.place,
-        evidence: spread_by(own.side, numbers.shown(order), numbers.shown(other)),
+        place: own.place(),
+        evidence: spread_by(own.side(), numbers.shown(order), numbers.shown(other)),
     }
 }
 
 /// Adds the order of a record to the book of its side, if it rests.
 pub fn enter_own(
-    orders: &[Order],
+    orders: &OrderList<'_>,
     order: usize,
     left: u64,
     books: &mut Books,
@@ -118,9 +119,9 @@ pub fn enter_own(
         → HoldAfter orders.now deals order books.new) }
     ensures more { OnOk result (resting_count books.new ≤ resting_count books.old + min 1 left) }
 {
-    let own = &orders[order];
-    if stays(own, left) {
-        books.enter(own.side, order, own.limit, left)
+    let own = orders.at(order);
+    if stays(&own, left) {
+        books.enter(own.side(), order, own.limit(), left)
     } else {
         Ok(())
     }

@@ -84,7 +84,7 @@ impl State {
         for order in 0..market.orders.len() {
             // Taken apart, since a proof does not carry a whole flaw across the call.
             if let Some(Flaw { place, evidence }) = self.audit_record(market, order)? {
-                return Ok(Some(Flaw { place, evidence }.finding(market.orders)));
+                return Ok(Some(market.orders.finding(Flaw { place, evidence })));
             }
         }
         Ok(None)

@@ -10,8 +10,9 @@ ghost use Rattle.audit_base.specs.CallOffences.{fair_offence};
 
 use super::passing::unfair_at;
 use audit_base::findings::Finding;
-use audit_base::orders::{Deal, Order};
+use audit_base::orders::Deal;
 use audit_base::ranges::deals_in_range;
+use order_list::lists::OrderList;
 use short_order::searching::best_short;
 
 /// Whether a matching is fair: an order that is better by price-time priority than one that trades is
@@ -22,7 +23,7 @@ use short_order::searching::best_short;
 /// `bids` and `asks` are the ranks of the two sides, and `traded` is what each order trades, by its index.
 /// One pass over the deals. Takes no memory.
 pub fn check_fair(
-    orders: &[Order],
+    orders: &OrderList<'_>,
     bids: &[usize],
     asks: &[usize],
     deals: &[Deal],
@@ -42,7 +43,7 @@ pub fn check_fair(
     let short_ask = best_short(orders, asks, traded);
     for deal in deals {
         if let Some(flaw) = unfair_at(orders, traded, short_bid, short_ask, deal) {
-            return Err(flaw.finding(orders));
+            return Err(orders.finding(flaw));
         }
     }
     Ok(())

@@ -6,8 +6,9 @@ ghost use Rattle.audit_base.specs.Orders.{Stands};
 ghost use Rattle.fairness.specs.Passing as spec;
 
 use audit_base::flaws::{Evidence, Flaw, TradedOrder};
-use audit_base::orders::{Deal, Order};
+use audit_base::orders::Deal;
 use audit_base::terms::Side;
+use order_list::lists::OrderList;
 use rank_order::comparing::better;
 
 /// The index of the deal's order of a side.
@@ -33,7 +34,7 @@ fn traded_order(traded: &[u128], index: usize) -> TradedOrder
 
 /// What is wrong with a deal whose order of this side the best short order of the side outranks.
 fn outranked_at(
-    orders: &[Order],
+    orders: &OrderList<'_>,
     traded: &[u128],
     side: Side,
     short: Option<usize>,
@@ -47,7 +48,7 @@ fn outranked_at(
 {
     let short = short?;
     let own = order_of_deal(side, deal);
-    if better(&orders[short], &orders[own]) {
+    if better(&orders.at(short), &orders.at(own)) {
         let short = traded_order(traded, short);
         let own = traded_order(traded, own);
         Some(Flaw {
@@ -61,7 +62,7 @@ fn outranked_at(
 
 /// What is wrong with a deal that passes over a short order: a bid, or else an ask.
 pub(crate) fn unfair_at(
-    orders: &[Order],
+    orders: &OrderList<'_>,
     traded: &[u128],
     short_bid: Option<usize>,
     short_ask: Option<usize>,

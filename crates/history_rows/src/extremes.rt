@@ -1,11 +1,8 @@
 //! Order lists with their extremes, and one with its sums at each price. An order is written as its
 //! side (B, S), its quantity and its limit in units, and as a word more where a record cancels it.
 use crate::histories::side;
-use crate::names::key;
-use audit_base::numbers::{Price, Quantity};
-use audit_base::orders::Order;
-use audit_base::stamps::Stamp;
-use audit_base::terms::Life;
+use crate::order_lists::{Shape, history_of};
+use instruction_history::history::History;
 use std::process::Abort;
 use volume_bound::direct;
 use volume_bound::extremes::{best_uniform, least_cut};
@@ -17,31 +14,23 @@ fn number(rt: &impl Abort, word: Option<&str>) -> u64 {
         .expect(rt, "a number")
 }
 
-fn order(rt: &impl Abort, line: &str) -> Order {
+/// The order of a line.
+fn shape(rt: &impl Abort, line: &str) -> Shape {
     let mut words = line.split(' ');
     let side = side(words.next());
     let quantity = number(rt, words.next());
     let limit = number(rt, words.next());
-    Order {
-        place: 1,
-        key: key(rt, "x", "x"),
-        time: Stamp { second: 5, nano: 0 },
-        side,
-        quantity: Quantity::of(quantity).expect(rt, "a quantity"),
-        limit: Price::of(limit).expect(rt, "a price"),
-        cancelled: words.next().map(|_| 9),
-        target: None,
-        life: Life::Rests,
-    }
+    (side, quantity, limit, words.next().is_some())
 }
 
-fn orders<R: AllocGlobal + Abort>(rt: &R, lines: &[&str]) -> Vec<Order> {
-    let mut orders = Vec::new(rt.alloc());
+/// The history of the orders of these lines.
+fn history<R: AllocGlobal + Abort>(rt: &R, lines: &[&str]) -> History {
+    let mut shapes = Vec::new(rt.alloc());
     for line in lines {
-        let stored = orders.push(order(rt, *line)).is_ok();
+        let stored = shapes.push(shape(rt, *line)).is_ok();
         assert!(rt; stored);
     }
-    orders
+    history_of(rt, &shapes)
 }
 
 /// What the orders are, their lines, and the price and the volume of their least cut and of their greatest
@@ -85,7 +74,8 @@ const EXTREMES: [Row; 6] = [
 #[test]
 fn each_extreme_stands_at_the_least_price_that_reaches_it(rt: HostRuntime) {
     for &(label, lines, least, executable) in &EXTREMES {
-        let orders = orders(&rt, lines);
+        let history = history(&rt, lines);
+        let orders = history.orders();
         assert!(rt; orders.len() < 4_294_967_296);
         let Ok(cut) = least_cut(rt.alloc(), &orders) else {
             panic!(rt; "no memory");
@@ -122,7 +112,8 @@ fn sums_at_a_price_are_those_of_the_orders(rt: HostRuntime) {
         "S 7 9 cancelled",
         "S 2 10",
     ];
-    let orders = orders(&rt, &lines);
+    let history = history(&rt, &lines);
+    let orders = history.orders();
     assert!(rt; orders.len() < 4_294_967_296);
     let Ok(sums) = Sums::build(rt.alloc(), &orders) else {
         panic!(rt; "no sums");

@@ -86,13 +86,14 @@ fn build<R: AllocGlobal + Abort>(rt: &R, lines: &[&str]) -> Result<History, Hist
 fn assert_orders(rt: &impl Abort, label: &str, history: &History, wanted: &[Shape]) {
     let orders = history.orders();
     assert!(rt; orders.len() == wanted.len(), "{label}");
-    for ((i, order), shape) in orders.iter().enumerate().zip(wanted) {
+    for (i, shape) in wanted.iter().enumerate() {
+        let order = orders.at(i);
         assert_eq!(rt;
-            (order.place, order.cancelled, order.target),
+            (order.place(), order.cancelled(), order.target()),
             *shape,
             "{label}"
         );
-        assert!(rt; history.find(&order.key) == Some(i), "{label}: key {i}");
+        assert!(rt; history.find(&order.key()) == Some(i), "{label}: key {i}");
     }
 }
 
@@ -335,5 +336,40 @@ fn a_key_that_names_no_order_is_not_found(rt: HostRuntime) {
     };
     for (firm, id, wanted) in [("A", "b1", Some(0)), ("A", "x1", None), ("B", "b1", None)] {
         assert_eq!(rt; history.find(&key(&rt, firm, id)), wanted, "{firm} {id}");
+    }
+}
+
+/// Firms and ids: of 30 bytes together at most, and of more.
+const NAMES: [(&str, &str); 4] = [
+    ("A", "b1"),
+    ("B", "12345678901234567890123456789"),
+    ("C", "123456789012345678901234567890"),
+    ("A-FIRM-WHOSE-NAME-HAS-MORE-THAN-THIRTY-BYTES", "b1"),
+];
+
+#[test]
+fn each_order_gives_the_names_of_its_record_back(rt: HostRuntime) {
+    let lines = [
+        "N A b1 - 5 Z B",
+        "N B 12345678901234567890123456789 - 6 Z S",
+        "N C 123456789012345678901234567890 - 7 Z B",
+        "N A-FIRM-WHOSE-NAME-HAS-MORE-THAN-THIRTY-BYTES b1 - 8 Z S",
+    ];
+    let Ok(history) = build(&rt, &lines) else {
+        panic!(rt; "refused");
+    };
+    let orders = history.orders();
+    assert!(rt; orders.len() == NAMES.len());
+    for (i, &(firm, id)) in NAMES.iter().enumerate() {
+        let order = orders.at(i).whole();
+        assert!(rt; order.key == key(&rt, firm, id), "{firm} {id}");
+        assert!(rt;
+            order.time
+                == (Stamp {
+                    second: i as u64 + 5,
+                    nano: 0
+                }),
+            "{firm} {id}"
+        );
     }
 }

@@ -12,6 +12,7 @@ use audit_base::records::{OrderRecord, Traded};
 use instruction_history::history::History;
 use instruction_history::history_draft::{AuditedSymbol, HistoryDraft};
 use log_source::collector::Collector;
+use order_list::lists::OrderList;
 use seeded_hash::seed::HashSeed;
 use std::marker::Brand;
 use std::process::Abort;
@@ -86,6 +87,19 @@ const DRAFTED: [Row; 5] = [
     ),
 ];
 
+/// Whether these are the places of the orders.
+fn have_places(orders: &OrderList<'_>, places: &[u32]) -> bool {
+    if orders.len() != places.len() {
+        return false;
+    }
+    for (i, place) in places.iter().enumerate() {
+        if orders.at(i).place() != *place {
+            return false;
+        }
+    }
+    true
+}
+
 /// Whether these are the places of the orders, or the property and the place of the finding.
 fn comes_to(
     answer: &Result<History, Finding>,
@@ -93,10 +107,7 @@ fn comes_to(
     finding: Option<(Property, u32)>,
 ) -> bool {
     match answer {
-        Ok(history) => {
-            let orders = history.orders().iter();
-            finding.is_none() && orders.map(|order| &order.place).eq(places)
-        }
+        Ok(history) => { finding.is_none() && have_places(&history.orders(), places) }
         Err(found) => finding == Some((found.property, found.place)),
     }
 }

@@ -25,6 +25,8 @@ mod matchings;
 #[cfg(test)]
 mod names;
 #[cfg(test)]
+mod order_lists;
+#[cfg(test)]
 mod ranked_orders;
 #[cfg(test)]
 mod resolving;

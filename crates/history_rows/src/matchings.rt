@@ -61,7 +61,7 @@ fn checked<R: AllocGlobal + Abort>(
         trade(rt, "T2", second.0, second.1),
     ];
     match resolve(rt.alloc(), history, &trades, &name(rt, "Z")) {
-        Ok(deals) => check_matching(rt.alloc(), history.orders(), &deals, uniform),
+        Ok(deals) => check_matching(rt.alloc(), &history.orders(), &deals, uniform),
         Err(fault) => Err(fault),
     }
 }

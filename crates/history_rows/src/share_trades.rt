@@ -52,7 +52,7 @@ fn ids_from_t1_and_the_time_of_the_later_order(rt: HostRuntime) {
     let Ok(deals) = resolve(rt.alloc(), &history, &logged, &symbol) else {
         panic!(rt; "no deals");
     };
-    let trades = trades_of_deals(rt.alloc(), history.orders(), &deals, &symbol).expect(
+    let trades = trades_of_deals(rt.alloc(), &history.orders(), &deals, &symbol).expect(
         &rt, "memory",
     );
     let wanted = [trade(&rt, "T1", 8, "b1", 4), trade(&rt, "T2", 9, "b2", 5)];

@@ -1,12 +1,13 @@
 -- A history that is gathered record by record.
 use Rattle.std.proofs.Common.{◌≡◌, ◌≤◌, ◌+◌, ℕ, true, false, Option, None, Some, length-append, refl, List, [], ◌∷◌, ◌++◌, length, sym, ap, ◌∙◌, arith, subst}
-use Rattle.std.proofs.lemmas.List.{append-nil}
+use Rattle.std.proofs.lemmas.List.{append-nil, length-map}
 use Rattle.audit_base.specs.declared.findings.Finding.{Finding}
 use Rattle.audit_base.specs.declared.records.OrderRecord.{OrderRecord}
 use Rattle.audit_base.specs.Orders.{same_name}
 use Rattle.audit_base.specs.Histories.{symbol_of, history}
 use Rattle.instruction_history.specs.declared.history_so_far.HistorySoFar.{HistorySoFar}
 use Rattle.instruction_history.specs.Draft.{IsHistorySoFar, IsKnown, KnowsOneMore, finding_in, entry_of}
+use Rattle.order_list.specs.Stored.{order_of}
 use Rattle.instruction_history.proofs.HistoryLemmas.{finding_in-append, history-push, length-orders}
 use Rattle.instruction_history.proofs.RecordLemmas.{Records}
 
@@ -46,7 +47,7 @@ so_far-known h d (Some f) none known = absurd (cc none)
 
 -- a draft has at most as many orders as there were records
 pub few-known : (symbol : List ℕ) (entries : List OrderRecord) (d : HistorySoFar) (found : Option Finding) → found ≡ None → IsKnown (history symbol entries) d found → length d.orders.items ≤ length entries
-few-known symbol entries d found none known = omega (arith, length-orders symbol entries, ap length (so_far-known (history symbol entries) d found none known).orders)
+few-known symbol entries d found none known = omega (arith, length-orders symbol entries, ap length (so_far-known (history symbol entries) d found none known).orders, length-map d.orders.items (order_of d.keys))
 
 pub size-more : (count : ℕ) (entries : List OrderRecord) (x : OrderRecord) → count ≡ length entries → count + 1 ≡ length (entries ++ x ∷ [])
 size-more count entries x is = simp length-append (omega (arith, is))

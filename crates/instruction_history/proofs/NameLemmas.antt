@@ -12,8 +12,9 @@ use Rattle.audit_base.specs.declared.records.OrderRecord.TheVariants.{New, Cance
 use Rattle.audit_base.specs.Least.{least_with, only_if}
 use Rattle.audit_base.specs.Orders.{missing_order, same_key, order_at, with_key}
 use Rattle.audit_base.specs.Histories.{key_of, is_order, target_of, order_index}
-use Rattle.instruction_history.specs.declared.keys.Seen.{Seen}
-use Rattle.instruction_history.specs.Draft.{finding_in, orders_in, named_in, duplicate_of, ended, ended_among, order_made, pushed, seen_as}
+use Rattle.order_list.specs.declared.keys.Seen.{Seen}
+use Rattle.order_list.specs.Changed.{ended}
+use Rattle.instruction_history.specs.Draft.{finding_in, orders_in, named_in, duplicate_of, ended_among, order_made, pushed, seen_as}
 use Rattle.instruction_history.specs.Flaws.{finding_at}
 use Rattle.instruction_history.proofs.CleanLemmas.{clean-at, option_map-none}
 use Rattle.instruction_history.proofs.FirstLemmas.{least_with-same, option_or-nothing}

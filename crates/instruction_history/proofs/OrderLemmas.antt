@@ -14,7 +14,8 @@ use Rattle.audit_base.specs.declared.records.OrderRecord.TheVariants.{New, Cance
 use Rattle.audit_base.specs.Least.{least_with, only_if}
 use Rattle.audit_base.specs.Histories.{target_key, is_order, ends, side_of, fits_side, missing_entry, record_at, record_place, key_at, target_of, replaced_at, ended_before, is_placed, cancelled_of, order_index, order_of_record}
 use Rattle.instruction_history.specs.Draft.{finding_in, orders_in}
-use Rattle.instruction_history.specs.Draft.{ended, ended_among, own_end, order_made, pushed}
+use Rattle.order_list.specs.Changed.{ended}
+use Rattle.instruction_history.specs.Draft.{ended_among, own_end, order_made, pushed}
 use Rattle.instruction_history.proofs.FirstLemmas.{least_with-from_none, least_with-some, any_below-is, option_or-nothing}
 use Rattle.instruction_history.proofs.CleanLemmas.{clean-ender, clean-target, nameless-ends}
 use Rattle.instruction_history.proofs.MadeLemmas.{order_in, numbered, any_numbered, numbered-at, IsAt, standing, order_index-kept}

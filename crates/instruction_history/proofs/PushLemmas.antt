@@ -10,7 +10,7 @@ use Rattle.audit_base.specs.Least.{least_answer, least_with, only_if}
 use Rattle.audit_base.specs.Orders.{same_key}
 use Rattle.audit_base.specs.Histories.{key_of, is_order, side_of, ends, missing_entry, record_at, record_place, key_at, record_finding, is_placed, cancelled_of, order_index, replaced_at}
 use Rattle.instruction_history.specs.Draft.{finding_in, seen_at, named_in}
-use Rattle.instruction_history.specs.declared.keys.Seen.{Seen}
+use Rattle.order_list.specs.declared.keys.Seen.{Seen}
 use Rattle.instruction_history.proofs.FirstLemmas.{least_answer-same, least_with-same, least_with-some, option_or-parts}
 use Rattle.audit_base.proofs.PlacedLemmas.{replaced-before}
 use Rattle.instruction_history.proofs.RecordLemmas.{Records, SameBelow, key_at-same, record_at-same, record_place-same, record_finding-same, is_placed-same, replaced-same, option_map-same}

@@ -13,7 +13,7 @@ use Rattle.audit_base.specs.Least.{least_with, only_if}
 use Rattle.audit_base.specs.Orders.{same_key, same_side, order_at, side_at, missing_order, with_key, on_side_with_key, HaveOwnKeys}
 use Rattle.audit_base.specs.Histories.{side_of, is_order, record_at, key_at, order_index}
 use Rattle.instruction_history.specs.Draft.{orders_in, seen_at, named_in}
-use Rattle.instruction_history.specs.Keys.{index_on}
+use Rattle.order_list.specs.Keys.{index_on}
 use Rattle.instruction_history.proofs.FirstLemmas.{least_with-same, least_with-some, least_with-both}
 use Rattle.audit_base.proofs.HistoryLemmas.{same_key-is}
 use Rattle.instruction_history.proofs.MadeLemmas.{IsAt, standing}

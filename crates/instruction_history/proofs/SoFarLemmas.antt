@@ -11,10 +11,14 @@ use Rattle.audit_base.specs.Histories.{key_of, target_key, record_finding}
 use Rattle.instruction_history.specs.declared.history_so_far.HistorySoFar.{HistorySoFar}
 use Rattle.instruction_history.specs.declared.findings.Last.{Last}
 use Rattle.audit_base.specs.declared.flaws.Evidence.{Evidence}
-use Rattle.instruction_history.specs.declared.keys.Seen.{Seen}
-use Rattle.instruction_history.specs.Draft.{IsHistorySoFar, finding_in, orders_in, seen_at, named_in, last_from}
-use Rattle.instruction_history.specs.declared.keys.Keys.{Keys}
-use Rattle.instruction_history.specs.Keys.{seen_in, AddsKey}
+use Rattle.order_list.specs.declared.keys.Seen.{Seen}
+use Rattle.instruction_history.specs.Draft.{IsHistorySoFar, kept_orders, finding_in, orders_in, seen_at, named_in, last_from}
+use Rattle.order_list.specs.declared.keys.Keys.{Keys}
+use Rattle.std.proofs.lemmas.List.{length-map}
+use Rattle.order_list.specs.declared.keys.KeyNumber.{KeyNumber}
+use Rattle.order_list.specs.Keys.{seen_in, AddsKey, AddsNumber}
+use Rattle.order_list.specs.Stored.{order_of}
+use Rattle.order_list.proofs.StoredLemmas.{stored-kept, numbered-kept}
 use Rattle.instruction_history.specs.Draft.{fitting, target_among, duplicate_of, evidence_of, ended_among, order_made, pushed, seen_as, AddsRecord}
 use Rattle.instruction_history.specs.Flaws.{finding_at}
 use Rattle.instruction_history.proofs.CleanLemmas.{option_map-none}
@@ -31,11 +35,11 @@ and_then-same f g (Some a) same = same a
 
 -- the target by what a draft holds
 abbrev pub target_by : HistorySoFar → OrderRecord → Option ℕ
-target_by d r = target_among d.orders.items (seen_in d.keys) r
+target_by d r = target_among (kept_orders d) (seen_in d.keys) r
 
 target-by : (h : Records) (d : HistorySoFar) (e : ℕ × OrderRecord) → IsHistorySoFar h d → target_by d e.1 ≡ target_index h e
 target-by h d e is =
-    and_then-same _ _ (target_key e.1) (λ key. ap (option_and_then (λ s. option_and_then (fitting d.orders.items e.1) s.index)) (is.keys key))
+    and_then-same _ _ (target_key e.1) (λ key. ap (option_and_then (λ s. option_and_then (fitting (kept_orders d) e.1) s.index)) (is.keys key))
     ∙ ap (λ (orders : List Order). target_among orders (named_in h) e.1) is.orders
     ∙ target-step h e is.clean
 
@@ -66,12 +70,21 @@ draft-found h d place r target key earlier evidence is by own named found =
 abbrev pub with_key_of : HistorySoFar → Keys → HistorySoFar
 with_key_of d keys = record { orders = d.orders; keys = keys; last = d.last }
 
-orders-by : (h : Records) (d new : HistorySoFar) (keys : Keys) (place : ℕ) (r : OrderRecord) (target : Option ℕ) → IsHistorySoFar h d → target ≡ target_by d r → finding_in (h ++ (place, r) ∷ []) ≡ None → AddsRecord (with_key_of d keys) new place r target → new.orders.items ≡ orders_in (h ++ (place, r) ∷ [])
-orders-by h d new keys place r target is by clean takes =
+-- the orders stay
+same-orders : (h : Records) (d : HistorySoFar) (keys : Keys) (key : Key) (number : KeyNumber) → IsHistorySoFar h d → AddsNumber d.keys keys key number → kept_orders (with_key_of d keys) ≡ kept_orders d
+same-orders h d keys key number is adds = stored-kept d.keys keys d.orders.items adds.keeps is.numbered
+
+orders-by : (h : Records) (d new : HistorySoFar) (keys : Keys) (place : ℕ) (r : OrderRecord) (target : Option ℕ) (key : Key) (number : KeyNumber) → IsHistorySoFar h d → AddsNumber d.keys keys key number → target ≡ target_by d r → finding_in (h ++ (place, r) ∷ []) ≡ None
+    → AddsRecord (with_key_of d keys) new place r target → kept_orders new ≡ orders_in (h ++ (place, r) ∷ [])
+orders-by h d new keys place r target key number is adds by clean takes =
     takes.orders
-    ∙ ap (λ (orders : List Order). pushed (ended_among orders target place) (order_made orders r target place)) is.orders
+    ∙ ap (λ (orders : List Order). pushed (ended_among orders target place) (order_made orders r target place)) (same-orders h d keys key number is adds ∙ is.orders)
     ∙ ap (λ (t : Option ℕ). pushed (ended_among (orders_in h) t place) (order_made (orders_in h) r t place)) (by ∙ target-by h d (place, r) is)
     ∙ sym (orders-step h (place, r) clean)
+
+-- as many orders are kept as there are
+count-kept : (d : HistorySoFar) → length d.orders.items ≡ length (kept_orders d)
+count-kept d = sym (length-map d.orders.items (order_of d.keys))
 
 keys-by : (h : Records) (d : HistorySoFar) (keys : Keys) (place : ℕ) (r : OrderRecord) (target : Option ℕ) → IsHistorySoFar h d → None ≡ evidence_so_far d r target → AddsKey d.keys keys (key_of r) (seen_as r place (length d.orders.items)) → (key : Key) → seen_in keys key ≡ named_in (h ++ (place, r) ∷ []) key
 keys-by h d keys place r target is none adds key = adds key ∙ go (same_key (key_of r) key) refl ∙ sym (named_in-push h (place, r) key)
@@ -81,22 +94,26 @@ keys-by h d keys place r target is none adds key = adds key ∙ go (same_key (ke
         let own : key_of r ≡ key = same_key-is (key_of r) key e in
         let unseen : seen_in d.keys (key_of r) ≡ None = option_map-none _ _ (option_or-parts (duplicate_of (seen_in d.keys (key_of r))) _ (sym none)).0 in
         let unnamed : named_in h key ≡ None = sym (is.keys key) ∙ ap (seen_in d.keys) (sym own) ∙ unseen in
-        ap (λ (orders : List Order). Some (seen_as r place (length orders))) is.orders
+        ap (λ (n : ℕ). Some (seen_as r place n)) (count-kept d ∙ ap length is.orders)
         ∙ ap (λ (s : Seen). Some s) (sym (seen-step h (place, r)))
         ∙ sym (option_or-none (named_in h key) _ unnamed)
     go false e = is.keys key ∙ sym (option_or-nothing (named_in h key))
 
-pub draft-takes : (h : Records) (d new : HistorySoFar) (keys : Keys) (place : ℕ) (r : OrderRecord) (target : Option ℕ) (key : Key) (earlier : Option Seen) → IsHistorySoFar h d → target ≡ target_by d r → key ≡ key_of r → earlier ≡ seen_in d.keys key
-    → None ≡ evidence_of earlier d.last r target
+-- where nothing is wrong with a record, its key named nothing before
+pub clear-unseen : (earlier : Option Seen) (last : Option Last) (r : OrderRecord) (target : Option ℕ) → None ≡ evidence_of earlier last r target → earlier ≡ None
+clear-unseen earlier last r target clear = option_map-none _ _ (option_or-parts (duplicate_of earlier) _ (sym clear)).0
+
+pub draft-takes : (h : Records) (d new : HistorySoFar) (keys : Keys) (place : ℕ) (r : OrderRecord) (target : Option ℕ) (key : Key) (earlier : Option Seen) (number : KeyNumber) → IsHistorySoFar h d → target ≡ target_by d r → key ≡ key_of r → earlier ≡ seen_in d.keys key
+    → None ≡ evidence_of earlier d.last r target → AddsNumber d.keys keys key number
     → AddsKey d.keys keys key (seen_as r place (length d.orders.items)) → AddsRecord (with_key_of d keys) new place r target → IsHistorySoFar (h ++ (place, r) ∷ []) new
-draft-takes h d new keys place r target key earlier is by own named clear adds takes =
+draft-takes h d new keys place r target key earlier number is by own named clear has adds takes =
     let none : None ≡ evidence_so_far d r target = clear ∙ evidence-with d r target key earlier own named in
     let clean : finding_in (h ++ (place, r) ∷ []) ≡ None = sym (finding-by h d (place, r) target is by) ∙ ap (option_map (finding_at place)) (sym none) in
     let added : AddsKey d.keys keys (key_of r) (seen_as r place (length d.orders.items)) = subst (λ (k : Key). AddsKey d.keys keys k (seen_as r place (length d.orders.items))) own adds in
     record {
       clean = clean;
-      orders = orders-by h d new keys place r target is by clean takes;
-      numbers = takes.numbers is.numbers;
+      orders = orders-by h d new keys place r target key number is has by clean takes;
+      numbered = takes.numbered (numbered-kept d.keys keys d.orders.items has.keeps is.numbered);
       keys = λ k. ap (λ (m : Keys). seen_in m k) takes.keys ∙ keys-by h d keys place r target is none added k;
       last = takes.last ∙ sym (last-step h (place, r));
     }

@@ -16,7 +16,7 @@ use Rattle.audit_base.specs.Orders.{same_name, same_key}
 use Rattle.audit_base.specs.Histories.{key_of, time_of, target_key, is_order, ends, side_of, fits_side, missing_entry, record_at, record_place, key_at, target_of, earlier_with_key, duplicate_id, time_back, unknown_target, record_finding, order_index}
 use Rattle.audit_base.specs.Moments.{is_before}
 use Rattle.instruction_history.specs.declared.findings.Last.{Last}
-use Rattle.instruction_history.specs.declared.keys.Seen.{Seen}
+use Rattle.order_list.specs.declared.keys.Seen.{Seen}
 use Rattle.instruction_history.specs.Draft.{finding_in, orders_in, seen_at, named_in, last_from}
 use Rattle.audit_base.specs.declared.flaws.Evidence.{Evidence}
 use Rattle.audit_base.specs.declared.flaws.Evidence.TheVariants.{TimeBack, UnknownTarget}

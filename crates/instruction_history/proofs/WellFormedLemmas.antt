@@ -4,13 +4,13 @@ use Rattle.std.specs.Prelude.{if◌then◌else◌, option_and_then}
 use Rattle.std.proofs.lemmas.List.{take_all}
 use Rattle.audit_base.specs.declared.orders.Order.{Order}
 use Rattle.audit_base.specs.declared.records.OrderRecord.{OrderRecord}
-use Rattle.audit_base.specs.Orders.{same_name, with_key, on_side_with_key, IsOrderList, HaveOwnKeys}
+use Rattle.audit_base.specs.Orders.{same_name, with_key, on_side_with_key, IsOrderList, AreOrders, HaveOwnKeys}
 use Rattle.audit_base.specs.Histories.{symbol_of, history, order_list, missing_entry, WellFormed, Regular}
 use Rattle.audit_base.proofs.HistoryLemmas.{order_list-regular, order_list-is, order_list-keys}
 use Rattle.instruction_history.specs.declared.history_so_far.HistorySoFar.{HistorySoFar}
-use Rattle.instruction_history.specs.Draft.{IsHistorySoFar, finding_in, entry_of}
+use Rattle.instruction_history.specs.Draft.{IsHistorySoFar, kept_orders, finding_in, entry_of}
 use Rattle.instruction_history.specs.History.{IsHistory}
-use Rattle.instruction_history.specs.Keys.{index_on}
+use Rattle.order_list.specs.Keys.{index_on}
 use Rattle.instruction_history.proofs.SideLemmas.{sided}
 use Rattle.instruction_history.proofs.NameLemmas.{IsNamed, named-none, named-push}
 use Rattle.instruction_history.proofs.HistoryLemmas.{history-more}
@@ -45,13 +45,13 @@ named-all symbol entries clean =
     (named-first symbol entries (length entries) (omega arith) (ap (λ (xs : List OrderRecord). finding_in (history symbol xs)) whole ∙ clean))
 
 -- what a history keeps, once all records are read
-pub history-is : (symbol : List ℕ) (entries : List OrderRecord) (d : HistorySoFar) → length entries < 2 ^ 32 → IsHistorySoFar (history symbol entries) d → IsHistory d.orders.items d.keys
-history-is symbol entries d few is =
-    let same : d.orders.items ≡ order_list symbol entries = is.orders in
+pub history-is : (symbol : List ℕ) (entries : List OrderRecord) (d : HistorySoFar) → length entries < 2 ^ 32 → IsHistorySoFar (history symbol entries) d → AreOrders (kept_orders d) → IsHistory (kept_orders d) d.keys
+history-is symbol entries d few is numbers =
+    let same : kept_orders d ≡ order_list symbol entries = is.orders in
     record {
       order_list = subst (λ (orders : List Order). IsOrderList orders) (sym same) (order_list-is symbol entries few);
       regular = subst (λ (orders : List Order). Regular orders) (sym same) (order_list-regular symbol entries is.clean);
-      numbers = is.numbers;
+      numbers = numbers;
       own_keys = subst (λ (orders : List Order). HaveOwnKeys orders) (sym same) (order_list-keys symbol entries is.clean);
       sided = λ side key.
           ap (option_and_then (index_on side)) (is.keys key)

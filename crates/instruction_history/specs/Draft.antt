@@ -1,6 +1,5 @@
 -- A history record by record: what is known after some of its records, and what one record more changes.
 use Rattle.std.specs.Prelude.{◌≡◌, ℕ, zero, suc, ◌&&◌, List, [], ◌∷◌, ◌++◌, Option, None, Some, is_some, is_none, option_map, option_and_then, filter_map, length, slice_get, slice_set, if◌then◌else◌}
-use Rattle.std.specs.Option.{option_or}
 use Rattle.std.specs.List.{enumerate_from}
 use Rattle.audit_base.specs.Moments.{Moment, is_before}
 use Rattle.audit_base.specs.declared.names.Key.{Key}
@@ -14,11 +13,13 @@ use Rattle.audit_base.specs.declared.flaws.Evidence.{Evidence}
 use Rattle.audit_base.specs.declared.flaws.Evidence.TheVariants.{DuplicateId, TimeBack, UnknownTarget}
 use Rattle.audit_base.specs.Histories.{symbol_of, time_of, record_at, record_place, key_at, is_order, target_key, side_of, fits_side, order_index, order_of_record, record_finding}
 use Rattle.audit_base.specs.Least.{least_answer, least_with, first_of, only_if}
-use Rattle.audit_base.specs.Orders.{same_name, same_key, order_at, AreOrders}
+use Rattle.audit_base.specs.Orders.{same_name, same_key, order_at}
 use Rattle.instruction_history.specs.declared.history_so_far.HistorySoFar.{HistorySoFar}
 use Rattle.instruction_history.specs.declared.findings.Last.{Last}
-use Rattle.instruction_history.specs.declared.keys.Seen.{Seen}
-use Rattle.instruction_history.specs.Keys.{seen_in}
+use Rattle.order_list.specs.declared.keys.Seen.{Seen}
+use Rattle.order_list.specs.Changed.{ended}
+use Rattle.order_list.specs.Keys.{seen_in}
+use Rattle.order_list.specs.Stored.{orders_of, AreNumbered}
 
 -- What is known after some records of a history.
 
@@ -46,11 +47,15 @@ abbrev pub last_from : List (ℕ × OrderRecord) → ℕ → Option Last
 last_from h zero = None
 last_from h (suc k) = Some (record { place = record_place h k; time = time_of (record_at h k) })
 
+-- the orders that are kept
+abbrev pub kept_orders : HistorySoFar → List Order
+kept_orders d = orders_of d.keys d.orders.items
+
 -- what is kept is that of a history without a finding
 pub record IsHistorySoFar (h : List (ℕ × OrderRecord)) (d : HistorySoFar) : Type 0 where
   pub clean : finding_in h ≡ None
-  pub orders : d.orders.items ≡ orders_in h
-  pub numbers : AreOrders d.orders.items
+  pub orders : kept_orders d ≡ orders_in h
+  pub numbered : AreNumbered d.keys d.orders.items
   pub keys : (key : Key) → seen_in d.keys key ≡ named_in h key
   pub last : d.last ≡ last_from h (length h)
 
@@ -98,10 +103,6 @@ abbrev pub evidence_of : Option Seen → Option Last → OrderRecord → Option 
 evidence_of earlier last entry target =
     first_of (duplicate_of earlier ∷ back_of last (time_of entry)
     ∷ unknown_of (target_key entry) target ∷ [])
-
--- an order that a record at a place ends, unless an earlier one did
-abbrev pub ended : ℕ → Order → Order
-ended place o = record o { cancelled = option_or o.cancelled (Some place) }
 
 -- the orders, their target ended
 abbrev pub ended_among : List Order → Option ℕ → ℕ → List Order
@@ -167,7 +168,7 @@ seen_as entry place orders = record {
 
 -- what is kept after a record that has no finding, where its key was added before
 pub record AddsRecord (old new : HistorySoFar) (place : ℕ) (entry : OrderRecord) (target : Option ℕ) : Type 0 where
-  pub orders : new.orders.items ≡ orders_after old.orders.items entry target place
-  pub numbers : AreOrders old.orders.items → AreOrders new.orders.items
+  pub orders : kept_orders new ≡ orders_after (kept_orders old) entry target place
+  pub numbered : AreNumbered old.keys old.orders.items → AreNumbered new.keys new.orders.items
   pub keys : new.keys ≡ old.keys
   pub last : new.last ≡ Some (record { place = place; time = time_of entry })

@@ -5,8 +5,8 @@ use Rattle.audit_base.specs.declared.orders.Order.{Order}
 use Rattle.audit_base.specs.Histories.{Regular}
 use Rattle.audit_base.specs.declared.terms.Side.{Side}
 use Rattle.audit_base.specs.Orders.{with_key, on_side_with_key, IsOrderList, AreOrders, HaveOwnKeys}
-use Rattle.instruction_history.specs.declared.keys.Keys.{Keys}
-use Rattle.instruction_history.specs.Keys.{index_on, seen_in}
+use Rattle.order_list.specs.declared.keys.Keys.{Keys}
+use Rattle.order_list.specs.Keys.{index_on, seen_in}
 
 -- the orders are a regular order list with keys of their own, and each key of an order names it with its side
 pub record IsHistory (orders : List Order) (keys : Keys) : Type 0 where

@@ -6,5 +6,4 @@ pub mod MarketPrices
 -- What private functions pass on: what is kept while records come, and what a history keeps.
 pub mod Draft
 pub mod History
-pub mod Keys
 pub mod Flaws

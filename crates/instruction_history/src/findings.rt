@@ -4,10 +4,10 @@ ghost use Rattle.audit_base.specs.Flaws.{IsInside};
 ghost use Rattle.audit_base.specs.Histories.{target_key};
 ghost use Rattle.instruction_history.specs.Draft as draft;
 
-use super::keys::Seen;
 use audit_base::flaws::Evidence;
 use audit_base::records::OrderRecord;
 use audit_base::stamps::Stamp;
+use order_list::keys::Seen;
 
 /// The record that the next one is compared with.
 #[derive(Clone, Copy)]

@@ -8,11 +8,12 @@ ghost use Rattle.instruction_history.specs.MarketPrices.{AreRecordsMarketPriced,
 use super::faults::HistoryFault;
 use super::history_draft::{AuditedSymbol, draft_of};
 use super::history_so_far::HistorySoFar;
-use super::keys::Keys;
 use audit_base::names::{Key, Name};
-use audit_base::orders::Order;
 use audit_base::records::OrderRecord;
 use audit_base::terms::Side;
+use order_list::keys::Keys;
+use order_list::lists::OrderList;
+use order_list::stored::StoredOrder;
 use std::alloc::Global;
 use std::marker::{Brand, Model};
 
@@ -20,7 +21,7 @@ use std::marker::{Brand, Model};
 /// see that list. An order is found by its key.
 #[derive(Drop)]
 pub struct History {
-    orders: Vec<Order>,
+    orders: Vec<StoredOrder>,
     keys: Keys,
 }
 
@@ -31,10 +32,11 @@ impl Model for History {
     ghost Value = { List Order };
 
     ghost use Rattle.instruction_history.specs.History.{IsHistory};
+    ghost use Rattle.order_list.specs.Stored.{orders_of};
 
-    ghost view = { λ h. h.orders.items };
+    ghost view = { λ h. orders_of h.keys h.orders.items };
 
-    ghost invariant = { λ h. IsHistory h.orders.items h.keys };
+    ghost invariant = { λ h. IsHistory (orders_of h.keys h.orders.items) h.keys };
 }
 
 /// The history of the symbol in these records, by a draft that is handed them.
@@ -54,14 +56,15 @@ fn history_of<S: AuditedSymbol>(
 impl History {
     /// The history of what is known of all its records.
     pub(crate) fn of(so_far: HistorySoFar) -> History
-        requires { IsHistory so_far.orders.items so_far.keys }
-        ensures { result ≡ so_far.orders.items }
+        requires { IsHistory (orders_of so_far.keys so_far.orders.items) so_far.keys }
+        ensures { result ≡ orders_of so_far.keys so_far.orders.items }
     {
         let HistorySoFar { orders, keys, .. } = so_far;
         History { orders, keys }
     }
 
     ghost use Rattle.instruction_history.specs.History.{IsHistory};
+    ghost use Rattle.order_list.specs.Stored.{orders_of};
 
     /// The history of the symbol in an order log of fewer than 2^32 records, which stand at the places
     /// 1, 2 and so on. Ok exactly where the history is well-formed and Found exactly where it has a
@@ -85,14 +88,14 @@ impl History {
 
     /// The order list: the new orders and the replacements, in log order. It is regular, and no two of
     /// its orders have one key. Takes no memory.
-    pub fn orders(&self) -> &[Order]
-        ensures same { result.now ≡ self.now }
-        ensures order_list { IsOrderList result.now }
-        ensures regular { Regular result.now }
-        ensures numbers { AreOrders result.now }
-        ensures keys { HaveOwnKeys result.now }
+    pub fn orders(&self) -> OrderList<'_>
+        ensures same { result ≡ self.now }
+        ensures order_list { IsOrderList result }
+        ensures regular { Regular result }
+        ensures numbers { AreOrders result }
+        ensures keys { HaveOwnKeys result }
     {
-        self.orders.as_slice()
+        OrderList::of(&self.orders, &self.keys)
     }
 
     /// The index in the order list of the order with the key, which no other order has; None exactly

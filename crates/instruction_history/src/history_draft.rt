@@ -112,7 +112,11 @@ impl<S: AuditedSymbol> HistoryDraft<S> {
         let HistoryDraft { so_far, flaw, .. } = self;
         match flaw {
             Some(flaw) => Err(flaw.finding(&[])),
-            None => Ok(History::of(so_far)),
+            None => {
+                // This call tells the proof the ranges of the numbers.
+                so_far.list().in_range();
+                Ok(History::of(so_far))
+            }
         }
     }
 }

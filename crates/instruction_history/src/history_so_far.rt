@@ -2,31 +2,32 @@
 ghost use Rattle.std.specs.Prelude.{◌≡◌, ◌<◌, ◌^◌, [], ◌∷◌, ◌++◌, List, vec_len, length, IfSome, IfOk, OnOk, Some};
 ghost use Rattle.std.specs.Option.{ForSome};
 ghost use Rattle.audit_base.specs.Histories.{key_of};
-ghost use Rattle.audit_base.specs.Orders.{AreOrders};
 ghost use Rattle.audit_base.specs.declared.orders.Order.{Order};
 ghost use Rattle.instruction_history.specs.Draft as draft;
 ghost use Rattle.instruction_history.specs.Flaws.{found_by, NamesNoOrder};
-ghost use Rattle.instruction_history.specs.Keys.{seen_in};
+ghost use Rattle.order_list.specs.declared.keys.Keys.{Keys as AKeys};
+ghost use Rattle.order_list.specs.Keys.{seen_in, key_in, HasNumber, IsNumbered};
+ghost use Rattle.order_list.specs.Stored.{order_with, orders_of, AreNumbered};
 
 use super::findings::{Last, evidence_of};
-use super::keys::{Keys, Seen};
 use audit_base::faults::NoMemory;
 use audit_base::flaws::Flaw;
 use audit_base::names::{Key, Name};
-use audit_base::orders::Order;
-use audit_base::ranges::order_in_range;
 use audit_base::records::OrderRecord;
 use audit_base::terms::Life;
+use order_list::keys::{KeyNumber, Keys, Seen};
+use order_list::lists::OrderList;
+use order_list::stored::{OrderParts, StoredOrder};
 use seeded_hash::seed::HashSeed;
 use std::alloc::Global;
 
 /// The index, if the order there may be the target of the record.
-fn fitting(orders: &[Order], entry: &OrderRecord, index: usize) -> Option<usize>
+fn fitting(orders: &OrderList<'_>, entry: &OrderRecord, index: usize) -> Option<usize>
     ensures value { result ≡ draft.fitting orders.now entry.now index }
     ensures in_range { IfSome result (λ i. i < length orders.now) }
 {
     let order = orders.get(index)?;
-    if entry.fits_side(order.side) {
+    if entry.fits_side(order.side()) {
         Some(index)
     } else {
         None
@@ -35,7 +36,7 @@ fn fitting(orders: &[Order], entry: &OrderRecord, index: usize) -> Option<usize>
 
 /// The index of the order that has the key of these names, if it may be the target of the record.
 fn named_target(
-    orders: &[Order],
+    orders: &OrderList<'_>,
     keys: &Keys,
     entry: &OrderRecord,
     firm: &Name,
@@ -51,7 +52,7 @@ fn named_target(
 }
 
 /// The index of the target of the record.
-fn target_of(orders: &[Order], keys: &Keys, entry: &OrderRecord) -> Option<usize>
+fn target_of(orders: &OrderList<'_>, keys: &Keys, entry: &OrderRecord) -> Option<usize>
     ensures value { result ≡ draft.target_among orders.now (seen_in keys.now) entry.now }
     ensures in_range { IfSome result (λ i. i < length orders.now) }
 {
@@ -67,22 +68,24 @@ fn target_of(orders: &[Order], keys: &Keys, entry: &OrderRecord) -> Option<usize
 }
 
 /// Ends the order at an index, unless an earlier record did.
-fn end(orders: &mut Vec<Order>, target: usize, place: u32)
+fn end(orders: &mut Vec<StoredOrder>, target: usize, place: u32)
     requires { target < vec_len orders.old }
-    ensures items { orders.new.items ≡ draft.ended_among orders.old.items (Some target) place }
+    ensures items { (keys : AKeys) → orders_of keys orders.new.items
+        ≡ draft.ended_among (orders_of keys orders.old.items) (Some target) place }
+    ensures numbered { (keys : AKeys) → AreNumbered keys orders.old.items → AreNumbered keys orders.new.items }
     ensures len { vec_len orders.new ≡ vec_len orders.old }
-    ensures numbers { AreOrders orders.old.items → AreOrders orders.new.items }
 {
     let order = &mut orders[target];
-    order.cancelled = order.cancelled.or(Some(place));
+    order.end(place);
 }
 
 /// Ends the target.
-fn end_target(orders: &mut Vec<Order>, target: Option<usize>, place: u32)
+fn end_target(orders: &mut Vec<StoredOrder>, target: Option<usize>, place: u32)
     requires { ForSome target (λ t. t < vec_len orders.old) }
-    ensures items { orders.new.items ≡ draft.ended_among orders.old.items target place }
+    ensures items { (keys : AKeys) → orders_of keys orders.new.items
+        ≡ draft.ended_among (orders_of keys orders.old.items) target place }
+    ensures numbered { (keys : AKeys) → AreNumbered keys orders.old.items → AreNumbered keys orders.new.items }
     ensures len { vec_len orders.new ≡ vec_len orders.old }
-    ensures numbers { AreOrders orders.old.items → AreOrders orders.new.items }
 {
     if let Some(target) = target {
         end(orders, target, place);
@@ -90,24 +93,31 @@ fn end_target(orders: &mut Vec<Order>, target: Option<usize>, place: u32)
 }
 
 /// The own place of a replacement, where its target is not there any more: it is never placed.
-fn own_end(orders: &[Order], target: Option<usize>, place: u32) -> Option<u32>
+fn own_end(orders: &OrderList<'_>, target: Option<usize>, place: u32) -> Option<u32>
+    requires { ForSome target (λ t. t < length orders.now) }
     ensures { result ≡ draft.own_end orders.now target place }
 {
-    let order = orders.get(target?)?;
-    if order.cancelled.is_none() {
-        None
-    } else {
-        Some(place)
+    match target {
+        Some(target) => {
+            if orders.at(target).cancelled().is_none() {
+                None
+            } else {
+                Some(place)
+            }
+        }
+        None => None,
     }
 }
 
 /// One more order.
-fn push(orders: &mut Vec<Order>, order: Order) -> Result<(), NoMemory>
-    ensures items { OnOk result (orders.new.items ≡ orders.old.items ++ order ∷ []) }
-    ensures numbers { AreOrders orders.old.items → AreOrders orders.new.items }
+fn push(orders: &mut Vec<StoredOrder>, parts: &OrderParts) -> Result<(), NoMemory>
+    requires { IfSome parts.now.target (λ t. t < 4294967295) }
+    ensures items { (keys : AKeys) → let order = order_with (key_in keys parts.now.number) parts.now in
+        OnOk result (orders_of keys orders.new.items ≡ orders_of keys orders.old.items ++ order ∷ []) }
+    ensures numbered { (keys : AKeys) → IsNumbered keys parts.now.number
+        → AreNumbered keys orders.old.items → OnOk result (AreNumbered keys orders.new.items) }
 {
-    order_in_range(&order);
-    orders.push(order)?;
+    orders.push(StoredOrder::of(parts))?;
     Ok(())
 }
 
@@ -123,24 +133,27 @@ fn life_of(entry: &OrderRecord) -> Life
 }
 
 /// Adds the order of a new order, which has no target, or of a replacement. `own_end` is where a
-/// replacement ends whose target was gone before. The order is made in the call that adds it, since one
-/// more copy of its key costs as much as a search.
+/// replacement ends whose target was gone before, and `number` that of its key.
 fn push_order(
-    orders: &mut Vec<Order>,
+    orders: &mut Vec<StoredOrder>,
     entry: &OrderRecord,
     target: Option<usize>,
     own_end: Option<u32>,
     place: u32,
+    number: KeyNumber,
 ) -> Result<(), NoMemory>
-    ensures items { (before : List Order) → own_end ≡ draft.own_end before target place →
+    requires { IfSome target (λ t. t < 4294967295) }
+    ensures items { (keys : AKeys) (before : List Order) → HasNumber keys (key_of entry.now) number
+        → own_end ≡ draft.own_end before target place →
         let order = draft.order_made before entry.now target place in
-        OnOk result (orders.new.items ≡ draft.pushed orders.old.items order) }
-    ensures numbers { AreOrders orders.old.items → AreOrders orders.new.items }
+        OnOk result (orders_of keys orders.new.items
+        ≡ draft.pushed (orders_of keys orders.old.items) order) }
+    ensures numbered { (keys : AKeys) → IsNumbered keys number
+        → AreNumbered keys orders.old.items → OnOk result (AreNumbered keys orders.new.items) }
 {
     match entry {
         OrderRecord::Cancel { .. } => Ok(()),
         OrderRecord::New {
-            key,
             time,
             side,
             quantity,
@@ -148,7 +161,6 @@ fn push_order(
             ..
         }
         | OrderRecord::Replace {
-            key,
             time,
             side,
             quantity,
@@ -156,16 +168,16 @@ fn push_order(
             ..
         } => push(
             orders,
-            Order {
+            &OrderParts {
+                number,
                 place,
-                key: *key,
                 time: *time,
                 side: *side,
+                life: life_of(entry),
                 quantity: *quantity,
                 limit: *price,
                 cancelled: own_end,
                 target,
-                life: life_of(entry),
             },
         ),
     }
@@ -195,13 +207,13 @@ fn seen_as(entry: &OrderRecord, place: u32, orders: u32) -> Seen
 /// what each of their keys names, and the last of them.
 #[derive(Drop)]
 pub(crate) struct HistorySoFar {
-    pub orders: Vec<Order>,
+    pub orders: Vec<StoredOrder>,
     pub keys: Keys,
     pub last: Option<Last>,
 }
 
 impl HistorySoFar {
-    ghost use Rattle.instruction_history.specs.Draft.{IsHistorySoFar, KnowsOneMore, AddsRecord};
+    ghost use Rattle.instruction_history.specs.Draft.{IsHistorySoFar, KnowsOneMore, AddsRecord, kept_orders};
 
     /// No records.
     pub fn new(alloc: Global, seed: HashSeed) -> HistorySoFar
@@ -214,6 +226,14 @@ impl HistorySoFar {
         }
     }
 
+    /// The orders so far.
+    pub fn list(&self) -> OrderList<'_>
+        ensures same { result ≡ kept_orders self.now }
+        ensures len { length result ≡ vec_len self.now.orders }
+    {
+        OrderList::of(&self.orders, &self.keys)
+    }
+
     /// Takes the next record of the history, at its place in the log, or tells what is wrong with it. Then
     /// nothing is known of what is kept.
     pub fn take(&mut self, entry: &OrderRecord, place: u32) -> Result<Option<Flaw>, NoMemory>
@@ -222,14 +242,14 @@ impl HistorySoFar {
             IfOk result (λ flaw. knows (found_by flaw)) }
         ensures alone { IfOk result NamesNoOrder }
     {
-        let target = target_of(&self.orders, &self.keys, entry);
+        let target = target_of(&self.list(), &self.keys, entry);
         let seen = seen_as(entry, place, self.orders.len() as u32);
         // One look-up tells what the key named and adds it.
-        let earlier = self.keys.add(key_of(entry), seen)?;
-        if let Some(evidence) = evidence_of(earlier, self.last, entry, target) {
+        let added = self.keys.add(key_of(entry), seen)?;
+        if let Some(evidence) = evidence_of(added.earlier, self.last, entry, target) {
             return Ok(Some(Flaw { place, evidence }));
         }
-        self.add(entry, target, place)?;
+        self.add(entry, target, place, added.number)?;
         Ok(None)
     }
 
@@ -239,13 +259,16 @@ impl HistorySoFar {
         entry: &OrderRecord,
         target: Option<usize>,
         place: u32,
+        number: KeyNumber,
     ) -> Result<(), NoMemory>
-        requires { ForSome target (λ t. t < vec_len self.old.orders) }
-        ensures { OnOk result (AddsRecord self.old self.new place entry.now target) }
+        requires few { vec_len self.old.orders < 2 ^ 32 }
+        requires target { ForSome target (λ t. t < vec_len self.old.orders) }
+        ensures { HasNumber self.old.keys (key_of entry.now) number
+            → OnOk result (AddsRecord self.old self.new place entry.now target) }
     {
-        let own_end = own_end(&self.orders, target, place);
+        let own_end = own_end(&self.list(), target, place);
         end_target(&mut self.orders, target, place);
-        push_order(&mut self.orders, entry, target, own_end, place)?;
+        push_order(&mut self.orders, entry, target, own_end, place, number)?;
         self.last = Some(Last {
             place,
             time: entry.time(),

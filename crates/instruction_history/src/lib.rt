@@ -15,4 +15,3 @@ mod findings;
 pub mod history;
 pub mod history_draft;
 mod history_so_far;
-mod keys;

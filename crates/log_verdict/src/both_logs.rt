@@ -118,10 +118,13 @@ fn after_orders<S: AuditedSymbol, F: Shelf>(
         → StaysWithinAt (reading_by trades.now F.Shelf shelf.old shelf.new) Which.Trades result }
 {
     match orders.end() {
-        Ok(history) => match scope.admission.first_unadmitted(history.orders()) {
-            Some(finding) => after_finding(alloc, shelf, scope, trades, finding),
-            None => after_history::<Brand, F>(alloc, shelf, scope, trades, history),
-        },
+        Ok(history) => {
+            let unadmitted = scope.admission.first_unadmitted(&history.orders());
+            match unadmitted {
+                Some(finding) => after_finding(alloc, shelf, scope, trades, finding),
+                None => after_history::<Brand, F>(alloc, shelf, scope, trades, history),
+            }
+        }
         Err(finding) => after_finding(alloc, shelf, scope, trades, finding),
     }
 }

@@ -11,7 +11,8 @@ use super::deal_flaws::evidence_of;
 use super::outcomes::CheckFault;
 use super::totals::{Totals, zeros};
 use audit_base::flaws::Flaw;
-use audit_base::orders::{Deal, Order};
+use audit_base::orders::Deal;
+use order_list::lists::OrderList;
 use std::alloc::Global;
 
 /// Adds the quantity of a deal to what its two orders trade, and gives what they then trade.
@@ -37,7 +38,7 @@ pub fn add_deal(traded: &mut Vec<u128>, bid: usize, ask: usize, quantity: u128) 
 /// exactly where they are not, out of memory aside.
 pub fn check_matching(
     alloc: Global,
-    orders: &[Order],
+    orders: &OrderList<'_>,
     deals: &[Deal],
     uniform: bool,
 ) -> Result<Totals, CheckFault>
@@ -59,7 +60,7 @@ pub fn check_matching(
         let first = &deals[0];
         if let Some(evidence) = evidence_of(uniform, orders, deal, first, bid_traded, ask_traded) {
             let place = deal.place;
-            return Err(CheckFault::Found(Flaw { place, evidence }.finding(orders)));
+            return Err(CheckFault::Found(orders.finding(Flaw { place, evidence })));
         }
         volume += quantity;
     }

@@ -4,20 +4,22 @@ ghost use Rattle.audit_base.specs.Flaws.{IsInside};
 ghost use Rattle.matching_core.specs.DealFlaws as at;
 
 use audit_base::flaws::{Evidence, TradedOrder};
-use audit_base::orders::{Deal, Order};
+use audit_base::orders::Deal;
 use audit_base::terms::Side;
+use order_list::listed::{ListedOrder, is_within};
+use order_list::lists::OrderList;
 
 /// An order trades more than its quantity.
-fn is_overfilled(order: &Order, traded: u128) -> bool
+fn is_overfilled(order: &ListedOrder<'_>, traded: u128) -> bool
     ensures { result ≡ at.is_overfilled order.now traded }
 {
-    u128::from(order.quantity.value()) < traded
+    u128::from(order.quantity().value()) < traded
 }
 
 /// What is wrong with a deal, if anything is, by the first deal and by what its two orders trade up to it.
 pub(crate) fn evidence_of(
     uniform: bool,
-    orders: &[Order],
+    orders: &OrderList<'_>,
     deal: &Deal,
     first: &Deal,
     bid_traded: u128,
@@ -37,17 +39,17 @@ pub(crate) fn evidence_of(
         index: deal.ask,
         traded: ask_traded,
     };
-    if orders[bid.index].cancelled.is_some() {
+    if orders.at(bid.index).cancelled().is_some() {
         Some(Evidence::Inactive(bid))
-    } else if orders[ask.index].cancelled.is_some() {
+    } else if orders.at(ask.index).cancelled().is_some() {
         Some(Evidence::Inactive(ask))
-    } else if !deal.is_within(&orders[bid.index], &orders[ask.index]) {
+    } else if !is_within(deal, &orders.at(bid.index), &orders.at(ask.index)) {
         Some(Evidence::Limit(bid, ask))
     } else if uniform && deal.price != first.price {
         Some(Evidence::UniformPrice(first.place))
-    } else if is_overfilled(&orders[bid.index], bid_traded) {
+    } else if is_overfilled(&orders.at(bid.index), bid_traded) {
         Some(Evidence::Quantity(Side::Buy, bid))
-    } else if is_overfilled(&orders[ask.index], ask_traded) {
+    } else if is_overfilled(&orders.at(ask.index), ask_traded) {
         Some(Evidence::Quantity(Side::Sell, ask))
     } else {
         None

@@ -6,16 +6,17 @@ ghost use Rattle.audit_base.specs.Deals.{IsDealList};
 ghost use Rattle.call_auction.specs.Audits.{IsGreatestOf, IsAudited};
 
 use audit_base::faults::NoMemory;
-use audit_base::orders::{Cut, Deal, Order};
+use audit_base::orders::{Cut, Deal};
 use audit_base::terms::VolumeRule;
 use call_auction::auditing::audit_call;
 use call_laws::optimum::greatest_matching_reaches_the_least_cut;
 use matching_core::outcomes::Outcome;
+use order_list::lists::OrderList;
 use std::alloc::Global;
 use volume_bound::extremes::least_cut;
 
 /// The greatest volume of a matching, and the least price whose cut is this volume.
-fn greatest_of(alloc: Global, orders: &[Order]) -> Result<Cut, NoMemory>
+fn greatest_of(alloc: Global, orders: &OrderList<'_>) -> Result<Cut, NoMemory>
     requires { IsOrderList orders.now }
     ensures { IfOk result (IsGreatestOf Maximum orders.now) }
 {
@@ -30,7 +31,7 @@ fn greatest_of(alloc: Global, orders: &[Order]) -> Result<Cut, NoMemory>
 /// volume. Else Broken has the first offence, of the properties 7, 8 and 10 to 14.
 pub fn audit_maximum(
     alloc: Global,
-    orders: &[Order],
+    orders: &OrderList<'_>,
     deals: &[Deal],
     count: u32,
 ) -> Result<Outcome, NoMemory>

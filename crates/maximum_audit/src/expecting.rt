@@ -6,10 +6,11 @@ ghost use Rattle.audit_base.specs.Calls.{ConformsMaximum};
 ghost use Rattle.audit_base.specs.Expected.{IsExpectedMaximum};
 
 use audit_base::faults::NoMemory;
-use audit_base::orders::{Deal, Order};
+use audit_base::orders::Deal;
 use call_laws::optimum::{
     greatest_matching_reaches_the_least_cut, maximum_trades_are_expected, units_suffice,
 };
+use order_list::lists::OrderList;
 use rank_order::ranking::ranked_sides;
 use std::alloc::Global;
 use unit_pairs::pairing::maximum_pairs;
@@ -18,7 +19,7 @@ use volume_bound::extremes::least_cut;
 /// The Expected trades of `maximum`, which are a matching of the greatest volume V: unit V + 1 - j of the
 /// bids meets unit j of the asks, both in rank order, at the ask's limit. They conform to the rule. In
 /// n log n steps for n orders. Err only out of memory.
-pub fn greatest_matching(alloc: Global, orders: &[Order]) -> Result<Vec<Deal>, NoMemory>
+pub fn greatest_matching(alloc: Global, orders: &OrderList<'_>) -> Result<Vec<Deal>, NoMemory>
     requires { IsOrderList orders.now }
     ensures expected { IfOk result (λ deals. IsExpectedMaximum orders.now deals.items) }
     ensures conforms { IfOk result (λ deals. ConformsMaximum orders.now deals.items) }

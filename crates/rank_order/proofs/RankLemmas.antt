@@ -12,11 +12,10 @@ use Rattle.std.proofs.lemmas.Map.Keys.{IsDistinct-from_apart, IsDistinct-IsPermu
 use Rattle.audit_base.specs.declared.terms.Side.{Side}
 use Rattle.audit_base.specs.declared.terms.Side.TheVariants.{Buy, Sell}
 use Rattle.audit_base.specs.declared.orders.Order.{Order}
-use Rattle.audit_base.specs.Orders.{missing_order, order_at, limit_at, stands_on, Stands, IsOrderList}
+use Rattle.audit_base.specs.Orders.{order_at, limit_at, stands_on, Stands, IsOrderList}
 use Rattle.audit_base.specs.Priority.{outranks, Better, IsRanked}
 use Rattle.audit_base.proofs.SumLemmas.{AllPairs-head, AllPairs-tail, AllPairs-cons}
 use Rattle.audit_base.proofs.OrderLemmas.{place-rises, test-stands, stands-test}
-use Rattle.audit_base.proofs.OffenceLemmas.{get_or-default}
 use Rattle.audit_base.proofs.PriorityLemmas.{bid-outranks, ask-outranks, better-outranks, Better-total}
 use Rattle.rank_order.specs.declared.ranks.Rank.{Rank}
 use Rattle.rank_order.specs.Ranks.{weight_of, order_rank, rank_cmp, rank_if, index_of, IsRankOf, AreRanks}
@@ -75,10 +74,9 @@ module _ (orders : List Order) (side : Side) where
     ]
 
   -- the same, in the words of the code: the order that it reads
-  pub ranks-read : (n : ℕ) (ranks : List Rank) → n < length orders → (o : Order) → o ≡ get_or orders n o → o.limit < 10 ^ 18 → AreRanks orders side n ranks
+  pub ranks-read : (n : ℕ) (ranks : List Rank) → n < length orders → (o : Order) → o ≡ order_at orders n → o.limit < 10 ^ 18 → AreRanks orders side n ranks
       → AreRanks orders side (n + 1) (ranks ++ rank_if side n o)
-  ranks-read n ranks lt o is priced are =
-      let here : o ≡ order_at orders n = is ∙ get_or-default orders n o missing_order lt in
+  ranks-read n ranks lt o here priced are =
       let limit : limit_at orders n < 10 ^ 18 = subst (λ (p : Order). p.limit < 10 ^ 18) here priced in
       subst (λ (p : Order). AreRanks orders side (n + 1) (ranks ++ rank_if side n p)) (sym here) (ranks-more n ranks lt limit are)
 

@@ -8,17 +8,23 @@ ghost use Rattle.rank_order.specs.Sides.{AreRanked};
 
 use super::ranks::Rank;
 use audit_base::faults::NoMemory;
-use audit_base::orders::Order;
 use audit_base::terms::Side;
+use order_list::listed::ListedOrder;
+use order_list::lists::OrderList;
 use std::alloc::Global;
 
 /// Adds the rank of an order, if it is of the side and no record cancels it.
-fn add_rank(ranks: &mut Vec<Rank>, side: Side, index: usize, order: &Order) -> Result<(), NoMemory>
+fn add_rank(
+    ranks: &mut Vec<Rank>,
+    side: Side,
+    index: usize,
+    order: &ListedOrder<'_>,
+) -> Result<(), NoMemory>
     ensures ranks { let more = rank_if side index order.now in
         OnOk result (ranks.new.items ≡ ranks.old.items ++ more) }
     ensures priced { order.now.limit < 10 ^ 18 }
 {
-    let rank = Rank::of(order.side, index, order.limit);
+    let rank = Rank::of(order.side(), index, order.limit());
     if order.stands_on(side) {
         ranks.push(rank)?;
     }
@@ -26,12 +32,12 @@ fn add_rank(ranks: &mut Vec<Rank>, side: Side, index: usize, order: &Order) -> R
 }
 
 /// The ranks of the orders of a side that no record cancels, by rising index.
-fn ranks_of(alloc: Global, orders: &[Order], side: Side) -> Result<Vec<Rank>, NoMemory>
+fn ranks_of(alloc: Global, orders: &OrderList<'_>, side: Side) -> Result<Vec<Rank>, NoMemory>
     ensures { IfOk result (λ ranks. AreRanks orders.now side (length orders.now) ranks.items) }
 {
     let mut ranks = Vec::with_capacity(alloc, orders.len())?;
-    for (index, order) in orders.iter().enumerate() {
-        add_rank(&mut ranks, side, index, order)?;
+    for index in 0..orders.len() {
+        add_rank(&mut ranks, side, index, &orders.at(index))?;
     }
     Ok(ranks)
 }
@@ -50,7 +56,7 @@ fn indices_of(alloc: Global, ranks: &[Rank]) -> Result<Vec<usize>, NoMemory>
 /// The orders of a side that no record cancels, by their indices, each once, the best first: by the
 /// better limit, and among equal limits by the smaller place (price-time priority). In n log n steps for
 /// n orders. Err only out of memory.
-pub fn ranked(alloc: Global, orders: &[Order], side: Side) -> Result<Vec<usize>, NoMemory>
+pub fn ranked(alloc: Global, orders: &OrderList<'_>, side: Side) -> Result<Vec<usize>, NoMemory>
     requires { IsOrderList orders.now }
     ensures { IfOk result (λ ranks. IsRanked orders.now side ranks.items) }
 {
@@ -67,15 +73,16 @@ struct BothRanks {
 }
 
 /// The ranks of both sides, in one pass over the orders.
-fn ranks_of_both(alloc: Global, orders: &[Order]) -> Result<BothRanks, NoMemory>
+fn ranks_of_both(alloc: Global, orders: &OrderList<'_>) -> Result<BothRanks, NoMemory>
     ensures bids { IfOk result (λ both. AreRanks orders.now Buy (length orders.now) both.bids.items) }
     ensures asks { IfOk result (λ both. AreRanks orders.now Sell (length orders.now) both.asks.items) }
 {
     let mut bids = Vec::with_capacity(alloc, orders.len())?;
     let mut asks = Vec::with_capacity(alloc, orders.len())?;
-    for (i, order) in orders.iter().enumerate() {
-        add_rank(&mut bids, Side::Buy, i, order)?;
-        add_rank(&mut asks, Side::Sell, i, order)?;
+    for index in 0..orders.len() {
+        let order = orders.at(index);
+        add_rank(&mut bids, Side::Buy, index, &order)?;
+        add_rank(&mut asks, Side::Sell, index, &order)?;
     }
     Ok(BothRanks { bids, asks })
 }
@@ -88,7 +95,7 @@ pub struct RankedSides {
 }
 
 /// Both sides of an order list, each ranked by price-time priority. Err only out of memory.
-pub fn ranked_sides(alloc: Global, orders: &[Order]) -> Result<RankedSides, NoMemory>
+pub fn ranked_sides(alloc: Global, orders: &OrderList<'_>) -> Result<RankedSides, NoMemory>
     requires { IsOrderList orders.now }
     ensures { IfOk result (AreRanked orders.now) }
 {

@@ -8,9 +8,8 @@ use Rattle.audit_base.proofs.OffenceLemmas.{get_or-default}
 use Rattle.audit_report.specs.declared.tables.Line.{Line}
 use Rattle.record_verdict.specs.Tables.{line_of, lines_below}
 
-pub lines-more : (orders : List Order) (traded : List ℕ) (n : ℕ) (old new : List Line) (o : Order) → n < length orders → o ≡ get_or orders n o → old ≡ lines_below orders traded n
+pub lines-more : (orders : List Order) (traded : List ℕ) (n : ℕ) (old new : List Line) (o : Order) → o ≡ order_at orders n → old ≡ lines_below orders traded n
     → new ≡ old ++ line_of o (slice_index traded n) ∷ [] → new ≡ lines_below orders traded (n + 1)
-lines-more orders traded n old new o lt is before more =
-    let here : o ≡ order_at orders n = is ∙ get_or-default orders n o missing_order lt in
+lines-more orders traded n old new o here before more =
     more ∙ ap (λ (xs : List Line). xs ++ line_of o (slice_index traded n) ∷ []) before ∙ ap (λ (x : Order). lines_below orders traded n ++ line_of x (slice_index traded n) ∷ []) here
     ∙ sym (map-range_with_len_more (λ i. line_of (order_at orders i) (slice_index traded i)) 0 n n (omega arith))

@@ -15,7 +15,6 @@ use crate::scopes::Admission;
 use audit_base::faults::NoMemory;
 use audit_base::findings::Finding;
 use audit_base::names::Name;
-use audit_base::orders::Order;
 use audit_base::ranges::trades_in_range;
 use audit_base::records::{OrderRecord, TradeRecord};
 use audit_base::terms::Rule;
@@ -25,6 +24,7 @@ use instruction_history::faults::HistoryFault;
 use instruction_history::history::History;
 use matching_core::outcomes::CheckFault;
 use matching_core::resolving::resolve;
+use order_list::lists::OrderList;
 use std::alloc::Global;
 
 /// The numbers of the trades of a log are in their ranges. Nothing is computed.
@@ -38,7 +38,7 @@ fn paired_in_range(trades: &Paired)
 }
 
 /// What is found where the rule does not admit an order of the history: a call takes only orders that rest.
-pub fn call_finding(rule: Rule, orders: &[Order]) -> Option<Finding>
+pub fn call_finding(rule: Rule, orders: &OrderList<'_>) -> Option<Finding>
     ensures { result ≡ spec.call_finding rule orders.now }
 {
     Admission::of(rule).first_unadmitted(orders)
@@ -58,7 +58,7 @@ fn judge_trades(
         Ok(deals) => judge_deals(
             alloc,
             question,
-            history.orders(),
+            &history.orders(),
             &deals,
             trades.len() as u32,
         ),
@@ -77,7 +77,7 @@ fn judge_history(
     requires few { length (paired_trades (pairing_of trades.now)) < 2 ^ 32 - 1 }
     ensures { IfOk result (IsJudgedHistory question.now history.now (pairing_of trades.now)) }
 {
-    if let Some(finding) = call_finding(question.rule, history.orders()) {
+    if let Some(finding) = call_finding(question.rule, &history.orders()) {
         return Ok(Verdict::Rejected(finding));
     }
     match trades {

@@ -13,7 +13,7 @@ ghost use Rattle.record_verdict.specs.Tables.{accepted_verdict, conforming_outco
 use crate::questions::Question;
 use crate::tables::table_of;
 use audit_base::faults::NoMemory;
-use audit_base::orders::{Deal, Order};
+use audit_base::orders::Deal;
 use audit_base::terms::{CallRule, Rule, VolumeRule};
 use audit_report::verdicts::{Accepted, Verdict};
 use call_auction::fair_matchings::fair_matching;
@@ -22,6 +22,7 @@ use matching_core::checking::check_matching;
 use matching_core::outcomes::{CheckFault, Outcome, Reached};
 use matching_core::totals::Totals;
 use maximum_audit::auditing::audit_maximum;
+use order_list::lists::OrderList;
 use std::alloc::Global;
 use uniform_audit::auditing::audit_uniform;
 
@@ -46,7 +47,11 @@ fn broken(fault: CheckFault) -> Result<Outcome, NoMemory>
 }
 
 /// Whether the deals conform to the rule `matching`.
-fn audit_matching(alloc: Global, orders: &[Order], deals: &[Deal]) -> Result<Outcome, NoMemory>
+fn audit_matching(
+    alloc: Global,
+    orders: &OrderList<'_>,
+    deals: &[Deal],
+) -> Result<Outcome, NoMemory>
     requires deal_list { IsDealList orders.now deals.now }
     ensures { IfOk result (IsCallAudited call.Matching orders.now deals.now) }
 {
@@ -57,7 +62,7 @@ fn audit_matching(alloc: Global, orders: &[Order], deals: &[Deal]) -> Result<Out
 }
 
 /// Whether the deals conform to the rule `fair`.
-fn audit_fair(alloc: Global, orders: &[Order], deals: &[Deal]) -> Result<Outcome, NoMemory>
+fn audit_fair(alloc: Global, orders: &OrderList<'_>, deals: &[Deal]) -> Result<Outcome, NoMemory>
     requires order_list { IsOrderList orders.now }
     requires deal_list { IsDealList orders.now deals.now }
     ensures { IfOk result (IsCallAudited call.Fair orders.now deals.now) }
@@ -72,7 +77,7 @@ fn audit_fair(alloc: Global, orders: &[Order], deals: &[Deal]) -> Result<Outcome
 fn audit_greatest(
     alloc: Global,
     rule: VolumeRule,
-    orders: &[Order],
+    orders: &OrderList<'_>,
     deals: &[Deal],
     count: u32,
 ) -> Result<Outcome, NoMemory>
@@ -91,7 +96,7 @@ fn audit_greatest(
 fn audit_call(
     alloc: Global,
     rule: CallRule,
-    orders: &[Order],
+    orders: &OrderList<'_>,
     deals: &[Deal],
     count: u32,
 ) -> Result<Outcome, NoMemory>
@@ -111,7 +116,7 @@ fn audit_call(
 fn audit(
     alloc: Global,
     rule: Rule,
-    orders: &[Order],
+    orders: &OrderList<'_>,
     deals: &[Deal],
     count: u32,
 ) -> Result<Outcome, NoMemory>
@@ -131,7 +136,7 @@ fn audit(
 fn accept(
     alloc: Global,
     question: &Question,
-    orders: &[Order],
+    orders: &OrderList<'_>,
     deals: &[Deal],
     reached: &Reached,
 ) -> Result<Verdict, NoMemory>
@@ -158,7 +163,7 @@ fn accept(
 pub fn judge_deals(
     alloc: Global,
     question: &Question,
-    orders: &[Order],
+    orders: &OrderList<'_>,
     deals: &[Deal],
     count: u32,
 ) -> Result<Verdict, NoMemory>

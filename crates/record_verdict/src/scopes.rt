@@ -6,8 +6,8 @@ ghost use Rattle.record_verdict.specs.Scopes.{admission_of, unadmitted_order};
 use audit_base::findings::Finding;
 use audit_base::flaws::{Evidence, Flaw};
 use audit_base::names::Name;
-use audit_base::orders::Order;
 use audit_base::terms::Rule;
+use order_list::lists::OrderList;
 
 /// Which orders of a symbol may be in its log.
 #[derive(Clone, Copy, Debug, PartialEq, Eq)]
@@ -26,16 +26,15 @@ pub struct Scope {
 }
 
 /// Finding 16: the least order that is not one that rests.
-fn first_instant(orders: &[Order]) -> Option<Finding>
+fn first_instant(orders: &OrderList<'_>) -> Option<Finding>
     ensures { result ≡ instant_order orders.now }
 {
-    for order in orders {
-        if !order.life.rests() {
-            let flaw = Flaw {
-                place: order.place,
-                evidence: Evidence::InstantOrder,
-            };
-            return Some(flaw.finding(orders));
+    for index in 0..orders.len() {
+        let order = orders.at(index);
+        if !order.life().rests() {
+            let place = order.place();
+            let evidence = Evidence::InstantOrder;
+            return Some(orders.finding(Flaw { place, evidence }));
         }
     }
     None
@@ -53,7 +52,7 @@ impl Admission {
     }
 
     /// Finding 16: the least of the orders that is not admitted.
-    pub fn first_unadmitted(self, orders: &[Order]) -> Option<Finding>
+    pub fn first_unadmitted(self, orders: &OrderList<'_>) -> Option<Finding>
         ensures { result ≡ unadmitted_order self orders.now }
     {
         match self {

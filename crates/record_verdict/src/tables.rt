@@ -7,22 +7,23 @@ ghost use Rattle.record_verdict.specs.Tables as spec;
 
 use crate::questions::Question;
 use audit_base::faults::NoMemory;
-use audit_base::findings::OrderLine;
-use audit_base::orders::{Deal, Order};
+use audit_base::orders::Deal;
 use audit_base::terms::Rule;
 use audit_report::tables::{Line, Table};
 use canonical_form::shares::{Share, canonical};
+use order_list::listed::ListedOrder;
+use order_list::lists::OrderList;
 use std::alloc::Global;
 
 /// The line of an order with what it traded.
-fn order_line(order: &Order, traded: u128) -> Line
+fn order_line(order: &ListedOrder<'_>, traded: u128) -> Line
     ensures { result ≡ spec.line_of order.now traded }
 {
-    Line::Order(OrderLine::of(order, traded))
+    Line::Order(order.line(traded))
 }
 
 /// Adds the line of an order.
-fn push_line(lines: &mut Vec<Line>, order: &Order, traded: u128) -> Result<(), NoMemory>
+fn push_line(lines: &mut Vec<Line>, order: &ListedOrder<'_>, traded: u128) -> Result<(), NoMemory>
     ensures { OnOk result
         (lines.new.items ≡ lines.old.items ++ spec.line_of order.now traded ∷ []) }
 {
@@ -31,33 +32,41 @@ fn push_line(lines: &mut Vec<Line>, order: &Order, traded: u128) -> Result<(), N
 }
 
 /// The lines of all orders, in log order.
-fn order_lines(alloc: Global, orders: &[Order], traded: &[u128]) -> Result<Vec<Line>, NoMemory>
+fn order_lines(
+    alloc: Global,
+    orders: &OrderList<'_>,
+    traded: &[u128],
+) -> Result<Vec<Line>, NoMemory>
     requires { length traded.now ≡ length orders.now }
     ensures { IfOk result (λ lines. lines.items ≡ spec.lines_of orders.now traded.now) }
 {
     let mut lines = Vec::with_capacity(alloc, orders.len())?;
     for index in 0..orders.len() {
-        push_line(&mut lines, &orders[index], traded[index])?;
+        push_line(&mut lines, &orders.at(index), traded[index])?;
     }
     Ok(lines)
 }
 
 /// Adds the line of a bid and an ask that trade with one another.
-fn push_pair(lines: &mut Vec<Line>, orders: &[Order], share: &Share) -> Result<(), NoMemory>
+fn push_pair(lines: &mut Vec<Line>, orders: &OrderList<'_>, share: &Share) -> Result<(), NoMemory>
     requires { spec.IsShareOf orders.now share.now }
     ensures { OnOk result
         (lines.new.items ≡ lines.old.items ++ spec.line_of_share orders.now share.now ∷ []) }
 {
     lines.push(Line::Pair {
-        bid: orders[share.bid].place,
-        ask: orders[share.ask].place,
+        bid: orders.at(share.bid).place(),
+        ask: orders.at(share.ask).place(),
         quantity: share.quantity,
     })?;
     Ok(())
 }
 
 /// The lines of some pairs, in their order.
-fn share_lines(alloc: Global, orders: &[Order], shares: &[Share]) -> Result<Vec<Line>, NoMemory>
+fn share_lines(
+    alloc: Global,
+    orders: &OrderList<'_>,
+    shares: &[Share],
+) -> Result<Vec<Line>, NoMemory>
     requires { All (spec.IsShareOf orders.now) shares.now }
     ensures { IfOk result (λ lines.
         lines.items ≡ spec.share_lines orders.now shares.now (length shares.now)) }
@@ -70,7 +79,7 @@ fn share_lines(alloc: Global, orders: &[Order], shares: &[Share]) -> Result<Vec<
 }
 
 /// The lines of all pairs that trade, in order of the bid and then of the ask.
-fn pair_lines(alloc: Global, orders: &[Order], deals: &[Deal]) -> Result<Vec<Line>, NoMemory>
+fn pair_lines(alloc: Global, orders: &OrderList<'_>, deals: &[Deal]) -> Result<Vec<Line>, NoMemory>
     requires { IsDealList orders.now deals.now }
     ensures { IfOk result (λ lines. lines.items ≡ table.pair_lines orders.now deals.now) }
 {
@@ -82,7 +91,7 @@ fn pair_lines(alloc: Global, orders: &[Order], deals: &[Deal]) -> Result<Vec<Lin
 fn lines_of(
     alloc: Global,
     rule: Rule,
-    orders: &[Order],
+    orders: &OrderList<'_>,
     deals: &[Deal],
     traded: &[u128],
 ) -> Result<Vec<Line>, NoMemory>
@@ -100,7 +109,7 @@ fn lines_of(
 pub(crate) fn table_of(
     alloc: Global,
     question: &Question,
-    orders: &[Order],
+    orders: &OrderList<'_>,
     deals: &[Deal],
     traded: &[u128],
 ) -> Result<Table, NoMemory>

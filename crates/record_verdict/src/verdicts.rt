@@ -30,7 +30,7 @@ pub fn verdict_after(
         BeforeRule::Found(finding) => Ok(Verdict::Rejected(*finding)),
         BeforeRule::Sound(resolved) => {
             let orders = resolved.history.orders();
-            judge_deals(alloc, question, orders, &resolved.deals, resolved.count)
+            judge_deals(alloc, question, &orders, &resolved.deals, resolved.count)
         }
     }
 }

@@ -74,7 +74,7 @@ fn answer<R: AllocGlobal + Abort>(rt: &R, bytes: &[u8]) -> Result<Rule, VerifyFa
     let history = staircase(rt);
     let deals = two_deals(rt, &history);
     assert!(rt; bytes.len() <= 67_108_864);
-    verify(rt.alloc(), &symbol(rt), history.orders(), &deals, bytes)
+    verify(rt.alloc(), &symbol(rt), &history.orders(), &deals, bytes)
 }
 
 /// The certificate of the deals, which a text shows to conform to the uniform rule.
@@ -88,11 +88,11 @@ fn certificate<R: AllocGlobal + Abort>(
 {
     assert!(rt; shown.len() <= 67_108_864);
     let symbol = symbol(rt);
-    let Ok(rule) = verify(rt.alloc(), &symbol, history.orders(), deals, shown) else {
+    let Ok(rule) = verify(rt.alloc(), &symbol, &history.orders(), deals, shown) else {
         panic!(rt; "refused");
     };
     assert_eq!(rt; rule, Rule::Uniform);
-    let Ok(text) = certify(rt.alloc(), rule, &symbol, history.orders(), deals) else {
+    let Ok(text) = certify(rt.alloc(), rule, &symbol, &history.orders(), deals) else {
         panic!(rt; "no memory");
     };
     text

@@ -99,7 +99,7 @@ fn outcome_of<R: AllocGlobal + Abort>(rt: &R, history: &History, trades: &[Trade
             .expect(rt, "memory");
     }
     let deals = deals_of(rt, history, &reports);
-    match audit_continuous(rt.alloc(), history.orders(), &deals) {
+    match audit_continuous(rt.alloc(), &history.orders(), &deals) {
         Ok(outcome) => outcome,
         Err(_) => panic!(rt; "no memory"),
     }
@@ -107,7 +107,7 @@ fn outcome_of<R: AllocGlobal + Abort>(rt: &R, history: &History, trades: &[Trade
 
 /// The Expected trades of a history: the index of the bid and of the ask, the quantity and the price.
 fn expected_of<R: AllocGlobal + Abort>(rt: &R, history: &History) -> Vec<Expected> {
-    let deals = continuous_matching(rt.alloc(), history.orders()).expect(rt, "memory");
+    let deals = continuous_matching(rt.alloc(), &history.orders()).expect(rt, "memory");
     let mut expected = Vec::new(rt.alloc());
     for (deal, number) in deals.iter().zip(1u32..) {
         assert_eq!(rt; deal.place, number);

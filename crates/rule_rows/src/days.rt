@@ -76,13 +76,13 @@ fn answer_over<R: AllocGlobal + Abort>(
     let count = trades.len() as u32;
     assert!(rt; deals.len() <= trades.len());
     let orders = history.orders();
-    match audit_session(rt.alloc(), orders, phases, &deals, count) {
+    match audit_session(rt.alloc(), &orders, phases, &deals, count) {
         Ok(Day::Conforms(totals)) => {
             let Ok(text) = session_text(
                 rt.alloc(),
                 &symbol(rt),
                 phases,
-                orders,
+                &orders,
                 &totals,
                 count,
                 true,

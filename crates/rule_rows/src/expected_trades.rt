@@ -82,16 +82,16 @@ fn bound_of_expected<R: AllocGlobal + Abort>(
 ) -> (u128, u64) {
     let orders = history.orders();
     let made = match rule {
-        Uniform => expected_uniform(rt.alloc(), orders),
-        Maximum => greatest_matching(rt.alloc(), orders),
+        Uniform => expected_uniform(rt.alloc(), &orders),
+        Maximum => greatest_matching(rt.alloc(), &orders),
     };
     let Ok(deals) = made else {
         panic!(rt; "no memory");
     };
     assert_trades(rt, &deals, trades);
     let audited = match rule {
-        Uniform => audit_uniform(rt.alloc(), orders, &deals, 9),
-        Maximum => audit_maximum(rt.alloc(), orders, &deals, 9),
+        Uniform => audit_uniform(rt.alloc(), &orders, &deals, 9),
+        Maximum => audit_maximum(rt.alloc(), &orders, &deals, 9),
     };
     let Ok(Outcome::Conforms(reached)) = audited else {
         panic!(rt; "an offence");

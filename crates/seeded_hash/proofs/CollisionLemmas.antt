@@ -1,10 +1,10 @@
 -- Of the values of one factor few make two blocks collide.
-use Rattle.std.proofs.Common.{◌≡◌, ◌≢◌, ◌∙◌, inl, inr, sym, ap, subst, refl, ℕ, zero, suc, min, take, drop, replicate, ◌++◌, set, get_or, ◌+◌, ◌-◌, ◌*◌, ◌/◌, ◌%◌, ◌^◌, ◌<◌, ◌≤◌, List, [], ◌∷◌, length, All, arith}
+use Rattle.std.proofs.Common.{◌≡◌, ◌≢◌, ◌∙◌, inl, inr, sym, ap, ℕ, zero, suc, min, take, drop, replicate, ◌++◌, set, get_or, ◌+◌, ◌-◌, ◌*◌, ◌/◌, ◌%◌, ◌^◌, ◌<◌, ◌≤◌, List, [], ◌∷◌, length, All, arith}
 use Rattle.std.specs.List.{AllPairs}
 use Rattle.std.proofs.lemmas.List.Elements.{All-nil, All-cons, All-head, All-tail, All-weaker}
 use Rattle.std.proofs.lemmas.List.{get_or-set_same, get_or-set_other, append-nil, take_all}
 use Rattle.std.proofs.lemmas.Bool.{cases_order}
-use Rattle.seeded_hash.specs.Blocks.{word_at, term_at, block_sum, block_of, write, finish}
+use Rattle.seeded_hash.specs.Blocks.{word_at, term_at, block_sum, block_of}
 use Rattle.seeded_hash.specs.Collisions.{hash_with, AreBlocks, FewFactorsCollide}
 use Rattle.seeded_hash.specs.declared.blocks.BlockHasher.{BlockHasher}
 use Rattle.std.proofs.Math.Nat.{le-div_iff_mul-le, div-mul-le_self, mul-le-mul_right}

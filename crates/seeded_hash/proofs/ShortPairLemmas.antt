@@ -1,12 +1,12 @@
 -- Different pairs of texts have different blocks; and a table of short pairs with one of other keys is a table of all keys.
-use Rattle.std.proofs.Common.{◌≡◌, ◌+◌, ◌∙◌, ℕ, Bool, true, false, cond, List, [], ◌∷◌, ◌++◌, length, take, drop, get_or, bytes_eq, refl, sym, ap, arith, Option, Some, None, is_some, inl, inr}
-use Rattle.std.specs.Prelude.{replicate, unwrap_or, ◌&&◌, if◌then◌else◌}
+use Rattle.std.proofs.Common.{◌≡◌, ◌+◌, ◌∙◌, ℕ, Bool, true, false, cond, List, [], ◌∷◌, ◌++◌, length, take, drop, get_or, bytes_eq, refl, sym, ap, arith, Option, Some, None, is_some, inl, inr, ◌≤◌, ◌-◌, append_assoc}
+use Rattle.std.specs.Prelude.{min, replicate, unwrap_or, ◌&&◌, if◌then◌else◌}
 use Rattle.std.proofs.lemmas.List.{length-append}
 use Rattle.std.proofs.Math.Seq.{take-append_seam, drop-append_seam, drop-append-add}
-use Rattle.std.proofs.lemmas.Bool.{cases_Bool, both_ways, false_from_ne_true, and_parts, and_from}
+use Rattle.std.proofs.lemmas.Bool.{cases_Bool, leb-true, both_ways, false_from_ne_true, and_parts, and_from}
 use Rattle.std.proofs.lemmas.Slice.Eq.{bytes_eq-Decides}
 use Rattle.seeded_hash.specs.declared.short_pairs.ShortPair.{ShortPair}
-use Rattle.seeded_hash.specs.ShortPairs.{is_short, put_at, sizes_block, short_block, short_pair_of, same_block, held_by}
+use Rattle.seeded_hash.specs.ShortPairs.{is_short, put_at, sizes_block, short_block, short_pair_of, same_block, held_by, first_text, second_text}
 
 -- what stands behind the first two
 abbrev behind : List ℕ → List ℕ
@@ -50,6 +50,19 @@ one_pair a b c d e =
     let both : a ++ b ≡ c ++ d = fronts (a ++ b) (c ++ d) (zeros a b) (zeros c d) long texts in
     (fronts a c b d firsts both, rests a c b d firsts both)
 
+-- a block of two texts gives both back
+pub texts-back : (a b : List ℕ) → is_short a b ≡ true → (first_text (short_block a b) ≡ a) × (second_text (short_block a b) ≡ b)
+texts-back a b short =
+    let few : length a + length b ≤ 30 = leb-true (length a + length b) 30 short in
+    let tail : List ℕ = zeros a b in
+    let row : short_block a b ≡ (length a ∷ length b ∷ a) ++ (b ++ tail) = laid a b ∙ append_assoc (length a ∷ length b ∷ a) b tail in
+    let one : min (length a) 30 ≡ length a = omega arith in
+    let from : 2 + length a ≡ length (length a ∷ length b ∷ a) = omega arith in
+    let two : min (length b) (32 - (2 + length a)) ≡ length b = omega arith in (
+      rw (row, one) (take-append_seam a (b ++ tail)),
+      rw (row, one, two, from) (ap (take (length b)) (drop-append_seam (length a ∷ length b ∷ a) (b ++ tail)) ∙ take-append_seam b tail),
+    )
+
 abbrev short_pair : List ℕ → List ℕ → ShortPair
 short_pair first second = record { block = short_block first second }
 
@@ -67,7 +80,7 @@ same_pair a b c d = elim (cases_Bool (bytes_eq a c && bytes_eq b d)) [
 ]
 
 -- texts that are given as a pair are short, and given as their own
-given : (a b : List ℕ) (pair : ShortPair) → short_pair_of a b ≡ Some pair → (is_short a b ≡ true) × (short_pair a b ≡ pair)
+pub given : (a b : List ℕ) (pair : ShortPair) → short_pair_of a b ≡ Some pair → (is_short a b ≡ true) × (short_pair a b ≡ pair)
 given a b pair is = go (is_short a b) refl is
   where
     go : (short : Bool) → is_short a b ≡ short → (if short then Some (short_pair a b) else None) ≡ Some pair → (is_short a b ≡ true) × (short_pair a b ≡ pair)

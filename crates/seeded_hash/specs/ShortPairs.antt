@@ -1,5 +1,5 @@
 -- Two texts of at most 30 bytes together, in one block of 32.
-use Rattle.std.specs.Prelude.{ℕ, ◌+◌, Bool, Option, Some, None, List, ◌∷◌, ◌++◌, length, take, drop, replicate, nat_le, bytes_eq, if◌then◌else◌}
+use Rattle.std.specs.Prelude.{ℕ, ◌+◌, ◌-◌, Bool, Option, Some, None, List, ◌∷◌, ◌++◌, length, take, drop, replicate, min, slice_index, nat_le, bytes_eq, if◌then◌else◌}
 use Rattle.seeded_hash.specs.declared.short_pairs.ShortPair.{ShortPair}
 
 -- the texts have at most 30 bytes together
@@ -23,6 +23,17 @@ short_block first second =
 abbrev pub short_pair_of : List ℕ → List ℕ → Option ShortPair
 short_pair_of first second =
     if is_short first second then Some (record { block = short_block first second }) else None
+
+-- the texts of a block that is one of two texts: so many bytes as its first two say, and no more than it has
+abbrev pub first_text : List ℕ → List ℕ
+first_text block = take (min (slice_index block 0) 30) (drop 2 block)
+
+abbrev pub second_start : List ℕ → ℕ
+second_start block = 2 + min (slice_index block 0) 30
+
+abbrev pub second_text : List ℕ → List ℕ
+second_text block =
+    take (min (slice_index block 1) (32 - second_start block)) (drop (second_start block) block)
 
 -- these are the same blocks
 abbrev pub same_block : ShortPair → ShortPair → Bool

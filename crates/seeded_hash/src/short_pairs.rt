@@ -4,7 +4,7 @@
 //! of texts of at most 30 bytes together as a block, which is hashed as four words, and only a longer pair
 //! as it is. The blocks of many pairs fit near the processor, where their names do not.
 ghost use Rattle.std.specs.Prelude.{◌≡◌, ◌+◌, ◌≤◌, length};
-ghost use Rattle.seeded_hash.specs.ShortPairs.{put_at, short_block, short_pair_of};
+ghost use Rattle.seeded_hash.specs.ShortPairs.{put_at, short_block, short_pair_of, first_text, second_text};
 
 use std::hash::{Hash, Hasher};
 
@@ -48,6 +48,23 @@ impl ShortPair {
         } else {
             None
         }
+    }
+
+    /// The first text.
+    pub fn first(&self) -> &[u8]
+        ensures { result.now ≡ first_text self.now.block }
+    {
+        let size = (self.block[0] as usize).min(30);
+        &self.block[2..2 + size]
+    }
+
+    /// The second text.
+    pub fn second(&self) -> &[u8]
+        ensures { result.now ≡ second_text self.now.block }
+    {
+        let start = 2 + (self.block[0] as usize).min(30);
+        let size = (self.block[1] as usize).min(32 - start);
+        &self.block[start..start + size]
     }
 }
 

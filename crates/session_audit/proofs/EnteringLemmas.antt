@@ -22,17 +22,8 @@ use Rattle.session_audit.proofs.BroughtLemmas.{brought-none, brought-some, broug
 use Rattle.session_audit.proofs.EndedLemmas.{chain-ended}
 
 -- the order that an index gives, and its target
-pub order-read : (orders : List Order) (i : ℕ) (o : Order) → i < length orders → get_or orders i o ≡ order_at orders i
-order-read orders i o lt = get_or-default orders i o missing_order lt
-
-pub order-is : (orders : List Order) (i : ℕ) (o : Order) → i < length orders → o ≡ get_or orders i o → o ≡ order_at orders i
-order-is orders i o lt e = e ∙ order-read orders i o lt
-
-pub target-is : (orders : List Order) (i t : ℕ) (o : Order) → i < length orders → o ≡ get_or orders i o → o.target ≡ Some t → (order_at orders i).target ≡ Some t
-target-is orders i t o lt is e = sym (ap (λ (p : Order). p.target) (order-is orders i o lt is)) ∙ e
-
-pub target-read : (orders : List Order) (i t : ℕ) (o : Order) → i < length orders → (get_or orders i o).target ≡ Some t → (order_at orders i).target ≡ Some t
-target-read orders i t o lt e = sym (ap (λ (p : Order). p.target) (order-read orders i o lt)) ∙ e
+pub target-is : (orders : List Order) (i t : ℕ) (o : Order) (target : Option ℕ) → o ≡ order_at orders i → target ≡ o.target → target ≡ Some t → (order_at orders i).target ≡ Some t
+target-is orders i t o target is same e = sym (same ∙ ap (λ (p : Order). p.target) is) ∙ e
 
 module _ (orders : List Order) (list : IsOrderList orders) (first : ℕ) (rest spent : List ℕ) where
   amount-by : (i : ℕ) (target : Option ℕ) (so_far : List ℕ) → i < length orders → (order_at orders i).target ≡ target → so_far ≡ amounts orders first rest spent i

@@ -13,15 +13,16 @@ use super::instants::first_instant;
 use super::phases::Phase;
 use super::progress::{end_place, first_place, judge_phase, kind_at, list_phase, start};
 use audit_base::faults::NoMemory;
-use audit_base::orders::{Deal, Order};
-use audit_base::ranges::{deals_in_range, orders_in_range};
+use audit_base::orders::Deal;
+use audit_base::ranges::deals_in_range;
 use matching_core::totals::{Totals, volume_of};
+use order_list::lists::OrderList;
 use std::alloc::Global;
 
 /// The audit of the phases of a day, in whose calls all orders rest.
 fn audit_phases(
     alloc: Global,
-    orders: &[Order],
+    orders: &OrderList<'_>,
     phases: &[Phase],
     deals: &[Deal],
     count: u32,
@@ -42,7 +43,8 @@ fn audit_phases(
         let dealt = deals_between(alloc, deals, &causes, first, last)?;
         let list = list_phase(alloc, orders, phases, index, &so_far)?;
         let kind = kind_at(phases, index);
-        if let Some(finding) = judge_phase(alloc, kind, &list, &dealt, count, last, &mut so_far)? {
+        let own = list.list();
+        if let Some(finding) = judge_phase(alloc, kind, &own, &dealt, count, last, &mut so_far)? {
             return Ok(Day::Broken(finding));
         }
     }
@@ -58,7 +60,7 @@ fn audit_phases(
 /// phase's end and over the causes of all deals.
 pub fn audit_session(
     alloc: Global,
-    orders: &[Order],
+    orders: &OrderList<'_>,
     phases: &[Phase],
     deals: &[Deal],
     count: u32,
@@ -71,7 +73,7 @@ pub fn audit_session(
     requires few { count < 2 ^ 32 - 1 }
     ensures { IfOk result (IsAuditedDay phases.now orders.now deals.now count) }
 {
-    orders_in_range(orders);
+    orders.in_range();
     if let Some(finding) = first_instant(phases, orders) {
         return Ok(Day::Broken(finding));
     }

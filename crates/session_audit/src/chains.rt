@@ -4,7 +4,7 @@ ghost use Rattle.audit_base.specs.Orders.{IsOrderList};
 ghost use Rattle.session_audit.specs.Numbers.{AreChainTotals, AreSmall, target_total, IsTargetInside, IsTargetSmall};
 
 use audit_base::faults::NoMemory;
-use audit_base::orders::Order;
+use order_list::lists::OrderList;
 use std::alloc::Global;
 
 /// What the target of an order has traded, and the target's own chain, from the totals of the orders
@@ -22,7 +22,11 @@ fn target_total(target: Option<usize>, traded: &[u128], totals: &[u128]) -> u128
 
 /// What the chain of each order has traded, by what each order has traded. One pass, since a target is a
 /// lower index. Err only out of memory.
-pub fn chain_totals(alloc: Global, orders: &[Order], traded: &[u128]) -> Result<Vec<u128>, NoMemory>
+pub fn chain_totals(
+    alloc: Global,
+    orders: &OrderList<'_>,
+    traded: &[u128],
+) -> Result<Vec<u128>, NoMemory>
     requires order_list { IsOrderList orders.now }
     requires count { length orders.now ≤ length traded.now }
     requires small { AreSmall traded.now }
@@ -31,7 +35,7 @@ pub fn chain_totals(alloc: Global, orders: &[Order], traded: &[u128]) -> Result<
 {
     let mut totals = Vec::with_capacity(alloc, orders.len())?;
     for index in 0..orders.len() {
-        totals.push(target_total(orders[index].target, traded, &totals))?;
+        totals.push(target_total(orders.at(index).target(), traded, &totals))?;
     }
     Ok(totals)
 }

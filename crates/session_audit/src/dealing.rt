@@ -6,22 +6,27 @@ ghost use Rattle.session_audit.specs.Phases.{last_place};
 ghost use Rattle.session_audit.specs.Dealing.{HaveSmallCauses, causes_upto, lies_between, deals_if, deals_between};
 
 use audit_base::faults::NoMemory;
-use audit_base::orders::{Deal, Order};
+use audit_base::orders::Deal;
+use order_list::lists::OrderList;
 use std::alloc::Global;
 
 /// The cause of a deal: the later of the places of its two orders.
-fn cause_of(orders: &[Order], deal: &Deal) -> u32
+fn cause_of(orders: &OrderList<'_>, deal: &Deal) -> u32
     requires { NamesOrders orders.now deal.now }
     ensures cause { result ≡ cause orders.now deal.now }
     ensures fits { cause orders.now deal.now ≤ last_place }
 {
-    let bid = orders[deal.bid].place;
-    let ask = orders[deal.ask].place;
+    let bid = orders.at(deal.bid).place();
+    let ask = orders.at(deal.ask).place();
     if bid < ask { ask } else { bid }
 }
 
 /// The causes of the deals, in log order. Err only out of memory.
-pub fn causes_of(alloc: Global, orders: &[Order], deals: &[Deal]) -> Result<Vec<u32>, NoMemory>
+pub fn causes_of(
+    alloc: Global,
+    orders: &OrderList<'_>,
+    deals: &[Deal],
+) -> Result<Vec<u32>, NoMemory>
     requires { All (NamesOrders orders.now) deals.now }
     ensures causes { IfOk result (λ causes.
         causes.items ≡ causes_upto orders.now deals.now (length deals.now)) }

@@ -1,34 +1,37 @@
 //! The order list of a phase: what each order brings into it, and how it stands there.
-ghost use Rattle.std.specs.Prelude.{◌≡◌, ◌<◌, ◌≤◌, ◌-◌, ◌&&◌, not, nat_lt, if◌then◌else◌, IfOk, length};
+ghost use Rattle.std.specs.Prelude.{◌≡◌, ◌<◌, ◌≤◌, ◌-◌, ◌&&◌, not, nat_lt, if◌then◌else◌, IfOk, IfSome, length};
 ghost use Rattle.audit_base.specs.Continuous.{is_own_place};
 ghost use Rattle.audit_base.specs.Orders.{IsOrderList, order_at};
+ghost use Rattle.order_list.specs.Changed.{with_terms};
 ghost use Rattle.session_audit.specs.Entering as entering;
 ghost use Rattle.session_audit.specs.Numbers.{number_in};
 ghost use Rattle.session_audit.specs.PhaseOrders as spec;
 
 use audit_base::faults::NoMemory;
 use audit_base::numbers::Quantity;
-use audit_base::orders::Order;
-use audit_base::ranges::order_in_range;
 use matching_core::totals::left_of;
+use order_list::changed::ChangedOrders;
+use order_list::listed::ListedOrder;
+use order_list::lists::OrderList;
+use order_list::stored::Terms;
 use std::alloc::Global;
 
 /// Whether the order was placed: it isn't cancelled at its own place.
-pub fn was_placed(order: &Order) -> bool
+pub fn was_placed(order: &ListedOrder<'_>) -> bool
     ensures { result ≡ not (is_own_place order.now.cancelled order.now.place) }
 {
-    match order.cancelled {
-        Some(end) => end != order.place,
+    match order.cancelled() {
+        Some(end) => end != order.place(),
         None => true,
     }
 }
 
 /// How many orders, from the first on, have a place of at most `last`.
-pub fn orders_upto(orders: &[Order], last: u32) -> usize
+pub fn orders_upto(orders: &OrderList<'_>, last: u32) -> usize
     ensures { result ≡ spec.orders_upto orders.now last }
 {
     let mut count = 0;
-    while count < orders.len() && orders[count].place <= last {
+    while count < orders.len() && orders.at(count).place() <= last {
         count += 1;
     }
     count
@@ -36,11 +39,11 @@ pub fn orders_upto(orders: &[Order], last: u32) -> usize
 
 /// What an order of the phase brings, if it was placed and its target isn't gone: its written quantity
 /// less what its chain traded.
-fn own_amount(order: &Order, there: bool, spent: u128) -> u64
+fn own_amount(order: &ListedOrder<'_>, there: bool, spent: u128) -> u64
     ensures { result ≡ entering.own_amount order.now there spent }
 {
     if was_placed(order) && there {
-        left_of(order.quantity.value(), spent)
+        left_of(order.quantity().value(), spent)
     } else {
         0
     }
@@ -69,7 +72,7 @@ fn target_brings(target: Option<usize>, amounts: &[u64]) -> bool
 /// What the order at an index brings into the phase that begins at `first`, from what the orders before it
 /// bring.
 fn amount_of(
-    orders: &[Order],
+    orders: &OrderList<'_>,
     first: u32,
     rest: &[u64],
     spent: &[u128],
@@ -80,11 +83,11 @@ fn amount_of(
     requires counted { index < length spent.now }
     ensures { result ≡ entering.amount_of orders.now first rest.now spent.now amounts.now index }
 {
-    let order = &orders[index];
-    if order.place < first {
+    let order = orders.at(index);
+    if order.place() < first {
         number_at(rest, index)
     } else {
-        own_amount(order, target_brings(order.target, amounts), spent[index])
+        own_amount(&order, target_brings(order.target(), amounts), spent[index])
     }
 }
 
@@ -92,7 +95,7 @@ fn amount_of(
 /// each (0 past the end) and what its chain has traded.
 pub fn amounts_of(
     alloc: Global,
-    orders: &[Order],
+    orders: &OrderList<'_>,
     count: usize,
     first: u32,
     rest: &[u64],
@@ -122,53 +125,56 @@ fn ended_upto(cancelled: Option<u32>, last: u32) -> Option<u32>
 }
 
 /// The target of an order, where its place is from `first` on.
-fn own_target(order: &Order, first: u32) -> Option<usize>
-    ensures { result ≡ (if nat_lt order.now.place first then None else order.now.target) }
+fn own_target(order: &ListedOrder<'_>, first: u32) -> Option<usize>
+    ensures same { result ≡ (if nat_lt order.now.place first then None else order.now.target) }
+    ensures small { IfSome result (λ t. t < 4294967295) }
 {
-    if order.place < first {
+    if order.place() < first {
         None
     } else {
-        order.target
+        order.target()
     }
 }
 
-/// An order as it stands in the list of a phase, by what it brings.
-fn phase_order(order: &Order, first: u32, last: u32, amount: u64) -> Order
+/// The terms of an order in the list of a phase, by what it brings.
+fn phase_terms(order: &ListedOrder<'_>, first: u32, last: u32, amount: u64) -> Terms
     requires { amount ≤ order.now.quantity }
-    ensures { result ≡ spec.phase_order first last amount order.now }
+    ensures order { with_terms result.quantity result.cancelled result.target order.now
+        ≡ spec.phase_order first last amount order.now }
+    ensures small { IfSome result.target (λ t. t < 4294967295) }
 {
-    order_in_range(order);
+    order.in_range();
     match Quantity::of(amount) {
-        Some(quantity) => Order {
+        Some(quantity) => Terms {
             quantity,
-            cancelled: ended_upto(order.cancelled, last),
+            cancelled: ended_upto(order.cancelled(), last),
             target: own_target(order, first),
-            ..*order
         },
-        None => Order {
-            cancelled: Some(order.place),
+        None => Terms {
+            quantity: order.quantity(),
+            cancelled: Some(order.place()),
             target: None,
-            ..*order
         },
     }
 }
 
 /// The order list of a phase from what each of its orders brings.
-pub fn list_orders(
+pub fn list_orders<'a>(
     alloc: Global,
-    orders: &[Order],
+    orders: &OrderList<'a>,
     first: u32,
     last: u32,
     amounts: &[u64],
-) -> Result<Vec<Order>, NoMemory>
+) -> Result<ChangedOrders<'a>, NoMemory>
     requires inside { length amounts.now ≤ length orders.now }
     requires most { entering.AreAmounts orders.now amounts.now }
     ensures { IfOk result (λ list.
-        list.items ≡ entering.orders_with orders.now first last amounts.now (length amounts.now)) }
+        list.orders ≡ entering.orders_with orders.now first last amounts.now (length amounts.now)) }
 {
-    let mut list = Vec::with_capacity(alloc, amounts.len())?;
+    let mut list = ChangedOrders::new(alloc, orders, amounts.len())?;
     for index in 0..amounts.len() {
-        list.push(phase_order(&orders[index], first, last, amounts[index]))?;
+        let terms = phase_terms(&orders.at(index), first, last, amounts[index]);
+        list.push(index, terms)?;
     }
     Ok(list)
 }

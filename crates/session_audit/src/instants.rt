@@ -8,7 +8,8 @@ use super::phases::{Phase, PhaseKind};
 use super::progress::{end_place, first_place, kind_at};
 use audit_base::findings::Finding;
 use audit_base::flaws::{Evidence, Flaw};
-use audit_base::orders::Order;
+use order_list::listed::ListedOrder;
+use order_list::lists::OrderList;
 
 /// Whether all orders of a phase meet at once.
 fn is_call(kind: PhaseKind) -> bool
@@ -49,25 +50,24 @@ fn in_call(phases: &[Phase], place: u32) -> bool
 }
 
 /// Whether an order that does not rest was placed in a call phase.
-fn is_instant_order(phases: &[Phase], order: &Order) -> bool
+fn is_instant_order(phases: &[Phase], order: &ListedOrder<'_>) -> bool
     requires { ArePhases phases.now }
     ensures { result ≡ spec.is_instant_order phases.now order.now }
 {
-    !order.life.rests() && (was_placed(order) && in_call(phases, order.place))
+    !order.life().rests() && (was_placed(order) && in_call(phases, order.place()))
 }
 
 /// Finding 16: the least order that does not rest and was placed in a call phase.
-pub fn first_instant(phases: &[Phase], orders: &[Order]) -> Option<Finding>
+pub fn first_instant(phases: &[Phase], orders: &OrderList<'_>) -> Option<Finding>
     requires { ArePhases phases.now }
     ensures { result ≡ spec.first_instant phases.now orders.now }
 {
     for index in 0..orders.len() {
-        if is_instant_order(phases, &orders[index]) {
-            let flaw = Flaw {
-                place: orders[index].place,
-                evidence: Evidence::InstantOrder,
-            };
-            return Some(flaw.finding(orders));
+        let order = orders.at(index);
+        if is_instant_order(phases, &order) {
+            let place = order.place();
+            let evidence = Evidence::InstantOrder;
+            return Some(orders.finding(Flaw { place, evidence }));
         }
     }
     None

@@ -7,10 +7,11 @@ ghost use Rattle.session_audit.specs.Phases.{rule_of};
 
 use super::phases::PhaseKind;
 use audit_base::faults::NoMemory;
-use audit_base::orders::{Deal, Order};
+use audit_base::orders::Deal;
 use continuous_audit::auditing::audit_continuous;
 use matching_core::outcomes::Outcome;
 use maximum_audit::auditing::audit_maximum;
+use order_list::lists::OrderList;
 use std::alloc::Global;
 use uniform_audit::auditing::audit_uniform;
 
@@ -19,7 +20,7 @@ use uniform_audit::auditing::audit_uniform;
 pub fn audit_phase(
     alloc: Global,
     kind: PhaseKind,
-    orders: &[Order],
+    orders: &OrderList<'_>,
     deals: &[Deal],
     count: u32,
 ) -> Result<Outcome, NoMemory>

@@ -11,53 +11,58 @@ ghost use Rattle.session_audit.specs.PhaseOrders.{listed};
 use super::chains::chain_totals;
 use super::entering::was_placed;
 use audit_base::faults::NoMemory;
-use audit_base::orders::Order;
 use matching_core::totals::left_of;
+use order_list::listed::ListedOrder;
+use order_list::lists::OrderList;
 use std::alloc::Global;
 
 /// What a call leaves of an order that has traded this much: nothing if a record cancels it.
-fn left_by_call(order: &Order, traded: u128) -> u64
+fn left_by_call(order: &ListedOrder<'_>, traded: u128) -> u64
     ensures { result ≡ spec.left_by_call order.now traded }
 {
-    if order.cancelled.is_some() {
+    if order.cancelled().is_some() {
         0
     } else {
-        left_of(order.quantity.value(), traded)
+        left_of(order.quantity().value(), traded)
     }
 }
 
 /// What a call leaves of each order. Err only out of memory.
-pub fn leave_call(alloc: Global, orders: &[Order], traded: &[u128]) -> Result<Vec<u64>, NoMemory>
+pub fn leave_call(
+    alloc: Global,
+    orders: &OrderList<'_>,
+    traded: &[u128],
+) -> Result<Vec<u64>, NoMemory>
     requires { length traded.now ≡ length orders.now }
     ensures { IfOk result (λ left.
         left.items ≡ spec.lefts_by_call orders.now traded.now (length orders.now)) }
 {
     let mut left = Vec::with_capacity(alloc, orders.len())?;
     for index in 0..orders.len() {
-        left.push(left_by_call(&orders[index], traded[index]))?;
+        left.push(left_by_call(&orders.at(index), traded[index]))?;
     }
     Ok(left)
 }
 
 /// Whether no record below the place cancels the order.
-fn uncancelled_before(order: &Order, place: u64) -> bool
+fn uncancelled_before(order: &ListedOrder<'_>, place: u64) -> bool
     ensures { result ≡ uncancelled_before order.now.cancelled place }
 {
-    match order.cancelled {
+    match order.cancelled() {
         Some(end) => place <= u64::from(end),
         None => true,
     }
 }
 
 /// Whether the order was there before the place and its life is to rest.
-fn waits_before(order: &Order, place: u64) -> bool
+fn waits_before(order: &ListedOrder<'_>, place: u64) -> bool
     ensures { result ≡ spec.waits_before order.now place }
 {
-    order.life.rests() && u64::from(order.place) < place
+    order.life().rests() && u64::from(order.place()) < place
 }
 
 /// Whether the order rests before the place, if it has this size and has traded this much.
-fn rests_by(order: &Order, place: u64, size: u64, traded: u128) -> bool
+fn rests_by(order: &ListedOrder<'_>, place: u64, size: u64, traded: u128) -> bool
     ensures { result ≡ spec.rests_by order.now place size traded }
 {
     waits_before(order, place) && (uncancelled_before(order, place) && traded < u128::from(size))
@@ -65,31 +70,30 @@ fn rests_by(order: &Order, place: u64, size: u64, traded: u128) -> bool
 
 /// Whether an order has no target, or one that rests before the order's own place, by the sizes of the
 /// orders before it.
-fn target_rests(orders: &[Order], traded: &[u128], sizes: &[u64], index: usize) -> bool
+fn target_rests(orders: &OrderList<'_>, traded: &[u128], sizes: &[u64], index: usize) -> bool
     requires order_list { IsOrderList orders.now }
     requires inside { index < length orders.now }
     requires counted { length traded.now ≡ length orders.now }
     requires before { length sizes.now ≡ index }
     ensures { result ≡ spec.target_rests orders.now traded.now sizes.now index }
 {
-    let order = &orders[index];
-    match order.target {
-        Some(target) => rests_by(
-            &orders[target],
-            u64::from(order.place),
-            sizes[target],
-            traded[target],
-        ),
+    let order = orders.at(index);
+    match order.target() {
+        Some(target) => {
+            let replaced = orders.at(target);
+            let place = u64::from(order.place());
+            rests_by(&replaced, place, sizes[target], traded[target])
+        }
         None => true,
     }
 }
 
 /// The size of an order: its quantity less what its chain traded, if it entered.
-fn size_of(order: &Order, there: bool, before: u128) -> u64
+fn size_of(order: &ListedOrder<'_>, there: bool, before: u128) -> u64
     ensures { result ≡ spec.size_by order.now there before }
 {
     if was_placed(order) && there {
-        left_of(order.quantity.value(), before)
+        left_of(order.quantity().value(), before)
     } else {
         0
     }
@@ -98,7 +102,7 @@ fn size_of(order: &Order, there: bool, before: u128) -> u64
 /// The size of each order in a continuous phase that conforms. Err only out of memory.
 fn sizes_of(
     alloc: Global,
-    orders: &[Order],
+    orders: &OrderList<'_>,
     traded: &[u128],
     before: &[u128],
 ) -> Result<Vec<u64>, NoMemory>
@@ -114,13 +118,13 @@ fn sizes_of(
     let mut sizes = Vec::with_capacity(alloc, orders.len())?;
     for index in 0..orders.len() {
         let there = target_rests(orders, traded, &sizes, index);
-        sizes.push(size_of(&orders[index], there, before[index]))?;
+        sizes.push(size_of(&orders.at(index), there, before[index]))?;
     }
     Ok(sizes)
 }
 
 /// What is left of an order that rests after the place `last`.
-fn left_by_size(order: &Order, last: u32, size: u64, traded: u128) -> u64
+fn left_by_size(order: &ListedOrder<'_>, last: u32, size: u64, traded: u128) -> u64
     ensures { result ≡ spec.left_by_size order.now last size traded }
 {
     if rests_by(order, u64::from(last) + 1, size, traded) {
@@ -133,7 +137,7 @@ fn left_by_size(order: &Order, last: u32, size: u64, traded: u128) -> u64
 /// What a continuous phase that conforms and ends at `last` leaves of each order. Err only out of memory.
 pub fn leave_continuous(
     alloc: Global,
-    orders: &[Order],
+    orders: &OrderList<'_>,
     traded: &[u128],
     last: u32,
 ) -> Result<Vec<u64>, NoMemory>
@@ -150,7 +154,7 @@ pub fn leave_continuous(
     let sizes = sizes_of(alloc, orders, traded, &before)?;
     let mut left = Vec::with_capacity(alloc, orders.len())?;
     for index in 0..orders.len() {
-        left.push(left_by_size(&orders[index], last, sizes[index], traded[index]))?;
+        left.push(left_by_size(&orders.at(index), last, sizes[index], traded[index]))?;
     }
     Ok(left)
 }

@@ -20,9 +20,11 @@ use super::leaving::{leave_call, leave_continuous};
 use super::phases::{Phase, PhaseKind};
 use audit_base::faults::NoMemory;
 use audit_base::findings::Finding;
-use audit_base::orders::{Deal, Order};
+use audit_base::orders::Deal;
 use matching_core::outcomes::Outcome;
 use matching_core::totals::zeros;
+use order_list::changed::ChangedOrders;
+use order_list::lists::OrderList;
 use std::alloc::Global;
 
 /// What the phases so far have come to.
@@ -76,13 +78,13 @@ pub fn end_place(phases: &[Phase], index: usize) -> u32
 }
 
 /// The order list of the phase at an index. Err only out of memory.
-pub fn list_phase(
+pub fn list_phase<'a>(
     alloc: Global,
-    orders: &[Order],
+    orders: &OrderList<'a>,
     phases: &[Phase],
     index: usize,
     so_far: &SoFar,
-) -> Result<Vec<Order>, NoMemory>
+) -> Result<ChangedOrders<'a>, NoMemory>
     requires order_list { IsOrderList orders.now }
     requires regular { Regular orders.now }
     requires phases { spec.ArePhases phases.now }
@@ -92,7 +94,7 @@ pub fn list_phase(
     requires most { AreLeft orders.now so_far.now.rest.items }
     ensures { IfOk result (λ list. (deals : List ADeal)
         → IsSoFar phases.now orders.now deals index so_far.now.traded.items so_far.now.rest.items
-        → list.items ≡ phase_orders phases.now orders.now deals index) }
+        → list.orders ≡ phase_orders phases.now orders.now deals index) }
 {
     let first = first_place(phases, index);
     let last = end_place(phases, index);
@@ -106,7 +108,7 @@ pub fn list_phase(
 pub fn leave_phase(
     alloc: Global,
     kind: PhaseKind,
-    orders: &[Order],
+    orders: &OrderList<'_>,
     traded: &[u128],
     last: u32,
 ) -> Result<Vec<u64>, NoMemory>
@@ -141,7 +143,7 @@ pub fn add_totals(totals: &mut Vec<u128>, traded: &[u128])
 pub fn judge_phase(
     alloc: Global,
     kind: PhaseKind,
-    orders: &[Order],
+    orders: &OrderList<'_>,
     deals: &[Deal],
     count: u32,
     last: u32,

@@ -8,10 +8,10 @@ use super::days::DayTotals;
 use super::phases::Phase;
 use audit_base::faults::NoMemory;
 use audit_base::names::Name;
-use audit_base::orders::Order;
 use audit_base::texts::write_number;
 use audit_report::line_parts::{Part, append, append_joined, append_line};
 use audit_report::lines::append_totals_line;
+use order_list::lists::OrderList;
 use std::alloc::Global;
 
 /// Appends `KIND@FIRST`.
@@ -88,7 +88,7 @@ fn append_total_line(
 /// Appends a line for each order.
 fn append_total_lines(
     alloc: Global,
-    orders: &[Order],
+    orders: &OrderList<'_>,
     totals: &[u128],
     out: &mut Vec<u8>,
 ) -> Result<(), NoMemory>
@@ -97,7 +97,7 @@ fn append_total_lines(
         OnOk result (out.new.items ≡ out.old.items ++ lines) }
 {
     for index in 0..orders.len() {
-        append_total_line(alloc, orders[index].place, totals[index], out)?;
+        append_total_line(alloc, orders.at(index).place(), totals[index], out)?;
     }
     Ok(())
 }
@@ -105,7 +105,7 @@ fn append_total_lines(
 /// Appends the lines of the orders, with the option.
 fn append_table(
     alloc: Global,
-    orders: &[Order],
+    orders: &OrderList<'_>,
     totals: &[u128],
     table: bool,
     out: &mut Vec<u8>,
@@ -128,7 +128,7 @@ pub fn session_text(
     alloc: Global,
     symbol: &Name,
     phases: &[Phase],
-    orders: &[Order],
+    orders: &OrderList<'_>,
     totals: &DayTotals,
     trades: u32,
     table: bool,

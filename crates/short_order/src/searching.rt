@@ -2,19 +2,19 @@
 ghost use Rattle.std.specs.Prelude.{◌≡◌, ◌<◌, All, IfSome, length, find};
 ghost use Rattle.short_order.specs.ShortOrders.{IsBestShortOf, is_short_by};
 
-use audit_base::orders::Order;
+use order_list::lists::OrderList;
 
 /// Whether the order at this index has traded less than its quantity.
-fn is_short_by(orders: &[Order], traded: &[u128], index: usize) -> bool
+fn is_short_by(orders: &OrderList<'_>, traded: &[u128], index: usize) -> bool
     requires inside { index < length orders.now }
     requires count { length traded.now ≡ length orders.now }
     ensures { result ≡ is_short_by orders.now traded.now index }
 {
-    traded[index] < orders[index].quantity.value() as u128
+    traded[index] < orders.at(index).quantity().value() as u128
 }
 
 /// The first member of `ranked` that is short.
-fn first_short(orders: &[Order], ranked: &[usize], traded: &[u128]) -> Option<usize>
+fn first_short(orders: &OrderList<'_>, ranked: &[usize], traded: &[u128]) -> Option<usize>
     requires inside { All (λ i. i < length orders.now) ranked.now }
     requires count { length traded.now ≡ length orders.now }
     ensures first { result ≡ find (is_short_by orders.now traded.now) ranked.now }
@@ -32,7 +32,7 @@ fn first_short(orders: &[Order], ranked: &[usize], traded: &[u128]) -> Option<us
 /// where none is short. `ranked` holds indices of orders, and `traded` what each order has traded, by its
 /// index. Where `ranked` is the rank of a side by price-time priority and `traded` is what deals come to,
 /// this is the best short order of the side. Takes no memory.
-pub fn best_short(orders: &[Order], ranked: &[usize], traded: &[u128]) -> Option<usize>
+pub fn best_short(orders: &OrderList<'_>, ranked: &[usize], traded: &[u128]) -> Option<usize>
     requires inside { All (λ i. i < length orders.now) ranked.now }
     requires count { length traded.now ≡ length orders.now }
     ensures first { result ≡ find (is_short_by orders.now traded.now) ranked.now }

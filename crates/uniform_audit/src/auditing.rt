@@ -6,17 +6,18 @@ ghost use Rattle.audit_base.specs.Deals.{IsDealList};
 ghost use Rattle.call_auction.specs.Audits.{IsGreatestOf, IsAudited};
 
 use audit_base::faults::NoMemory;
-use audit_base::orders::{Cut, Deal, Order};
+use audit_base::orders::{Cut, Deal};
 use audit_base::terms::VolumeRule;
 use call_auction::auditing::audit_call;
 use call_laws::optimum::uniform_optimum;
 use matching_core::outcomes::Outcome;
+use order_list::lists::OrderList;
 use std::alloc::Global;
 use volume_bound::extremes::best_uniform;
 
 /// The greatest volume of a matching of one price, and the least price at which the executable volume,
 /// the lesser of demand and supply, is this volume.
-fn greatest_of(alloc: Global, orders: &[Order]) -> Result<Cut, NoMemory>
+fn greatest_of(alloc: Global, orders: &OrderList<'_>) -> Result<Cut, NoMemory>
     requires { IsOrderList orders.now }
     ensures { IfOk result (IsGreatestOf Uniform orders.now) }
 {
@@ -32,7 +33,7 @@ fn greatest_of(alloc: Global, orders: &[Order]) -> Result<Cut, NoMemory>
 /// properties 7 to 14.
 pub fn audit_uniform(
     alloc: Global,
-    orders: &[Order],
+    orders: &OrderList<'_>,
     deals: &[Deal],
     count: u32,
 ) -> Result<Outcome, NoMemory>

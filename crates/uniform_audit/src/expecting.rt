@@ -8,15 +8,16 @@ ghost use Rattle.audit_base.specs.Expected.{IsExpectedUniform};
 
 use audit_base::faults::NoMemory;
 use audit_base::numbers::Price;
-use audit_base::orders::{Cut, Deal, Order};
+use audit_base::orders::{Cut, Deal};
 use call_laws::optimum::{uniform_optimum, uniform_trades_are_expected, units_suffice};
+use order_list::lists::OrderList;
 use rank_order::ranking::ranked_sides;
 use std::alloc::Global;
 use unit_pairs::pairing::uniform_pairs;
 use volume_bound::extremes::best_uniform;
 
 /// The price of a bound. It is below 10^18 units, since at that price nobody bids.
-fn price_of(orders: &[Order], most: Cut) -> Price
+fn price_of(orders: &OrderList<'_>, most: Cut) -> Price
     requires numbers { AreOrders orders.now }
     requires best { IsBestUniform orders.now most }
     ensures { result ≡ most.price }
@@ -31,7 +32,7 @@ fn price_of(orders: &[Order], most: Cut) -> Price
 /// The Expected trades of `uniform`: unit j of the bids meets unit j of the asks, both in rank order, up
 /// to the greatest volume of a matching of one price, at the rule's bound. They conform to the rule. In
 /// n log n steps for n orders. Err only out of memory.
-pub fn expected_uniform(alloc: Global, orders: &[Order]) -> Result<Vec<Deal>, NoMemory>
+pub fn expected_uniform(alloc: Global, orders: &OrderList<'_>) -> Result<Vec<Deal>, NoMemory>
     requires { IsOrderList orders.now }
     ensures expected { IfOk result (λ deals. IsExpectedUniform orders.now deals.items) }
     ensures conforms { IfOk result (λ deals. ConformsUniform orders.now deals.items) }

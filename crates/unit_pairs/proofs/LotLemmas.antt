@@ -2,11 +2,11 @@
 use Rattle.std.proofs.Common.{◌≡◌, ◌≤◌, ◌<◌, ◌+◌, ◌-◌, ◌^◌, ℕ, zero, suc, List, [], ◌∷◌, ◌++◌, length, get_or, refl, sym, ap, ◌∙◌, arith, inl, inr, sum_by, add-one}
 use Rattle.std.specs.Prelude.{min}
 use Rattle.std.proofs.lemmas.Bool.{cases_eq}
-use Rattle.std.proofs.lemmas.List.{get_or_append_left, get_or_default, get_or_push, length_push, take_all}
+use Rattle.std.proofs.lemmas.List.{get_or_append_left, get_or_push, length_push, take_all}
 use Rattle.std.proofs.lemmas.List.Elements.{All-nil, All-push}
 use Rattle.std.proofs.lemmas.List.Sums.{sum_by_more}
 use Rattle.audit_base.specs.declared.orders.Order.{Order}
-use Rattle.audit_base.specs.Orders.{missing_order, quantity_at}
+use Rattle.audit_base.specs.Orders.{order_at, quantity_at}
 use Rattle.unit_pairs.specs.declared.lots.Lot.{Lot}
 use Rattle.unit_pairs.specs.Lots.{any_lot, lot_at, lots_before, lots_total, ranks_before, lot_of, IsLot, AreLotsOf}
 
@@ -28,7 +28,7 @@ module _ (orders : List Order) (ranks : List ℕ) (volume : ℕ) where
   }
 
   -- one more rank is filled
-  pub one-filled : (lots : List Lot) (left n quantity : ℕ) (o : Order) → n < length ranks → get_or ranks n 0 < length orders → o ≡ get_or orders (get_or ranks n 0) o
+  pub one-filled : (lots : List Lot) (left n quantity : ℕ) (o : Order) → n < length ranks → get_or ranks n 0 < length orders → o ≡ order_at orders (get_or ranks n 0)
       → AreFilled orders ranks volume lots left n → 0 < quantity → quantity ≤ 10 ^ 12 → quantity ≡ min o.quantity left
       → AreFilled orders ranks volume (lots ++ record { order = get_or ranks n 0; quantity = quantity } ∷ []) (left - quantity) (n + 1)
   one-filled lots left n quantity o lt inside at f some most is =
@@ -37,7 +37,7 @@ module _ (orders : List Order) (ranks : List ℕ) (volume : ℕ) where
       let count : length lots ≡ n = f.count in
       let l : Lot = record { order = rank; quantity = quantity } in
       let more : ranks_before orders ranks (n + 1) ≡ ranks_before orders ranks n + quantity_at orders (get_or ranks n 0) = sum_by_more (quantity_at orders) ranks n 0 lt in
-      let here : o.quantity ≡ quantity_at orders rank = ap (λ (p : Order). p.quantity) (at ∙ get_or_default orders rank o missing_order inside) in
+      let here : o.quantity ≡ quantity_at orders rank = ap (λ (p : Order). p.quantity) at in
       let rest = f.rest in
       record {
         count = length_push lots l ∙ ap (λ k. k + 1) count;

@@ -7,7 +7,8 @@ ghost use Rattle.unit_pairs.specs.Sides.{AreSideLots};
 ghost use Rattle.unit_pairs.specs.Volumes.{HaveUnits};
 
 use audit_base::faults::NoMemory;
-use audit_base::orders::Order;
+use order_list::listed::ListedOrder;
+use order_list::lists::OrderList;
 use rank_order::ranking::RankedSides;
 use std::alloc::Global;
 
@@ -21,13 +22,13 @@ pub struct Lot {
 }
 
 /// The order's quantity, or what is left of the volume if that is less.
-fn quantity_within(order: &Order, left: u128) -> u64
+fn quantity_within(order: &ListedOrder<'_>, left: u128) -> u64
     requires { 0 < left }
     ensures lesser { result ≡ min order.now.quantity left }
     ensures some { 0 < result }
     ensures most { result ≤ 10 ^ 12 }
 {
-    let quantity = order.quantity.value();
+    let quantity = order.quantity().value();
     if (quantity as u128) < left {
         quantity
     } else {
@@ -39,7 +40,7 @@ fn quantity_within(order: &Order, left: u128) -> u64
 /// order's whole quantity, but for the last, which may be a part of it. Err only out of memory.
 fn lots_of(
     alloc: Global,
-    orders: &[Order],
+    orders: &OrderList<'_>,
     ranks: &[usize],
     volume: u128,
 ) -> Result<Vec<Lot>, NoMemory>
@@ -54,7 +55,7 @@ fn lots_of(
         if left == 0 {
             break;
         }
-        let quantity = quantity_within(&orders[*rank], left);
+        let quantity = quantity_within(&orders.at(*rank), left);
         let lot = Lot {
             order: *rank,
             quantity,
@@ -76,7 +77,7 @@ pub struct SideLots {
 /// memory.
 pub fn side_lots(
     alloc: Global,
-    orders: &[Order],
+    orders: &OrderList<'_>,
     sides: &RankedSides,
     volume: u128,
 ) -> Result<SideLots, NoMemory>

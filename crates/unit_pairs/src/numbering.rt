@@ -5,7 +5,8 @@ ghost use Rattle.unit_pairs.specs.Numbering.{AreNumbered, IsDealt, price_of};
 use super::meeting::Pair;
 use audit_base::faults::NoMemory;
 use audit_base::numbers::{Price, Quantity};
-use audit_base::orders::{Deal, Order};
+use audit_base::orders::Deal;
+use order_list::lists::OrderList;
 use std::alloc::Global;
 
 /// What the deals of a call are made at.
@@ -18,13 +19,13 @@ pub enum DealPrice {
 }
 
 /// What an ask trades at.
-fn price_at(orders: &[Order], price: &DealPrice, ask: usize) -> Price
+fn price_at(orders: &OrderList<'_>, price: &DealPrice, ask: usize) -> Price
     requires { ask < length orders.now }
     ensures { result ≡ price_of orders.now price.now ask }
 {
     match price {
         DealPrice::Same(price) => *price,
-        DealPrice::AskLimit => orders[ask].limit,
+        DealPrice::AskLimit => orders.at(ask).limit(),
     }
 }
 
@@ -43,7 +44,7 @@ fn quantity_of(pair: &Pair) -> Quantity
 /// One deal for each pair, numbered from 1 in their order. Err only out of memory.
 pub fn number_pairs(
     alloc: Global,
-    orders: &[Order],
+    orders: &OrderList<'_>,
     pairs: &[Pair],
     price: &DealPrice,
 ) -> Result<Vec<Deal>, NoMemory>

@@ -14,14 +14,15 @@ use super::meeting::pairs_in_order;
 use super::numbering::{DealPrice, number_pairs};
 use audit_base::faults::NoMemory;
 use audit_base::numbers::Price;
-use audit_base::orders::{Deal, Order};
+use audit_base::orders::Deal;
+use order_list::lists::OrderList;
 use rank_order::ranking::RankedSides;
 use std::alloc::Global;
 
 /// The deals of the lots of both sides, unit n of the bids with unit n of the asks.
 fn deals_of(
     alloc: Global,
-    orders: &[Order],
+    orders: &OrderList<'_>,
     lots: SideLots,
     price: &DealPrice,
 ) -> Result<Vec<Deal>, NoMemory>
@@ -40,7 +41,7 @@ fn deals_of(
 /// of the ask's, numbered from 1. Err only out of memory.
 pub fn uniform_pairs(
     alloc: Global,
-    orders: &[Order],
+    orders: &OrderList<'_>,
     sides: &RankedSides,
     volume: u128,
     price: Price,
@@ -62,7 +63,7 @@ pub fn uniform_pairs(
 /// bid's index and then of the ask's, numbered from 1. Err only out of memory.
 pub fn maximum_pairs(
     alloc: Global,
-    orders: &[Order],
+    orders: &OrderList<'_>,
     sides: &RankedSides,
     volume: u128,
 ) -> Result<Vec<Deal>, NoMemory>

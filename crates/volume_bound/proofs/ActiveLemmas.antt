@@ -1,5 +1,5 @@
 -- What is kept of the orders so far, one order further.
-use Rattle.std.proofs.Common.{◌≡◌, ◌≤◌, ◌<◌, ◌+◌, ◌∙◌, sym, ap, ℕ, List, [], ◌∷◌, ◌++◌, length, take, get_or, arith}
+use Rattle.std.proofs.Common.{◌≡◌, ◌≤◌, ◌<◌, ◌+◌, ◌∙◌, sym, ap, ℕ, List, [], ◌∷◌, ◌++◌, length, take, arith}
 use Rattle.std.specs.Prelude.{map}
 use Rattle.std.specs.List.{filter}
 use Rattle.std.proofs.lemmas.List.{take_more, map-append, length-map}
@@ -8,7 +8,7 @@ use Rattle.std.proofs.lemmas.List.Elements.{filter-append}
 use Rattle.audit_base.specs.declared.terms.Side.{Side}
 use Rattle.audit_base.specs.declared.terms.Side.TheVariants.{Buy, Sell}
 use Rattle.audit_base.specs.declared.orders.Order.{Order}
-use Rattle.audit_base.specs.Orders.{stands_on}
+use Rattle.audit_base.specs.Orders.{order_at, missing_order, stands_on}
 use Rattle.volume_bound.specs.declared.limits.LimitQuantity.{LimitQuantity}
 use Rattle.volume_bound.specs.Limits.{limit_quantity_of, limits_on}
 
@@ -24,11 +24,11 @@ limits-append : (side : Side) (xs ys : List Order) → limits_on side (xs ++ ys)
 limits-append side xs ys = ap (map limit_quantity_of) (filter-append (stands_on side) xs ys) ∙ map-append limit_quantity_of (filter (stands_on side) xs) (filter (stands_on side) ys)
 
 -- one order further
-module _ (orders : List Order) (n : ℕ) (o : Order) (lt : n < length orders) (at : o ≡ get_or orders n o) (bids asks more_bids more_asks : List LimitQuantity) where
+module _ (orders : List Order) (n : ℕ) (o : Order) (lt : n < length orders) (at : o ≡ order_at orders n) (bids asks more_bids more_asks : List LimitQuantity) where
   pub gathered-more : AreGathered (take n orders) bids asks → more_bids ≡ bids ++ limits_on Buy (o ∷ []) → more_asks ≡ asks ++ limits_on Sell (o ∷ [])
       → AreGathered (take (n + 1) orders) more_bids more_asks
   gathered-more so_far b a =
-      let next : take (n + 1) orders ≡ take n orders ++ o ∷ [] = take_more orders n o lt ∙ ap (λ (x : Order). take n orders ++ x ∷ []) (sym at) in
+      let next : take (n + 1) orders ≡ take n orders ++ o ∷ [] = take_more orders n missing_order lt ∙ ap (λ (x : Order). take n orders ++ x ∷ []) (sym at) in
       rw next (record {
         bids_are = b ∙ ap (λ (limits : List LimitQuantity). limits ++ limits_on Buy (o ∷ [])) so_far.bids_are ∙ sym (limits-append Buy (take n orders) (o ∷ []));
         asks_are = a ∙ ap (λ (limits : List LimitQuantity). limits ++ limits_on Sell (o ∷ [])) so_far.asks_are ∙ sym (limits-append Sell (take n orders) (o ∷ []));

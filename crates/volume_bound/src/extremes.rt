@@ -13,7 +13,8 @@ ghost use Rattle.volume_bound.specs.Sides.{ForOrdersOf, cut_of, executable_of};
 
 use super::sums::Sums;
 use audit_base::faults::NoMemory;
-use audit_base::orders::{Cut, Order};
+use audit_base::orders::Cut;
+use order_list::lists::OrderList;
 use std::alloc::Global;
 
 /// The one with the lesser volume, and of equal volumes the one with the lesser price.
@@ -95,7 +96,7 @@ pub fn best_uniform_of(sums: &Sums) -> Cut
 
 /// The least cut over all prices from 0 to 10^18, and the least price that reaches it. Err only out of
 /// memory.
-pub fn least_cut(alloc: Global, orders: &[Order]) -> Result<Cut, NoMemory>
+pub fn least_cut(alloc: Global, orders: &OrderList<'_>) -> Result<Cut, NoMemory>
     requires few { length orders.now < 2 ^ 32 }
     ensures least { IfOk result (IsLeastCut orders.now) }
     ensures in_range { IfOk result (λ cut. cut.price ≤ 10 ^ 18) }
@@ -107,7 +108,7 @@ pub fn least_cut(alloc: Global, orders: &[Order]) -> Result<Cut, NoMemory>
 
 /// The greatest executable volume over these prices, and the least price that reaches it. Err only out of
 /// memory.
-pub fn best_uniform(alloc: Global, orders: &[Order]) -> Result<Cut, NoMemory>
+pub fn best_uniform(alloc: Global, orders: &OrderList<'_>) -> Result<Cut, NoMemory>
     requires few { length orders.now < 2 ^ 32 }
     ensures best { IfOk result (IsBestUniform orders.now) }
     ensures in_range { IfOk result (λ cut. cut.price ≤ 10 ^ 18) }

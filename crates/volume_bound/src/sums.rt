@@ -8,7 +8,8 @@ ghost use Rattle.volume_bound.specs.Sides.{ForOrdersOf, HaveSumsOf, cut_of, exec
 use super::active_orders::ActiveOrders;
 use super::limits::{LimitQuantity, SortedLimits};
 use audit_base::faults::NoMemory;
-use audit_base::orders::{Cut, Order};
+use audit_base::orders::Cut;
+use order_list::lists::OrderList;
 use std::alloc::Global;
 use std::marker::Model;
 
@@ -31,7 +32,7 @@ impl Model for Sums {
 impl Sums {
     /// The sums of these orders: each side is sorted once, in n log n steps for n orders. Err only out of
     /// memory.
-    pub fn build(alloc: Global, orders: &[Order]) -> Result<Sums, NoMemory>
+    pub fn build(alloc: Global, orders: &OrderList<'_>) -> Result<Sums, NoMemory>
         requires few { length orders.now < 2 ^ 32 }
         ensures stands { IfOk result (λ sums. HaveSumsOf orders.now sums) }
         ensures numbers { OnOk result (AreOrders orders.now) }

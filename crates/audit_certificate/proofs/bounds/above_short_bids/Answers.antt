@@ -1,6 +1,4 @@
 use Rattle.std.proofs.Common.{◌∙◌}
-use Rattle.audit_base.specs.Orders.{missing_order}
-use Rattle.audit_base.proofs.OffenceLemmas.{get_or-default}
 use Rattle.audit_certificate.proofs.BoundLemmas.{above-none, above-more}
 use Rattle.audit_certificate.proofs.bounds.above_short_bids.Goals as goal
 
@@ -8,6 +6,6 @@ pub loop-index-init : goal.loop-index-init
 loop-index-init c = above-none c.args.orders.now c.args.traded.now
 
 pub loop-index-preserved : goal.loop-index-preserved
-loop-index-preserved c = above-more c.args.orders.now c.args.traded.now c.loop-index.index c.loop-index.price c.max-price.result c.index-orders-index.result c.above_if_short.result
-    (c.index-orders-index.is ∙ get_or-default c.args.orders.now c.loop-index.index c.index-orders-index.result missing_order c.loop-index-test.true)
+loop-index-preserved c = above-more c.args.orders.now c.args.traded.now c.loop-index.index c.loop-index.price c.max-price.result c.at.result c.above_if_short.result
+    c.at.ensures
     c.above_if_short.ensures.same c.above_if_short.ensures.in_range c.max-price.ensures c.loop-index.invariant

@@ -4,6 +4,7 @@ use Rattle.audit_base.specs.Deals.{AreTotals}
 use Rattle.audit_base.specs.ContinuousOffences.{IsContinuousOffence}
 use Rattle.audit_base.proofs.ContinuousOffenceLemmas.{offence-fails}
 use Rattle.continuous_audit.specs.Markets.{IsMarket}
+use Rattle.continuous_audit.specs.Progress.{IsFirstState}
 use Rattle.continuous_audit.proofs.AuditLemmas.{market-read, ready-first, last-conforms, last-totals}
 use Rattle.continuous_audit.proofs.auditing.audit_continuous.Goals as goal
 
@@ -11,7 +12,7 @@ pub first_offence-requires-clause-market : goal.first_offence-requires-clause-ma
 first_offence-requires-clause-market c = market-read _ c.in_ok-causes.causes.items c.in_ok-endings.endings.items c.requires.order_list c.requires.deal_list c.deref.ensures.value c.deref-2.ensures.value c.in_ok-causes.ensures c.in_ok-endings.ensures
 
 pub first_offence-requires-clause-ready : goal.first_offence-requires-clause-ready
-first_offence-requires-clause-ready c = ready-first _ (market-read _ c.in_ok-causes.causes.items c.in_ok-endings.endings.items c.requires.order_list c.requires.deal_list c.deref.ensures.value c.deref-2.ensures.value c.in_ok-causes.ensures c.in_ok-endings.ensures) c.in_ok-state.state c.in_ok-state.ensures
+first_offence-requires-clause-ready c = ready-first _ (market-read _ c.in_ok-causes.causes.items c.in_ok-endings.endings.items c.requires.order_list c.requires.deal_list c.deref.ensures.value c.deref-2.ensures.value c.in_ok-causes.ensures c.in_ok-endings.ensures) c.in_ok-state.state (subst (λ (n : ℕ). IsFirstState n c.in_ok-state.state) c.len.ensures c.in_ok-state.ensures)
 
 pub returns-in-Some : goal.returns-in-Some
 returns-in-Some c =

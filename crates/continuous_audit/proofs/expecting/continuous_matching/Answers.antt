@@ -1,7 +1,8 @@
-use Rattle.std.proofs.Common.{List, length, sym, ap, subst, arith, All}
+use Rattle.std.proofs.Common.{ℕ, List, length, sym, ap, subst, arith, All}
 use Rattle.std.proofs.lemmas.Result.{IfOk-weaker}
 use Rattle.continuous_audit.specs.declared.pairs.Pair.{Pair}
 use Rattle.continuous_audit.specs.Endings.{AreEndings}
+use Rattle.continuous_audit.specs.Matching.{AreAtFirst}
 use Rattle.continuous_audit.specs.Pairs.{AreNumbered, IsDealt}
 use Rattle.continuous_audit.proofs.ExpectingLemmas.{matched-first, sorted-dealt, sorted-length, made-expected, made-conforms, made-listed}
 use Rattle.continuous_audit.proofs.expecting.continuous_matching.Goals as goal
@@ -10,7 +11,7 @@ pub match_records-requires-clause-endings : goal.match_records-requires-clause-e
 match_records-requires-clause-endings c = subst (AreEndings c.args.orders.now) (sym c.deref.ensures.value) c.in_ok-endings.ensures
 
 pub match_records-requires-clause-matched : goal.match_records-requires-clause-matched
-match_records-requires-clause-matched c = λ deals is. matched-first c.args.orders.now c.requires.order_list c.in_ok-so_far.so_far c.in_ok-so_far.ensures deals
+match_records-requires-clause-matched c = λ deals is. matched-first c.args.orders.now c.requires.order_list c.in_ok-so_far.so_far (subst (λ (n : ℕ). AreAtFirst n c.in_ok-so_far.so_far) c.len.ensures c.in_ok-so_far.ensures) deals
 
 pub number_pairs-requires-clause-few : goal.number_pairs-requires-clause-few
 number_pairs-requires-clause-few c =

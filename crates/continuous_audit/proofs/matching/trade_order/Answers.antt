@@ -1,8 +1,9 @@
-use Rattle.std.proofs.Common.{◌≡◌, ◌∙◌, ℕ, List, ap, length, rules, subst}
+use Rattle.std.proofs.Common.{◌≡◌, ◌∙◌, ◌++◌, ℕ, List, ap, length, map, rules, subst}
 use Rattle.std.specs.Vec.{vec_len}
 use Rattle.std.proofs.lemmas.Result.{on_ok_weaker}
-use Rattle.audit_base.specs.Orders.{order_at, missing_order}
-use Rattle.audit_base.proofs.OffenceLemmas.{get_or-default}
+use Rattle.audit_base.specs.declared.terms.Side.{Side}
+use Rattle.audit_base.specs.Orders.{order_at}
+use Rattle.continuous_audit.specs.Pairs.{pair_of}
 use Rattle.continuous_audit.specs.Matching.{AreApplied}
 use Rattle.continuous_audit.proofs.MatchLemmas.{some-expected}
 use Rattle.continuous_audit.proofs.TradedLemmas.{first-inside, first-read, traded-read, traded-matched, traded-counted}
@@ -10,37 +11,37 @@ use Rattle.continuous_audit.proofs.matching.trade_order.Goals as goal
 
 pub apply_fills-requires-clause-traded_inside : goal.apply_fills-requires-clause-traded_inside
 apply_fills-requires-clause-traded_inside c =
-    let own_is : c.index-orders-order.result ≡ order_at c.args.orders.now c.args.order = c.index-orders-order.is ∙ get_or-default c.args.orders.now c.args.order c.index-orders-order.result missing_order c.requires.order in
+    let own_is : c.at-own.result ≡ order_at c.args.orders.now c.args.order = c.at-own.ensures in
     let e = some-expected c.args.orders.now c.requires.list c.requires.regular in
     let is = c.requires.matched e.0 e.1 in
-    first-inside c.args.orders.now c.requires.list c.args.order c.requires.order c.args.so_far.now c.requires.counted e.0 e.1 is c.open_order-opening.result.size c.index-orders-order.result own_is c.deref-2.result.now (c.deref-2.ensures.value ∙ c.in_ok-left.ensures.fills) (let v : vec_len c.args.so_far.now.traded ≡ length c.args.so_far.now.traded.items = search rules in v ∙ c.requires.counted.traded_count)
+    first-inside c.args.orders.now c.requires.list c.args.order c.requires.order c.args.so_far.now c.requires.counted e.0 e.1 is c.open_order-opening.result.size c.at-own.result own_is c.deref-2.result.now (c.deref-2.ensures.value ∙ c.in_ok-left.ensures.fills) (let v : vec_len c.args.so_far.now.traded ≡ length c.args.so_far.now.traded.items = search rules in v ∙ c.requires.counted.traded_count)
 
 pub apply_fills-requires-clause-left_inside : goal.apply_fills-requires-clause-left_inside
 apply_fills-requires-clause-left_inside c =
-    let own_is : c.index-orders-order.result ≡ order_at c.args.orders.now c.args.order = c.index-orders-order.is ∙ get_or-default c.args.orders.now c.args.order c.index-orders-order.result missing_order c.requires.order in
+    let own_is : c.at-own.result ≡ order_at c.args.orders.now c.args.order = c.at-own.ensures in
     let e = some-expected c.args.orders.now c.requires.list c.requires.regular in
     let is = c.requires.matched e.0 e.1 in
-    first-inside c.args.orders.now c.requires.list c.args.order c.requires.order c.args.so_far.now c.requires.counted e.0 e.1 is c.open_order-opening.result.size c.index-orders-order.result own_is c.deref-2.result.now (c.deref-2.ensures.value ∙ c.in_ok-left.ensures.fills) (let v : vec_len c.note.new.self.left ≡ length c.note.new.self.left.items = search rules in v ∙ ap (λ (xs : List ℕ). length xs) c.note.ensures.left ∙ c.requires.counted.sheet.left_count)
+    first-inside c.args.orders.now c.requires.list c.args.order c.requires.order c.args.so_far.now c.requires.counted e.0 e.1 is c.open_order-opening.result.size c.at-own.result own_is c.deref-2.result.now (c.deref-2.ensures.value ∙ c.in_ok-left.ensures.fills) (let v : vec_len c.note.new.self.left ≡ length c.note.new.self.left.items = search rules in v ∙ ap (λ (xs : List ℕ). length xs) c.note.ensures.left ∙ c.requires.counted.sheet.left_count)
 
 pub returns-clause-counted : goal.returns-clause-counted
 returns-clause-counted c =
-    let own_is : c.index-orders-order.result ≡ order_at c.args.orders.now c.args.order = c.index-orders-order.is ∙ get_or-default c.args.orders.now c.args.order c.index-orders-order.result missing_order c.requires.order in
+    let own_is : c.at-own.result ≡ order_at c.args.orders.now c.args.order = c.at-own.ensures in
     let e = some-expected c.args.orders.now c.requires.list c.requires.regular in
     let is = c.requires.matched e.0 e.1 in
     let opened = c.open_order-opening.ensures.opened e.0 (first-read c.args.orders.now c.requires.list c.args.order c.requires.order c.args.so_far.now e.0 e.1 is c.deref.result.now c.deref.ensures.value) in
     on_ok_weaker c.push_pairs.result (λ pushed.
     traded-counted c.args.orders.now c.requires.list c.args.order c.requires.order c.open_order-opening.result.size c.in_ok-left.left c.open_order-opening.result.before c.deref-2.result.now c.args.so_far.now _ c.requires.counted
-    (traded-read c.args.orders.now c.args.order c.open_order-opening.result.size c.in_ok-left.left c.open_order-opening.result.before c.args.so_far.now _ c.index-orders-order.result own_is c.fill_order.new.fills.items c.deref-2.result.now c.deref-3.result.now c.apply_fills.new.traded.items c.apply_fills.new.left.items
-    c.in_ok-left.ensures.fills c.deref-2.ensures.value c.deref-3.ensures.value c.in_ok-left.ensures.left (subst (λ (xs : List ℕ). AreApplied c.deref-2.result.now c.args.so_far.now.traded.items xs c.apply_fills.new.traded.items c.apply_fills.new.left.items) c.note.ensures.left c.apply_fills.ensures) c.note.ensures.before c.set_total.ensures c.set_amount.ensures c.in_ok-left.ensures.books pushed)
+    (traded-read c.args.orders.now c.args.order c.open_order-opening.result.size c.in_ok-left.left c.open_order-opening.result.before c.args.so_far.now _ c.at-own.result own_is c.fill_order.new.fills.items c.deref-2.result.now c.deref-3.result.now c.apply_fills.new.traded.items c.apply_fills.new.left.items
+    c.in_ok-left.ensures.fills c.deref-2.ensures.value c.deref-3.ensures.value c.in_ok-left.ensures.left (subst (λ (xs : List ℕ). AreApplied c.deref-2.result.now c.args.so_far.now.traded.items xs c.apply_fills.new.traded.items c.apply_fills.new.left.items) c.note.ensures.left c.apply_fills.ensures) c.note.ensures.before c.set_total.ensures c.set_amount.ensures c.in_ok-left.ensures.books (pushed ∙ ap (λ (side : Side). c.args.so_far.now.pairs.items ++ map (pair_of side c.args.order) c.deref-3.result.now) c.side.ensures))
     e.0 e.1 is opened.size_is opened.before_is c.open_order-opening.ensures.fits.most c.open_order-opening.ensures.fits.bounded c.open_order-opening.result.closed c.open_order-opening.ensures.fits.closed c.note.ensures.closed c.note.ensures.sizes) c.push_pairs.ensures
 
 pub returns-clause-matched : goal.returns-clause-matched
 returns-clause-matched c =
-    let own_is : c.index-orders-order.result ≡ order_at c.args.orders.now c.args.order = c.index-orders-order.is ∙ get_or-default c.args.orders.now c.args.order c.index-orders-order.result missing_order c.requires.order in
+    let own_is : c.at-own.result ≡ order_at c.args.orders.now c.args.order = c.at-own.ensures in
     on_ok_weaker c.push_pairs.result (λ pushed deals expected.
     let is = c.requires.matched deals expected in
     let opened = c.open_order-opening.ensures.opened deals (first-read c.args.orders.now c.requires.list c.args.order c.requires.order c.args.so_far.now deals expected is c.deref.result.now c.deref.ensures.value) in
     traded-matched c.args.orders.now c.requires.list c.args.order c.requires.order c.open_order-opening.result.size c.in_ok-left.left c.open_order-opening.result.before c.deref-2.result.now c.args.so_far.now _ c.requires.counted
-    (traded-read c.args.orders.now c.args.order c.open_order-opening.result.size c.in_ok-left.left c.open_order-opening.result.before c.args.so_far.now _ c.index-orders-order.result own_is c.fill_order.new.fills.items c.deref-2.result.now c.deref-3.result.now c.apply_fills.new.traded.items c.apply_fills.new.left.items
-    c.in_ok-left.ensures.fills c.deref-2.ensures.value c.deref-3.ensures.value c.in_ok-left.ensures.left (subst (λ (xs : List ℕ). AreApplied c.deref-2.result.now c.args.so_far.now.traded.items xs c.apply_fills.new.traded.items c.apply_fills.new.left.items) c.note.ensures.left c.apply_fills.ensures) c.note.ensures.before c.set_total.ensures c.set_amount.ensures c.in_ok-left.ensures.books pushed)
+    (traded-read c.args.orders.now c.args.order c.open_order-opening.result.size c.in_ok-left.left c.open_order-opening.result.before c.args.so_far.now _ c.at-own.result own_is c.fill_order.new.fills.items c.deref-2.result.now c.deref-3.result.now c.apply_fills.new.traded.items c.apply_fills.new.left.items
+    c.in_ok-left.ensures.fills c.deref-2.ensures.value c.deref-3.ensures.value c.in_ok-left.ensures.left (subst (λ (xs : List ℕ). AreApplied c.deref-2.result.now c.args.so_far.now.traded.items xs c.apply_fills.new.traded.items c.apply_fills.new.left.items) c.note.ensures.left c.apply_fills.ensures) c.note.ensures.before c.set_total.ensures c.set_amount.ensures c.in_ok-left.ensures.books (pushed ∙ ap (λ (side : Side). c.args.so_far.now.pairs.items ++ map (pair_of side c.args.order) c.deref-3.result.now) c.side.ensures))
     deals expected is opened.size_is opened.before_is) c.push_pairs.ensures

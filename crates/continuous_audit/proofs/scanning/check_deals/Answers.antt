@@ -1,4 +1,4 @@
-use Rattle.std.proofs.Common.{◌≡◌, ◌∙◌, Option, None, IfSome, inl, inr, sym, ap, refl, subst, arith, option_map, rules}
+use Rattle.std.proofs.Common.{◌≡◌, ◌∙◌, Option, None, IfSome, inl, inr, sym, ap, subst, arith, option_map, rules}
 use Rattle.std.proofs.lemmas.Bool.{cases_eq}
 use Rattle.audit_base.specs.declared.flaws.Evidence.{Evidence}
 use Rattle.audit_base.specs.Flaws.{IsInside}
@@ -30,14 +30,14 @@ returns-in-Some-clause-found c =
     let orders = c.args.market.now.orders.now in
     let at = c.loop-running.running.at in
     let d = c.index-deals-cause.result in
-    let coming : Coming = record { place = c.index-orders-order.result.place; entered = c.args.entered } in
+    let coming : Coming = record { place = c.place.result; entered = c.args.entered } in
     let accounts : Accounts = record { bid = c.account.result; ask = c.account-in-loop-running.result } in
     let is = finding-read orders c.requires.market.list c.args.market.now.deals.now c.requires.market.deal_list c.args.market.now.causes.now c.requires.market.causes c.args.order c.requires.order at c.loop-running-test.true c.loop-running.running.traded.items c.loop-running.invariant.totals d c.index-deals-cause.is c.value-quantity.result c.value-quantity.ensures.same c.value-quantity.ensures.in_range
-    c.if-cause-order.false coming c.args.sheet.now c.requires.known c.index-orders-order.result c.index-orders-deal.result c.index-orders-deal-in-loop-running.result c.index-orders-order.is c.index-orders-deal.is c.index-orders-deal-in-loop-running.is refl
+    c.if-cause-order.false coming c.args.sheet.now c.requires.known c.at.result c.at-bid.result c.at-ask.result c.at.ensures c.at-bid.ensures c.at-ask.ensures c.place.ensures
     accounts c.add_deal-bid_traded.result.0 c.add_deal-bid_traded.result.1 c.account.ensures c.account-in-loop-running.ensures c.add_deal-bid_traded.ensures.bid c.add_deal-bid_traded.ensures.ask in
     let inside = inside-read orders c.requires.market.list c.args.market.now.deals.now c.requires.market.deal_list c.args.market.now.causes.now c.requires.market.causes c.args.order c.requires.order at c.loop-running-test.true c.loop-running.running.traded.items c.loop-running.invariant.totals d c.index-deals-cause.is c.value-quantity.result c.value-quantity.ensures.same c.value-quantity.ensures.in_range
-    c.index-orders-deal.result c.index-orders-deal-in-loop-running.result coming c.args.sheet.now accounts c.add_deal-bid_traded.result.0 c.add_deal-bid_traded.result.1 c.account.ensures c.account-in-loop-running.ensures in
-    let h : c.deal_evidence.result ≡ by_deal.deal_evidence d c.index-orders-deal.result c.index-orders-deal-in-loop-running.result coming accounts = search rules in
+    c.at-bid.result c.at-ask.result coming c.args.sheet.now accounts c.add_deal-bid_traded.result.0 c.add_deal-bid_traded.result.1 c.account.ensures c.account-in-loop-running.ensures in
+    let h : c.deal_evidence.result ≡ by_deal.deal_evidence d c.at-bid.result c.at-ask.result coming accounts = search rules in
     let made = sym h ∙ c.in-Some.is in
     record {
       inside = subst (λ (e : Option Evidence). IfSome e (IsInside orders)) made inside;
@@ -52,14 +52,14 @@ loop-running-preserved c =
     let deals = c.args.market.now.deals.now in
     let at = c.loop-running.running.at in
     let d = c.index-deals-cause.result in
-    let coming : Coming = record { place = c.index-orders-order.result.place; entered = c.args.entered } in
+    let coming : Coming = record { place = c.place.result; entered = c.args.entered } in
     let accounts : Accounts = record { bid = c.account.result; ask = c.account-in-loop-running.result } in
     let is = finding-read orders c.requires.market.list deals c.requires.market.deal_list c.args.market.now.causes.now c.requires.market.causes c.args.order c.requires.order at c.loop-running-test.true c.loop-running.running.traded.items c.loop-running.invariant.totals d c.index-deals-cause.is c.value-quantity.result c.value-quantity.ensures.same c.value-quantity.ensures.in_range
-    c.if-cause-order.false coming c.args.sheet.now c.requires.known c.index-orders-order.result c.index-orders-deal.result c.index-orders-deal-in-loop-running.result c.index-orders-order.is c.index-orders-deal.is c.index-orders-deal-in-loop-running.is refl
+    c.if-cause-order.false coming c.args.sheet.now c.requires.known c.at.result c.at-bid.result c.at-ask.result c.at.ensures c.at-bid.ensures c.at-ask.ensures c.place.ensures
     accounts c.add_deal-bid_traded.result.0 c.add_deal-bid_traded.result.1 c.account.ensures c.account-in-loop-running.ensures c.add_deal-bid_traded.ensures.bid c.add_deal-bid_traded.ensures.ask in
     let run = running-read orders c.requires.market.list deals c.requires.market.deal_list c.args.market.now.causes.now c.requires.market.causes c.args.order c.requires.order at c.loop-running-test.true c.loop-running.running.traded.items c.loop-running.invariant.totals d c.index-deals-cause.is c.value-quantity.result c.value-quantity.ensures.same c.value-quantity.ensures.in_range
     c.add_deal-bid_traded.new.traded.items c.add_deal-bid_traded.ensures.added in
-    let h : c.deal_evidence.result ≡ by_deal.deal_evidence d c.index-orders-deal.result c.index-orders-deal-in-loop-running.result coming accounts = search rules in
+    let h : c.deal_evidence.result ≡ by_deal.deal_evidence d c.at-bid.result c.at-ask.result coming accounts = search rules in
     let none : conservation_finding orders deals (place_at orders c.args.order) (deal_in c.args.market.now.causes.now at) ≡ None =
     is ∙ ap (option_map (finding_by orders c.requires.market.list deals c.requires.market.deal_list c.args.market.now.causes.now c.requires.market.causes c.args.order c.requires.order d)) (sym h ∙ c.in_default.is) in
     record {

@@ -1,11 +1,15 @@
-use Rattle.std.proofs.Common.{◌≡◌, ◌∙◌, ap, false, sym, Some}
-use Rattle.audit_base.specs.Orders.{order_at, missing_order, is_rests}
-use Rattle.audit_base.proofs.OffenceLemmas.{get_or-default}
+use Rattle.std.proofs.Common.{◌≡◌, ◌<◌, ◌∙◌, ℕ, ap, false, length, sym, subst, Some}
+use Rattle.audit_base.specs.declared.flaws.Evidence.TheVariants.{InstantOrder}
+use Rattle.audit_base.specs.Flaws.{finding_of}
+use Rattle.audit_base.specs.Orders.{is_rests}
 use Rattle.record_verdict.proofs.JudgeLemmas.{instant_at}
 use Rattle.record_verdict.proofs.scopes.first_instant.Goals as goal
 
 pub returns-then-not-rests : goal.returns-then-not-rests
 returns-then-not-rests c =
-    let same : c.order-item.result ≡ order_at c.args.orders.now c.loop-order.order-index = c.order-item.is ∙ get_or-default c.args.orders.now c.loop-order.order-index c.order-item.result missing_order c.loop-order-test.true in
-    let away : is_rests c.order-item.result.life ≡ false = sym c.rests.ensures ∙ c.if-not-rests.true in
-    ap Some c.finding.ensures ∙ instant_at c.args.orders.now c.loop-order.order-index c.order-item.result same c.loop-order-test.true c.loop-order.invariant away
+    let orders = c.args.orders.now in
+    let i = c.loop-index.index in
+    let lt : i < length orders = subst (λ (n : ℕ). c.loop-index.index < n) c.len-index-end.ensures c.loop-index-test.true in
+    let away : is_rests c.at-order.result.life ≡ false = ap is_rests (sym c.life.ensures) ∙ sym c.rests.ensures ∙ c.if-not-rests.true in
+    ap Some (c.finding.ensures ∙ ap (λ (p : ℕ). finding_of orders (record { place = p; evidence = InstantOrder })) c.place-place.ensures)
+    ∙ instant_at orders i c.at-order.result c.at-order.ensures lt c.loop-index.invariant away

@@ -4,5 +4,5 @@ use Rattle.audit_base.specs.Least.{least_with}
 use Rattle.audit_base.specs.Orders.{is_rests, order_at}
 use Rattle.record_verdict.proofs.scopes.first_instant.Given as goal
 
-abbrev pub invariant-loop-order : goal.invariant-loop-order
-invariant-loop-order l = least_with (λ i. not (is_rests (order_at l.orders i).life)) l.order-index ≡ None
+abbrev pub invariant-loop-index : goal.invariant-loop-index
+invariant-loop-index l = least_with (λ i. not (is_rests (order_at l.orders i).life)) l.index ≡ None

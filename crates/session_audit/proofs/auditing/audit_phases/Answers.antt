@@ -1,4 +1,5 @@
 use Rattle.std.proofs.Common.{◌≡◌, ◌∙◌, ℕ, None, Ok, length, ap, arith}
+use Rattle.std.specs.Prelude.{replicate}
 use Rattle.audit_base.specs.Deals.{deal_at}
 use Rattle.audit_base.specs.Continuous.{cause}
 use Rattle.session_audit.specs.Phases.{phase_deals}
@@ -11,7 +12,7 @@ use Rattle.session_audit.proofs.TotalLemmas.{day-conforms}
 use Rattle.session_audit.proofs.auditing.audit_phases.Goals as goal
 
 pub loop-index-init : goal.loop-index-init
-loop-index-init c = no-phases c.args.phases.now c.args.orders.now c.args.deals.now c.in_ok-so_far.so_far.traded.items c.in_ok-so_far.so_far.rest.items c.in_ok-so_far.ensures.traded c.in_ok-so_far.ensures.rest
+loop-index-init c = no-phases c.args.phases.now c.args.orders.now c.args.deals.now c.in_ok-so_far.so_far.traded.items c.in_ok-so_far.so_far.rest.items (c.in_ok-so_far.ensures.traded ∙ ap (λ (n : ℕ). replicate n 0) c.len.ensures) c.in_ok-so_far.ensures.rest
 
 pub deals_between-requires : goal.deals_between-requires
 deals_between-requires c = ap length (c.deref.ensures.value ∙ c.in_ok-causes.ensures.causes) ∙ length-listed (λ j. cause c.args.orders.now (deal_at c.args.deals.now j)) (length c.args.deals.now)
@@ -32,11 +33,11 @@ judge_phase-requires c =
     let orders = c.args.orders.now in
     let deals = c.args.deals.now in
     let k = c.loop-index.index in
-    let here : c.deref-in-loop-index.result.now ≡ phase_orders phases orders deals k = c.deref-in-loop-index.ensures.value ∙ c.in_ok-list.ensures deals c.loop-index.invariant in
-    let picked : c.deref-in-loop-index-2.result.now ≡ phase_deals phases orders deals k = c.deref-in-loop-index-2.ensures.value ∙ c.in_ok-dealt.ensures
+    let here : c.list-own.result ≡ phase_orders phases orders deals k = c.list-own.ensures ∙ c.in_ok-list.ensures deals c.loop-index.invariant in
+    let picked : c.deref-in-loop-index.result.now ≡ phase_deals phases orders deals k = c.deref-in-loop-index.ensures.value ∙ c.in_ok-dealt.ensures
     ∙ dealt phases orders deals c.deref.result.now k c.first_place-first.result c.end_place-last.result (c.deref.ensures.value ∙ c.in_ok-causes.ensures.causes) c.first_place-first.ensures c.end_place-last.ensures in
-    let is : IsReady orders c.deref-in-loop-index.result.now c.deref-in-loop-index-2.result.now c.end_place-last.result = ready phases c.requires.phases orders c.requires.order_list c.requires.regular deals c.requires.deal_list c.deals_in_range.ensures k c.loop-index-test.true
-    c.deref-in-loop-index.result.now c.deref-in-loop-index-2.result.now c.end_place-last.result here picked c.end_place-last.ensures in
+    let is : IsReady orders c.list-own.result c.deref-in-loop-index.result.now c.end_place-last.result = ready phases c.requires.phases orders c.requires.order_list c.requires.regular deals c.requires.deal_list c.deals_in_range.ensures k c.loop-index-test.true
+    c.list-own.result c.deref-in-loop-index.result.now c.end_place-last.result here picked c.end_place-last.ensures in
     let long = long-so_far phases c.requires.phases orders c.requires.order_list deals c.requires.deal_list.named k c.loop-index-test.true c.loop-index.so_far.traded.items c.loop-index.so_far.rest.items c.loop-index.invariant in
     record {
       order_list = is.order_list;
@@ -55,11 +56,11 @@ returns-in-Some c =
     let orders = c.args.orders.now in
     let deals = c.args.deals.now in
     let k = c.loop-index.index in
-    let here : c.deref-in-loop-index.result.now ≡ phase_orders phases orders deals k = c.deref-in-loop-index.ensures.value ∙ c.in_ok-list.ensures deals c.loop-index.invariant in
-    let picked : c.deref-in-loop-index-2.result.now ≡ phase_deals phases orders deals k = c.deref-in-loop-index-2.ensures.value ∙ c.in_ok-dealt.ensures
+    let here : c.list-own.result ≡ phase_orders phases orders deals k = c.list-own.ensures ∙ c.in_ok-list.ensures deals c.loop-index.invariant in
+    let picked : c.deref-in-loop-index.result.now ≡ phase_deals phases orders deals k = c.deref-in-loop-index.ensures.value ∙ c.in_ok-dealt.ensures
     ∙ dealt phases orders deals c.deref.result.now k c.first_place-first.result c.end_place-last.result (c.deref.ensures.value ∙ c.in_ok-causes.ensures.causes) c.first_place-first.ensures c.end_place-last.ensures in
     broken-phase phases orders deals c.args.count k c.in-Some.finding c.requires.admitted c.loop-index-test.true c.loop-index.so_far.traded.items c.loop-index.so_far.rest.items c.loop-index.invariant
-    c.deref-in-loop-index.result.now c.deref-in-loop-index-2.result.now c.kind_at-kind.result here picked c.kind_at-kind.ensures (c.judge_phase.ensures.found c.in-Some.finding (c.in_ok-finding.was ∙ ap Ok c.in-Some.is))
+    c.list-own.result c.deref-in-loop-index.result.now c.kind_at-kind.result here picked c.kind_at-kind.ensures (c.judge_phase.ensures.found c.in-Some.finding (c.in_ok-finding.was ∙ ap Ok c.in-Some.is))
 
 pub loop-index-preserved : goal.loop-index-preserved
 loop-index-preserved c =
@@ -67,12 +68,12 @@ loop-index-preserved c =
     let orders = c.args.orders.now in
     let deals = c.args.deals.now in
     let k = c.loop-index.index in
-    let here : c.deref-in-loop-index.result.now ≡ phase_orders phases orders deals k = c.deref-in-loop-index.ensures.value ∙ c.in_ok-list.ensures deals c.loop-index.invariant in
-    let picked : c.deref-in-loop-index-2.result.now ≡ phase_deals phases orders deals k = c.deref-in-loop-index-2.ensures.value ∙ c.in_ok-dealt.ensures
+    let here : c.list-own.result ≡ phase_orders phases orders deals k = c.list-own.ensures ∙ c.in_ok-list.ensures deals c.loop-index.invariant in
+    let picked : c.deref-in-loop-index.result.now ≡ phase_deals phases orders deals k = c.deref-in-loop-index.ensures.value ∙ c.in_ok-dealt.ensures
     ∙ dealt phases orders deals c.deref.result.now k c.first_place-first.result c.end_place-last.result (c.deref.ensures.value ∙ c.in_ok-causes.ensures.causes) c.first_place-first.ensures c.end_place-last.ensures in
     let none : c.in_ok-finding.field-0 ≡ None = c.in_default.is in
     phase-passed phases c.requires.phases orders c.requires.order_list deals c.requires.deal_list.named k c.loop-index-test.true c.loop-index.so_far.traded.items c.loop-index.so_far.rest.items c.loop-index.invariant
-    c.deref-in-loop-index.result.now c.deref-in-loop-index-2.result.now c.kind_at-kind.result c.end_place-last.result c.judge_phase.new.so_far.traded.items c.judge_phase.new.so_far.rest.items
+    c.list-own.result c.deref-in-loop-index.result.now c.kind_at-kind.result c.end_place-last.result c.judge_phase.new.so_far.traded.items c.judge_phase.new.so_far.rest.items
     here picked c.kind_at-kind.ensures c.end_place-last.ensures (c.judge_phase.ensures.passed (c.in_ok-finding.was ∙ ap Ok none))
 
 pub returns : goal.returns

@@ -1,23 +1,20 @@
-use Rattle.std.proofs.Common.{◌≡◌, ◌<◌, ℕ, false, sym, ap, arith, get_or, inl, inr}
+use Rattle.std.proofs.Common.{◌≡◌, ◌<◌, ℕ, false, ◌∙◌, sym, ap, arith, inl, inr}
 use Rattle.std.specs.Prelude.{nat_le}
 use Rattle.std.proofs.lemmas.Bool.{cases_Bool, leb-true}
 use Rattle.std.proofs.lemmas.List.Sums.{prefix_len_is}
 use Rattle.audit_base.specs.declared.orders.Order.{Order}
 use Rattle.audit_base.specs.Orders.{place_at, missing_order}
-use Rattle.session_audit.proofs.EnteringLemmas.{order-read}
 use Rattle.session_audit.proofs.entering.orders_upto.Goals as goal
 
 above : (a b : ℕ) → b < a → nat_le a b ≡ false
 above a b lt = elim (cases_Bool (nat_le a b)) [ inl t ↦ (let le = leb-true a b t in absurd (omega arith)) | inr f ↦ f ]
 
-pub returns-else-orders-count : goal.returns-else-orders-count
-returns-else-orders-count c =
+pub returns-else-place-last : goal.returns-else-place-last
+returns-else-place-last c =
     let orders = c.args.orders.now in
     let i = c.loop-count.count in
-    let lt = c.loop-count-test.true in
-    let o : Order = get_or orders i c.index-orders-count.result in
-    let same : o.place ≡ place_at orders i = ap (λ (p : Order). p.place) (order-read orders i c.index-orders-count.result lt) in
-    let over : c.args.last < o.place = c.if-orders-count.false in
+    let same : c.place.result ≡ place_at orders i = c.place.ensures ∙ ap (λ (p : Order). p.place) c.at.ensures in
+    let over : c.args.last < c.place.result = c.if-place-last.false in
     sym (prefix_len_is (λ (o : Order). nat_le o.place c.args.last) orders i missing_order c.loop-count.invariant.inside c.loop-count.invariant.passes (λ inside. above (place_at orders i) c.args.last (omega arith)))
 
 pub returns-after-loop-count : goal.returns-after-loop-count

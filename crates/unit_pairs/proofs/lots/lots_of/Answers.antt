@@ -15,8 +15,8 @@ loop-rank-preserved c =
     let items : c.push.new.self.items ≡ c.loop-rank.lots.items ++ lot (get_or ranks n 0) quantity ∷ [] = c.in_ok-push.ensures.items in
     let is = c.quantity_within-quantity.ensures in
     subst (λ lots. AreFilled orders ranks c.args.volume lots (c.loop-rank.left - quantity) (n + 1)) (sym items)
-    (one-filled orders ranks c.args.volume c.loop-rank.lots.items c.loop-rank.left n quantity c.index-orders-rank.result lt (c.requires.inside n 0 lt)
-    c.index-orders-rank.is c.loop-rank.invariant is.some is.most is.lesser)
+    (one-filled orders ranks c.args.volume c.loop-rank.lots.items c.loop-rank.left n quantity c.at.result lt (c.requires.inside n 0 lt)
+    c.at.ensures c.loop-rank.invariant is.some is.most is.lesser)
 
 pub returns-clause-whole : goal.returns-clause-whole
 returns-clause-whole c =

@@ -1,6 +1,7 @@
-use Rattle.std.proofs.Common.{◌<◌, ℕ, inl, inr, subst, sym, arith}
+use Rattle.std.proofs.Common.{◌<◌, ◌∙◌, ℕ, inl, inr, subst, sym, arith}
 use Rattle.std.proofs.lemmas.Bool.{cases_eq}
-use Rattle.continuous_audit.specs.Endings.{missing_ending, place_in}
+use Rattle.continuous_audit.specs.Endings.{missing_ending, place_in, index_in}
+use Rattle.continuous_audit.specs.Books.{books_without}
 use Rattle.continuous_audit.proofs.EndingLemmas.{standing-first, standing-read, fewer-read}
 use Rattle.continuous_audit.proofs.books.Standing.drop_ended.Goals as goal
 
@@ -23,7 +24,8 @@ loop-self-preserved c = record {
   ];
   holds = λ amount h.
       let inside = (c.requires.inside c.loop-self.self.start missing_ending c.loop-self-test.true).inside in
-      standing-read c.args.orders.now c.args.endings.now c.args.self.now.start c.loop-self.self.start amount c.loop-self.self.books c.cancel.new.self c.index-orders-ending.result c.loop-self.invariant.from inside c.index-orders-ending.is c.cancel.ensures (c.loop-self.invariant.holds amount h);
+      let cancelled = c.cancel.ensures ∙ (λ i. books_without (c.side.ensures i) (index_in c.args.endings.now c.loop-self.self.start) (c.limit.ensures i) c.loop-self.self.books) in
+      standing-read c.args.orders.now c.args.endings.now c.args.self.now.start c.loop-self.self.start amount c.loop-self.self.books c.cancel.new.self c.at-order.result c.loop-self.invariant.from inside c.at-order.ensures cancelled (c.loop-self.invariant.holds amount h);
   fewer =
       let less = fewer-read _ _ _ c.loop-self.self.books c.cancel.new.self c.cancel.ensures in
       let before = c.loop-self.invariant.fewer in

@@ -1,0 +1,3 @@
+mod KeyLemmas
+pub mod StoredLemmas
+pub mod SumLemmas

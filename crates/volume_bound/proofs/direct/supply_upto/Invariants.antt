@@ -1,0 +1,6 @@
+use Rattle.audit_base.specs.Bounds.{offered}
+use Rattle.order_list.specs.Sums.{IsSumUpto}
+use Rattle.volume_bound.proofs.direct.supply_upto.Given as goal
+
+abbrev pub invariant-loop-index : goal.invariant-loop-index
+invariant-loop-index l = IsSumUpto (offered l.price) l.orders l.index l.sum
