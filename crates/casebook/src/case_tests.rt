@@ -242,6 +242,48 @@ fn a_case_whose_line_is_cut_stays_filed(rt: HostRuntime) -> Result<(), Fail> {
     Ok(())
 }
 
+// Into a sink of this much room, which the line of the first case fills or not: the second command is done
+// only where the first line was written whole.
+#[test]
+fn a_command_behind_a_cut_line_files_nothing(rt: HostRuntime) -> Result<(), Fail> {
+    let line = "file c1 matching Z csv o t then file c2 matching Z csv o t";
+    let words = split_words(rt.alloc(), line)?;
+    let second = read_name(b"c2").expect(&rt, "a name");
+    for (room, filed) in [(0, false), (1, false), (28, true)] {
+        let mut book = book_of(rt.alloc(), 0)?;
+        let mut shelf = shelf_of(rt.alloc(), 0)?;
+        let mut out = MemorySink::new(rt.alloc(), room, 4096, Vec::new(rt.alloc()))?;
+        let status = run_case(rt.alloc(), &words, &mut shelf, &mut out, &mut book);
+        assert_eq!(rt; status, CaseStatus::WriteFault, "room {room}");
+        assert_eq!(rt; out.bytes().len(), room, "room {room}");
+        assert_eq!(rt; book.show(&second)?.is_some(), filed, "room {room}");
+    }
+    Ok(())
+}
+
+// A keeper whose first call fails: it is asked only behind two logs that are read and in their grammar.
+#[test]
+fn a_log_is_told_before_a_keeper_that_fails(rt: HostRuntime) -> Result<(), Fail> {
+    for row in [
+        ("file c1 matching Z csv n t", 4, "readfault,orders\n"),
+        (
+            "file c1 matching Z csv x t",
+            3,
+            "malformed,orders,1,0,header\n",
+        ),
+        (
+            "file c1 matching Z csv o x",
+            3,
+            "malformed,trades,1,0,header\n",
+        ),
+        ("file c1 matching Z csv o t", 8, "keeperfault\n"),
+    ] {
+        let mut book = book_of(rt.alloc(), 1)?;
+        assert_row(&rt, row, &mut book)?;
+    }
+    Ok(())
+}
+
 // The order log takes a start and three reads, the trade log a start and three.
 #[test]
 fn a_read_that_fails_files_nothing(rt: HostRuntime) -> Result<(), Fail> {
