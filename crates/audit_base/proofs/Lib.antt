@@ -19,6 +19,7 @@ pub mod RangeLemmas
 pub mod RankLemmas
 pub mod SortedPairLemmas
 pub mod StampLemmas
+pub mod StampReaderLemmas
 pub mod SumLemmas
 pub mod TotalsLemmas
 pub mod TradeLemmas

@@ -55,6 +55,12 @@ moment_of (Some day) (Some clock) None = None
 moment_of (Some day) (Some clock) (Some nano) =
     Some (record { second = day * (24 * 60 * 61) + clock; nano = nano })
 
+-- the point in time of the same second with another fraction
+abbrev pub with_fraction : Option Moment → Option ℕ → Option Moment
+with_fraction None nano = None
+with_fraction (Some moment) None = None
+with_fraction (Some moment) (Some nano) = Some (record { second = moment.second; nano = nano })
+
 -- a point in time: date, `-`, clock and fraction
 abbrev pub stamp_form : List ℕ → Option Moment
 stamp_form text =

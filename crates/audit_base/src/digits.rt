@@ -33,6 +33,38 @@ pub fn value_of(text: &[u8]) -> u64
     value
 }
 
+/// The number that eight decimal digits write, all at once. In a word whose lowest byte is the first
+/// digit, a product with 10 * 256 + 1 puts ten times each digit and the next one into one byte, and no
+/// byte carries, since two digits are below 100. So the second byte and each second one from there on
+/// write two digits.
+fn value_of_eight(digits: &[u8]) -> u64
+    requires size { length digits.now ≡ 8 }
+    requires digits { IsTrue (list_all is_ascii_digit digits.now) }
+    ensures value { result ≡ digits_value 10 digits.now }
+    ensures in_range { result < 10 ^ 8 }
+{
+    let word = u64::from_le_bytes([
+        digits[0], digits[1], digits[2], digits[3], digits[4], digits[5], digits[6], digits[7],
+    ]);
+    let pairs = (word - 0x3030_3030_3030_3030).wrapping_mul(10 * 256 + 1);
+    let front = (pairs >> 8) % 256 * 100 + (pairs >> 24) % 256;
+    (front * 100 + (pairs >> 40) % 256) * 100 + (pairs >> 56)
+}
+
+/// The number that nine decimal digits write. None exactly where a byte is no digit.
+pub fn read_nine(digits: &[u8]) -> Option<u64>
+    requires { length digits.now ≡ 9 }
+    ensures value { result ≡ form.digits_form 9 digits.now }
+    ensures in_range { IfSome result (λ n. n < 10 ^ 9) }
+{
+    let (front, last) = digits.split_at(8);
+    if are_digits(front) && last[0].is_ascii_digit() {
+        Some(value_of_eight(front) * 10 + (last[0] - b'0') as u64)
+    } else {
+        None
+    }
+}
+
 /// The number that at most 19 decimal digits write, in one pass over them. None exactly where a byte is
 /// no digit.
 fn number_of(text: &[u8]) -> Option<u64>

@@ -15,6 +15,7 @@ pub mod orders;
 pub mod ranges;
 pub mod records;
 pub mod sizes;
+pub mod stamp_reader;
 pub mod stamps;
 pub mod terms;
 pub mod texts;

@@ -1,11 +1,10 @@
 //! Points in time, as logs write them.
 ghost use Rattle.std.specs.Prelude.{◌≡◌, ◌<◌, ◌≤◌, ◌^◌, IfSome, length};
 ghost use Rattle.audit_base.specs.Moments.{is_before};
-ghost use Rattle.audit_base.specs.Digits.{digits_form};
 ghost use Rattle.audit_base.specs.Stamps as form;
 
 use super::digits::{
-    are_digits, read_digits, read_digits_between, scaled, value_between, value_of,
+    are_digits, read_digits, read_digits_between, read_nine, scaled, value_between,
 };
 use std::marker::Model;
 
@@ -82,19 +81,6 @@ fn filled_to_nine(places: usize, fraction: Option<u64>) -> Option<u64>
     Some(scaled(fraction?, places, 9))
 }
 
-/// The number that nine digits write.
-fn read_nine(digits: &[u8]) -> Option<u64>
-    requires { length digits.now ≡ 9 }
-    ensures value { result ≡ digits_form 9 digits.now }
-    ensures in_range { IfSome result (λ n. n < 10 ^ 9) }
-{
-    if are_digits(digits) {
-        Some(value_of(digits))
-    } else {
-        None
-    }
-}
-
 /// Three, six or nine digits. Nine, which most logs have, are read without a loop.
 fn fraction_of(digits: &[u8]) -> Option<u64>
     ensures value { result ≡ form.fraction_of digits.now }
@@ -110,7 +96,7 @@ fn fraction_of(digits: &[u8]) -> Option<u64>
 }
 
 /// Nothing, or a point and a fraction.
-fn read_fraction(text: &[u8]) -> Option<u64>
+pub(crate) fn read_fraction(text: &[u8]) -> Option<u64>
     ensures value { result ≡ form.fraction_form text.now }
     ensures in_range { IfSome result (λ n. n < 10 ^ 9) }
 {
