@@ -1,11 +1,9 @@
 //! What a broken rule gives: the property, the record at which it broke, and what shows it.
 ghost use Rattle.std.specs.Prelude.{◌≡◌};
-ghost use Rattle.audit_base.specs.Shows as shows;
 ghost use Rattle.audit_base.specs.Words.{property_word};
 
 use super::names::Key;
 use super::numbers::{Price, Quantity};
-use super::orders::Order;
 use super::terms::{Side, Which};
 
 /// An order with what it has traded.
@@ -17,22 +15,6 @@ pub struct OrderLine {
     pub quantity: Quantity,
     pub limit: Price,
     pub traded: u128,
-}
-
-impl OrderLine {
-    /// The line of an order that has traded this much.
-    pub fn of(order: &Order, traded: u128) -> OrderLine
-        ensures { result ≡ shows.with_traded order.now traded }
-    {
-        OrderLine {
-            place: order.place,
-            side: order.side,
-            key: order.key,
-            quantity: order.quantity,
-            limit: order.limit,
-            traded,
-        }
-    }
 }
 
 /// Something that shows a finding.

@@ -1,31 +1,31 @@
 //! What is wrong with a record, by places, indices and numbers, and the finding that it is. A finding has
 //! hundreds of bytes, and most records have none: so a flaw is looked for and handed on in its place, and
 //! only the one finding that is answered is made, here.
-ghost use Rattle.std.specs.Prelude.{◌≡◌, ◌<◌, IfSome, length, option_and_then};
+ghost use Rattle.std.specs.Prelude.{◌≡◌, ◌<◌, [], IfSome, length, option_and_then};
 ghost use Rattle.audit_base.specs.Flaws as spec;
 ghost use Rattle.audit_base.specs.Shows.{priority_of, show_place};
 
-use super::findings::{Finding, OrderLine, Property, Short, Shown};
+use super::findings::{Finding, Property, Short, Shown};
 use super::names::Key;
-use super::orders::Order;
+use super::order_lines::{NoOrders, OrderLines};
 use super::terms::{Side, Which};
 
 /// An order of an order list, by its index, with what it has traded.
-#[derive(Clone, Copy, Debug, PartialEq, Eq)]
+#[derive(Clone, Copy, Debug)]
 pub struct TradedOrder {
     pub index: usize,
     pub traded: u128,
 }
 
 /// The best short order of a side, with what it trades in every conforming log.
-#[derive(Clone, Copy, Debug, PartialEq, Eq)]
+#[derive(Clone, Copy)]
 pub struct DueOrder {
     pub order: TradedOrder,
     pub due: u128,
 }
 
 /// What is wrong with a record, and what shows it. Each is a property, those of two sides are two.
-#[derive(Clone, Copy, Debug, PartialEq, Eq)]
+#[derive(Clone, Copy)]
 pub enum Evidence {
     /// 1: the order record at this place has its key.
     DuplicateId(u32),
@@ -58,7 +58,7 @@ pub enum Evidence {
 }
 
 /// What is wrong with the record at a place.
-#[derive(Clone, Copy, Debug, PartialEq, Eq)]
+#[derive(Clone, Copy)]
 pub struct Flaw {
     /// The number of the record in its log, from 1.
     pub place: u32,
@@ -73,20 +73,20 @@ fn show_place(log: Which, place: u32) -> Option<Shown>
 }
 
 /// An order with what it has traded.
-fn show_traded(orders: &[Order], order: TradedOrder) -> Option<Shown>
-    requires inside { order.index < length orders.now }
-    ensures { result ≡ spec.show_traded orders.now order }
+fn show_traded<L: OrderLines>(orders: &L, order: TradedOrder) -> Option<Shown>
+    requires inside { order.index < length (L.orders orders.now) }
+    ensures { result ≡ spec.show_traded (L.orders orders.now) order }
 {
-    Some(Shown::Order(OrderLine::of(&orders[order.index], order.traded)))
+    Some(Shown::Order(orders.line_at(order.index, order.traded)))
 }
 
 /// The short order of a side with its due, where there is one.
-fn show_due(orders: &[Order], short: Option<DueOrder>) -> Option<Shown>
-    requires inside { IfSome short (λ d. d.order.index < length orders.now) }
-    ensures { result ≡ option_and_then (spec.show_due orders.now) short }
+fn show_due<L: OrderLines>(orders: &L, short: Option<DueOrder>) -> Option<Shown>
+    requires inside { IfSome short (λ d. d.order.index < length (L.orders orders.now)) }
+    ensures { result ≡ option_and_then (spec.show_due (L.orders orders.now)) short }
 {
     let short = short?;
-    let line = OrderLine::of(&orders[short.order.index], short.order.traded);
+    let line = orders.line_at(short.order.index, short.order.traded);
     Some(Shown::Due(line, short.due))
 }
 
@@ -148,9 +148,9 @@ impl Evidence {
     }
 
     /// What is shown first.
-    fn first_shown(self, orders: &[Order]) -> Option<Shown>
-        requires { spec.IsInside orders.now self }
-        ensures { result ≡ spec.first_shown orders.now self }
+    fn first_shown<L: OrderLines>(self, orders: &L) -> Option<Shown>
+        requires { spec.IsInside (L.orders orders.now) self }
+        ensures { result ≡ spec.first_shown (L.orders orders.now) self }
     {
         match self {
             Evidence::DuplicateId(place) | Evidence::TimeBack(place) => {
@@ -172,9 +172,9 @@ impl Evidence {
     }
 
     /// What is shown second: the other order of two.
-    fn second_shown(self, orders: &[Order]) -> Option<Shown>
-        requires { spec.IsInside orders.now self }
-        ensures { result ≡ spec.second_shown orders.now self }
+    fn second_shown<L: OrderLines>(self, orders: &L) -> Option<Shown>
+        requires { spec.IsInside (L.orders orders.now) self }
+        ensures { result ≡ spec.second_shown (L.orders orders.now) self }
     {
         match self {
             Evidence::Limit(_, order)
@@ -197,11 +197,19 @@ impl Evidence {
 }
 
 impl Flaw {
+    /// The finding, of a flaw that names no order, as what is wrong with a record of a log by itself does.
+    pub fn finding(self) -> Finding
+        requires { spec.IsInside [] self.evidence }
+        ensures { result ≡ spec.finding_of [] self }
+    {
+        self.finding_among(&NoOrders)
+    }
+
     /// The finding: property, log and place, with what shows it. The orders are those that the indices
-    /// are of; what is wrong with a record of a log by itself names none of them.
-    pub fn finding(self, orders: &[Order]) -> Finding
-        requires { spec.IsInside orders.now self.evidence }
-        ensures { result ≡ spec.finding_of orders.now self }
+    /// are of.
+    pub fn finding_among<L: OrderLines>(self, orders: &L) -> Finding
+        requires { spec.IsInside (L.orders orders.now) self.evidence }
+        ensures { result ≡ spec.finding_of (L.orders orders.now) self }
     {
         Finding {
             property: self.evidence.property(),

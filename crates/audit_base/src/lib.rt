@@ -11,6 +11,7 @@ pub mod findings;
 pub mod flaws;
 pub mod names;
 pub mod numbers;
+pub mod order_lines;
 pub mod orders;
 pub mod ranges;
 pub mod records;

@@ -1,8 +1,4 @@
 //! Orders and deals, as the rules speak of them.
-ghost use Rattle.std.specs.Prelude.{◌≡◌};
-ghost use Rattle.audit_base.specs.Deals.{is_within};
-ghost use Rattle.audit_base.specs.Orders as spec;
-
 use super::names::Key;
 use super::numbers::{Price, Quantity};
 use super::stamps::Stamp;
@@ -32,15 +28,6 @@ pub struct Order {
     pub target: Option<usize>,
 }
 
-impl Order {
-    /// Whether the order is of the side and no record cancels it, so that it takes part in a call.
-    pub fn stands_on(&self, side: Side) -> bool
-        ensures { result ≡ spec.stands_on side self.now }
-    {
-        self.cancelled.is_none() && self.side == side
-    }
-}
-
 /// A trade, between two orders that are named by their index in an order list.
 #[derive(Clone, Copy, Debug, PartialEq, Eq)]
 pub struct Deal {
@@ -52,15 +39,6 @@ pub struct Deal {
     pub ask: usize,
     pub quantity: Quantity,
     pub price: Price,
-}
-
-impl Deal {
-    /// Whether the price is from the ask's limit to the bid's, both included.
-    pub fn is_within(&self, bid: &Order, ask: &Order) -> bool
-        ensures { result ≡ is_within bid.now ask.now self.now }
-    {
-        ask.limit <= self.price && self.price <= bid.limit
-    }
 }
 
 /// A price from 0 to 10^18 units, and the volume that it shows.

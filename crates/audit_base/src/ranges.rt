@@ -1,28 +1,10 @@
 //! The ranges of the numbers of records, as facts. Nothing is computed here: the types keep the ranges, and
 //! reading a number tells a proof so.
 ghost use Rattle.audit_base.specs.Deals.{IsDeal, AreDeals};
-ghost use Rattle.audit_base.specs.Orders.{IsOrder, AreOrders};
 ghost use Rattle.audit_base.specs.Trades.{IsTrade, AreTrades};
 
-use super::orders::{Deal, Order};
+use super::orders::Deal;
 use super::records::TradeRecord;
-
-/// The numbers of an order are in their ranges.
-pub fn order_in_range(order: &Order)
-    ensures { IsOrder order.now }
-{
-    let _quantity = order.quantity.value();
-    let _limit = order.limit.units();
-}
-
-/// The numbers of all orders are in their ranges.
-pub fn orders_in_range(orders: &[Order])
-    ensures { AreOrders orders.now }
-{
-    for order in orders {
-        order_in_range(order);
-    }
-}
 
 /// The numbers of a deal are in their ranges.
 pub fn deal_in_range(deal: &Deal)

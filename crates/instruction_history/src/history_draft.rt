@@ -111,7 +111,7 @@ impl<S: AuditedSymbol> HistoryDraft<S> {
         let _ = self.count;
         let HistoryDraft { so_far, flaw, .. } = self;
         match flaw {
-            Some(flaw) => Err(flaw.finding(&[])),
+            Some(flaw) => Err(flaw.finding()),
             None => {
                 // This call tells the proof the ranges of the numbers.
                 so_far.list().in_range();

@@ -49,7 +49,7 @@ fn finding_of(flaw: Option<Flaw>) -> Option<Finding>
     ensures { result ≡ found_by flaw }
 {
     match flaw {
-        Some(flaw) => Some(flaw.finding(&[])),
+        Some(flaw) => Some(flaw.finding()),
         None => None,
     }
 }

@@ -51,7 +51,7 @@ fn resolve_all<M: AuditedHistory>(
     let DealsSoFar { sound, flaw, .. } = deals_after::<M>(alloc, history, trades, symbol)?;
     let SoundDeals { deals, .. } = sound;
     match flaw {
-        Some(flaw) => Err(CheckFault::Found(flaw.finding(&[]))),
+        Some(flaw) => Err(CheckFault::Found(flaw.finding())),
         None => Ok(deals),
     }
 }

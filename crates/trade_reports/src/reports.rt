@@ -74,7 +74,7 @@ impl LoneReport {
     {
         let evidence = Evidence::Unpaired(self.first);
         let place = self.place;
-        Flaw { place, evidence }.finding(&[])
+        Flaw { place, evidence }.finding()
     }
 }
 
