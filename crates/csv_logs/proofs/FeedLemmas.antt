@@ -338,7 +338,7 @@ module _ {R : Type 0} (names : List (List ℕ)) (entry : List (List ℕ) → Res
       }
 
   -- what a line that is not broken says, by its fields
-  unbroken-says : (header : Bool) (text : List ℕ) → is_broken text ≡ false → line_says names entry header text ≡ fields_say names entry header (line_fields text)
+  pub unbroken-says : (header : Bool) (text : List ℕ) → is_broken text ≡ false → line_says names entry header text ≡ fields_say names entry header (line_fields text)
   unfolding is_header line_entry
   unbroken-says true text unbroken = rw unbroken refl
   unbroken-says false text unbroken = rw unbroken refl

@@ -1,5 +1,5 @@
 -- Fields that are compared with names one by one.
-use Rattle.std.proofs.Common.{◌≡◌, ℕ, zero, suc, ◌<◌, ◌==◌, ◌-◌, true, false, List, [], ◌∷◌, length, get_or, map, Some, refl, sym, ap, subst, ◌∙◌, inl, inr, arith}
+use Rattle.std.proofs.Common.{◌≡◌, ℕ, zero, suc, ◌<◌, ◌≤◌, ◌==◌, ◌-◌, true, false, List, [], ◌∷◌, length, get_or, map, None, Some, refl, sym, ap, subst, ◌∙◌, inl, inr, arith}
 use Rattle.std.specs.Borrow.{Bor}
 use Rattle.std.specs.Cmp.Lexicographic.{pointwise}
 use Rattle.std.proofs.lemmas.Bool.{cases_Bool, and_parts, and_from, and_left, and_right, eqb-true, eq-eqb}
@@ -76,3 +76,31 @@ field-names (field ∷ fields) (suc i) all = field-names fields i (and_parts (li
 
 pub column-names : (number : ℕ) (fields : List (List ℕ)) (text : List ℕ) → list_all (list_all is_name_byte) fields ≡ true → text ≡ column_text number fields → list_all is_name_byte text ≡ true
 column-names number fields text all is = ap (list_all is_name_byte) is ∙ field-names fields (number - 1) all
+
+-- a list of nine fields is the list of what stands at its nine places
+pub nine-texts : (fields : List (List ℕ)) → length fields ≡ 9 → map (λ i. unwrap_or (field_at fields i) []) (0 ∷ 1 ∷ 2 ∷ 3 ∷ 4 ∷ 5 ∷ 6 ∷ 7 ∷ 8 ∷ []) ≡ fields
+unfolding field_at
+nine-texts [] e = absurd (omega (arith, e))
+nine-texts (a ∷ []) e = absurd (omega (arith, e))
+nine-texts (a ∷ b ∷ []) e = absurd (omega (arith, e))
+nine-texts (a ∷ b ∷ c ∷ []) e = absurd (omega (arith, e))
+nine-texts (a ∷ b ∷ c ∷ d ∷ []) e = absurd (omega (arith, e))
+nine-texts (a ∷ b ∷ c ∷ d ∷ f ∷ []) e = absurd (omega (arith, e))
+nine-texts (a ∷ b ∷ c ∷ d ∷ f ∷ g ∷ []) e = absurd (omega (arith, e))
+nine-texts (a ∷ b ∷ c ∷ d ∷ f ∷ g ∷ h ∷ []) e = absurd (omega (arith, e))
+nine-texts (a ∷ b ∷ c ∷ d ∷ f ∷ g ∷ h ∷ i ∷ []) e = absurd (omega (arith, e))
+nine-texts (a ∷ b ∷ c ∷ d ∷ f ∷ g ∷ h ∷ i ∷ j ∷ []) e = refl
+nine-texts (a ∷ b ∷ c ∷ d ∷ f ∷ g ∷ h ∷ i ∷ j ∷ k ∷ rest) e = absurd (omega (arith, e))
+
+-- the text at a place of some texts
+pub text-at : (texts : List (Bor (List ℕ))) (i : ℕ) (d : Bor (List ℕ)) → i < length texts → Some (get_or texts i d).now ≡ field_at (map (λ text. text.now) texts) i
+unfolding field_at
+text-at [] i d h = absurd (omega (arith, h))
+text-at (text ∷ texts) zero d h = refl
+text-at (text ∷ texts) (suc i) d h = text-at texts i d (omega (arith, h))
+
+pub text-none : (texts : List (Bor (List ℕ))) (i : ℕ) → length texts ≤ i → None ≡ field_at (map (λ text. text.now) texts) i
+unfolding field_at
+text-none [] i h = refl
+text-none (text ∷ texts) zero h = absurd (omega (arith, h))
+text-none (text ∷ texts) (suc i) h = text-none texts i (omega (arith, h))

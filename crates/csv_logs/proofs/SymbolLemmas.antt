@@ -1,6 +1,7 @@
 -- The symbol of a record that is read stands in its column.
 use Rattle.std.proofs.Common.{◌≡◌, ℕ, Bool, false, List, [], ◌∷◌, ◌++◌, subst, sym, ap, ◌∙◌, refl, inl, inr, Ok, Err, Result, Option, Some, None}
 use Rattle.std.proofs.lemmas.Bool.{cases_Bool}
+use Rattle.std.proofs.lemmas.List.{append-nil}
 use Rattle.audit_base.specs.declared.faults.Reason.{Reason}
 use Rattle.audit_base.specs.declared.records.OrderRecord.{OrderRecord}
 use Rattle.audit_base.specs.declared.records.OrderRecord.TheVariants as record_of
@@ -104,6 +105,11 @@ value-of (Err why) good = absurd (cc good)
 pub reason-of : {A : Type 0} (a : Result A Reason) (why : Reason) → Err why ≡ tested a → a ≡ Err why
 reason-of (Ok x) why bad = absurd (cc bad)
 reason-of (Err other) why bad = let eq : why ≡ other = cc in ap (λ (e : Reason). Err e) (sym eq)
+
+-- a line that means no record leaves a collector as it was
+pub refuses : {R : Type 0} (reading : Result R Reason) (why : Reason) (before : List R → Type 0) → Err why ≡ tested reading → TakesFields (entry_says reading) before before (Err why)
+refuses (Ok x) why before bad = absurd (cc bad)
+refuses (Err other) why before bad = (λ entries has. subst before (sym (append-nil entries)) has, ap (λ (e : Reason). Err e) cc)
 
 pub tested-made : {A B : Type 0} (a : Result A Reason) (make : A → B) → tested a ≡ tested (a >>= (λ x. Ok (make x)))
 tested-made (Ok x) make = refl

@@ -14,4 +14,5 @@ pub mod Written
 pub mod Steps
 pub mod Readers
 pub mod FieldBytes
+pub mod NineFields
 pub mod WrittenLines

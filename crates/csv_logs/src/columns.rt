@@ -8,14 +8,16 @@ ghost use Rattle.csv_logs.specs.Columns.{column_text, in_column, empty_form, sid
 ghost use Rattle.csv_logs.specs.Logs.{same_fields};
 
 use crate::fields::Fields;
+use crate::nine_fields::NineFields;
 use audit_base::faults::Reason;
 use audit_base::names::{Key, Name, is_name, is_name_by_size, name_of};
 use audit_base::numbers::{Price, Quantity, read_price, read_quantity};
-use audit_base::stamps::{Stamp, read_stamp};
+use audit_base::stamp_reader::StampReader;
+use audit_base::stamps::Stamp;
 use audit_base::terms::Side;
 
 /// The text of a column, which is empty where the line has fewer columns.
-pub(crate) fn column_text(fields: &Fields, number: u8) -> &[u8]
+pub(crate) fn column_text<'l>(fields: &NineFields<'l>, number: u8) -> &'l [u8]
     requires { 0 < number }
     ensures { result.now ≡ column_text number fields.now }
 {
@@ -49,7 +51,7 @@ fn read_empty(text: &[u8]) -> Option<()>
 }
 
 /// Whether a column's text is a name.
-fn is_name_in(number: u8, fields: &Fields) -> bool
+fn is_name_in(number: u8, fields: &NineFields<'_>) -> bool
     requires { 0 < number }
     ensures { result ≡ is_name (column_text number fields.now) }
 {
@@ -62,7 +64,7 @@ fn is_name_in(number: u8, fields: &Fields) -> bool
 }
 
 /// Whether a column holds a name.
-pub(crate) fn test_name(number: u8, fields: &Fields) -> Result<(), Reason>
+pub(crate) fn test_name(number: u8, fields: &NineFields<'_>) -> Result<(), Reason>
     requires { 0 < number }
     ensures tests { result ≡ tested (name_at number fields.now) }
     ensures named { OnOk result (HasName number fields.now) }
@@ -77,7 +79,7 @@ pub(crate) fn test_name(number: u8, fields: &Fields) -> Result<(), Reason>
 }
 
 /// Whether a column holds a firm, and the next one an id.
-pub(crate) fn test_key(number: u8, fields: &Fields) -> Result<(), Reason>
+pub(crate) fn test_key(number: u8, fields: &NineFields<'_>) -> Result<(), Reason>
     requires first { 0 < number }
     requires next { number < 9 }
     ensures tests { result ≡ tested (key_at number fields.now) }
@@ -90,7 +92,7 @@ pub(crate) fn test_key(number: u8, fields: &Fields) -> Result<(), Reason>
 }
 
 /// The name in a column that holds one.
-pub(crate) fn known_name(number: u8, fields: &Fields) -> Name
+pub(crate) fn known_name(number: u8, fields: &NineFields<'_>) -> Name
     requires first { 0 < number }
     requires named { HasName number fields.now }
     ensures { result ≡ column_text number fields.now }
@@ -99,7 +101,7 @@ pub(crate) fn known_name(number: u8, fields: &Fields) -> Name
 }
 
 /// The firm in a column and its id in the next one, where both hold names.
-pub(crate) fn known_key(number: u8, fields: &Fields) -> Key
+pub(crate) fn known_key(number: u8, fields: &NineFields<'_>) -> Key
     requires first { 0 < number }
     requires next { number < 9 }
     requires named { HasKey number fields.now }
@@ -112,15 +114,19 @@ pub(crate) fn known_key(number: u8, fields: &Fields) -> Key
 }
 
 /// The point in time in a column.
-pub(crate) fn stamp_at(number: u8, fields: &Fields) -> Result<Stamp, Reason>
+pub(crate) fn stamp_at(
+    number: u8,
+    fields: &NineFields<'_>,
+    stamps: &mut StampReader,
+) -> Result<Stamp, Reason>
     requires { 0 < number }
     ensures { result ≡ stamp_at number fields.now }
 {
-    in_column(number, read_stamp(column_text(fields, number)))
+    in_column(number, stamps.read(column_text(fields, number)))
 }
 
 /// The side in a column: `B` for a bid, `S` for an ask.
-pub(crate) fn side_at(number: u8, fields: &Fields) -> Result<Side, Reason>
+pub(crate) fn side_at(number: u8, fields: &NineFields<'_>) -> Result<Side, Reason>
     requires { 0 < number }
     ensures { result ≡ side_at number fields.now }
 {
@@ -128,7 +134,7 @@ pub(crate) fn side_at(number: u8, fields: &Fields) -> Result<Side, Reason>
 }
 
 /// The quantity in a column.
-pub(crate) fn quantity_at(number: u8, fields: &Fields) -> Result<Quantity, Reason>
+pub(crate) fn quantity_at(number: u8, fields: &NineFields<'_>) -> Result<Quantity, Reason>
     requires { 0 < number }
     ensures { result ≡ quantity_at number fields.now }
 {
@@ -136,7 +142,7 @@ pub(crate) fn quantity_at(number: u8, fields: &Fields) -> Result<Quantity, Reaso
 }
 
 /// The price in a column.
-pub(crate) fn price_at(number: u8, fields: &Fields) -> Result<Price, Reason>
+pub(crate) fn price_at(number: u8, fields: &NineFields<'_>) -> Result<Price, Reason>
     requires { 0 < number }
     ensures { result ≡ price_at number fields.now }
 {
@@ -144,7 +150,7 @@ pub(crate) fn price_at(number: u8, fields: &Fields) -> Result<Price, Reason>
 }
 
 /// A column that holds nothing.
-pub(crate) fn empty_at(number: u8, fields: &Fields) -> Result<(), Reason>
+pub(crate) fn empty_at(number: u8, fields: &NineFields<'_>) -> Result<(), Reason>
     requires { 0 < number }
     ensures { result ≡ empty_at number fields.now }
 {

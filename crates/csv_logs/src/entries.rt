@@ -1,6 +1,6 @@
 //! What a kind of log has of its own, the names of its columns and what nine fields mean, and what
 //! its lines say by that.
-ghost use Rattle.std.specs.Prelude.{◌≡◌, ℕ, IfOk, List, Result};
+ghost use Rattle.std.specs.Prelude.{◌≡◌, ℕ, IfOk, List, Ok, Result, false};
 ghost use Rattle.audit_base.specs.declared.faults.Reason.{Reason};
 ghost use Rattle.csv_logs.specs.Columns.{tested};
 ghost use Rattle.csv_logs.specs.Logs.{IsSymbolOf, same_fields};
@@ -10,11 +10,13 @@ ghost use Rattle.log_source.specs.Collectors.{HasPlace};
 use crate::columns::{column_text, have_names};
 use crate::fields::Fields;
 use crate::lines::{is_broken, line_fields};
+use crate::nine_fields::NineFields;
 use crate::orders::{order_entry, test_order};
 use crate::trades::{test_trade, trade_entry};
 use audit_base::columns::columns;
 use audit_base::faults::{NoMemory, Reason};
 use audit_base::records::{OrderRecord, TradeRecord, Traded};
+use audit_base::stamp_reader::StampReader;
 use audit_base::terms::Which;
 use log_source::collector::Collector;
 use std::alloc::Global;
@@ -35,15 +37,15 @@ pub trait LogEntry: Traded {
         ensures { result ≡ same_fields fields.now names };
 
     /// The record that these nine fields mean, or the first column that is not in its form.
-    fn of_fields(fields: &Fields) -> Result<Self, Reason>
+    fn of_fields(fields: &NineFields<'_>, stamps: &mut StampReader) -> Result<Self, Reason>
         ensures { result ≡ meaning fields.now };
 
     /// The symbol of the record that these nine fields mean, if they mean one.
-    fn symbol_in(fields: &Fields) -> &[u8]
+    fn symbol_in<'l>(fields: &NineFields<'l>) -> &'l [u8]
         ensures { IsSymbolOf Self.symbol_of (meaning fields.now) result.now };
 
     /// Whether these nine fields mean a record, or else the first column that is not in its form.
-    fn test(fields: &Fields) -> Result<(), Reason>
+    fn test(fields: &NineFields<'_>, stamps: &mut StampReader) -> Result<(), Reason>
         ensures { result ≡ tested (meaning fields.now) };
 
     /// Every record that fields mean is sound. This call does nothing: it only has its contract.
@@ -66,16 +68,16 @@ impl LogEntry for OrderRecord {
         have_names(fields, &columns(Which::Orders))
     }
 
-    fn of_fields(fields: &Fields) -> Result<OrderRecord, Reason> {
-        order_entry(fields)
+    fn of_fields(fields: &NineFields<'_>, stamps: &mut StampReader) -> Result<OrderRecord, Reason> {
+        order_entry(fields, stamps)
     }
 
-    fn symbol_in(fields: &Fields) -> &[u8] {
+    fn symbol_in<'l>(fields: &NineFields<'l>) -> &'l [u8] {
         column_text(fields, 5)
     }
 
-    fn test(fields: &Fields) -> Result<(), Reason> {
-        test_order(fields)
+    fn test(fields: &NineFields<'_>, stamps: &mut StampReader) -> Result<(), Reason> {
+        test_order(fields, stamps)
     }
 
     fn means_sound_records() {}
@@ -96,33 +98,52 @@ impl LogEntry for TradeRecord {
         have_names(fields, &columns(Which::Trades))
     }
 
-    fn of_fields(fields: &Fields) -> Result<TradeRecord, Reason> {
-        trade_entry(fields)
+    fn of_fields(fields: &NineFields<'_>, stamps: &mut StampReader) -> Result<TradeRecord, Reason> {
+        trade_entry(fields, stamps)
     }
 
-    fn symbol_in(fields: &Fields) -> &[u8] {
+    fn symbol_in<'l>(fields: &NineFields<'l>) -> &'l [u8] {
         column_text(fields, 3)
     }
 
-    fn test(fields: &Fields) -> Result<(), Reason> {
-        test_trade(fields)
+    fn test(fields: &NineFields<'_>, stamps: &mut StampReader) -> Result<(), Reason> {
+        test_trade(fields, stamps)
     }
 
     fn means_sound_records() {}
+}
+
+/// Hands on that there is a record which the collector does not look at, where nine fields mean one, or tells
+/// the first column that is not in its form.
+fn pass_entry<R: LogEntry, K: Collector<Entry = R>>(
+    entries: &mut K,
+    fields: &NineFields<'_>,
+    stamps: &mut StampReader,
+) -> Result<(), Reason>
+    requires place { HasPlace K.has_taken entries.old }
+    requires unwanted { (entry : R) → R.meaning fields.now ≡ Ok entry
+        → K.wants entries.old (R.symbol_of entry) ≡ false }
+    ensures { let says = entry_says (R.meaning fields.now) in
+        TakesFields says (K.has_taken entries.old) (K.has_taken entries.new) result }
+{
+    R::test(fields, stamps)?;
+    entries.pass_over();
+    Ok(())
 }
 
 /// Hands on the record that nine fields mean, or tells the first column that is not in its form. Where
 /// the collector does not look at records of the symbol, none is made.
 fn take_entry<R: LogEntry, K: Collector<Entry = R>>(
     entries: &mut K,
-    fields: &Fields,
+    fields: &NineFields<'_>,
+    stamps: &mut StampReader,
 ) -> Result<Result<(), Reason>, NoMemory>
     requires { HasPlace K.has_taken entries.old }
     ensures { let says = entry_says (R.meaning fields.now) in
         IfOk result (TakesFields says (K.has_taken entries.old) (K.has_taken entries.new)) }
 {
     if entries.wants(R::symbol_in(fields)) {
-        match R::of_fields(fields) {
+        match R::of_fields(fields, stamps) {
             Ok(entry) => {
                 entries.take(entry)?;
                 Ok(Ok(()))
@@ -130,13 +151,7 @@ fn take_entry<R: LogEntry, K: Collector<Entry = R>>(
             Err(why) => Ok(Err(why)),
         }
     } else {
-        match R::test(fields) {
-            Ok(()) => {
-                entries.pass_over();
-                Ok(Ok(()))
-            }
-            Err(why) => Ok(Err(why)),
-        }
+        Ok(pass_entry(entries, fields, stamps))
     }
 }
 
@@ -145,6 +160,7 @@ pub(crate) fn take_fields<R: LogEntry, K: Collector<Entry = R>>(
     entries: &mut K,
     header: bool,
     fields: &Fields,
+    stamps: &mut StampReader,
 ) -> Result<Result<(), Reason>, NoMemory>
     requires { HasPlace K.has_taken entries.old }
     ensures { let says = fields_say R.names R.meaning header fields.now in
@@ -157,7 +173,7 @@ pub(crate) fn take_fields<R: LogEntry, K: Collector<Entry = R>>(
             Ok(Err(Reason::Header))
         }
     } else if fields.len() == 9 {
-        take_entry(entries, fields)
+        take_entry(entries, &NineFields::of(fields), stamps)
     } else {
         Ok(Err(Reason::Columns))
     }
@@ -170,6 +186,7 @@ pub(crate) fn take_text<R: LogEntry, K: Collector<Entry = R>>(
     entries: &mut K,
     header: bool,
     line: &[u8],
+    stamps: &mut StampReader,
 ) -> Result<Result<(), Reason>, NoMemory>
     requires { HasPlace K.has_taken entries.old }
     ensures { let says = line_says R.names R.meaning header line.now in
@@ -184,5 +201,5 @@ pub(crate) fn take_text<R: LogEntry, K: Collector<Entry = R>>(
         return Ok(Err(why));
     }
     let fields = line_fields(alloc, line)?;
-    take_fields(entries, header, &fields)
+    take_fields(entries, header, &fields, stamps)
 }

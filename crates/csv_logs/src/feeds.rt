@@ -18,6 +18,7 @@ use crate::lines::{
 };
 use audit_base::faults::{BadPlace, LogFault, NoMemory, Reason};
 use audit_base::records::{OrderRecord, TradeRecord};
+use audit_base::stamp_reader::StampReader;
 use csv::{Reader, ReaderBuilder};
 use log_source::collector::Collector;
 use log_source::feed::Feed;
@@ -41,6 +42,8 @@ pub struct CsvFeed<K> {
     pub header: bool,
     /// The first bad line, once it has ended.
     pub bad: Option<BadPlace>,
+    /// What reads the points in time of the lines.
+    pub stamps: StampReader,
 }
 
 /// The feed of an order log.
@@ -62,6 +65,7 @@ impl<R: LogEntry, K: Collector<Entry = R>> CsvFeed<K> {
             offset: 0,
             header: false,
             bad: None,
+            stamps: StampReader::new(),
         }
     }
 
@@ -106,7 +110,13 @@ impl<R: LogEntry, K: Collector<Entry = R>> CsvFeed<K> {
             self.offset += size as u64;
             return Ok(());
         }
-        let outcome = take_text(self.alloc, &mut self.entries, self.header, text)?;
+        let outcome = take_text(
+            self.alloc,
+            &mut self.entries,
+            self.header,
+            text,
+            &mut self.stamps,
+        )?;
         self.move_on(start, size, outcome);
         Ok(())
     }
@@ -137,7 +147,7 @@ impl<R: LogEntry, K: Collector<Entry = R>> CsvFeed<K> {
             return self.end_line(line);
         }
         fields.read_next(reader, unquoted)?;
-        let outcome = take_fields(&mut self.entries, self.header, fields)?;
+        let outcome = take_fields(&mut self.entries, self.header, fields, &mut self.stamps)?;
         self.move_on(self.offset, line.len() + 1, outcome);
         Ok(())
     }

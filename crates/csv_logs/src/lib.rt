@@ -18,6 +18,7 @@ pub mod laws;
 mod lines;
 pub mod log_text;
 pub mod logs;
+pub mod nine_fields;
 mod orders;
 mod reader;
 mod trades;

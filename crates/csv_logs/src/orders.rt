@@ -9,11 +9,12 @@ use crate::columns::{
     column_text, empty_at, in_column, known_key, known_name, price_at, quantity_at, side_at,
     stamp_at, test_key, test_name,
 };
-use crate::fields::Fields;
+use crate::nine_fields::NineFields;
 use audit_base::faults::Reason;
 use audit_base::names::{Key, Name};
 use audit_base::numbers::market_price;
 use audit_base::records::OrderRecord;
+use audit_base::stamp_reader::StampReader;
 use audit_base::stamps::Stamp;
 use audit_base::terms::{Life, Side};
 
@@ -50,18 +51,18 @@ fn read_kind(text: &[u8]) -> Option<Kind>
 
 /// The time in the columns that every order line has, whose names are tested.
 #[inline(always)]
-fn head_time(fields: &Fields) -> Result<Stamp, Reason>
+fn head_time(fields: &NineFields<'_>, stamps: &mut StampReader) -> Result<Stamp, Reason>
     ensures named { OnOk result (HasHeadNames fields.now) }
     ensures read { IfOk result (λ time. head_at fields.now ≡ Ok (written_head time fields.now)) }
     ensures why { IfErr result (λ why. head_at fields.now ≡ Err why) }
 {
     test_key(2, fields)?;
-    let time = stamp_at(4, fields)?;
+    let time = stamp_at(4, fields, stamps)?;
     test_name(5, fields)?;
     Ok(time)
 }
 
-fn limit_order(time: Stamp, life: Life, fields: &Fields) -> Result<OrderRecord, Reason>
+fn limit_order(time: Stamp, life: Life, fields: &NineFields<'_>) -> Result<OrderRecord, Reason>
     requires { HasHeadNames fields.now }
     ensures { result ≡ limit_order (written_head time fields.now) life fields.now }
 {
@@ -80,7 +81,7 @@ fn limit_order(time: Stamp, life: Life, fields: &Fields) -> Result<OrderRecord, 
     })
 }
 
-fn market_order(time: Stamp, fields: &Fields) -> Result<OrderRecord, Reason>
+fn market_order(time: Stamp, fields: &NineFields<'_>) -> Result<OrderRecord, Reason>
     requires { HasHeadNames fields.now }
     ensures { result ≡ market_order (written_head time fields.now) fields.now }
 {
@@ -99,7 +100,7 @@ fn market_order(time: Stamp, fields: &Fields) -> Result<OrderRecord, Reason>
     })
 }
 
-fn cancel(time: Stamp, fields: &Fields) -> Result<OrderRecord, Reason>
+fn cancel(time: Stamp, fields: &NineFields<'_>) -> Result<OrderRecord, Reason>
     requires { HasHeadNames fields.now }
     ensures { result ≡ cancel (written_head time fields.now) fields.now }
 {
@@ -115,7 +116,7 @@ fn cancel(time: Stamp, fields: &Fields) -> Result<OrderRecord, Reason>
     })
 }
 
-fn replacement(time: Stamp, fields: &Fields) -> Result<OrderRecord, Reason>
+fn replacement(time: Stamp, fields: &NineFields<'_>) -> Result<OrderRecord, Reason>
     requires { HasHeadNames fields.now }
     ensures { result ≡ replacement (written_head time fields.now) fields.now }
 {
@@ -136,11 +137,14 @@ fn replacement(time: Stamp, fields: &Fields) -> Result<OrderRecord, Reason>
 
 /// What nine fields mean in an order log: a record, or the first column that is not in its form.
 #[tactic(auto, unfolding(crate::specs::OrderLines::order_entry))]
-pub(crate) fn order_entry(fields: &Fields) -> Result<OrderRecord, Reason>
+pub(crate) fn order_entry(
+    fields: &NineFields<'_>,
+    stamps: &mut StampReader,
+) -> Result<OrderRecord, Reason>
     ensures { result ≡ order_entry fields.now }
 {
     let kind = in_column(1, read_kind(column_text(fields, 1)))?;
-    let time = head_time(fields)?;
+    let time = head_time(fields, stamps)?;
     match kind {
         Kind::New => limit_order(time, Life::Rests, fields),
         Kind::Immediate => limit_order(time, Life::Immediate, fields),
@@ -150,14 +154,14 @@ pub(crate) fn order_entry(fields: &Fields) -> Result<OrderRecord, Reason>
     }
 }
 
-fn test_head(fields: &Fields) -> Result<(), Reason>
+fn test_head(fields: &NineFields<'_>, stamps: &mut StampReader) -> Result<(), Reason>
     ensures { result ≡ tested (head_at fields.now) }
 {
-    head_time(fields)?;
+    head_time(fields, stamps)?;
     Ok(())
 }
 
-fn test_limit(fields: &Fields) -> Result<(), Reason>
+fn test_limit(fields: &NineFields<'_>) -> Result<(), Reason>
     ensures { (head : Head) (life : Life) → result ≡ tested (limit_order head life fields.now) }
 {
     side_at(6, fields)?;
@@ -166,7 +170,7 @@ fn test_limit(fields: &Fields) -> Result<(), Reason>
     empty_at(9, fields)
 }
 
-fn test_market(fields: &Fields) -> Result<(), Reason>
+fn test_market(fields: &NineFields<'_>) -> Result<(), Reason>
     ensures { (head : Head) → result ≡ tested (market_order head fields.now) }
 {
     side_at(6, fields)?;
@@ -175,7 +179,7 @@ fn test_market(fields: &Fields) -> Result<(), Reason>
     empty_at(9, fields)
 }
 
-fn test_cancel(fields: &Fields) -> Result<(), Reason>
+fn test_cancel(fields: &NineFields<'_>) -> Result<(), Reason>
     ensures { (head : Head) → result ≡ tested (cancel head fields.now) }
 {
     empty_at(6, fields)?;
@@ -184,7 +188,7 @@ fn test_cancel(fields: &Fields) -> Result<(), Reason>
     test_name(9, fields)
 }
 
-fn test_replacement(fields: &Fields) -> Result<(), Reason>
+fn test_replacement(fields: &NineFields<'_>) -> Result<(), Reason>
     ensures { (head : Head) → result ≡ tested (replacement head fields.now) }
 {
     side_at(6, fields)?;
@@ -193,7 +197,7 @@ fn test_replacement(fields: &Fields) -> Result<(), Reason>
     test_name(9, fields)
 }
 
-fn test_order_of_kind(kind: Kind, fields: &Fields) -> Result<(), Reason>
+fn test_order_of_kind(kind: Kind, fields: &NineFields<'_>) -> Result<(), Reason>
     ensures { (head : Head) → result ≡ tested (order_of_kind kind head fields.now) }
 {
     match kind {
@@ -206,10 +210,10 @@ fn test_order_of_kind(kind: Kind, fields: &Fields) -> Result<(), Reason>
 
 /// Whether nine fields mean a record in an order log, or else the first column that is not in its form.
 #[tactic(auto, unfolding(crate::specs::OrderLines::order_entry))]
-pub(crate) fn test_order(fields: &Fields) -> Result<(), Reason>
+pub(crate) fn test_order(fields: &NineFields<'_>, stamps: &mut StampReader) -> Result<(), Reason>
     ensures { result ≡ tested (order_entry fields.now) }
 {
     let kind = in_column(1, read_kind(column_text(fields, 1)))?;
-    test_head(fields)?;
+    test_head(fields, stamps)?;
     test_order_of_kind(kind, fields)
 }

@@ -4,12 +4,13 @@ ghost use Rattle.csv_logs.specs.Columns.{tested};
 ghost use Rattle.csv_logs.specs.TradeLines.{HasPartyNames, parties_at, trade_entry, written_parties};
 
 use crate::columns::{known_key, known_name, price_at, quantity_at, stamp_at, test_key, test_name};
-use crate::fields::Fields;
+use crate::nine_fields::NineFields;
 use audit_base::faults::Reason;
 use audit_base::records::TradeRecord;
+use audit_base::stamp_reader::StampReader;
 
 #[inline(always)]
-fn test_parties(fields: &Fields) -> Result<(), Reason>
+fn test_parties(fields: &NineFields<'_>) -> Result<(), Reason>
     ensures tests { result ≡ tested (parties_at fields.now) }
     ensures named { OnOk result (HasPartyNames fields.now) }
     ensures read { OnOk result (parties_at fields.now ≡ Ok (written_parties fields.now)) }
@@ -21,11 +22,14 @@ fn test_parties(fields: &Fields) -> Result<(), Reason>
 
 /// What nine fields mean in a trade log: a record, or the first column that is not in its form.
 #[tactic(auto, unfolding(crate::specs::TradeLines::trade_entry))]
-pub(crate) fn trade_entry(fields: &Fields) -> Result<TradeRecord, Reason>
+pub(crate) fn trade_entry(
+    fields: &NineFields<'_>,
+    stamps: &mut StampReader,
+) -> Result<TradeRecord, Reason>
     ensures { result ≡ trade_entry fields.now }
 {
     test_name(1, fields)?;
-    let time = stamp_at(2, fields)?;
+    let time = stamp_at(2, fields, stamps)?;
     test_name(3, fields)?;
     test_parties(fields)?;
     let quantity = quantity_at(8, fields)?;
@@ -43,11 +47,11 @@ pub(crate) fn trade_entry(fields: &Fields) -> Result<TradeRecord, Reason>
 
 /// Whether nine fields mean a record in a trade log, or else the first column that is not in its form.
 #[tactic(auto, unfolding(crate::specs::TradeLines::trade_entry))]
-pub(crate) fn test_trade(fields: &Fields) -> Result<(), Reason>
+pub(crate) fn test_trade(fields: &NineFields<'_>, stamps: &mut StampReader) -> Result<(), Reason>
     ensures { result ≡ tested (trade_entry fields.now) }
 {
     test_name(1, fields)?;
-    stamp_at(2, fields)?;
+    stamp_at(2, fields, stamps)?;
     test_name(3, fields)?;
     test_parties(fields)?;
     quantity_at(8, fields)?;

@@ -59,3 +59,6 @@ pub is_unquoted_unless_known-unquoted-requires : goal.is_unquoted_unless_known-u
 is_unquoted_unless_known-unquoted-requires g c = λ on.
     let line = plain-line c.in-Some.line.now c.in-Some.later.now (subst (λ (text : List ℕ). list_all is_plain_byte text ≡ true) c.in-Some.ensures.0 (c.lines.invariant.plain on)) c.in-Some.ensures.1 in
     ap (list_all is_unquoted_byte) c.without_cr-text.ensures ∙ unquoted-without_cr c.in-Some.line.now line.0
+
+pub returns-then-self-eq0 : goal.returns-then-self-eq0
+returns-then-self-eq0 g c = goes-none _ c.args.text.now
