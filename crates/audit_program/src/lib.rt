@@ -5,45 +5,73 @@
 
 ghost use Rattle.std.specs.Prelude.{◌≡◌};
 ghost use Rattle.std.specs.Process.{exit_status};
-ghost use Rattle.audit_program.specs.Answers.{AnswersSomeWords};
+ghost use Rattle.audit_program.specs.Answers.{AnswersWords, AnswersOver, AnswersUntold, EndsAsAnswer};
 ghost use Rattle.audit_report.specs.Statuses.{status_number};
 
 use audit_report::statuses::Status;
 use audit_run::running::run_seeded;
-use command_words::arguments::{seed_of, words_of};
+use command_words::arguments::seed_of;
 use log_source::file_shelf::FileShelf;
+use log_source::file_system::FileSystem;
+use log_source::output::Output;
 use log_source::shelf::Shelf;
 use log_source::sink::Sink;
 use log_source::std_sink::StdSink;
+use run_notes::command_line::CommandLine;
 use run_notes::log_notes::tell_log_fault;
 use run_notes::noted_shelf::NotedShelf;
 use run_notes::noted_sink::NotedSink;
+use run_notes::program_ends::{noted_files, noted_output};
 use run_notes::usage_notes::tell_auditor_usage;
 use std::io;
 use std::process::ExitCode;
 use std::random::RandomSource;
-use std::rt::Env;
 
 /// Runs the command that the words of the command line ask for, with hashes of a random seed.
-fn answer_words<R: Env + AllocGlobal + RandomSource, F: Shelf, K: Sink>(
+fn answer_words<R: CommandLine + AllocGlobal + RandomSource, F: Shelf, K: Sink>(
     rt: &R,
     shelf: &mut F,
     out: &mut K,
 ) -> Status
-    ensures { AnswersSomeWords F.Shelf shelf.old shelf.new
+    ensures { AnswersWords (R.told rt.now) F.Shelf shelf.old shelf.new
         (K.state out.old) (K.state out.new) result }
 {
-    match words_of(rt) {
+    match rt.words() {
         Ok(words) => run_seeded(rt.alloc(), seed_of(rt), &words, shelf, out),
         Err(_) => Status::Memory,
     }
+}
+
+/// What a run leaves: its status, the files that it read and the output that it wrote, with what was noted of both.
+#[derive(Drop)]
+struct Ran<S: FileSystem, W> {
+    status: Status,
+    shelf: NotedShelf<FileShelf<S>>,
+    out: NotedSink<StdSink<W>>,
+}
+
+/// Runs the command that the words of the command line ask for over these files and this output.
+fn run_over<R: CommandLine + AllocGlobal + RandomSource, S: FileSystem + Drop, W: Output + Drop>(
+    rt: &R,
+    files: S,
+    output: W,
+) -> Ran<S, W>
+    ensures { let shelf = ⟦<NotedShelf<FileShelf<S>> as Shelf>⟧ in
+        let state = ⟦<NotedSink<StdSink<W>> as Sink>⟧.state in
+        AnswersOver (R.told rt.now) shelf (S.tells files) (S.file_at files) (W.contents output)
+        result.shelf (state result.out) result.status }
+{
+    let mut shelf = noted_files(rt.alloc(), files);
+    let mut out = noted_output(rt.alloc(), output);
+    let status = answer_words(rt, &mut shelf, &mut out);
+    Ran { status, shelf, out }
 }
 
 /// Tells on standard error why a run ended above 1.
 fn tell<F: Shelf>(rt: &HostRuntime, status: Status, shelf: &NotedShelf<F>, last: &[u8]) {
     match status {
         Status::Usage => {
-            if let Ok(words) = words_of(rt) {
+            if let Ok(words) = rt.words() {
                 tell_auditor_usage(rt, &words);
             }
         }
@@ -61,13 +89,13 @@ fn tell<F: Shelf>(rt: &HostRuntime, status: Status, shelf: &NotedShelf<F>, last:
 }
 
 /// Runs the command over files and standard output.
-fn answer(rt: HostRuntime) -> Status {
+fn answer(rt: HostRuntime) -> Status
+    ensures { AnswersUntold ⟦<NotedShelf<FileShelf<HostRuntime>> as Shelf>⟧ result }
+{
     let Ok(files) = rt.clone() else {
         return Status::Memory;
     };
-    let mut shelf = NotedShelf::new(rt.alloc(), FileShelf::new(files));
-    let mut out = NotedSink::new(rt.alloc(), StdSink::new(io::writer(&rt)));
-    let status = answer_words(&rt, &mut shelf, &mut out);
+    let Ran { status, shelf, out } = run_over(&rt, files, io::writer(&rt));
     tell(&rt, status, &shelf, out.last());
     status
 }
@@ -80,6 +108,8 @@ fn exit_code(status: Status) -> ExitCode
 }
 
 /// Does what the program does, and gives what its process ends with.
-pub fn run_auditor(rt: HostRuntime) -> ExitCode {
+pub fn run_auditor(rt: HostRuntime) -> ExitCode
+    ensures { EndsAsAnswer ⟦<NotedShelf<FileShelf<HostRuntime>> as Shelf>⟧ result }
+{
     exit_code(answer(rt))
 }

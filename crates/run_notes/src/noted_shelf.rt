@@ -1,5 +1,6 @@
 //! A shelf that remembers under which name it last started each log.
-ghost use Rattle.std.specs.Prelude.{◌≡◌};
+ghost use Rattle.std.specs.Prelude.{◌≡◌, ℕ, List};
+ghost use Rattle.audit_base.specs.declared.terms.Which.{Which};
 
 use audit_base::terms::Which;
 use log_source::shelf::{Failed, Shelf, StartFault};
@@ -15,8 +16,14 @@ pub struct NotedShelf<F> {
 }
 
 impl<F: Shelf> NotedShelf<F> {
-    /// The shelf with no name remembered. Takes no memory.
-    pub fn new(alloc: Global, shelf: F) -> NotedShelf<F> {
+    /// The shelf with no name remembered. What it tells, has and has started is what the shelf does. Takes no memory.
+    pub fn new(alloc: Global, shelf: F) -> NotedShelf<F>
+        ensures tells { ⟦<NotedShelf<F> as Shelf>⟧.tells result ≡ F.tells shelf }
+        ensures logs { (which : Which) (name : List ℕ) →
+            ⟦<NotedShelf<F> as Shelf>⟧.log_of result which name ≡ F.log_of shelf which name }
+        ensures slots { (which : Which) →
+            ⟦<NotedShelf<F> as Shelf>⟧.slot result which ≡ F.slot shelf which }
+    {
         NotedShelf {
             shelf,
             orders: None,

@@ -17,8 +17,10 @@ pub struct NotedSink<K> {
 }
 
 impl<K: Sink> NotedSink<K> {
-    /// The sink with nothing remembered. Takes no memory.
-    pub fn new(alloc: Global, sink: K) -> NotedSink<K> {
+    /// The sink with nothing remembered. What was written to it, and its faults, are those of the sink. Takes no memory.
+    pub fn new(alloc: Global, sink: K) -> NotedSink<K>
+        ensures { ⟦<NotedSink<K> as Sink>⟧.state result ≡ K.state sink }
+    {
         NotedSink {
             sink,
             last: Vec::new(alloc),
