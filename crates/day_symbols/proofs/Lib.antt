@@ -1,0 +1,2 @@
+pub mod SymbolLemmas
+mod ShareLemmas
