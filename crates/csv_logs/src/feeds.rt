@@ -42,8 +42,6 @@ pub struct CsvFeed<K> {
     pub header: bool,
     /// The first bad line, once it has ended.
     pub bad: Option<BadPlace>,
-    /// What reads the points in time of the lines.
-    pub stamps: StampReader,
 }
 
 /// The feed of an order log.
@@ -65,7 +63,6 @@ impl<R: LogEntry, K: Collector<Entry = R>> CsvFeed<K> {
             offset: 0,
             header: false,
             bad: None,
-            stamps: StampReader::new(),
         }
     }
 
@@ -110,12 +107,13 @@ impl<R: LogEntry, K: Collector<Entry = R>> CsvFeed<K> {
             self.offset += size as u64;
             return Ok(());
         }
+        let mut stamps = StampReader::new();
         let outcome = take_text(
             self.alloc,
             &mut self.entries,
             self.header,
             text,
-            &mut self.stamps,
+            &mut stamps,
         )?;
         self.move_on(start, size, outcome);
         Ok(())
@@ -127,6 +125,7 @@ impl<R: LogEntry, K: Collector<Entry = R>> CsvFeed<K> {
         &mut self,
         reader: &mut Reader<I>,
         fields: &mut Fields,
+        stamps: &mut StampReader,
         line: &[u8],
         unquoted: bool,
     ) -> Result<(), NoMemory>
@@ -147,7 +146,7 @@ impl<R: LogEntry, K: Collector<Entry = R>> CsvFeed<K> {
             return self.end_line(line);
         }
         fields.read_next(reader, unquoted)?;
-        let outcome = take_fields(&mut self.entries, self.header, fields, &mut self.stamps)?;
+        let outcome = take_fields(&mut self.entries, self.header, fields, stamps)?;
         self.move_on(self.offset, line.len() + 1, outcome);
         Ok(())
     }
@@ -190,6 +189,7 @@ impl<R: LogEntry, K: Collector<Entry = R>> CsvFeed<K> {
             .flexible(true)
             .from_reader(self.alloc, left);
         let mut fields = Fields::new(self.alloc);
+        let mut stamps = StampReader::new();
         let plain = is_plain(left);
         'lines: while self.bad.is_none() {
             let Some((line, later)) = split_line(left) else {
@@ -200,7 +200,7 @@ impl<R: LogEntry, K: Collector<Entry = R>> CsvFeed<K> {
             if !unquoted && !is_closed(text) {
                 break;
             }
-            self.read_line(&mut reader, &mut fields, line, unquoted)?;
+            self.read_line(&mut reader, &mut fields, &mut stamps, line, unquoted)?;
             left = later;
         }
         Ok(left)
