@@ -1,3 +1,4 @@
 pub mod CheckLemmas
 pub mod ResolveLemmas
 pub mod DraftLemmas
+pub mod RisingLemmas

@@ -1,7 +1,6 @@
 -- The trades of a symbol one by one: what is known after some of them.
 use Rattle.std.specs.Prelude.{◌≡◌, ℕ, List, [], ◌∷◌, ◌++◌, Option, None, Some, is_none, map, option_map, length, if◌then◌else◌}
 use Rattle.std.specs.Option.{option_or}
-use Rattle.indexmap.specs.IndexMap.{get}
 use Rattle.audit_base.specs.declared.terms.Side.TheVariants.{Buy, Sell}
 use Rattle.audit_base.specs.declared.records.TradeRecord.{TradeRecord}
 use Rattle.audit_base.specs.declared.orders.Order.{Order}
@@ -12,18 +11,18 @@ use Rattle.audit_base.specs.Deals.{AreDeals}
 use Rattle.audit_base.specs.Least.{least_answer, least_with, only_if}
 use Rattle.audit_base.specs.Orders.{same_name, on_side_with_key}
 use Rattle.audit_base.specs.Trades.{trades_of, trade_at, trade_place, duplicate_trade, unknown_order, deal_of}
-use Rattle.seeded_hash.specs.ShortPairs.{same_block, short_pair_of, held_by}
 use Rattle.instruction_history.specs.Flaws.{finding_at, found_by, NamesNoOrder}
 use Rattle.matching_core.specs.declared.deals_so_far.DealsSoFar.{DealsSoFar}
 use Rattle.matching_core.specs.declared.sound_deals.SoundDeals.{SoundDeals}
 use Rattle.matching_core.specs.declared.trade_ids.TradeIds.{TradeIds}
+use Rattle.matching_core.specs.IdOrder.{place_among}
+use Rattle.matching_core.specs.MappedIds.{first_mapped}
 
 -- Trade ids.
 
--- the place of the first trade with an id, as two maps hold it
+-- the place of the first trade with an id: as the maps hold it, or as it stands among the ids that rise
 abbrev pub first_in : TradeIds → List ℕ → Option ℕ
-first_in ids id =
-    held_by (get same_block ids.short) (get same_name ids.long id) (short_pair_of id [])
+first_in ids id = option_or (first_mapped ids.mapped id) (place_among ids.rising id)
 
 -- one id more: it has this place, and every other id has what it had
 abbrev pub AddsId : TradeIds → TradeIds → List ℕ → ℕ → Type 0

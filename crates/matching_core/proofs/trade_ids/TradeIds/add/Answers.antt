@@ -1,19 +1,18 @@
-use Rattle.std.proofs.Common.{◌≡◌, List, ℕ, Bool, true, false, [], bytes_eq, refl, sym, ◌∙◌}
-use Rattle.std.specs.Prelude.{◌&&◌}
-use Rattle.indexmap.specs.IndexMap.{get}
-use Rattle.audit_base.specs.Orders.{same_name}
-use Rattle.seeded_hash.specs.ShortPairs.{same_block, short_pair_of}
-use Rattle.seeded_hash.proofs.ShortPairLemmas.{adds_short}
+use Rattle.std.proofs.Common.{◌∙◌, List, ℕ, sym, ap}
+use Rattle.std.specs.Option.{option_or}
+use Rattle.matching_core.specs.IdOrder.{place_among}
+use Rattle.matching_core.specs.MappedIds.{first_mapped}
+use Rattle.matching_core.proofs.RisingLemmas.{above-new, adds-rising}
 use Rattle.matching_core.proofs.trade_ids.TradeIds.add.Goals as goal
 
-same-ids : (a b : List ℕ) → same_name a b ≡ (bytes_eq a b && bytes_eq [] [])
-same-ids a b = go (same_name a b)
-  where
-    go : (b : Bool) → b ≡ (b && true)
-    go true = refl
-    go false = refl
+pub returns-then-are_below-clause-earlier : goal.returns-then-are_below-clause-earlier
+returns-then-are_below-clause-earlier c =
+    let above = sym c.are_below.ensures ∙ c.if-are_below.true in
+    sym (above-new c.args.self.now.rising (first_mapped c.args.self.now.mapped) c.args.id.now above (c.args.self.now.apart c.args.id.now above))
 
-pub returns-in_ok-insert-in-Some-clause-adds : goal.returns-in_ok-insert-in-Some-clause-adds
-returns-in_ok-insert-in-Some-clause-adds c =
-    adds_short same_name (λ id. id) (λ id. []) same-ids (get same_block c.insert.new.self) (get same_block c.args.self.now.short) (get same_name c.args.self.now.long)
-    c.args.id.now c.args.place c.in-Some.short ((λ i. short_pair_of (sym c.bytes.ensures.same i) []) ∙ sym c.of.ensures ∙ c.in-Some.is) c.in_ok-insert-in-Some.ensures.updates.0
+pub returns-then-are_below-clause-adds : goal.returns-then-are_below-clause-adds
+returns-then-are_below-clause-adds c = λ other.
+    let above = sym c.are_below.ensures ∙ c.if-are_below.true in
+    let mapped = first_mapped c.args.self.now.mapped in
+    ap (λ (es : List (List ℕ × ℕ)). option_or (mapped other) (place_among es other)) c.in_ok-push.ensures.adds
+    ∙ adds-rising mapped c.args.self.now.rising c.args.id.now c.args.place above (c.args.self.now.apart c.args.id.now above) other
