@@ -9,9 +9,9 @@ ghost use Rattle.audit_base.specs.Bounds.{IsLeastCut, IsBestUniform};
 ghost use Rattle.audit_base.specs.Orders.{AreOrders};
 ghost use Rattle.audit_base.specs.declared.orders.Order.{Order};
 ghost use Rattle.volume_bound.specs.Extremes as extreme;
-ghost use Rattle.volume_bound.specs.Sides.{ForOrdersOf, cut_of, executable_of};
+ghost use Rattle.volume_bound.specs.Sides.{ForOrdersOf};
 
-use super::sums::Sums;
+use super::sums::{Counted, Sums};
 use audit_base::faults::NoMemory;
 use audit_base::orders::Cut;
 use order_list::lists::OrderList;
@@ -39,42 +39,17 @@ fn greater(best: Cut, other: Cut) -> Cut
     }
 }
 
-/// The cut at a price, given the cut that was taken last: limits that follow each other are mostly the
-/// same.
-fn cut_after(sums: &Sums, last: Cut, price: u64) -> Cut
-    requires { last.volume ≡ cut_of sums.now last.price }
-    ensures { result ≡ record { price = price; volume = cut_of sums.now price } }
-{
-    if price == last.price {
-        last
-    } else {
-        sums.cut_at(price)
-    }
-}
-
-/// The executable volume at a price, given the one that was taken last.
-fn executable_after(sums: &Sums, last: Cut, price: u64) -> Cut
-    requires { last.volume ≡ executable_of sums.now last.price }
-    ensures { result ≡ record { price = price; volume = executable_of sums.now price } }
-{
-    if price == last.price {
-        last
-    } else {
-        sums.executable_at(price)
-    }
-}
-
 /// The least cut of the orders that have these sums, over all prices from 0 to 10^18, and the least price
 /// that reaches it.
 pub fn least_cut_of(sums: &Sums) -> Cut
     ensures least { ForOrdersOf sums.now (λ orders. IsLeastCut orders result) }
     ensures in_range { result.price ≤ 10 ^ 18 }
 {
-    let mut best = sums.cut_at(0);
-    let mut last = best;
+    let mut last = sums.cut_after(Counted::NONE, 0);
+    let mut best = last.cut;
     for bid in sums.bids() {
-        last = cut_after(sums, last, bid.limit.units() + 1);
-        best = lesser(best, last);
+        last = sums.cut_after(last, bid.limit.units() + 1);
+        best = lesser(best, last.cut);
     }
     best
 }
@@ -85,11 +60,11 @@ pub fn best_uniform_of(sums: &Sums) -> Cut
     ensures best { ForOrdersOf sums.now (λ orders. IsBestUniform orders result) }
     ensures in_range { result.price ≤ 10 ^ 18 }
 {
-    let mut best = sums.executable_at(0);
-    let mut last = best;
+    let mut last = sums.executable_after(Counted::NONE, 0);
+    let mut best = last.cut;
     for ask in sums.asks() {
-        last = executable_after(sums, last, ask.limit.units());
-        best = greater(best, last);
+        last = sums.executable_after(last, ask.limit.units());
+        best = greater(best, last.cut);
     }
     best
 }
