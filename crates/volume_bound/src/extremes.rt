@@ -9,7 +9,8 @@ ghost use Rattle.audit_base.specs.Bounds.{IsLeastCut, IsBestUniform};
 ghost use Rattle.audit_base.specs.Orders.{AreOrders};
 ghost use Rattle.audit_base.specs.declared.orders.Order.{Order};
 ghost use Rattle.volume_bound.specs.Extremes as extreme;
-ghost use Rattle.volume_bound.specs.Sides.{ForOrdersOf};
+ghost use Rattle.volume_bound.specs.Counting.{IsCounted};
+ghost use Rattle.volume_bound.specs.Sides.{ForOrdersOf, cut_of, executable_of};
 
 use super::sums::{Counted, Sums};
 use audit_base::faults::NoMemory;
@@ -39,6 +40,34 @@ fn greater(best: Cut, other: Cut) -> Cut
     }
 }
 
+/// The cut at a price, given what was counted last: limits that follow each other are mostly the same.
+fn cut_after(sums: &Sums, last: Counted, price: u64) -> Counted
+    requires counted { IsCounted sums.now last }
+    requires volume { last.cut.volume ≡ cut_of sums.now last.cut.price }
+    ensures same { result.cut ≡ record { price = price; volume = cut_of sums.now price } }
+    ensures counted { IsCounted sums.now result }
+{
+    if price == last.cut.price {
+        last
+    } else {
+        sums.cut_after(last, price)
+    }
+}
+
+/// The executable volume at a price, given what was counted last.
+fn executable_after(sums: &Sums, last: Counted, price: u64) -> Counted
+    requires counted { IsCounted sums.now last }
+    requires volume { last.cut.volume ≡ executable_of sums.now last.cut.price }
+    ensures same { result.cut ≡ record { price = price; volume = executable_of sums.now price } }
+    ensures counted { IsCounted sums.now result }
+{
+    if price == last.cut.price {
+        last
+    } else {
+        sums.executable_after(last, price)
+    }
+}
+
 /// The least cut of the orders that have these sums, over all prices from 0 to 10^18, and the least price
 /// that reaches it.
 pub fn least_cut_of(sums: &Sums) -> Cut
@@ -48,7 +77,7 @@ pub fn least_cut_of(sums: &Sums) -> Cut
     let mut last = sums.cut_after(Counted::NONE, 0);
     let mut best = last.cut;
     for bid in sums.bids() {
-        last = sums.cut_after(last, bid.limit.units() + 1);
+        last = cut_after(sums, last, bid.limit.units() + 1);
         best = lesser(best, last.cut);
     }
     best
@@ -63,7 +92,7 @@ pub fn best_uniform_of(sums: &Sums) -> Cut
     let mut last = sums.executable_after(Counted::NONE, 0);
     let mut best = last.cut;
     for ask in sums.asks() {
-        last = sums.executable_after(last, ask.limit.units());
+        last = executable_after(sums, last, ask.limit.units());
         best = greater(best, last.cut);
     }
     best

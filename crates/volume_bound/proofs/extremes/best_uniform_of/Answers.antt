@@ -1,4 +1,4 @@
-use Rattle.std.proofs.Common.{length, ap, arith}
+use Rattle.std.proofs.Common.{length, ap, arith, refl}
 use Rattle.std.proofs.lemmas.List.{take_all}
 use Rattle.volume_bound.specs.Sides.{executable_of}
 use Rattle.volume_bound.proofs.ExtremeLemmas.{greatest-more, greatest-found}
@@ -9,6 +9,7 @@ loop-ask-preserved c =
     let limits = c.args.sums.now.asks in (
       greatest-more (executable_of c.args.sums.now) limits c.loop-ask.ask-index c.ask-item.result (omega (arith, ap length c.asks-ask-items.ensures)) (rw (← c.asks-ask-items.ensures) c.ask-item.is) c.units.ensures.in_range c.loop-ask.best c.executable_after-last-in-loop-ask.result.cut c.greater-best.result c.loop-ask.invariant.0 (rw (← c.units.ensures.same) c.executable_after-last-in-loop-ask.ensures.same) c.greater-best.ensures,
       c.executable_after-last-in-loop-ask.ensures.counted,
+      rw c.executable_after-last-in-loop-ask.ensures.same refl,
     )
 
 pub returns-clause-best : goal.returns-clause-best
