@@ -1,5 +1,5 @@
 -- A fair matching and the greatest volume of the rule decide the audit.
-use Rattle.std.proofs.Common.{◌≡◌, ℕ, ◌<◌, ◌≤◌, List, length, All, Option, Some, sym, ap, ◌∙◌, subst}
+use Rattle.std.proofs.Common.{◌≡◌, ℕ, ◌<◌, ◌≤◌, List, All, Option, Some, sym, ap, ◌∙◌, subst}
 use Rattle.std.specs.Prelude.{option_map, ◌+◌}
 use Rattle.audit_base.specs.declared.terms.Side.{Side}
 use Rattle.audit_base.specs.declared.terms.Side.TheVariants.{Buy, Sell}
@@ -13,7 +13,6 @@ use Rattle.audit_base.specs.declared.flaws.DueOrder.{DueOrder}
 use Rattle.audit_base.specs.declared.flaws.Evidence.TheVariants.{Volume}
 use Rattle.audit_base.specs.RuleKinds.{asks_one_price}
 use Rattle.audit_base.specs.Orders.{IsOrderList}
-use Rattle.audit_base.specs.Priority.{IsRanked}
 use Rattle.audit_base.specs.Deals.{volume, NamesOrders, AreDeals, AreTotals}
 use Rattle.audit_base.specs.Bounds.{IsBound}
 use Rattle.audit_base.specs.Units.{due_by_rank}
@@ -25,25 +24,20 @@ use Rattle.call_laws.proofs.ShortLemmas.{best-stands, lesser-best}
 use Rattle.call_laws.proofs.VolumeLemmas.{reached, due_order, below, early-offence, late-offence}
 use Rattle.matching_core.specs.declared.outcomes.Outcome.{Outcome}
 use Rattle.matching_core.specs.declared.outcomes.Outcome.TheVariants as outcome
-use Rattle.call_auction.specs.declared.fair_matchings.FairMatching.{FairMatching}
 use Rattle.call_auction.specs.FairMatchings.{IsFairMatching, IsFairMatchingOffence}
 use Rattle.call_auction.specs.Audits.{IsGreatestOf, IsBroken, IsAudited}
 use Rattle.call_auction.specs.Dues.{with_due}
 use Rattle.call_auction.specs.Outcomes.{short_of, IsShortOf, IsVolumeFinding, IsOutcome}
 
--- the ranks of a side are indices of the order list
-pub ranks-inside : (orders : List Order) (side : Side) (ranks : List ℕ) → IsRanked orders side ranks → All (λ i. i < length orders) ranks
-ranks-inside orders side ranks ranked = λ k d lt. (ranked.only k d lt).inside
-
 -- what is told of the best short orders is what the finding of the volume shows
-module _ (orders : List Order) (known : FairMatching) (count most : ℕ) where
-  pub volume-finding : (traded bids asks : List ℕ) (v : ℕ) (bid ask : Option DueOrder) (finding : Finding) → traded ≡ known.totals.0 → v ≡ known.totals.1 → bids ≡ known.sides.bids.items → asks ≡ known.sides.asks.items
-      → IsShortOf orders bids traded most bid → IsShortOf orders asks traded most ask
+module _ (orders : List Order) (known : List ℕ × ℕ) (count most : ℕ) where
+  pub volume-finding : (traded : List ℕ) (v : ℕ) (bid ask : Option DueOrder) (finding : Finding) → traded ≡ known.0 → v ≡ known.1
+      → IsShortOf orders traded most Buy bid → IsShortOf orders traded most Sell ask
       → finding ≡ finding_of orders (record { place = count + 1; evidence = Volume (record { reached = v; greatest = most }) bid ask }) → IsVolumeFinding orders known count most finding
-  volume-finding traded bids asks v bid ask finding traded_is v_is bids_is asks_is short_bid short_ask is deals list sides totals =
+  volume-finding traded v bid ask finding traded_is v_is short_bid short_ask is deals totals =
       let are = subst (AreTotals orders deals) (sym traded_is) totals in
-      let first = short_bid Buy deals list (subst (IsRanked orders Buy) (sym bids_is) sides.bids) are ∙ ap (λ (t : List ℕ). short_of orders deals t most Buy) traded_is in
-      let second = short_ask Sell deals list (subst (IsRanked orders Sell) (sym asks_is) sides.asks) are ∙ ap (λ (t : List ℕ). short_of orders deals t most Sell) traded_is in
+      let first = short_bid deals are ∙ ap (λ (t : List ℕ). short_of orders deals t most Buy) traded_is in
+      let second = short_ask deals are ∙ ap (λ (t : List ℕ). short_of orders deals t most Sell) traded_is in
       is ∙ (λ j. finding_of orders (record { place = count + 1; evidence = Volume (record { reached = v_is j; greatest = most }) (first j) (second j) }))
 
 -- a first offence, which no deals that conform have
@@ -64,19 +58,19 @@ short-due orders deals totals side most v i are same e =
     ∙ (λ j. Some (record { order = record { index = i; traded = are.each i s.inside j }; due = due_by_rank orders (s.of_side j) (same j) i }))
 
 -- what is told of the volume of a fair matching is the answer of the audit
-pub audited : (r : VolumeRule) (orders : List Order) (deals : List Deal) (count : ℕ) (most : Cut) (known : FairMatching) (result : Outcome) → IsOrderList orders → All (NamesOrders orders) deals → AreDeals deals
+pub audited : (r : VolumeRule) (orders : List Order) (deals : List Deal) (count : ℕ) (most : Cut) (known : List ℕ × ℕ) (result : Outcome) → IsOrderList orders → All (NamesOrders orders) deals → AreDeals deals
     → IsGreatestOf r orders most → IsFairMatching (asks_one_price r) orders deals known → IsOutcome orders known count most result → IsAudited r orders deals count result
 audited r orders deals count most known (outcome.Broken finding) list named ranges g f (lt, is) =
-    let less : volume deals < volume g.some = subst (λ v. v < volume g.some) f.volume_is (subst (λ v. known.totals.1 < v) (sym g.reached) lt) in
+    let less : volume deals < volume g.some = subst (λ v. v < volume g.some) f.volume_is (subst (λ v. known.1 < v) (sym g.reached) lt) in
     let n = (conforms-fair r orders g.some g.conforms).0 in
     let bid = lesser-best orders deals g.some f.matching n less Buy in
     let ask = lesser-best orders deals g.some f.matching n less Sell in
-    let first = short-due orders deals known.totals.0 Buy most.volume (volume g.some) bid.0 f.totals (sym g.reached) bid.1 in
-    let second = short-due orders deals known.totals.0 Sell most.volume (volume g.some) ask.0 f.totals (sym g.reached) ask.1 in
-    let shows = is deals list f.ranked f.totals ∙ (λ j. finding_of orders (record { place = count + 1; evidence = Volume (record { reached = f.volume_is j; greatest = sym g.reached j }) (first j) (second j) })) in
+    let first = short-due orders deals known.0 Buy most.volume (volume g.some) bid.0 f.totals (sym g.reached) bid.1 in
+    let second = short-due orders deals known.0 Sell most.volume (volume g.some) ask.0 f.totals (sym g.reached) ask.1 in
+    let shows = is deals f.totals ∙ (λ j. finding_of orders (record { place = count + 1; evidence = Volume (record { reached = f.volume_is j; greatest = sym g.reached j }) (first j) (second j) })) in
     broken r orders deals count finding ranges (late-offence r orders deals count finding f.no_offence (below r orders deals g.some count bid.0 ask.0 finding list g.ranges g.conforms less bid.1 ask.1 shows))
 audited r orders deals count most known (outcome.Conforms reached_is) list named ranges g f (le, is) =
-    let over : volume g.some ≤ volume deals = subst (λ v. volume g.some ≤ v) f.volume_is (subst (λ v. v ≤ known.totals.1) (sym g.reached) le) in
+    let over : volume g.some ≤ volume deals = subst (λ v. volume g.some ≤ v) f.volume_is (subst (λ v. v ≤ known.1) (sym g.reached) le) in
     let c = reached r orders deals g.some named f.no_offence g.conforms over in
     let same = sym (conforms-greatest r orders deals most.volume ranges c (subst (IsGreatestUnder r orders) g.reached (greatest-conforms r orders g.some g.ranges g.conforms))) in
     rw is (record {

@@ -1,5 +1,5 @@
 -- What is known of deals that are a fair matching.
-use Rattle.std.specs.Prelude.{◌≡◌, Bool, List, Option, Some, None}
+use Rattle.std.specs.Prelude.{◌≡◌, ℕ, Bool, List, Option, Some, None}
 use Rattle.std.specs.Bool.{OnTrue}
 use Rattle.std.specs.Option.{option_or}
 use Rattle.audit_base.specs.declared.orders.Order.{Order}
@@ -8,8 +8,6 @@ use Rattle.audit_base.specs.declared.findings.Finding.{Finding}
 use Rattle.audit_base.specs.Deals.{AreTotals, volume}
 use Rattle.audit_base.specs.Calls.{Matching, Fair, OnePrice}
 use Rattle.audit_base.specs.CallOffences.{matching_offence, fair_offence}
-use Rattle.rank_order.specs.Sides.{AreRanked}
-use Rattle.call_auction.specs.declared.fair_matchings.FairMatching.{FairMatching}
 
 -- the offence of the first two parts, if there is one
 abbrev pub fair_matching_offence : Bool → List Order → List Deal → Option Finding
@@ -21,14 +19,13 @@ abbrev pub IsFairMatchingOffence : Bool → List Order → List Deal → Finding
 IsFairMatchingOffence uniform orders deals finding =
     fair_matching_offence uniform orders deals ≡ Some finding
 
--- the deals are a fair matching (of one price, where that is asked for), with what each order traded, the
--- volume and the ranks of both sides
+-- the deals are a fair matching (of one price, where that is asked for), with what each order traded and
+-- the volume
 pub record IsFairMatching (uniform : Bool) (orders : List Order) (deals : List Deal)
-    (known : FairMatching) : Type 0 where
+    (known : List ℕ × ℕ) : Type 0 where
   pub matching : Matching orders deals
   pub fair : Fair orders deals
   pub one_price : OnTrue uniform (OnePrice deals)
   pub no_offence : fair_matching_offence uniform orders deals ≡ None
-  pub totals : AreTotals orders deals known.totals.0
-  pub volume_is : known.totals.1 ≡ volume deals
-  pub ranked : AreRanked orders known.sides
+  pub totals : AreTotals orders deals known.0
+  pub volume_is : known.1 ≡ volume deals

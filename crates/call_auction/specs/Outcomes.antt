@@ -9,15 +9,11 @@ use Rattle.audit_base.specs.declared.findings.Finding.{Finding}
 use Rattle.audit_base.specs.declared.findings.Short.{Short}
 use Rattle.audit_base.specs.declared.flaws.DueOrder.{DueOrder}
 use Rattle.audit_base.specs.declared.flaws.Evidence.TheVariants.{Volume}
-use Rattle.audit_base.specs.Orders.{IsOrderList}
-use Rattle.audit_base.specs.Priority.{IsRanked}
 use Rattle.audit_base.specs.Deals.{AreTotals}
 use Rattle.audit_base.specs.CallOffences.{best_short}
 use Rattle.audit_base.specs.Flaws.{finding_of}
-use Rattle.rank_order.specs.Sides.{AreRanked}
 use Rattle.matching_core.specs.declared.outcomes.Outcome.{Outcome}
 use Rattle.matching_core.specs.declared.outcomes.Outcome.TheVariants as outcome
-use Rattle.call_auction.specs.declared.fair_matchings.FairMatching.{FairMatching}
 use Rattle.call_auction.specs.Dues.{with_due}
 
 -- the best short order of a side with its due, if it has one
@@ -25,28 +21,26 @@ abbrev pub short_of : List Order → List Deal → List ℕ → ℕ → Side →
 short_of orders deals traded most side =
     option_map (with_due orders traded most) (best_short orders deals side)
 
--- whichever side the ranks are of, and whichever deals the totals: the best short order of that side
-abbrev pub IsShortOf : List Order → List ℕ → List ℕ → ℕ → Option DueOrder → Type 0
-IsShortOf orders ranked traded most short =
-    (side : Side) (deals : List Deal) → IsOrderList orders → IsRanked orders side ranked
-    → AreTotals orders deals traded → short ≡ short_of orders deals traded most side
+-- whichever deals the totals are of: the best short order of the side with its due
+abbrev pub IsShortOf : List Order → List ℕ → ℕ → Side → Option DueOrder → Type 0
+IsShortOf orders traded most side short =
+    (deals : List Deal) → AreTotals orders deals traded
+    → short ≡ short_of orders deals traded most side
 
 -- whichever deals the totals are of: the finding of a volume below the greatest, behind the last trade,
 -- with the best short order of each side
-abbrev pub IsVolumeFinding : List Order → FairMatching → ℕ → ℕ → Finding → Type 0
-IsVolumeFinding orders known count most finding =
-    let traded = known.totals.0 in let volumes : Short = record { reached = known.totals.1; greatest = most } in
-    (deals : List Deal) → IsOrderList orders → AreRanked orders known.sides
-    → AreTotals orders deals traded → finding ≡ finding_of orders (record {
+abbrev pub IsVolumeFinding : List Order → List ℕ × ℕ → ℕ → ℕ → Finding → Type 0
+IsVolumeFinding orders totals count most finding =
+    let traded = totals.0 in let volumes : Short = record { reached = totals.1; greatest = most } in
+    (deals : List Deal) → AreTotals orders deals traded → finding ≡ finding_of orders (record {
       place = count + 1;
       evidence = Volume volumes (short_of orders deals traded most Buy)
           (short_of orders deals traded most Sell);
     })
 
 -- the finding where the volume is below the greatest, and else what was reached
-abbrev pub IsOutcome : List Order → FairMatching → ℕ → Cut → Outcome → Type 0
-IsOutcome orders known count most (outcome.Broken finding) =
-    (known.totals.1 < most.volume) × IsVolumeFinding orders known count most.volume finding
-IsOutcome orders known count most (outcome.Conforms reached) =
-    (most.volume ≤ known.totals.1)
-    × (reached ≡ record { traded = known.totals; bound = Some most })
+abbrev pub IsOutcome : List Order → List ℕ × ℕ → ℕ → Cut → Outcome → Type 0
+IsOutcome orders totals count most (outcome.Broken finding) =
+    (totals.1 < most.volume) × IsVolumeFinding orders totals count most.volume finding
+IsOutcome orders totals count most (outcome.Conforms reached) =
+    (most.volume ≤ totals.1) × (reached ≡ record { traded = totals; bound = Some most })

@@ -1,38 +1,37 @@
 //! The audit of a rule that asks for the greatest volume: a fair matching, and whether its volume is
 //! the greatest.
-ghost use Rattle.std.specs.Prelude.{◌≡◌, ◌<◌, ◌-◌, ◌^◌, All, IfOk, IfSome, length};
+ghost use Rattle.std.specs.Prelude.{◌≡◌, ◌<◌, ◌-◌, ◌^◌, IfOk, IfSome, length};
 ghost use Rattle.audit_base.specs.Orders.{IsOrderList};
 ghost use Rattle.audit_base.specs.Deals.{IsDealList};
-ghost use Rattle.rank_order.specs.Sides.{AreRanked};
 ghost use Rattle.call_auction.specs.Audits.{IsGreatestOf, IsAudited};
 ghost use Rattle.call_auction.specs.Outcomes.{IsShortOf, IsVolumeFinding, IsOutcome};
 
 use super::dues::due_of;
-use super::fair_matchings::{FairMatching, fair_matching};
+use super::fair_matchings::fair_matching;
 use audit_base::faults::NoMemory;
 use audit_base::findings::{Finding, Short};
 use audit_base::flaws::{DueOrder, Evidence, Flaw, TradedOrder};
 use audit_base::orders::{Cut, Deal};
-use audit_base::terms::VolumeRule;
+use audit_base::terms::{Side, VolumeRule};
 use matching_core::outcomes::{CheckFault, Outcome, Reached};
+use matching_core::totals::Totals;
 use order_list::lists::OrderList;
 use short_order::searching::best_short;
 use std::alloc::Global;
 
-/// The best of the ranked orders that is not fully traded, with what it traded and its due.
+/// The best order of a side that is not fully traded, with what it traded and its due.
 fn short_with_due(
     orders: &OrderList<'_>,
-    ranked: &[usize],
     traded: &[u128],
     greatest: u128,
+    side: Side,
 ) -> Option<DueOrder>
-    requires few { length orders.now < 2 ^ 32 }
-    requires inside { All (λ i. i < length orders.now) ranked.now }
+    requires order_list { IsOrderList orders.now }
     requires count { length traded.now ≡ length orders.now }
-    ensures short { IsShortOf orders.now ranked.now traded.now greatest result }
+    ensures short { IsShortOf orders.now traded.now greatest side result }
     ensures inside { IfSome result (λ short. short.order.index < length orders.now) }
 {
-    let index = best_short(orders, ranked, traded)?;
+    let index = best_short(orders, traded, side)?;
     Some(DueOrder {
         order: TradedOrder {
             index,
@@ -44,22 +43,16 @@ fn short_with_due(
 
 /// Finding 14: the volume is below the greatest. It stands behind the last trade of the log, and shows
 /// the best short order of both sides with their dues.
-fn volume_finding(
-    orders: &OrderList<'_>,
-    fair: &FairMatching,
-    count: u32,
-    greatest: u128,
-) -> Finding
-    requires few { length orders.now < 2 ^ 32 }
-    requires ranked { AreRanked orders.now fair.now.sides }
-    requires totals { length fair.now.totals.0 ≡ length orders.now }
+fn volume_finding(orders: &OrderList<'_>, totals: &Totals, count: u32, greatest: u128) -> Finding
+    requires order_list { IsOrderList orders.now }
+    requires totals { length totals.now.0 ≡ length orders.now }
     requires count { count < 2 ^ 32 - 1 }
-    ensures { IsVolumeFinding orders.now fair.now count greatest result }
+    ensures { IsVolumeFinding orders.now totals.now count greatest result }
 {
-    let traded = fair.totals.as_slice();
-    let reached = fair.totals.volume();
-    let bid = short_with_due(orders, &fair.sides.bids, traded, greatest);
-    let ask = short_with_due(orders, &fair.sides.asks, traded, greatest);
+    let traded = totals.as_slice();
+    let reached = totals.volume();
+    let bid = short_with_due(orders, traded, greatest, Side::Buy);
+    let ask = short_with_due(orders, traded, greatest, Side::Sell);
     let flaw = Flaw {
         place: count + 1,
         evidence: Evidence::Volume(Short { reached, greatest }, bid, ask),
@@ -68,18 +61,17 @@ fn volume_finding(
 }
 
 /// What a fair matching comes to: whether its volume is the greatest.
-fn outcome_of(orders: &OrderList<'_>, fair: FairMatching, count: u32, most: Cut) -> Outcome
-    requires few { length orders.now < 2 ^ 32 }
-    requires ranked { AreRanked orders.now fair.sides }
-    requires totals { length fair.totals.0 ≡ length orders.now }
+fn outcome_of(orders: &OrderList<'_>, totals: Totals, count: u32, most: Cut) -> Outcome
+    requires order_list { IsOrderList orders.now }
+    requires totals { length totals.0 ≡ length orders.now }
     requires count { count < 2 ^ 32 - 1 }
-    ensures { IsOutcome orders.now fair count most result }
+    ensures { IsOutcome orders.now totals count most result }
 {
-    if fair.totals.volume() < most.volume {
-        return Outcome::Broken(volume_finding(orders, &fair, count, most.volume));
+    if totals.volume() < most.volume {
+        return Outcome::Broken(volume_finding(orders, &totals, count, most.volume));
     }
     Outcome::Conforms(Reached {
-        traded: fair.totals,
+        traded: totals,
         bound: Some(most),
     })
 }
@@ -103,7 +95,7 @@ pub fn audit_call(
     ensures { IfOk result (IsAudited rule orders.now deals.now count) }
 {
     match fair_matching(alloc, orders, deals, rule.asks_one_price()) {
-        Ok(fair) => Ok(outcome_of(orders, fair, count, most)),
+        Ok(totals) => Ok(outcome_of(orders, totals, count, most)),
         Err(CheckFault::Found(finding)) => Ok(Outcome::Broken(finding)),
         Err(CheckFault::Memory) => Err(NoMemory),
     }

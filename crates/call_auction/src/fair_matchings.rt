@@ -12,28 +12,18 @@ use matching_core::checking::check_matching;
 use matching_core::outcomes::CheckFault;
 use matching_core::totals::Totals;
 use order_list::lists::OrderList;
-use rank_order::ranking::{RankedSides, ranked_sides};
 use std::alloc::Global;
 
-/// What is known of deals that are a fair matching.
-#[derive(Debug, Drop)]
-pub struct FairMatching {
-    /// What each order traded, and the volume.
-    pub totals: Totals,
-    /// The orders that no record cancels, each side from the best to the worst.
-    pub sides: RankedSides,
-}
-
-/// The totals of deals that are a fair matching (under `uniform` one of one price), and the ranks of both
-/// sides; else the first of the findings 7 to 13: those that no matching has, and after them the least
-/// deal whose bid or ask is outranked by an order that is not fully traded. Ok exactly where the deals
-/// are such a matching and Found exactly where they are not, out of memory aside.
+/// The totals of deals that are a fair matching (under `uniform` one of one price); else the first of the
+/// findings 7 to 13: those that no matching has, and after them the least deal whose bid or ask is
+/// outranked by an order that is not fully traded. Ok exactly where the deals are such a matching and
+/// Found exactly where they are not, out of memory aside.
 pub fn fair_matching(
     alloc: Global,
     orders: &OrderList<'_>,
     deals: &[Deal],
     uniform: bool,
-) -> Result<FairMatching, CheckFault>
+) -> Result<Totals, CheckFault>
     requires order_list { IsOrderList orders.now }
     requires deal_list { IsDealList orders.now deals.now }
     ensures fair { IfOk result (IsFairMatching uniform orders.now deals.now) }
@@ -42,7 +32,6 @@ pub fn fair_matching(
 {
     deals_in_range(deals);
     let totals = check_matching(alloc, orders, deals, uniform)?;
-    let sides = ranked_sides(alloc, orders)?;
-    check_fair(orders, &sides.bids, &sides.asks, deals, totals.as_slice())?;
-    Ok(FairMatching { totals, sides })
+    check_fair(orders, deals, totals.as_slice())?;
+    Ok(totals)
 }

@@ -136,8 +136,9 @@ impl Standing {
             if upto <= ending.place as u64 {
                 return;
             }
-            let order = orders.at(ending.index);
-            self.books.cancel(order.side(), ending.index, order.limit());
+            let index = ending.index as usize;
+            let order = orders.at(index);
+            self.books.cancel(order.side(), index, order.limit());
             self.start += 1;
         }
     }

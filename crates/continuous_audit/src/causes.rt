@@ -1,5 +1,5 @@
 //! The deals by their incoming orders, and those of one order as they stand in the log.
-ghost use Rattle.std.specs.Prelude.{◌≡◌, ◌<◌, All, IfOk, length};
+ghost use Rattle.std.specs.Prelude.{◌≡◌, ◌<◌, ◌^◌, All, IfOk, length};
 ghost use Rattle.audit_base.specs.Orders.{order_at, place_at};
 ghost use Rattle.audit_base.specs.Deals.{NamesOrders, IsDealList};
 ghost use Rattle.audit_base.specs.Continuous.{incoming, resting};
@@ -13,8 +13,8 @@ use std::alloc::Global;
 /// A deal by the index of its incoming order and its own index.
 #[derive(Clone, Copy, Debug, PartialEq, Eq, PartialOrd, Ord)]
 pub struct Cause {
-    pub order: usize,
-    pub deal: usize,
+    pub order: u32,
+    pub deal: u32,
 }
 
 /// The order of a deal whose record is the cause.
@@ -49,15 +49,17 @@ fn collect_causes(
     orders: &OrderList<'_>,
     deals: &[Deal],
 ) -> Result<Vec<Cause>, NoMemory>
-    requires { All (NamesOrders orders.now) deals.now }
+    requires few_orders { length orders.now < 2 ^ 32 }
+    requires few_deals { length deals.now < 2 ^ 32 }
+    requires named { All (NamesOrders orders.now) deals.now }
     ensures { IfOk result (λ causes.
         causes.items ≡ causes_upto orders.now deals.now (length deals.now)) }
 {
     let mut causes = Vec::with_capacity(alloc, deals.len())?;
     for (index, deal) in deals.iter().enumerate() {
         let cause = Cause {
-            order: incoming(orders, deal),
-            deal: index,
+            order: incoming(orders, deal) as u32,
+            deal: index as u32,
         };
         causes.push(cause)?;
     }
@@ -70,10 +72,12 @@ pub fn sort_causes(
     orders: &OrderList<'_>,
     deals: &[Deal],
 ) -> Result<Vec<Cause>, NoMemory>
-    requires { All (NamesOrders orders.now) deals.now }
+    requires few_orders { length orders.now < 2 ^ 32 }
+    requires few_deals { length deals.now < 2 ^ 32 }
+    requires named { All (NamesOrders orders.now) deals.now }
     ensures { IfOk result (λ causes. AreCauses orders.now deals.now causes.items) }
 {
     let mut causes = collect_causes(alloc, orders, deals)?;
-    causes.sort()?;
+    causes.sort_unstable();
     Ok(causes)
 }

@@ -1,5 +1,5 @@
 //! The orders that a record ends, by the place of this record.
-ghost use Rattle.std.specs.Prelude.{◌≡◌, ◌++◌, OnOk, IfOk, length};
+ghost use Rattle.std.specs.Prelude.{◌≡◌, ◌<◌, ◌^◌, ◌++◌, OnOk, IfOk, length};
 ghost use Rattle.continuous_audit.specs.Endings.{AreEndings, endings_of, endings_upto};
 
 use audit_base::faults::NoMemory;
@@ -11,13 +11,13 @@ use std::alloc::Global;
 #[derive(Clone, Copy, Debug, PartialEq, Eq, PartialOrd, Ord)]
 pub struct Ending {
     pub place: u32,
-    pub index: usize,
+    pub index: u32,
 }
 
 /// Adds an order, if a record ends it.
 fn add_ending(
     endings: &mut Vec<Ending>,
-    index: usize,
+    index: u32,
     order: &ListedOrder<'_>,
 ) -> Result<(), NoMemory>
     ensures { OnOk result (endings.new.items ≡ endings.old.items ++ endings_of index order.now) }
@@ -33,20 +33,22 @@ fn add_ending(
 
 /// The orders that a record ends, in log order.
 fn collect_endings(alloc: Global, orders: &OrderList<'_>) -> Result<Vec<Ending>, NoMemory>
+    requires few { length orders.now < 2 ^ 32 }
     ensures { IfOk result (λ endings. endings.items ≡ endings_upto orders.now (length orders.now)) }
 {
     let mut endings = Vec::with_capacity(alloc, orders.len())?;
     for index in 0..orders.len() {
-        add_ending(&mut endings, index, &orders.at(index))?;
+        add_ending(&mut endings, index as u32, &orders.at(index))?;
     }
     Ok(endings)
 }
 
 /// The orders that a record ends, by the place of this record.
 pub fn sort_endings(alloc: Global, orders: &OrderList<'_>) -> Result<Vec<Ending>, NoMemory>
+    requires few { length orders.now < 2 ^ 32 }
     ensures { IfOk result (λ endings. AreEndings orders.now endings.items) }
 {
     let mut endings = collect_endings(alloc, orders)?;
-    endings.sort()?;
+    endings.sort_unstable();
     Ok(endings)
 }

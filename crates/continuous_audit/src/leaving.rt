@@ -52,7 +52,7 @@ pub fn refresh_left(
 {
     let (deals, causes) = (market.deals, market.causes);
     for at in start..running.at {
-        let deal = &deals[causes[at].deal];
+        let deal = &deals[causes[at].deal as usize];
         let bid_left = left_at(sizes, &running.traded, deal.bid);
         let ask_left = left_at(sizes, &running.traded, deal.ask);
         set_left(left, deal.bid, deal.ask, bid_left, ask_left);

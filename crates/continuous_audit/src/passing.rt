@@ -29,7 +29,7 @@ fn outranks(market: &Market<'_>, over: usize, at: usize) -> bool
         (order_at market.now.orders.now (resting_at market.now at)) }
 {
     let (orders, deals, causes) = (market.orders, market.deals, market.causes);
-    let deal = &deals[causes[at].deal];
+    let deal = &deals[causes[at].deal as usize];
     let index = resting_of(orders, deal);
     better(&orders.at(over), &orders.at(index))
 }
@@ -44,7 +44,7 @@ fn priority_flaw(market: &Market<'_>, numbers: &Numbers, over: usize, at: usize)
         (caused_at market.now at) over }
 {
     let (orders, deals, causes) = (market.orders, market.deals, market.causes);
-    let deal = &deals[causes[at].deal];
+    let deal = &deals[causes[at].deal as usize];
     let index = resting_of(orders, deal);
     let (side, first, second) = (
         orders.at(index).side(),

@@ -42,10 +42,10 @@ pub fn check_deals(
     };
     while running.at < causes.len() {
         let cause = causes[running.at];
-        if cause.order != order {
+        if cause.order as usize != order {
             return None;
         }
-        let deal = &deals[cause.deal];
+        let deal = &deals[cause.deal as usize];
         let quantity = deal.quantity.value() as u128;
         let traded = &mut running.traded;
         let (bid_traded, ask_traded) = add_deal(traded, deal.bid, deal.ask, quantity);

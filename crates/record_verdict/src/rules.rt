@@ -68,7 +68,7 @@ fn audit_fair(alloc: Global, orders: &OrderList<'_>, deals: &[Deal]) -> Result<O
     ensures { IfOk result (IsCallAudited call.Fair orders.now deals.now) }
 {
     match fair_matching(alloc, orders, deals, false) {
-        Ok(fair) => Ok(conforming(fair.totals)),
+        Ok(totals) => Ok(conforming(totals)),
         Err(fault) => broken(fault),
     }
 }

@@ -1,43 +1,77 @@
 //! The best order of a side that is short.
-ghost use Rattle.std.specs.Prelude.{◌≡◌, ◌<◌, All, IfSome, length, find};
-ghost use Rattle.short_order.specs.ShortOrders.{IsBestShortOf, is_short_by};
+ghost use Rattle.std.specs.Prelude.{◌≡◌, ◌<◌, IfSome, length};
+ghost use Rattle.audit_base.specs.Orders.{side_at, IsOrderList, Stands};
+ghost use Rattle.audit_base.specs.Priority.{best};
+ghost use Rattle.short_order.specs.ShortOrders.{IsBestShortOf, is_short_on};
+ghost use Rattle.short_order.specs.Searching as spec;
 
+use audit_base::terms::Side;
 use order_list::lists::OrderList;
+use rank_order::comparing::better;
 
-/// Whether the order at this index has traded less than its quantity.
-fn is_short_by(orders: &OrderList<'_>, traded: &[u128], index: usize) -> bool
+/// Whether the order at this index is of the side, no record cancels it, and it has traded less than its
+/// quantity.
+fn is_short_on(orders: &OrderList<'_>, traded: &[u128], side: Side, index: usize) -> bool
     requires inside { index < length orders.now }
     requires count { length traded.now ≡ length orders.now }
-    ensures { result ≡ is_short_by orders.now traded.now index }
+    ensures { result ≡ is_short_on orders.now traded.now side index }
 {
-    traded[index] < orders.at(index).quantity().value() as u128
+    let order = orders.at(index);
+    order.stands_on(side) && traded[index] < order.quantity().value() as u128
 }
 
-/// The first member of `ranked` that is short.
-fn first_short(orders: &OrderList<'_>, ranked: &[usize], traded: &[u128]) -> Option<usize>
-    requires inside { All (λ i. i < length orders.now) ranked.now }
-    requires count { length traded.now ≡ length orders.now }
-    ensures first { result ≡ find (is_short_by orders.now traded.now) ranked.now }
-    ensures inside { IfSome result (λ i. i < length orders.now) }
+/// The better of an order and the one that was the best so far, if there is one.
+fn better_of(orders: &OrderList<'_>, held: Option<usize>, index: usize) -> usize
+    requires inside { index < length orders.now }
+    requires held { IfSome held (λ i. i < length orders.now) }
+    requires sides { IfSome held (λ i. side_at orders.now index ≡ side_at orders.now i) }
+    ensures { result ≡ spec.better_of orders.now held index }
 {
-    for index in ranked {
-        if is_short_by(orders, traded, *index) {
-            return Some(*index);
+    match held {
+        Some(held) => {
+            if better(&orders.at(index), &orders.at(held)) {
+                index
+            } else {
+                held
+            }
         }
+        None => index,
     }
-    None
 }
 
-/// The first member of `ranked` that is short: what it has traded is below its quantity. None exactly
-/// where none is short. `ranked` holds indices of orders, and `traded` what each order has traded, by its
-/// index. Where `ranked` is the rank of a side by price-time priority and `traded` is what deals come to,
-/// this is the best short order of the side. Takes no memory.
-pub fn best_short(orders: &OrderList<'_>, ranked: &[usize], traded: &[u128]) -> Option<usize>
-    requires inside { All (λ i. i < length orders.now) ranked.now }
+/// The best short order up to this one, from the best of those before it.
+fn next_best(
+    orders: &OrderList<'_>,
+    traded: &[u128],
+    side: Side,
+    held: Option<usize>,
+    index: usize,
+) -> Option<usize>
+    requires inside { index < length orders.now }
     requires count { length traded.now ≡ length orders.now }
-    ensures first { result ≡ find (is_short_by orders.now traded.now) ranked.now }
-    ensures best { IsBestShortOf orders.now ranked.now traded.now result }
+    requires held { IfSome held (Stands orders.now side) }
+    ensures { result ≡ spec.next_best orders.now (is_short_on orders.now traded.now side) held index }
+{
+    if is_short_on(orders, traded, side, index) {
+        Some(better_of(orders, held, index))
+    } else {
+        held
+    }
+}
+
+/// The best order of a side (price-time priority) that is short: no record cancels it, and what it has
+/// traded is below its quantity. None exactly where none is short. `traded` is what each order has traded,
+/// by its index. One pass over the orders. Takes no memory.
+pub fn best_short(orders: &OrderList<'_>, traded: &[u128], side: Side) -> Option<usize>
+    requires order_list { IsOrderList orders.now }
+    requires count { length traded.now ≡ length orders.now }
+    ensures best { result ≡ best orders.now (is_short_on orders.now traded.now side) }
+    ensures of_deals { IsBestShortOf orders.now traded.now side result }
     ensures inside { IfSome result (λ i. i < length orders.now) }
 {
-    first_short(orders, ranked, traded)
+    let mut held = None;
+    for index in 0..orders.len() {
+        held = next_best(orders, traded, side, held, index);
+    }
+    held
 }

@@ -1,3 +1,4 @@
 pub mod ExtremeLemmas
 pub mod LimitLemmas
 pub mod ActiveLemmas
+mod AddingLemmas

@@ -68,9 +68,7 @@ sides-have_sums orders bids asks bid_moves ask_moves = record {
   supplies_below = λ p. sorted-sum (λ l. nat_lt l.limit p) Sell orders asks ask_moves;
 }
 
--- the sums of the first n limits, so far
-pub record AreSumsSoFar (limits : List LimitQuantity) (n : ℕ) (sums : List ℕ) (total : ℕ) : Type 0 where
-  pub count : length sums ≡ n + 1
-  pub each : (k : ℕ) → k ≤ n → get_or sums k 0 ≡ quantity_of (take k limits)
-  pub whole : total ≡ quantity_of (take n limits)
-  pub bounded : total ≤ n * 10 ^ 12
+-- the sum of the first n limits, so far
+pub record IsSumSoFar (limits : List LimitQuantity) (n : ℕ) (sum : ℕ) : Type 0 where
+  pub whole : sum ≡ quantity_of (take n limits)
+  pub bounded : sum ≤ n * 10 ^ 12

@@ -3,4 +3,6 @@ pub mod Laws
 pub mod Limits
 pub mod Sides
 -- What private functions pass on.
+pub mod Adding
+pub mod Counting
 pub mod Extremes

@@ -1,5 +1,5 @@
 -- One side of an order list as the limits and the quantities of its orders.
-use Rattle.std.specs.Prelude.{◌≡◌, ◌≤◌, ◌+◌, ◌*◌, ◌^◌, ℕ, List, map, take, length, slice_index, sum_by, nat_lt, nat_le, if◌then◌else◌}
+use Rattle.std.specs.Prelude.{◌≡◌, ◌≤◌, ◌*◌, ◌^◌, ℕ, List, map, sum_by, nat_lt, nat_le, if◌then◌else◌}
 use Rattle.std.specs.List.{filter}
 use Rattle.std.specs.List.Sorted.{IsNonDecreasingBy}
 use Rattle.audit_base.specs.declared.terms.Side.{Side}
@@ -31,13 +31,8 @@ quantity_upto limits p = sum_by (λ l. if nat_le l.limit p then l.quantity else 
 abbrev pub quantity_from : List LimitQuantity → ℕ → ℕ
 quantity_from limits p = sum_by (λ l. if nat_le p l.limit then l.quantity else 0) limits
 
--- at each k the first k quantities, added; all together are at most 2^32 times 10^12
-pub record AreSums (limits : List LimitQuantity) (sums : List ℕ) : Type 0 where
-  pub count : length sums ≡ length limits + 1
-  pub each : (k : ℕ) → k ≤ length limits → slice_index sums k ≡ quantity_of (take k limits)
-  pub small : quantity_of limits ≤ 2 ^ 32 * 10 ^ 12
-
--- rising limits, with these sums
-pub record AreSummed (limits : List LimitQuantity) (sums : List ℕ) : Type 0 where
+-- rising limits, whose quantities come to this together, at most 2^32 times 10^12
+pub record AreSummed (limits : List LimitQuantity) (quantity : ℕ) : Type 0 where
   pub rising : IsNonDecreasingBy (λ l. l.limit) limits
-  pub summed : AreSums limits sums
+  pub whole : quantity ≡ quantity_of limits
+  pub small : quantity ≤ 2 ^ 32 * 10 ^ 12

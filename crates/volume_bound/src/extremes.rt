@@ -9,9 +9,10 @@ ghost use Rattle.audit_base.specs.Bounds.{IsLeastCut, IsBestUniform};
 ghost use Rattle.audit_base.specs.Orders.{AreOrders};
 ghost use Rattle.audit_base.specs.declared.orders.Order.{Order};
 ghost use Rattle.volume_bound.specs.Extremes as extreme;
+ghost use Rattle.volume_bound.specs.Counting.{IsCounted};
 ghost use Rattle.volume_bound.specs.Sides.{ForOrdersOf, cut_of, executable_of};
 
-use super::sums::Sums;
+use super::sums::{Counted, Sums};
 use audit_base::faults::NoMemory;
 use audit_base::orders::Cut;
 use order_list::lists::OrderList;
@@ -39,28 +40,31 @@ fn greater(best: Cut, other: Cut) -> Cut
     }
 }
 
-/// The cut at a price, given the cut that was taken last: limits that follow each other are mostly the
-/// same.
-fn cut_after(sums: &Sums, last: Cut, price: u64) -> Cut
-    requires { last.volume ≡ cut_of sums.now last.price }
-    ensures { result ≡ record { price = price; volume = cut_of sums.now price } }
+/// The cut at a price, given what was counted last: limits that follow each other are mostly the same.
+fn cut_after(sums: &Sums, last: Counted, price: u64) -> Counted
+    requires counted { IsCounted sums.now last }
+    requires volume { last.cut.volume ≡ cut_of sums.now last.cut.price }
+    ensures same { result.cut ≡ record { price = price; volume = cut_of sums.now price } }
+    ensures counted { IsCounted sums.now result }
 {
-    if price == last.price {
+    if price == last.cut.price {
         last
     } else {
-        sums.cut_at(price)
+        sums.cut_after(last, price)
     }
 }
 
-/// The executable volume at a price, given the one that was taken last.
-fn executable_after(sums: &Sums, last: Cut, price: u64) -> Cut
-    requires { last.volume ≡ executable_of sums.now last.price }
-    ensures { result ≡ record { price = price; volume = executable_of sums.now price } }
+/// The executable volume at a price, given what was counted last.
+fn executable_after(sums: &Sums, last: Counted, price: u64) -> Counted
+    requires counted { IsCounted sums.now last }
+    requires volume { last.cut.volume ≡ executable_of sums.now last.cut.price }
+    ensures same { result.cut ≡ record { price = price; volume = executable_of sums.now price } }
+    ensures counted { IsCounted sums.now result }
 {
-    if price == last.price {
+    if price == last.cut.price {
         last
     } else {
-        sums.executable_at(price)
+        sums.executable_after(last, price)
     }
 }
 
@@ -70,11 +74,11 @@ pub fn least_cut_of(sums: &Sums) -> Cut
     ensures least { ForOrdersOf sums.now (λ orders. IsLeastCut orders result) }
     ensures in_range { result.price ≤ 10 ^ 18 }
 {
-    let mut best = sums.cut_at(0);
-    let mut last = best;
+    let mut last = sums.cut_after(Counted::NONE, 0);
+    let mut best = last.cut;
     for bid in sums.bids() {
         last = cut_after(sums, last, bid.limit.units() + 1);
-        best = lesser(best, last);
+        best = lesser(best, last.cut);
     }
     best
 }
@@ -85,11 +89,11 @@ pub fn best_uniform_of(sums: &Sums) -> Cut
     ensures best { ForOrdersOf sums.now (λ orders. IsBestUniform orders result) }
     ensures in_range { result.price ≤ 10 ^ 18 }
 {
-    let mut best = sums.executable_at(0);
-    let mut last = best;
+    let mut last = sums.executable_after(Counted::NONE, 0);
+    let mut best = last.cut;
     for ask in sums.asks() {
         last = executable_after(sums, last, ask.limit.units());
-        best = greater(best, last);
+        best = greater(best, last.cut);
     }
     best
 }

@@ -8,13 +8,14 @@
 //! greatest executable volume every matching of one price.
 //!
 //! `direct` adds up the orders for one price, in one pass and with no memory. `sums` sorts both sides
-//! once and then answers for any price by a binary search. `extremes` finds the least cut and the
-//! greatest executable volume over all prices: they are reached at the limits of one side, so it asks
-//! there alone.
+//! once and then adds up the limits to any price, and from there to the next. `extremes` finds the least
+//! cut and the greatest executable volume over all prices: they are reached at the limits of one side, so
+//! it asks there alone, by rising limit, and adds each limit once.
 //! `laws` says what holds of every order list.
 #![tactic(auto)]
 
 mod active_orders;
+mod adding;
 pub mod direct;
 pub mod extremes;
 pub mod laws;

@@ -1,12 +1,11 @@
-//! The limits of one side by rising limit, with the sums of the quantities up to each.
-ghost use Rattle.std.specs.Prelude.{◌≡◌, ◌≤◌, ◌<◌, ◌*◌, ◌^◌, IfOk, length, take};
-ghost use Rattle.std.specs.List.Sorted.{IsPermutation, IsNonDecreasingBy};
-ghost use Rattle.volume_bound.specs.declared.limits.LimitQuantity.{LimitQuantity};
-ghost use Rattle.volume_bound.specs.Limits.{AreSums, quantity_of, quantity_below, quantity_upto, quantity_from};
+//! The limits of one side by rising limit, with the quantities of those up to a price.
+ghost use Rattle.std.specs.Prelude.{◌≡◌, ◌≤◌, ◌<◌, ◌*◌, ◌^◌, length};
+ghost use Rattle.std.specs.List.Sorted.{IsPermutation};
+ghost use Rattle.volume_bound.specs.Adding.{IsAdded, quantity_by};
+ghost use Rattle.volume_bound.specs.Limits.{quantity_of, quantity_below, quantity_upto, quantity_from};
 
-use audit_base::faults::NoMemory;
+use super::adding::{Added, Edge, add_from, start_of};
 use audit_base::numbers::{Price, Quantity};
-use std::alloc::Global;
 use std::marker::Model;
 
 /// The limit and the quantity of an order. Several orders may have one limit.
@@ -20,8 +19,8 @@ pub struct LimitQuantity {
 #[derive(Debug, Drop)]
 pub struct SortedLimits {
     limits: Vec<LimitQuantity>,
-    // At k the first k quantities, added.
-    sums: Vec<u128>,
+    // All quantities, added.
+    quantity: u128,
 }
 
 impl Model for SortedLimits {
@@ -33,51 +32,31 @@ impl Model for SortedLimits {
 
     ghost view = { λ s. s.limits.items };
 
-    ghost invariant = { λ s. AreSummed s.limits.items s.sums.items };
+    ghost invariant = { λ s. AreSummed s.limits.items s.quantity };
 }
 
-/// For each k from 0 to their number, the first k quantities, added.
-fn sums_of(alloc: Global, limits: &[LimitQuantity]) -> Result<Vec<u128>, NoMemory>
+/// All quantities, added.
+fn total_of(limits: &[LimitQuantity]) -> u128
     requires few { length limits.now < 2 ^ 32 }
-    ensures { IfOk result (λ sums. AreSums limits.now sums.items) }
+    ensures same { result ≡ quantity_of limits.now }
+    ensures small { result ≤ 2 ^ 32 * 10 ^ 12 }
 {
-    let mut sums = Vec::with_capacity(alloc, limits.len() + 1)?;
     let mut sum: u128 = 0;
-    sums.push(sum)?;
     for limit_quantity in limits {
         sum += limit_quantity.quantity.value() as u128;
-        sums.push(sum)?;
     }
-    Ok(sums)
-}
-
-/// How many of these limits are below the price.
-fn count_below(limits: &[LimitQuantity], price: u64) -> usize
-    requires { IsNonDecreasingBy (λ (l : LimitQuantity). l.limit) limits.now }
-    ensures inside { result ≤ length limits.now }
-    ensures first { quantity_of (take result limits.now) ≡ quantity_below limits.now price }
-{
-    limits.partition_point(|limit_quantity| limit_quantity.limit.units() < price)
-}
-
-/// How many of these limits are at most the price.
-fn count_upto(limits: &[LimitQuantity], price: u64) -> usize
-    requires { IsNonDecreasingBy (λ (l : LimitQuantity). l.limit) limits.now }
-    ensures inside { result ≤ length limits.now }
-    ensures first { quantity_of (take result limits.now) ≡ quantity_upto limits.now price }
-{
-    limits.partition_point(|limit_quantity| limit_quantity.limit.units() <= price)
+    sum
 }
 
 impl SortedLimits {
     /// The same limits and quantities, by rising limit.
-    pub fn of(alloc: Global, mut limits: Vec<LimitQuantity>) -> Result<SortedLimits, NoMemory>
+    pub fn of(mut limits: Vec<LimitQuantity>) -> SortedLimits
         requires few { length limits.items < 2 ^ 32 }
-        ensures { IfOk result (λ sorted. IsPermutation limits.items sorted) }
+        ensures { IsPermutation limits.items result }
     {
         limits.sort_unstable_by_key(|limit_quantity| limit_quantity.limit.units());
-        let sums = sums_of(alloc, &limits)?;
-        Ok(SortedLimits { limits, sums })
+        let quantity = total_of(&limits);
+        SortedLimits { limits, quantity }
     }
 
     /// The limits and the quantities by rising limit.
@@ -87,35 +66,46 @@ impl SortedLimits {
         &self.limits
     }
 
-    /// All quantities, added.
-    fn quantity(&self) -> u128
-        ensures same { result ≡ quantity_of self.now }
+    /// The limits that count, from those that were added last on: few steps where these count too and
+    /// few follow.
+    pub(crate) fn add(&self, edge: Edge, added: Added) -> Added
+        requires { IsAdded self.now added }
+        ensures added { IsAdded self.now result }
+        ensures same { result.sum ≡ quantity_by edge self.now }
+        ensures part { result.sum ≤ quantity_of self.now }
+        ensures small { result.sum ≤ 2 ^ 32 * 10 ^ 12 }
+    {
+        let start = start_of(&self.limits, edge, added);
+        add_from(&self.limits, edge, start)
+    }
+
+    /// What the limits from a price on come to, where those below it are added.
+    pub(crate) fn rest_of(&self, price: u64, below: Added) -> u128
+        requires { below.sum ≡ quantity_below self.now price }
+        ensures same { result ≡ quantity_from self.now price }
         ensures small { result ≤ 2 ^ 32 * 10 ^ 12 }
     {
-        self.sums[self.limits.len()]
+        self.quantity - below.sum
     }
 
     /// The quantities whose limit is below the price, added.
     pub fn quantity_below(&self, price: u64) -> u128
-        ensures same { result ≡ quantity_below self.now price }
-        ensures part { result ≤ quantity_of self.now }
-        ensures small { result ≤ 2 ^ 32 * 10 ^ 12 }
+        ensures { result ≡ quantity_below self.now price }
     {
-        self.sums[count_below(&self.limits, price)]
+        self.add(Edge::Below(price), Added::NONE).sum
     }
 
     /// The quantities whose limit is at most the price, added.
     pub fn quantity_upto(&self, price: u64) -> u128
         ensures { result ≡ quantity_upto self.now price }
     {
-        self.sums[count_upto(&self.limits, price)]
+        self.add(Edge::Upto(price), Added::NONE).sum
     }
 
     /// The quantities whose limit is at least the price, added.
     pub fn quantity_from(&self, price: u64) -> u128
-        ensures same { result ≡ quantity_from self.now price }
-        ensures small { result ≤ 2 ^ 32 * 10 ^ 12 }
+        ensures { result ≡ quantity_from self.now price }
     {
-        self.quantity() - self.quantity_below(price)
+        self.rest_of(price, self.add(Edge::Below(price), Added::NONE))
     }
 }

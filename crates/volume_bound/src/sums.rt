@@ -1,11 +1,13 @@
-//! Both sides by limit, with the sums up to each limit: demand and supply at any price.
+//! Both sides by limit: demand and supply at any price, and cuts and executable volumes at rising prices.
 ghost use Rattle.std.specs.Prelude.{◌≡◌, ◌<◌, ◌^◌, List, IfOk, OnOk, length};
 ghost use Rattle.audit_base.specs.Bounds.{demand, supply, supply_below};
 ghost use Rattle.audit_base.specs.Orders.{AreOrders};
 ghost use Rattle.audit_base.specs.declared.orders.Order.{Order};
+ghost use Rattle.volume_bound.specs.Counting.{IsCounted};
 ghost use Rattle.volume_bound.specs.Sides.{ForOrdersOf, HaveSumsOf, cut_of, executable_of};
 
 use super::active_orders::ActiveOrders;
+use super::adding::{Added, Edge};
 use super::limits::{LimitQuantity, SortedLimits};
 use audit_base::faults::NoMemory;
 use audit_base::orders::Cut;
@@ -13,8 +15,8 @@ use order_list::lists::OrderList;
 use std::alloc::Global;
 use std::marker::Model;
 
-/// The bids and the asks that no record cancels, each side by rising limit, with the sums up to each.
-/// Contracts see the limits and the quantities of both sides.
+/// The bids and the asks that no record cancels, each side by rising limit. Contracts see the limits and the
+/// quantities of both sides.
 #[derive(Debug, Drop)]
 pub struct Sums {
     bids: SortedLimits,
@@ -29,8 +31,29 @@ impl Model for Sums {
     ghost view = { λ s. record { bids = s.bids; asks = s.asks } };
 }
 
+/// A price with the volume that is counted there, and what is added of each side, from which the next price
+/// is counted.
+#[derive(Clone, Copy, Debug)]
+pub struct Counted {
+    pub cut: Cut,
+    pub bids: Added,
+    pub asks: Added,
+}
+
+impl Counted {
+    /// Before the first price: nothing is added.
+    pub const NONE: Counted = Counted {
+        cut: Cut {
+            price: 0,
+            volume: 0,
+        },
+        bids: Added::NONE,
+        asks: Added::NONE,
+    };
+}
+
 impl Sums {
-    /// The sums of these orders: each side is sorted once, in n log n steps for n orders. Err only out of
+    /// The sides of these orders: each is sorted once, in n log n steps for n orders. Err only out of
     /// memory.
     pub fn build(alloc: Global, orders: &OrderList<'_>) -> Result<Sums, NoMemory>
         requires few { length orders.now < 2 ^ 32 }
@@ -39,50 +62,65 @@ impl Sums {
     {
         let ActiveOrders { bids, asks } = ActiveOrders::of(alloc, orders)?;
         Ok(Sums {
-            bids: SortedLimits::of(alloc, bids)?,
-            asks: SortedLimits::of(alloc, asks)?,
+            bids: SortedLimits::of(bids),
+            asks: SortedLimits::of(asks),
         })
     }
 
-    /// The quantity of the bids with limit at least the price, by a binary search.
+    /// The quantity of the bids with limit at least the price, in one pass over the bids below it.
     pub fn demand_at(&self, price: u64) -> u128
         ensures { ForOrdersOf self.now (λ orders. result ≡ demand orders price) }
     {
         self.bids.quantity_from(price)
     }
 
-    /// The quantity of the asks with limit at most the price, by a binary search.
+    /// The quantity of the asks with limit at most the price, in one pass over these.
     pub fn supply_upto(&self, price: u64) -> u128
         ensures { ForOrdersOf self.now (λ orders. result ≡ supply orders price) }
     {
         self.asks.quantity_upto(price)
     }
 
-    /// The quantity of the asks with limit below the price, by a binary search.
+    /// The quantity of the asks with limit below the price, in one pass over these.
     pub fn supply_below(&self, price: u64) -> u128
         ensures { ForOrdersOf self.now (λ orders. result ≡ supply_below orders price) }
     {
         self.asks.quantity_below(price)
     }
 
-    /// The cut at the price.
-    pub(crate) fn cut_at(&self, price: u64) -> Cut
-        ensures { result ≡ record { price = price; volume = cut_of self.now price } }
+    /// The cut at the price. Along rising prices each limit is added once.
+    pub(crate) fn cut_after(&self, last: Counted, price: u64) -> Counted
+        requires { IsCounted self.now last }
+        ensures same { result.cut ≡ record { price = price; volume = cut_of self.now price } }
+        ensures counted { IsCounted self.now result }
     {
-        Cut {
-            price,
-            volume: self.bids.quantity_from(price) + self.asks.quantity_below(price),
+        let bids = self.bids.add(Edge::Below(price), last.bids);
+        let asks = self.asks.add(Edge::Below(price), last.asks);
+        let volume = self.bids.rest_of(price, bids) + asks.sum;
+        Counted {
+            cut: Cut { price, volume },
+            bids,
+            asks,
         }
     }
 
-    /// The executable volume at the price: the lesser of demand and supply.
-    pub(crate) fn executable_at(&self, price: u64) -> Cut
-        ensures { result ≡ record { price = price; volume = executable_of self.now price } }
+    /// The executable volume at the price: the lesser of demand and supply. Along rising prices each limit is
+    /// added once.
+    pub(crate) fn executable_after(&self, last: Counted, price: u64) -> Counted
+        requires { IsCounted self.now last }
+        ensures same { result.cut ≡ record { price = price; volume = executable_of self.now price } }
+        ensures counted { IsCounted self.now result }
     {
-        let demand = self.bids.quantity_from(price);
-        Cut {
-            price,
-            volume: demand.min(self.asks.quantity_upto(price)),
+        let bids = self.bids.add(Edge::Below(price), last.bids);
+        let asks = self.asks.add(Edge::Upto(price), last.asks);
+        let demand = self.bids.rest_of(price, bids);
+        Counted {
+            cut: Cut {
+                price,
+                volume: demand.min(asks.sum),
+            },
+            bids,
+            asks,
         }
     }
 

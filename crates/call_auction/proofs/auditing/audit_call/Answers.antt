@@ -5,8 +5,8 @@ use Rattle.call_auction.proofs.auditing.audit_call.Goals as goal
 
 pub returns-in-Ok : goal.returns-in-Ok
 returns-in-Ok c =
-    let fair = subst (λ (b : Bool). IsFairMatching b c.args.orders.now c.args.deals.now c.in-Ok.fair) c.asks_one_price.ensures c.in-Ok.ensures.fair in
-    audited c.args.rule c.args.orders.now c.args.deals.now c.args.count c.args.most c.in-Ok.fair c.outcome_of.result c.requires.order_list c.requires.deal_list.named c.in-Ok.ensures.numbers c.requires.most fair c.outcome_of.ensures
+    let fair = subst (λ (b : Bool). IsFairMatching b c.args.orders.now c.args.deals.now c.in-Ok.totals) c.asks_one_price.ensures c.in-Ok.ensures.fair in
+    audited c.args.rule c.args.orders.now c.args.deals.now c.args.count c.args.most c.in-Ok.totals c.outcome_of.result c.requires.order_list c.requires.deal_list.named c.in-Ok.ensures.numbers c.requires.most fair c.outcome_of.ensures
 
 pub returns-in-Err-Found : goal.returns-in-Err-Found
 returns-in-Err-Found c =

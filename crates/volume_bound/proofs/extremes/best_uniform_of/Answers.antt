@@ -7,8 +7,9 @@ use Rattle.volume_bound.proofs.extremes.best_uniform_of.Goals as goal
 pub loop-ask-preserved : goal.loop-ask-preserved
 loop-ask-preserved c =
     let limits = c.args.sums.now.asks in (
-      greatest-more (executable_of c.args.sums.now) limits c.loop-ask.ask-index c.ask-item.result (omega (arith, ap length c.asks-ask-items.ensures)) (rw (← c.asks-ask-items.ensures) c.ask-item.is) c.units.ensures.in_range c.loop-ask.best c.executable_after-last.result c.greater-best.result c.loop-ask.invariant.0 (rw (← c.units.ensures.same) c.executable_after-last.ensures) c.greater-best.ensures,
-      rw c.executable_after-last.ensures refl,
+      greatest-more (executable_of c.args.sums.now) limits c.loop-ask.ask-index c.ask-item.result (omega (arith, ap length c.asks-ask-items.ensures)) (rw (← c.asks-ask-items.ensures) c.ask-item.is) c.units.ensures.in_range c.loop-ask.best c.executable_after-last-in-loop-ask.result.cut c.greater-best.result c.loop-ask.invariant.0 (rw (← c.units.ensures.same) c.executable_after-last-in-loop-ask.ensures.same) c.greater-best.ensures,
+      c.executable_after-last-in-loop-ask.ensures.counted,
+      rw c.executable_after-last-in-loop-ask.ensures.same refl,
     )
 
 pub returns-clause-best : goal.returns-clause-best

@@ -12,4 +12,4 @@ of-requires-3 c = record { few = omega (arith, ap length c.in_ok-bids.ensures.as
 
 pub returns-clause-stands : goal.returns-clause-stands
 returns-clause-stands c =
-    sides-have_sums c.args.orders.now c.in_ok-of.field-0 c.in_ok-of-2.field-0 (rw (← c.in_ok-bids.ensures.bids) c.in_ok-of.ensures) (rw (← c.in_ok-bids.ensures.asks) c.in_ok-of-2.ensures)
+    sides-have_sums c.args.orders.now c.of-2.result c.of-3.result (rw (← c.in_ok-bids.ensures.bids) c.of-2.ensures) (rw (← c.in_ok-bids.ensures.asks) c.of-3.ensures)
