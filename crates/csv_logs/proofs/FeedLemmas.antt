@@ -15,7 +15,7 @@ use Rattle.log_source.specs.Feeds.{HasRoom}
 use Rattle.log_source.specs.Handing.{Adds}
 use Rattle.log_source.specs.Sources.{longest_read}
 use Rattle.csv_logs.specs.Lines.{Line, is_full, full_lines, cut_lines, placed, without_cr}
-use Rattle.csv_logs.specs.Steps.{EndsLine, Goes, HasLine, Moves, TakesFields, fields_say, line_at, line_says}
+use Rattle.csv_logs.specs.Steps.{EndsLine, EndsLines, Goes, HasLine, HasLines, Moves, TakesFields, fields_say, line_at, line_says}
 use Rattle.csv_logs.specs.Logs.{is_header, line_entry, read_lines, read_log}
 use Rattle.csv_logs.specs.Feeds.{IsHandedAs, IsPassed, IsOpen, IsReadAs, HasRead, IsShut, StandsAt, StandsFor, StandsWith, is_lf, is_whole}
 use Rattle.csv_logs.specs.declared.feeds.CsvFeed.{CsvFeed}
@@ -395,6 +395,56 @@ goes-left stands_for feed old piece left goes log stood room = record {
   room = simp length-append (omega (arith, ap length goes.split, length-append goes.done left, room));
 }
 
+-- a line has ended, and more of the text behind it was taken
+pub ends-lines : {R : Type 0} (names : List (List ℕ)) (entry : List (List ℕ) → Result R Reason) (before after : List R → Type 0) (line : List ℕ) (offset : ℕ) (header : Bool) (rest' : List ℕ) (offset' : ℕ) (header' : Bool) (bad' : Option BadPlace) (new : List ℕ → Type 0) (text left : List ℕ)
+    → rest' ≡ [] → EndsLine names entry before line offset header after [] offset' header' bad' → Goes (StandsWith after names entry rest' offset' header' bad') new text left
+    → EndsLines names entry before line offset header new text left
+ends-lines names entry before after line offset header rest' offset' header' bad' new text left nothing taken goes = record {
+  done = goes.done;
+  split = goes.split;
+  stands = λ entries log has is.
+      subst new (append_assoc log (10 ∷ []) goes.done)
+      (goes.stands (log ++ 10 ∷ []) (subst (λ (r : List ℕ). StandsWith after names entry r offset' header' bad' (log ++ 10 ∷ [])) (sym nothing) (taken entries log has is)));
+}
+
+-- the feed's rest has become a line
+pub ends-kept : {K R : Type 0} (names : List (List ℕ)) (entry : List (List ℕ) → Result R Reason) (has_taken : K → List R → Type 0) (was mid : CsvFeed K) (new new' : List ℕ → Type 0) (line line' text left : List ℕ)
+    → (mid.entries ≡ was.entries) × (mid.offset ≡ was.offset) × (mid.header ≡ was.header) × (mid.bad ≡ was.bad) → line' ≡ line → ((log : List ℕ) → new log → new' log)
+    → EndsLines names entry (has_taken mid.entries) line' mid.offset mid.header new text left → EndsLines names entry (has_taken was.entries) line was.offset was.header new' text left
+ends-kept names entry has_taken was mid new new' line line' text left kept same more ends = record {
+  done = ends.done;
+  split = ends.split;
+  stands = λ entries log has is.
+      more (log ++ 10 ∷ ends.done) (ends.stands entries log (subst (λ (k : _). has_taken k entries) (sym kept.0) has) (rw (same, kept.1, kept.2) is));
+}
+
+pub last-kept : {K R : Type 0} (names : List (List ℕ)) (entry : List (List ℕ) → Result R Reason) (has_taken : K → List R → Type 0) (was mid : CsvFeed K) (after : List R → Type 0) (line line' rest' : List ℕ) (offset' : ℕ) (header' : Bool) (bad' : Option BadPlace)
+    → (mid.entries ≡ was.entries) × (mid.offset ≡ was.offset) × (mid.header ≡ was.header) × (mid.bad ≡ was.bad) → line' ≡ line → rest' ≡ []
+    → EndsLine names entry (has_taken mid.entries) line' mid.offset mid.header after [] offset' header' bad' → EndsLine names entry (has_taken was.entries) line was.offset was.header after rest' offset' header' bad'
+last-kept names entry has_taken was mid after line line' rest' offset' header' bad' kept same nothing taken = λ entries log has is.
+    subst (λ (r : List ℕ). StandsWith after names entry r offset' header' bad' (log ++ 10 ∷ [])) (sym nothing)
+    (taken entries log (subst (λ (k : _). has_taken k entries) (sym kept.0) has) (rw (same, kept.1, kept.2) is))
+
+pub has-line : {R : Type 0} (names : List (List ℕ)) (entry : List (List ℕ) → Result R Reason) (has_taken : List R → Type 0) (line : List ℕ) (offset : ℕ) (header : Bool) (text : List ℕ)
+    → HasLines names entry has_taken line offset header text → HasLine names entry has_taken line offset header
+has-line names entry has_taken line offset header text has = record {
+  entries = has.entries;
+  has = has.has;
+  log = has.log;
+  stands = has.stands;
+  room = omega (arith, has.room);
+}
+
+-- the feed has room for the text behind a line that has ended
+pub lines-room : {K R : Type 0} (names : List (List ℕ)) (entry : List (List ℕ) → Result R Reason) (has_taken : K → List R → Type 0) (feed : CsvFeed K) (before : List R → Type 0) (line : List ℕ) (offset : ℕ) (header : Bool) (text : List ℕ)
+    → HasLines names entry before line offset header text → feed.rest.items ≡ [] → EndsLine names entry before line offset header (has_taken feed.entries) [] feed.offset feed.header feed.bad
+    → HasRoom (StandsFor has_taken names entry) feed text
+lines-room names entry has_taken feed before line offset header text has nothing taken = record {
+  bytes = has.log ++ 10 ∷ [];
+  stands = subst (λ (r : List ℕ). StandsWith (has_taken feed.entries) names entry r feed.offset feed.header feed.bad (has.log ++ 10 ∷ [])) (sym nothing) (taken has.entries has.log has.has has.stands);
+  room = simp length-append (omega (arith, has.room));
+}
+
 none-is : {T : Type 0} (option : Option T) → is_some option ≡ false → option ≡ None
 none-is None e = refl
 none-is (Some value) e = absurd (cc e)
@@ -434,6 +484,38 @@ module _ {R : Type 0} (names : List (List ℕ)) (entry : List (List ℕ) → Res
         let is_open = open-rest names entry s.entries rest line offset header (log ++ goes.done) whole (open-none names entry s.entries rest offset header bad (log ++ goes.done) none s.stands) in
         subst (StandsWith after names entry rest' offset' header' bad') (ap (λ (t : List ℕ). t ++ 10 ∷ []) (append_assoc log goes.done line) ∙ append_assoc log (goes.done ++ line) (10 ∷ []))
         (taken s.entries ((log ++ goes.done) ++ line) s.has is_open);
+  }
+
+  -- a log with a line that has not ended and the text behind it is within the limit
+  pub goes-rooms : (bad : Option BadPlace) (piece left line later : List ℕ) → Goes old (StandsWith has_taken names entry rest offset header bad) piece left → is_some bad ≡ false
+      → left ≡ line ++ 10 ∷ later → list_any is_lf line ≡ false → (front : List ℕ) → old front → length front + length piece ≤ longest_read
+      → HasLines names entry has_taken (rest ++ line) offset header later
+  goes-rooms bad piece left line later goes none is whole front stood room =
+      let s = goes.stands front stood in
+      record {
+        entries = s.entries;
+        has = s.has;
+        log = (front ++ goes.done) ++ line;
+        stands = open-rest names entry s.entries rest line offset header (front ++ goes.done) whole (open-none names entry s.entries rest offset header bad (front ++ goes.done) none s.stands);
+        room =
+            let size : length piece ≡ length goes.done + (length line + suc (length later)) =
+            ap length (goes.split ∙ ap (λ (t : List ℕ). goes.done ++ t) is) ∙ simp length-append in
+            simp length-append (omega (arith, size, room));
+      }
+
+  -- a line has ended, and more lines
+  pub goes-lines : (bad : Option BadPlace) (piece left line later left' : List ℕ) (new : List ℕ → Type 0) → Goes old (StandsWith has_taken names entry rest offset header bad) piece left → is_some bad ≡ false
+      → left ≡ line ++ 10 ∷ later → list_any is_lf line ≡ false → EndsLines names entry has_taken (rest ++ line) offset header new later left' → Goes old new piece left'
+  goes-lines bad piece left line later left' new goes none is whole ends = record {
+    done = (goes.done ++ line) ++ 10 ∷ ends.done;
+    split =
+        goes.split ∙ ap (λ (t : List ℕ). goes.done ++ t) (is ∙ ap (λ (t : List ℕ). line ++ 10 ∷ t) ends.split)
+        ∙ sym (append_assoc goes.done line (10 ∷ (ends.done ++ left'))) ∙ sym (append_assoc (goes.done ++ line) (10 ∷ ends.done) left');
+    stands = λ log stood.
+        let s = goes.stands log stood in
+        let is_open = open-rest names entry s.entries rest line offset header (log ++ goes.done) whole (open-none names entry s.entries rest offset header bad (log ++ goes.done) none s.stands) in
+        subst new (ap (λ (t : List ℕ). t ++ 10 ∷ ends.done) (append_assoc log goes.done line) ∙ append_assoc log (goes.done ++ line) (10 ∷ ends.done))
+        (ends.stands s.entries ((log ++ goes.done) ++ line) s.has is_open);
   }
 
   -- the rest of a piece has no LF

@@ -77,6 +77,25 @@ pub record HasLine {R : Type 0} (names : Row) (entry : Meaning R) (has_taken : T
   pub stands : IsOpen names entry entries line offset header log
   pub room : length log ≤ longest_read
 
+-- Some log that ends with this line, not ended, is with the line's LF and the text behind it no longer
+-- than a log that is read may be.
+pub record HasLines {R : Type 0} (names : Row) (entry : Meaning R) (has_taken : Taken R)
+    (line : List ℕ) (offset : ℕ) (header : Bool) (text : List ℕ) : Type 0 where
+  pub entries : List R
+  pub has : has_taken entries
+  pub log : List ℕ
+  pub stands : IsOpen names entry entries line offset header log
+  pub room : length log + length (10 ∷ text) ≤ longest_read
+
+-- What stood for a log with a line that has not ended stands for it with that line ended, and with the
+-- text behind it up to what is left of that.
+pub record EndsLines {R : Type 0} (names : Row) (entry : Meaning R) (before : Taken R) (line : List ℕ)
+    (offset : ℕ) (header : Bool) (new : List ℕ → Type 0) (text left : List ℕ) : Type 0 where
+  pub done : List ℕ
+  pub split : text ≡ done ++ left
+  pub stands : (entries : List R) (log : List ℕ) → before entries
+      → IsOpen names entry entries line offset header log → new (log ++ 10 ∷ done)
+
 -- A piece was taken up to what is left of it, and the feed stands for as much more.
 pub record Goes (old new : List ℕ → Type 0) (piece left : List ℕ) : Type 0 where
   pub done : List ℕ
@@ -102,6 +121,20 @@ abbrev pub FeedEndsLine : {K R : Type 0} → TakenBy K R → Row → Meaning R �
 FeedEndsLine has_taken names entry old new line rest =
     EndsLine names entry (has_taken old.entries) line old.offset old.header
     (has_taken new.entries) rest new.offset new.header new.bad
+
+-- some log that the feed stands for, ended with this line in place of its rest and followed by this text,
+-- is no longer than a log that is read may be
+abbrev pub FeedHasLines : {K R : Type 0} → TakenBy K R → Row → Meaning R → CsvFeed K → List ℕ → List ℕ
+    → Type 0
+FeedHasLines has_taken names entry feed line text =
+    HasLines names entry (has_taken feed.entries) line feed.offset feed.header text
+
+-- the feed has taken the end of this line and the text behind it up to what is left
+abbrev pub FeedEndsLines : {K R : Type 0} → TakenBy K R → Row → Meaning R → CsvFeed K → CsvFeed K
+    → List ℕ → List ℕ → List ℕ → Type 0
+FeedEndsLines has_taken names entry old new line text left =
+    EndsLines names entry (has_taken old.entries) line old.offset old.header
+    (StandsFor has_taken names entry new) text left
 
 -- the feed has taken a piece up to what is left of it
 abbrev pub FeedGoes : {K R : Type 0} → TakenBy K R → Row → Meaning R → CsvFeed K → CsvFeed K → List ℕ

@@ -1,20 +1,20 @@
 //! Feeds: what takes a log piece by piece, keeps its records and the line that has not ended, and
 //! stops at the first bad line.
-ghost use Rattle.std.specs.Prelude.{◌≡◌, ℕ, List, ◌+◌, ◌-◌, ◌<◌, ◌≤◌, ◌^◌, ◌++◌, [], All, IfErr, IfOk, IsTrue, OnOk, vec_len};
+ghost use Rattle.std.specs.Prelude.{◌≡◌, ℕ, List, ◌+◌, ◌-◌, ◌<◌, ◌≤◌, ◌^◌, ◌++◌, ◌∷◌, [], All, IfErr, IfOk, IsTrue, OnOk, vec_len};
 ghost use Rattle.std.specs.List.{list_all};
 ghost use Rattle.log_source.specs.Feeds.{HasRoom};
 ghost use Rattle.log_source.specs.Collectors.{HasNineBytesEach, HasPlace};
 ghost use Rattle.csv_logs.specs.Columns.{is_unquoted_byte};
-ghost use Rattle.csv_logs.specs.Readers.{IsReadingLine, PassesLine, is_closed};
+ghost use Rattle.csv_logs.specs.Readers.{IsReading, IsReadingLine, PassesLine, is_closed};
 ghost use Rattle.csv_logs.specs.Feeds.{IsHandedAs, IsReadAs, IsWithinLimit, StandsFor};
-ghost use Rattle.csv_logs.specs.Steps.{FeedEndsLine, FeedGoes, FeedHasLine, FeedMoves, KeepsAllButRest};
+ghost use Rattle.csv_logs.specs.Steps.{FeedEndsLine, FeedEndsLines, FeedGoes, FeedHasLine, FeedHasLines, FeedMoves, KeepsAllButRest};
 ghost use Rattle.csv_logs.specs.Lines.{without_cr};
 ghost use Rattle.csv_logs.specs.Logs.{read_log};
 
 use crate::entries::{LogEntry, take_fields, take_text};
 use crate::fields::Fields;
 use crate::lines::{
-    is_closed, is_plain, is_unquoted_unless_known, line_at, split_line, starts_closed, without_cr,
+    is_closed, is_plain, is_unquoted, is_unquoted_unless_known, line_at, split_line, without_cr,
 };
 use audit_base::faults::{BadPlace, LogFault, NoMemory, Reason};
 use audit_base::records::{OrderRecord, TradeRecord};
@@ -151,45 +151,35 @@ impl<R: LogEntry, K: Collector<Entry = R>> CsvFeed<K> {
         Ok(())
     }
 
-    // Takes the end of a line whose front is in `rest`, without its LF.
-    fn end_rest(&mut self, end: &[u8]) -> Result<(), NoMemory>
-        requires good { self.old.bad ≡ None }
-        requires room { let line = self.old.rest.items ++ end.now in
-            FeedHasLine K.has_taken R.names R.meaning self.old line }
-        ensures taken { let line = self.old.rest.items ++ end.now in
-            let rest = self.new.rest.items in
-            OnOk result (FeedEndsLine K.has_taken R.names R.meaning self.old self.new line rest) }
+    // The line that `rest` and this end make, which is not kept any more.
+    fn take_rest(&mut self, end: &[u8]) -> Result<Vec<u8>, NoMemory>
+        ensures line { IfOk result (λ line. line.items ≡ self.old.rest.items ++ end.now) }
         ensures rest { OnOk result (self.new.rest.items ≡ []) }
+        ensures others { OnOk result (KeepsAllButRest self.old self.new) }
     {
-        if self.rest.is_empty() {
-            return self.end_line(end);
-        }
         let mut line = mem::replace(&mut self.rest, Vec::new(self.alloc));
         line.extend_from_slice(end)?;
-        self.end_line(&line)?;
-        line.clear();
-        self.rest = line;
-        Ok(())
+        Ok(line)
     }
 
-    // Takes closed lines from the start of a text, as far as there are such, by one reader, and gives the
-    // rest.
-    fn read_lines<'p>(&mut self, text: &'p [u8]) -> Result<&'p [u8], NoMemory>
+    // Takes closed lines from the start of a text, as far as there are such, from a reader that stands at
+    // it, and gives the rest.
+    fn read_lines<'p, I: Read>(
+        &mut self,
+        reader: &mut Reader<I>,
+        fields: &mut Fields,
+        stamps: &mut StampReader,
+        text: &'p [u8],
+    ) -> Result<&'p [u8], NoMemory>
+        requires started { 0 < self.old.offset }
         requires rest { self.old.rest.items ≡ [] }
         requires room { HasRoom (StandsFor K.has_taken R.names R.meaning) self.old text.now }
-        ensures { let goes = FeedGoes K.has_taken R.names R.meaning self.old self.new in
+        requires reading { IsReading I.remaining reader.old text.now }
+        ensures goes { let goes = FeedGoes K.has_taken R.names R.meaning self.old self.new in
             IfOk result (λ left. goes text.now left.now) }
+        ensures rest { OnOk result (self.new.rest.items ≡ []) }
     {
         let mut left = text;
-        if self.offset == 0 || !starts_closed(left) {
-            return Ok(left);
-        }
-        let mut reader = ReaderBuilder::new()
-            .has_headers(false)
-            .flexible(true)
-            .from_reader(self.alloc, left);
-        let mut fields = Fields::new(self.alloc);
-        let mut stamps = StampReader::new();
         let plain = is_plain(left);
         'lines: while self.bad.is_none() {
             let Some((line, later)) = split_line(left) else {
@@ -200,9 +190,73 @@ impl<R: LogEntry, K: Collector<Entry = R>> CsvFeed<K> {
             if !unquoted && !is_closed(text) {
                 break;
             }
-            self.read_line(&mut reader, &mut fields, &mut stamps, line, unquoted)?;
+            self.read_line(reader, fields, stamps, line, unquoted)?;
             left = later;
         }
+        Ok(left)
+    }
+
+    // Takes a closed line that has ended, without its LF, from a reader that stands at it, and closed lines
+    // from the start of the text behind it, as far as there are such, and gives the rest.
+    fn read_on<'p, I: Read>(
+        &mut self,
+        reader: &mut Reader<I>,
+        line: &[u8],
+        text: &'p [u8],
+    ) -> Result<&'p [u8], NoMemory>
+        requires good { self.old.bad ≡ None }
+        requires started { 0 < self.old.offset }
+        requires rest { self.old.rest.items ≡ [] }
+        requires room { FeedHasLines K.has_taken R.names R.meaning self.old line.now text.now }
+        requires closed { IsTrue (is_closed (without_cr line.now)) }
+        requires reading { IsReading I.remaining reader.old (line.now ++ 10 ∷ text.now) }
+        ensures taken { let ends = FeedEndsLines K.has_taken R.names R.meaning self.old self.new in
+            IfOk result (λ left. ends line.now text.now left.now) }
+        ensures rest { OnOk result (self.new.rest.items ≡ []) }
+    {
+        let mut fields = Fields::new(self.alloc);
+        let mut stamps = StampReader::new();
+        let unquoted = is_unquoted(without_cr(line));
+        self.read_line(reader, &mut fields, &mut stamps, line, unquoted)?;
+        self.read_lines(reader, &mut fields, &mut stamps, text)
+    }
+
+    // Takes a line that has ended, without its LF, and closed lines from the start of the text behind it, as
+    // far as there are such, and gives the rest. Where the line is closed too, one reader reads all of them.
+    fn take_lines<'p>(&mut self, line: &[u8], text: &'p [u8]) -> Result<&'p [u8], NoMemory>
+        requires good { self.old.bad ≡ None }
+        requires rest { self.old.rest.items ≡ [] }
+        requires room { FeedHasLines K.has_taken R.names R.meaning self.old line.now text.now }
+        ensures taken { let ends = FeedEndsLines K.has_taken R.names R.meaning self.old self.new in
+            IfOk result (λ left. ends line.now text.now left.now) }
+        ensures rest { OnOk result (self.new.rest.items ≡ []) }
+    {
+        if self.offset == 0 || !is_closed(without_cr(line)) {
+            self.end_line(line)?;
+            return Ok(text);
+        }
+        let ended = line.chain(b"\n".as_slice());
+        let mut reader = ReaderBuilder::new()
+            .has_headers(false)
+            .flexible(true)
+            .from_reader(self.alloc, ended.chain(text));
+        self.read_on(&mut reader, line, text)
+    }
+
+    // Takes the end of a line whose front is in `rest`, without its LF, and closed lines from the start of the
+    // text behind it, and gives the rest of that.
+    fn end_rest<'p>(&mut self, end: &[u8], text: &'p [u8]) -> Result<&'p [u8], NoMemory>
+        requires good { self.old.bad ≡ None }
+        requires room { let line = self.old.rest.items ++ end.now in
+            FeedHasLines K.has_taken R.names R.meaning self.old line text.now }
+        ensures { let ends = FeedEndsLines K.has_taken R.names R.meaning self.old self.new in
+            let line = self.old.rest.items ++ end.now in
+            IfOk result (λ left. ends line text.now left.now) }
+    {
+        let mut line = self.take_rest(end)?;
+        let left = self.take_lines(&line, text)?;
+        line.clear();
+        self.rest = line;
         Ok(left)
     }
 
@@ -235,7 +289,8 @@ impl<R: LogEntry, K: Collector<Entry = R>> CsvFeed<K> {
         }
         let size = self.offset + self.rest.len() as u64;
         // The last line may lack its LF.
-        self.end_rest(&[])?;
+        let last = self.take_rest(&[])?;
+        self.end_line(&last)?;
         match self.bad {
             Some(bad) => Err(LogFault::Bad(bad)),
             None if self.header => Ok(self.entries),
@@ -280,9 +335,8 @@ impl<R: LogEntry, K: Collector<Entry = R>> Feed for CsvFeed<K> {
         let mut left = piece;
         'lines: while self.bad.is_none() {
             match split_line(left) {
-                Some((line, later)) => {
-                    self.end_rest(line)?;
-                    left = self.read_lines(later)?;
+                Some((end, later)) => {
+                    left = self.end_rest(end, later)?;
                 }
                 None => return self.keep_rest(left),
             }

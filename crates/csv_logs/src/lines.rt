@@ -1,7 +1,7 @@
 //! The bytes of one line: what is taken off it, whether it may be read, and its fields.
 ghost use Rattle.std.specs.Prelude.{◌≡◌, ◌==◌, ◌%◌, ◌+◌, ◌<◌, ◌^◌, ◌++◌, ◌∷◌, false, not, IfOk, IsTrue, MatchOption, drop, count_by};
 ghost use Rattle.std.specs.List.{list_all, list_any};
-ghost use Rattle.csv.specs.Reading.{default_config, strip_bom};
+ghost use Rattle.csv.specs.Reading.{default_config};
 ghost use Rattle.csv_logs.specs.Columns.{is_broken, is_printable, is_quote, is_unquoted_byte, line_fields};
 ghost use Rattle.csv_logs.specs.Feeds.{is_lf};
 ghost use Rattle.csv_logs.specs.Steps.{line_at};
@@ -213,16 +213,6 @@ pub(crate) fn is_closed(line: &[u8]) -> bool
     ensures { result ≡ is_closed line.now }
 {
     !is_broken(line) && closes_quotes(line)
-}
-
-/// Whether the first line of a text has ended and is closed.
-pub(crate) fn starts_closed(text: &[u8]) -> bool
-    ensures { IsTrue result → strip_bom text.now ≡ text.now }
-{
-    match split_line(text) {
-        Some((line, _)) => is_closed(without_cr(line)),
-        None => false,
-    }
 }
 
 /// The fields of a line that is read by itself.

@@ -1,14 +1,11 @@
-use Rattle.std.proofs.Common.{◌≡◌, ◌∙◌, length, sym, arith, rules}
-use Rattle.std.proofs.lemmas.Bool.{eqb-true}
-use Rattle.std.proofs.lemmas.List.{nil_from_length}
-use Rattle.csv_logs.proofs.FeedLemmas.{ends-text, ends-whole}
+use Rattle.std.proofs.Common.{List, ℕ, subst, sym, ◌∙◌}
+use Rattle.csv_logs.specs.Feeds.{StandsWith}
+use Rattle.csv_logs.proofs.FeedLemmas.{ends-kept}
 use Rattle.csv_logs.proofs.feeds.CsvFeed.end_rest.Goals as goal
 
-pub returns-then-is_empty-clause-taken : goal.returns-then-is_empty-clause-taken
-returns-then-is_empty-clause-taken g c =
-    let none : length c.args.self.now.rest.items ≡ 0 = omega (arith, c.args.self.now.rest.ok.0, eqb-true _ 0 (sym c.is_empty.ensures ∙ c.if-is_empty.true)) in
-    ends-whole _ _ c.end_line.result _ _ _ _ _ _ _ _ _ _ (nil_from_length _ none) c.end_line.ensures.taken c.end_line.ensures.rest
-
-pub returns-clause-taken : goal.returns-clause-taken
-returns-clause-taken g c =
-    ends-text _ _ _ _ _ _ _ _ _ _ _ _ (search (rules, c.deref.ensures.value, c.extend_from_slice.ensures.items, c.replace-line.ensures.value)) c.clear.ensures.items c.in_ok-end_line.ensures.taken
+pub returns : goal.returns
+returns g c =
+    let now = c.take_lines.new.self in
+    ends-kept g.R.LogEntry.names g.R.LogEntry.meaning g.K.Collector.has_taken c.args.self.now c.take_rest.new.self _ _ _ _ _ _ c.in_ok-line.ensures.others (c.deref.ensures.value ∙ c.in_ok-line.ensures.line)
+    (λ log stood. subst (λ (r : List ℕ). StandsWith (g.K.Collector.has_taken now.entries) g.R.LogEntry.names g.R.LogEntry.meaning r now.offset now.header now.bad log) (c.in_ok-left.ensures.rest ∙ sym c.clear.ensures.items) stood)
+    c.in_ok-left.ensures.taken

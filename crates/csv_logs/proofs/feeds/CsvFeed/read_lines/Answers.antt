@@ -1,5 +1,4 @@
 use Rattle.std.proofs.Common.{◌≡◌, [], ◌++◌, List, ℕ, true, not, ap, subst, sym, ◌∙◌, arith}
-use Rattle.csv.specs.Reading.{builder_config, builder_is_flexible, builder_names_headers, builder_trim}
 use Rattle.std.specs.List.{list_all}
 use Rattle.csv_logs.specs.Columns.{is_unquoted_byte}
 use Rattle.csv_logs.specs.Lines.{without_cr}
@@ -7,7 +6,6 @@ use Rattle.csv_logs.specs.Readers.{IsReading, is_closed, is_plain_byte}
 use Rattle.csv_logs.proofs.ClosedLemmas.{unquoted-closed}
 use Rattle.csv_logs.proofs.UnquotedLemmas.{plain-line, unquoted-without_cr}
 use Rattle.csv_logs.specs.Steps.{EndsLine, HasLine}
-use Rattle.csv_logs.proofs.ReaderLemmas.{new-reading}
 use Rattle.csv_logs.proofs.FeedLemmas.{goes-none, goes-room, goes-line}
 use Rattle.csv_logs.proofs.feeds.CsvFeed.read_lines.Goals as goal
 use Rattle.csv_logs.proofs.feeds.CsvFeed.read_lines.Goals.{else-not-unquoted-via-then-not-unquoted+else-not-is_closed, else-not-unquoted-via-else-not-unquoted}
@@ -16,14 +14,8 @@ pub lines-init : goal.lines-init
 lines-init g c = record {
   goes = goes-none _ c.args.text.now;
   nothing = c.requires.rest;
-  started = omega (arith, c.if-self-eq0.false);
-  reading =
-      let made = c.from_reader-reader.ensures in
-      new-reading _ c.from_reader-reader.result c.args.text.now (made.config ∙ ap builder_config c.flexible.ensures ∙ ap builder_config c.has_headers.ensures ∙ c.new.ensures.config)
-      (made.trim ∙ ap builder_trim c.flexible.ensures ∙ ap builder_trim c.has_headers.ensures ∙ c.new.ensures.trim)
-      (made.flexible ∙ ap builder_is_flexible c.flexible.ensures)
-      (made.has_headers ∙ ap builder_names_headers c.flexible.ensures ∙ ap builder_names_headers c.has_headers.ensures)
-      made.headers made.fresh made.state made.source (c.starts_closed.ensures c.if-not-starts_closed.false);
+  started = c.requires.started;
+  reading = c.requires.reading;
   plain = c.is_plain-plain.ensures;
 }
 
@@ -59,6 +51,3 @@ pub is_unquoted_unless_known-unquoted-requires : goal.is_unquoted_unless_known-u
 is_unquoted_unless_known-unquoted-requires g c = λ on.
     let line = plain-line c.in-Some.line.now c.in-Some.later.now (subst (λ (text : List ℕ). list_all is_plain_byte text ≡ true) c.in-Some.ensures.0 (c.lines.invariant.plain on)) c.in-Some.ensures.1 in
     ap (list_all is_unquoted_byte) c.without_cr-text.ensures ∙ unquoted-without_cr c.in-Some.line.now line.0
-
-pub returns-then-self-eq0 : goal.returns-then-self-eq0
-returns-then-self-eq0 g c = goes-none _ c.args.text.now

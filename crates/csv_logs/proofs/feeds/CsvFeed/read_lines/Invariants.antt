@@ -1,4 +1,4 @@
-use Rattle.std.proofs.Common.{◌≡◌, ◌<◌, [], Some, length, true}
+use Rattle.std.proofs.Common.{◌≡◌, ◌<◌, [], length, true}
 use Rattle.std.specs.List.{list_all}
 use Rattle.csv_logs.specs.Readers.{IsReading, is_plain_byte}
 use Rattle.csv_logs.specs.Feeds.{StandsFor}
@@ -11,7 +11,7 @@ invariant-lines g l = record {
   goes : Goes (StandsFor g.K.Collector.has_taken g.R.LogEntry.names g.R.LogEntry.meaning l.fn.self) (StandsFor g.K.Collector.has_taken g.R.LogEntry.names g.R.LogEntry.meaning l.self) l.fn.text l.left;
   nothing : l.self.rest.items ≡ [];
   started : 0 < l.self.offset;
-  reading : IsReading (λ input. Some input.now) l.reader l.left;
+  reading : IsReading g.I.Read.remaining l.reader l.left;
   plain : l.plain ≡ true → list_all is_plain_byte l.left ≡ true;
 }
 

@@ -1,21 +1,14 @@
 use Rattle.std.proofs.Common.{not, ap, ◌∙◌}
-use Rattle.csv_logs.specs.Feeds.{StandsFor}
-use Rattle.csv_logs.proofs.FeedLemmas.{goes-keeps, goes-room, goes-line, goes-left, goes-shut, goes-then}
+use Rattle.csv_logs.proofs.FeedLemmas.{goes-keeps, goes-lines, goes-rooms, goes-shut}
 use Rattle.csv_logs.proofs.feeds.CsvFeedFeed.feed.Goals as goal
 
 pub end_rest-requires-clause-room : goal.end_rest-requires-clause-room
 end_rest-requires-clause-room g c =
-    goes-room _ _ _ _ _ _ _ _ _ _ _ _ c.lines.invariant (c.is_none.ensures ∙ ap not c.lines-test.true) c.in-Some.ensures.0 c.in-Some.ensures.1 c.requires.bytes c.requires.stands c.requires.room
-
-pub read_lines-requires-clause-room : goal.read_lines-requires-clause-room
-read_lines-requires-clause-room g c =
-    let goes = goes-line _ _ _ _ _ _ _ _ _ _ _ _ c.lines.invariant (c.is_none.ensures ∙ ap not c.lines-test.true) c.in-Some.ensures.0 c.in-Some.ensures.1 _ _ _ _ _ c.in_ok-end_rest-in-Some.ensures.taken in
-    goes-left (StandsFor g.K.Collector.has_taken g.R.LogEntry.names g.R.LogEntry.meaning) c.end_rest.new.self _ _ _ goes c.requires.bytes c.requires.stands c.requires.room
+    goes-rooms _ _ _ _ _ _ _ _ _ _ _ _ c.lines.invariant (c.is_none.ensures ∙ ap not c.lines-test.true) c.in-Some.ensures.0 c.in-Some.ensures.1 c.requires.bytes c.requires.stands c.requires.room
 
 pub lines-preserved : goal.lines-preserved
 lines-preserved g c =
-    let goes = goes-line _ _ _ _ _ _ _ _ _ _ _ _ c.lines.invariant (c.is_none.ensures ∙ ap not c.lines-test.true) c.in-Some.ensures.0 c.in-Some.ensures.1 _ _ _ _ _ c.in_ok-end_rest-in-Some.ensures.taken in
-    goes-then _ _ _ _ _ _ goes c.in_ok-left-in-Some.ensures
+    goes-lines _ _ _ _ _ _ _ _ _ _ _ _ _ _ c.lines.invariant (c.is_none.ensures ∙ ap not c.lines-test.true) c.in-Some.ensures.0 c.in-Some.ensures.1 c.in_ok-left-in-Some.ensures
 
 pub returns : goal.returns
 returns g c = goes-shut _ _ _ _ _ _ _ _ _ _ c.lines.invariant (c.is_none.ensures ∙ ap not c.lines-test.false)
