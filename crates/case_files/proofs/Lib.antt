@@ -1,1 +1,2 @@
 mod OpenerLemmas
+mod AnswerLemmas

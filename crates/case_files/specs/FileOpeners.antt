@@ -11,6 +11,10 @@ abbrev pub file_opener_state : FileOpener → OpenerState
 file_opener_state opener =
     record { tells = false; kept = (λ path. None); faults = opener.faults }
 
+-- what it stands at before it has opened anything
+abbrev pub fresh_opener : OpenerState
+fresh_opener = record { tells = false; kept = (λ path. None); faults = 0 }
+
 -- the opening was refused, and counted as a fault
 abbrev pub RefusesPath : {B : Type 0} → FileOpener → FileOpener → Result B KeepFault → Type 0
 RefusesPath old new result =

@@ -3,37 +3,26 @@ ghost use Rattle.std.specs.Prelude.{map};
 ghost use Rattle.std.specs.String.{string_bytes};
 ghost use Rattle.case_files.specs.ClosedRuns.{RunsWordsAndCloses};
 
-use case_keeper::keeper::Keeper;
 use case_run::books::{Ended, run_book_seeded};
 use case_run::opener::Opener;
 use case_run::statuses::CaseStatus;
-use case_sqlite::sql_keeper::SqlKeeper;
 use log_source::shelf::Shelf;
 use log_source::sink::Sink;
 use seeded_hash::seed::HashSeed;
-use sqlite::{File, FileStore};
 use std::alloc::Global;
 
-/// A keeper that is closed once nothing more is asked of it.
+/// An opener that closes what it has opened, once nothing more is asked of it.
 ///
-/// What handles one by this knows nothing of what it is made of. A function that has a database by its own
+/// What handles a keeper by this knows nothing of what it is made of. A function that has a database by its own
 /// type is proved by way of all that the database is made of, which takes half a minute or more.
-pub trait Closing: Keeper {
-    /// Closes it. What it has kept stays kept, also where the close fails.
-    fn close(self);
-}
-
-impl Closing for SqlKeeper<FileStore<File>> {
-    /// What was filed is in the database's files before this, so that a close that fails loses nothing. Behind it the
-    /// database file has all of it alone, without the log beside it.
-    fn close(self) {
-        let _closed = self.into_connection().close();
-    }
+pub trait Closing: Opener {
+    /// Closes the keeper that was opened last. What it has kept stays kept, also where the close fails.
+    fn close(&self, keeper: Self::Book);
 }
 
 /// Runs the commands over the casebook that the first word names, as `run_book_seeded` does, and closes it. The answer
 /// is that of the commands.
-pub fn run_and_close<F: Shelf, K: Sink, O: Opener>(
+pub fn run_and_close<F: Shelf, K: Sink, O: Closing>(
     alloc: Global,
     seed: HashSeed,
     words: &[String],
@@ -41,14 +30,12 @@ pub fn run_and_close<F: Shelf, K: Sink, O: Opener>(
     out: &mut K,
     opener: &mut O,
 ) -> CaseStatus
-where
-    O::Book: Closing,
     ensures { RunsWordsAndCloses F.Shelf shelf.old shelf.new
         (O.state opener.old) (O.state opener.new) (map string_bytes words.now) (K.state out.old) (K.state out.new) result }
 {
     let Ended { status, book } = run_book_seeded(alloc, seed, words, shelf, out, opener);
     if let Some(book) = book {
-        book.into_keeper().close();
+        opener.close(book.into_keeper());
     }
     status
 }

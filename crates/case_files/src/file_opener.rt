@@ -1,16 +1,18 @@
 //! The opener of the program: databases, each in a file under its path.
 ghost use Rattle.std.specs.Prelude.{◌≡◌, false, IsTrue, IfOk};
-ghost use Rattle.case_files.specs.FileOpeners.{file_opener_state, RefusesPath};
+ghost use Rattle.case_files.specs.FileOpeners.{file_opener_state, fresh_opener, RefusesPath};
 ghost use Rattle.case_run.specs.Openers.{Opens};
 ghost use Rattle.case_sqlite.specs.SqlKeepers.{sql_state};
 ghost use Rattle.command_words.specs.WordForms.{is_path};
 
+use crate::closing::Closing;
+use crate::database_files::{Place, open_when_free};
 use case_keeper::keeper::KeepFault;
 use case_run::opener::Opener;
 use case_sqlite::faults::fault_of;
 use case_sqlite::sql_keeper::SqlKeeper;
 use command_words::word_forms::is_path;
-use sqlite::{Connection, File, FileStore, Files, Options, Unknown};
+use sqlite::{Connection, File, FileStore, Files, Options};
 use sqlite_disk::Disk;
 use sqlite_std_file::OpenError;
 use std::hash::{BuildHasher, RandomState};
@@ -23,7 +25,7 @@ const KEPT_PAGES: usize = 512;
 /// An opener over the files of the runtime, where a casebook is a database under its path, which is made
 /// where there is none. It tells nothing of what is under a path. A path that is not opened is counted as a
 /// fault, as one of a directory, of a file that is no database or may not be written, or of a database that
-/// another process has open. An opening that finds no memory is no fault.
+/// another process has open for longer than is waited for. An opening that finds no memory is no fault.
 ///
 /// A path that begins with `-` is one that was meant as an option: it is refused before any file is opened or
 /// made. A file of such a name is given as `./-x`.
@@ -31,6 +33,8 @@ const KEPT_PAGES: usize = 512;
 pub struct FileOpener {
     rt: HostRuntime,
     faults: u64,
+    // Where the database lies that was opened last, if there was memory for it.
+    place: Option<Place>,
 }
 
 /// The fault of an opener that the system refused the files of a database.
@@ -71,7 +75,7 @@ fn open_files(rt: &HostRuntime, path: &str) -> Result<Files<File>, KeepFault>
     if !names_file(path) {
         return Err(KeepFault::Failed);
     }
-    match sqlite_std_file::open(rt, path, Unknown) {
+    match open_when_free(rt, path) {
         Ok(files) => Ok(files),
         Err(error) => Err(refused(error)),
     }
@@ -86,16 +90,27 @@ fn open_keeper(rt: &HostRuntime, path: &str) -> Result<SqlKeeper<FileStore<File>
     let options = options(rt)?;
     match Connection::open_files(rt.alloc(), files, options) {
         Ok(connection) => Ok(SqlKeeper::new(rt.alloc(), connection)),
-        Err((error, _)) => Err(fault_of(error)),
+        Err((error, left)) => {
+            let files = left.into_files();
+            if let Ok(place) = Place::of(rt, path) {
+                place.remove_empty_log(rt);
+            }
+            drop(files);
+            Err(fault_of(error))
+        }
     }
 }
 
 impl FileOpener {
     /// An opener over these files, with no fault counted.
     pub fn new(rt: HostRuntime) -> FileOpener
-        ensures { (file_opener_state result).faults ≡ 0 }
+        ensures { file_opener_state result ≡ fresh_opener }
     {
-        FileOpener { rt, faults: 0 }
+        FileOpener {
+            rt,
+            faults: 0,
+            place: None,
+        }
     }
 }
 
@@ -111,13 +126,32 @@ impl Opener for FileOpener {
         ensures refused { is_path path.now ≡ false → RefusesPath self.old self.new result }
     {
         match open_keeper(&self.rt, path) {
-            Ok(keeper) => Ok(keeper),
+            Ok(keeper) => {
+                self.place = Place::of(&self.rt, path).ok();
+                Ok(keeper)
+            }
             Err(fault) => {
                 if let KeepFault::Failed = fault {
                     self.faults = self.faults.saturating_add(1);
                 }
                 Err(fault)
             }
+        }
+    }
+}
+
+impl Closing for FileOpener {
+    /// What was filed is in the database's files before this, so that a close that fails loses nothing. Behind it the
+    /// database file has all of it alone, and the log beside it is removed while nobody else can have opened it.
+    fn close(&self, keeper: SqlKeeper<FileStore<File>>) {
+        match keeper.into_connection().close_files() {
+            Ok(files) => {
+                if let Some(place) = &self.place {
+                    place.remove_log(&self.rt);
+                }
+                drop(files);
+            }
+            Err((_, store)) => drop(store.close()),
         }
     }
 }

@@ -3,5 +3,6 @@
 #![tactic(auto)]
 
 pub mod closing;
+mod database_files;
 pub mod file_opener;
 pub mod program;

@@ -4,44 +4,71 @@
 //! error says so (`run_notes`).
 ghost use Rattle.std.specs.Prelude.{◌≡◌};
 ghost use Rattle.std.specs.Process.{exit_status};
-ghost use Rattle.case_files.specs.ClosedRuns.{AnswersSomeWords};
+ghost use Rattle.case_files.specs.ClosedRuns.{AnswersWords, AnswersOver, AnswersUntold, EndsAsAnswer};
 ghost use Rattle.case_run.specs.Statuses.{case_status_number};
 
 use crate::closing::{Closing, run_and_close};
 use crate::file_opener::FileOpener;
-use case_run::opener::Opener;
 use case_run::statuses::CaseStatus;
-use command_words::arguments::{seed_of, words_of};
+use command_words::arguments::seed_of;
 use log_source::file_shelf::FileShelf;
+use log_source::file_system::FileSystem;
+use log_source::output::Output;
 use log_source::shelf::Shelf;
 use log_source::sink::Sink;
 use log_source::std_sink::StdSink;
+use run_notes::command_line::CommandLine;
 use run_notes::database_notes::{is_missing, tell_database_fault, tell_listed_symbols, tell_made};
 use run_notes::log_notes::tell_log_fault;
 use run_notes::noted_shelf::NotedShelf;
 use run_notes::noted_sink::NotedSink;
+use run_notes::program_ends::{noted_files, noted_output};
 use run_notes::usage_notes::tell_casebook_usage;
 use std::io;
 use std::process::ExitCode;
 use std::random::RandomSource;
-use std::rt::Env;
 
 /// Runs the commands that the words of the command line ask for, with hashes of a random seed, and closes the casebook.
-fn answer_words<R: Env + AllocGlobal + RandomSource, F: Shelf, K: Sink, O: Opener>(
+fn answer_words<R: CommandLine + AllocGlobal + RandomSource, F: Shelf, K: Sink, O: Closing>(
     rt: &R,
     shelf: &mut F,
     out: &mut K,
     opener: &mut O,
 ) -> CaseStatus
-where
-    O::Book: Closing,
-    ensures { AnswersSomeWords F.Shelf shelf.old shelf.new (O.state opener.old) (O.state opener.new)
+    ensures { AnswersWords (R.told rt.now) F.Shelf shelf.old shelf.new (O.state opener.old) (O.state opener.new)
         (K.state out.old) (K.state out.new) result }
 {
-    match words_of(rt) {
+    match rt.words() {
         Ok(words) => run_and_close(rt.alloc(), seed_of(rt), &words, shelf, out, opener),
         Err(_) => CaseStatus::Memory,
     }
+}
+
+/// What a run leaves: its status, the files that it read and the output that it wrote, with what was noted of both.
+#[derive(Drop)]
+struct Ran<S: FileSystem, W> {
+    status: CaseStatus,
+    shelf: NotedShelf<FileShelf<S>>,
+    out: NotedSink<StdSink<W>>,
+}
+
+/// Runs the commands that the words of the command line ask for over these files, this output and this opener.
+fn run_over<
+    R: CommandLine + AllocGlobal + RandomSource,
+    S: FileSystem + Drop,
+    W: Output + Drop,
+    O: Closing,
+>(rt: &R, files: S, output: W, opener: &mut O) -> Ran<S, W>
+    ensures { let shelf = ⟦<NotedShelf<FileShelf<S>> as Shelf>⟧ in
+        let state = ⟦<NotedSink<StdSink<W>> as Sink>⟧.state in
+        AnswersOver (R.told rt.now) shelf (S.tells files) (S.file_at files) (W.contents output)
+        (O.state opener.old) (O.state opener.new)
+        result.shelf (state result.out) result.status }
+{
+    let mut shelf = noted_files(rt.alloc(), files);
+    let mut out = noted_output(rt.alloc(), output);
+    let status = answer_words(rt, &mut shelf, &mut out, opener);
+    Ran { status, shelf, out }
 }
 
 /// Tells on standard error why a run ended above 1.
@@ -69,21 +96,21 @@ fn tell<F: Shelf>(
 }
 
 /// Runs the commands over files and standard output.
-fn answer(rt: HostRuntime) -> CaseStatus {
+fn answer(rt: HostRuntime) -> CaseStatus
+    ensures { AnswersUntold ⟦<NotedShelf<FileShelf<HostRuntime>> as Shelf>⟧ result }
+{
     let Ok(files) = rt.clone() else {
         return CaseStatus::Memory;
     };
     let Ok(databases) = rt.clone() else {
         return CaseStatus::Memory;
     };
-    let Ok(words) = words_of(&rt) else {
+    let Ok(words) = rt.words() else {
         return CaseStatus::Memory;
     };
     let was_missing = is_missing(&rt, &words);
-    let mut shelf = NotedShelf::new(rt.alloc(), FileShelf::new(files));
-    let mut out = NotedSink::new(rt.alloc(), StdSink::new(io::writer(&rt)));
     let mut opener = FileOpener::new(databases);
-    let status = answer_words(&rt, &mut shelf, &mut out, &mut opener);
+    let Ran { status, shelf, out } = run_over(&rt, files, io::writer(&rt), &mut opener);
     tell_made(&rt, &words, was_missing);
     tell(&rt, status, &words, &shelf, out.last());
     status
@@ -97,6 +124,8 @@ fn exit_code(status: CaseStatus) -> ExitCode
 }
 
 /// Does what the program does, and gives what its process ends with.
-pub fn run_casebook(rt: HostRuntime) -> ExitCode {
+pub fn run_casebook(rt: HostRuntime) -> ExitCode
+    ensures { EndsAsAnswer ⟦<NotedShelf<FileShelf<HostRuntime>> as Shelf>⟧ result }
+{
     exit_code(answer(rt))
 }
