@@ -15,7 +15,7 @@ use Rattle.audit_base.specs.declared.terms.Side.TheVariants as side
 use Rattle.csv_logs.specs.declared.orders.Head.{Head}
 use Rattle.csv_logs.specs.declared.orders.Kind.{Kind}
 use Rattle.csv_logs.specs.declared.orders.Kind.TheVariants as kind
-use Rattle.csv_logs.specs.declared.written_lines.Terms.{Terms}
+use Rattle.csv_logs.specs.declared.orders.Terms.{Terms}
 use Rattle.csv_logs.specs.Columns.{side_form}
 use Rattle.csv_logs.specs.OrderLines.{kind_form, order_entry}
 use Rattle.csv_logs.specs.TradeLines.{trade_entry}

@@ -15,7 +15,7 @@ use Rattle.csv_logs.specs.Written.{line_text, log_text, order_fields}
 use Rattle.csv_logs.specs.declared.log_text.ConvertedLog.{ConvertedLog}
 use Rattle.csv_logs.specs.declared.log_text.LogText.{LogText}
 use Rattle.csv_logs.specs.declared.orders.Head.{Head}
-use Rattle.csv_logs.specs.declared.written_lines.Terms.{Terms}
+use Rattle.csv_logs.specs.declared.orders.Terms.{Terms}
 
 -- the records of an order's parts
 abbrev pub new_order : Head → Terms → Life → OrderRecord

@@ -11,8 +11,8 @@ use crate::columns::{column_text, have_names};
 use crate::fields::Fields;
 use crate::lines::{is_broken, line_fields};
 use crate::nine_fields::NineFields;
-use crate::orders::{order_entry, test_order};
-use crate::trades::{test_trade, trade_entry};
+use crate::orders::{take_order, test_order};
+use crate::trades::{take_trade, test_trade};
 use audit_base::columns::columns;
 use audit_base::faults::{NoMemory, Reason};
 use audit_base::records::{OrderRecord, TradeRecord, Traded};
@@ -36,9 +36,16 @@ pub trait LogEntry: Traded {
     fn are_names(fields: &Fields) -> bool
         ensures { result ≡ same_fields fields.now names };
 
-    /// The record that these nine fields mean, or the first column that is not in its form.
-    fn of_fields(fields: &NineFields<'_>, stamps: &mut StampReader) -> Result<Self, Reason>
-        ensures { result ≡ meaning fields.now };
+    /// Hands the record that these nine fields mean to a collector, or gives the first column that is not
+    /// in its form.
+    fn take_nine<K: Collector<Entry = Self>>(
+        entries: &mut K,
+        fields: &NineFields<'_>,
+        stamps: &mut StampReader,
+    ) -> Result<Result<(), Reason>, NoMemory>
+        requires { HasPlace K.has_taken entries.old }
+        ensures { let says = entry_says (meaning fields.now) in
+            IfOk result (TakesFields says (K.has_taken entries.old) (K.has_taken entries.new)) };
 
     /// The symbol of the record that these nine fields mean, if they mean one.
     fn symbol_in<'l>(fields: &NineFields<'l>) -> &'l [u8]
@@ -68,8 +75,12 @@ impl LogEntry for OrderRecord {
         have_names(fields, &columns(Which::Orders))
     }
 
-    fn of_fields(fields: &NineFields<'_>, stamps: &mut StampReader) -> Result<OrderRecord, Reason> {
-        order_entry(fields, stamps)
+    fn take_nine<K: Collector<Entry = OrderRecord>>(
+        entries: &mut K,
+        fields: &NineFields<'_>,
+        stamps: &mut StampReader,
+    ) -> Result<Result<(), Reason>, NoMemory> {
+        take_order(entries, fields, stamps)
     }
 
     fn symbol_in<'l>(fields: &NineFields<'l>) -> &'l [u8] {
@@ -98,8 +109,12 @@ impl LogEntry for TradeRecord {
         have_names(fields, &columns(Which::Trades))
     }
 
-    fn of_fields(fields: &NineFields<'_>, stamps: &mut StampReader) -> Result<TradeRecord, Reason> {
-        trade_entry(fields, stamps)
+    fn take_nine<K: Collector<Entry = TradeRecord>>(
+        entries: &mut K,
+        fields: &NineFields<'_>,
+        stamps: &mut StampReader,
+    ) -> Result<Result<(), Reason>, NoMemory> {
+        take_trade(entries, fields, stamps)
     }
 
     fn symbol_in<'l>(fields: &NineFields<'l>) -> &'l [u8] {
@@ -143,13 +158,7 @@ fn take_entry<R: LogEntry, K: Collector<Entry = R>>(
         IfOk result (TakesFields says (K.has_taken entries.old) (K.has_taken entries.new)) }
 {
     if entries.wants(R::symbol_in(fields)) {
-        match R::of_fields(fields, stamps) {
-            Ok(entry) => {
-                entries.take(entry)?;
-                Ok(Ok(()))
-            }
-            Err(why) => Ok(Err(why)),
-        }
+        R::take_nine(entries, fields, stamps)
     } else {
         Ok(pass_entry(entries, fields, stamps))
     }

@@ -1,8 +1,13 @@
 //! The lines of an order log.
-ghost use Rattle.std.specs.Prelude.{◌≡◌, Err, IfErr, IfOk, Ok, OnOk};
+ghost use Rattle.std.specs.Prelude.{◌≡◌, ◌∷◌, [], Err, IfErr, IfOk, Ok, OnOk};
 ghost use Rattle.audit_base.specs.declared.terms.Life.{Life};
-ghost use Rattle.csv_logs.specs.Columns.{tested};
+ghost use Rattle.audit_base.specs.declared.terms.Life.TheVariants.{Market};
+ghost use Rattle.csv_logs.specs.Columns.{HasName, column_text, tested};
 ghost use Rattle.csv_logs.specs.declared.orders.Head.{Head};
+ghost use Rattle.csv_logs.specs.Steps.{TakesFields, entry_says};
+ghost use Rattle.csv_logs.specs.WrittenLines.{cancel_order, new_order, replace_order};
+ghost use Rattle.log_source.specs.Collectors.{HasPlace};
+ghost use Rattle.log_source.specs.Handing.{Adds};
 ghost use Rattle.csv_logs.specs.OrderLines.{kind_form, head_at, limit_order, market_order, cancel, replacement, order_of_kind, order_entry, HasHeadNames, written_head};
 
 use crate::columns::{
@@ -10,13 +15,14 @@ use crate::columns::{
     stamp_at, test_key, test_name,
 };
 use crate::nine_fields::NineFields;
-use audit_base::faults::Reason;
+use audit_base::faults::{NoMemory, Reason};
 use audit_base::names::{Key, Name};
-use audit_base::numbers::market_price;
+use audit_base::numbers::{Price, Quantity, market_price};
 use audit_base::records::OrderRecord;
 use audit_base::stamp_reader::StampReader;
 use audit_base::stamps::Stamp;
 use audit_base::terms::{Life, Side};
+use log_source::collector::Collector;
 
 /// What the first column of an order line says that the line is.
 #[derive(Clone, Copy)]
@@ -62,139 +68,263 @@ fn head_time(fields: &NineFields<'_>, stamps: &mut StampReader) -> Result<Stamp,
     Ok(time)
 }
 
-fn limit_order(time: Stamp, life: Life, fields: &NineFields<'_>) -> Result<OrderRecord, Reason>
-    requires { HasHeadNames fields.now }
-    ensures { result ≡ limit_order (written_head time fields.now) life fields.now }
+/// What only a new order or a replacement says: columns 6 to 8.
+#[derive(Clone, Copy)]
+pub(crate) struct Terms {
+    pub(crate) side: Side,
+    pub(crate) quantity: Quantity,
+    pub(crate) price: Price,
+}
+
+impl Terms {
+    pub(crate) fn of(side: Side, quantity: Quantity, price: Price) -> Terms
+        ensures { result ≡ record { side = side; quantity = quantity; price = price } }
+    {
+        Terms {
+            side,
+            quantity,
+            price,
+        }
+    }
+}
+
+fn limit_terms(fields: &NineFields<'_>) -> Result<Terms, Reason>
+    ensures read { IfOk result (λ terms. (head : Head) (life : Life)
+        → limit_order head life fields.now ≡ Ok (new_order head terms life)) }
+    ensures why { IfErr result (λ why. (head : Head) (life : Life)
+        → limit_order head life fields.now ≡ Err why) }
 {
     let side = side_at(6, fields)?;
     let quantity = quantity_at(7, fields)?;
     let price = price_at(8, fields)?;
     empty_at(9, fields)?;
-    Ok(OrderRecord::New {
-        key: known_key(2, fields),
-        time,
-        symbol: known_name(5, fields),
-        side,
-        quantity,
-        price,
-        life,
-    })
+    Ok(Terms::of(side, quantity, price))
 }
 
-fn market_order(time: Stamp, fields: &NineFields<'_>) -> Result<OrderRecord, Reason>
-    requires { HasHeadNames fields.now }
-    ensures { result ≡ market_order (written_head time fields.now) fields.now }
+fn market_terms(fields: &NineFields<'_>) -> Result<Terms, Reason>
+    ensures read { IfOk result (λ terms. (head : Head)
+        → market_order head fields.now ≡ Ok (new_order head terms Market)) }
+    ensures why { IfErr result (λ why. (head : Head) → market_order head fields.now ≡ Err why) }
 {
     let side = side_at(6, fields)?;
     let quantity = quantity_at(7, fields)?;
     empty_at(8, fields)?;
     empty_at(9, fields)?;
-    Ok(OrderRecord::New {
-        key: known_key(2, fields),
-        time,
-        symbol: known_name(5, fields),
-        side,
-        quantity,
-        price: market_price(side),
-        life: Life::Market,
-    })
+    Ok(Terms::of(side, quantity, market_price(side)))
 }
 
-fn cancel(time: Stamp, fields: &NineFields<'_>) -> Result<OrderRecord, Reason>
-    requires { HasHeadNames fields.now }
-    ensures { result ≡ cancel (written_head time fields.now) fields.now }
+fn test_cancel(fields: &NineFields<'_>) -> Result<(), Reason>
+    ensures tests { (head : Head) → result ≡ tested (cancel head fields.now) }
+    ensures named { OnOk result (HasName 9 fields.now) }
+    ensures read { OnOk result ((head : Head)
+        → cancel head fields.now ≡ Ok (cancel_order head (column_text 9 fields.now))) }
+    ensures why { IfErr result (λ why. (head : Head) → cancel head fields.now ≡ Err why) }
 {
     empty_at(6, fields)?; // no side
     empty_at(7, fields)?;
     empty_at(8, fields)?;
-    test_name(9, fields)?;
-    Ok(OrderRecord::Cancel {
-        key: known_key(2, fields),
-        time,
-        symbol: known_name(5, fields),
-        target: known_name(9, fields),
-    })
+    test_name(9, fields)
 }
 
-fn replacement(time: Stamp, fields: &NineFields<'_>) -> Result<OrderRecord, Reason>
-    requires { HasHeadNames fields.now }
-    ensures { result ≡ replacement (written_head time fields.now) fields.now }
+fn replacement_terms(fields: &NineFields<'_>) -> Result<Terms, Reason>
+    ensures named { OnOk result (HasName 9 fields.now) }
+    ensures read { IfOk result (λ terms. (head : Head)
+        → replacement head fields.now ≡ Ok (replace_order head terms (column_text 9 fields.now))) }
+    ensures why { IfErr result (λ why. (head : Head) → replacement head fields.now ≡ Err why) }
 {
     let side = side_at(6, fields)?;
     let quantity = quantity_at(7, fields)?;
     let price = price_at(8, fields)?;
     test_name(9, fields)?;
-    Ok(OrderRecord::Replace {
+    Ok(Terms::of(side, quantity, price))
+}
+
+/// Hands on a new order. Its record is made where it is handed on, and not copied.
+fn take_new<K: Collector<Entry = OrderRecord>>(
+    entries: &mut K,
+    time: Stamp,
+    life: Life,
+    terms: Terms,
+    fields: &NineFields<'_>,
+) -> Result<(), NoMemory>
+    requires names { HasHeadNames fields.now }
+    requires place { HasPlace K.has_taken entries.old }
+    ensures { let order = new_order (written_head time fields.now) terms life in
+        OnOk result (Adds (K.has_taken entries.old) (K.has_taken entries.new) (order ∷ [])) }
+{
+    entries.take(OrderRecord::New {
         key: known_key(2, fields),
         time,
         symbol: known_name(5, fields),
-        target: known_name(9, fields),
-        side,
-        quantity,
-        price,
+        side: terms.side,
+        quantity: terms.quantity,
+        price: terms.price,
+        life,
     })
 }
 
-/// What nine fields mean in an order log: a record, or the first column that is not in its form.
-#[tactic(auto, unfolding(crate::specs::OrderLines::order_entry))]
-pub(crate) fn order_entry(
+fn take_limit<K: Collector<Entry = OrderRecord>>(
+    entries: &mut K,
+    time: Stamp,
+    life: Life,
     fields: &NineFields<'_>,
-    stamps: &mut StampReader,
-) -> Result<OrderRecord, Reason>
-    ensures { result ≡ order_entry fields.now }
+) -> Result<Result<(), Reason>, NoMemory>
+    requires names { HasHeadNames fields.now }
+    requires place { HasPlace K.has_taken entries.old }
+    ensures { let says = entry_says (limit_order (written_head time fields.now) life fields.now) in
+        IfOk result (TakesFields says (K.has_taken entries.old) (K.has_taken entries.new)) }
 {
-    let kind = in_column(1, read_kind(column_text(fields, 1)))?;
-    let time = head_time(fields, stamps)?;
-    match kind {
-        Kind::New => limit_order(time, Life::Rests, fields),
-        Kind::Immediate => limit_order(time, Life::Immediate, fields),
-        Kind::Market => market_order(time, fields),
-        Kind::Cancel => cancel(time, fields),
-        Kind::Replace => replacement(time, fields),
+    match limit_terms(fields) {
+        Ok(terms) => {
+            take_new(entries, time, life, terms, fields)?;
+            Ok(Ok(()))
+        }
+        Err(why) => Ok(Err(why)),
     }
 }
 
-fn test_head(fields: &NineFields<'_>, stamps: &mut StampReader) -> Result<(), Reason>
-    ensures { result ≡ tested (head_at fields.now) }
+fn take_market<K: Collector<Entry = OrderRecord>>(
+    entries: &mut K,
+    time: Stamp,
+    fields: &NineFields<'_>,
+) -> Result<Result<(), Reason>, NoMemory>
+    requires names { HasHeadNames fields.now }
+    requires place { HasPlace K.has_taken entries.old }
+    ensures { let says = entry_says (market_order (written_head time fields.now) fields.now) in
+        IfOk result (TakesFields says (K.has_taken entries.old) (K.has_taken entries.new)) }
 {
-    head_time(fields, stamps)?;
-    Ok(())
+    match market_terms(fields) {
+        Ok(terms) => {
+            take_new(entries, time, Life::Market, terms, fields)?;
+            Ok(Ok(()))
+        }
+        Err(why) => Ok(Err(why)),
+    }
+}
+
+fn take_cancel<K: Collector<Entry = OrderRecord>>(
+    entries: &mut K,
+    time: Stamp,
+    fields: &NineFields<'_>,
+) -> Result<Result<(), Reason>, NoMemory>
+    requires names { HasHeadNames fields.now }
+    requires place { HasPlace K.has_taken entries.old }
+    ensures { let says = entry_says (cancel (written_head time fields.now) fields.now) in
+        IfOk result (TakesFields says (K.has_taken entries.old) (K.has_taken entries.new)) }
+{
+    match test_cancel(fields) {
+        Ok(()) => {
+            entries.take(OrderRecord::Cancel {
+                key: known_key(2, fields),
+                time,
+                symbol: known_name(5, fields),
+                target: known_name(9, fields),
+            })?;
+            Ok(Ok(()))
+        }
+        Err(why) => Ok(Err(why)),
+    }
+}
+
+fn take_replacement<K: Collector<Entry = OrderRecord>>(
+    entries: &mut K,
+    time: Stamp,
+    fields: &NineFields<'_>,
+) -> Result<Result<(), Reason>, NoMemory>
+    requires names { HasHeadNames fields.now }
+    requires place { HasPlace K.has_taken entries.old }
+    ensures { let says = entry_says (replacement (written_head time fields.now) fields.now) in
+        IfOk result (TakesFields says (K.has_taken entries.old) (K.has_taken entries.new)) }
+{
+    match replacement_terms(fields) {
+        Ok(terms) => {
+            entries.take(OrderRecord::Replace {
+                key: known_key(2, fields),
+                time,
+                symbol: known_name(5, fields),
+                target: known_name(9, fields),
+                side: terms.side,
+                quantity: terms.quantity,
+                price: terms.price,
+            })?;
+            Ok(Ok(()))
+        }
+        Err(why) => Ok(Err(why)),
+    }
+}
+
+/// Takes columns 6 to 9 of a line of this kind, whose first columns are tested.
+fn take_order_of_kind<K: Collector<Entry = OrderRecord>>(
+    entries: &mut K,
+    kind: Kind,
+    time: Stamp,
+    fields: &NineFields<'_>,
+) -> Result<Result<(), Reason>, NoMemory>
+    requires names { HasHeadNames fields.now }
+    requires place { HasPlace K.has_taken entries.old }
+    ensures { let head = written_head time fields.now in
+        let says = entry_says (order_of_kind kind head fields.now) in
+        IfOk result (TakesFields says (K.has_taken entries.old) (K.has_taken entries.new)) }
+{
+    match kind {
+        Kind::New => take_limit(entries, time, Life::Rests, fields),
+        Kind::Immediate => take_limit(entries, time, Life::Immediate, fields),
+        Kind::Market => take_market(entries, time, fields),
+        Kind::Cancel => take_cancel(entries, time, fields),
+        Kind::Replace => take_replacement(entries, time, fields),
+    }
+}
+
+/// The kind of a line and its time, in the columns that every order line has, whose names are tested.
+#[inline(always)]
+#[tactic(auto, unfolding(crate::specs::OrderLines::order_entry))]
+fn kind_and_time(fields: &NineFields<'_>, stamps: &mut StampReader) -> Result<(Kind, Stamp), Reason>
+    ensures named { OnOk result (HasHeadNames fields.now) }
+    ensures read { IfOk result (λ found. order_entry fields.now
+        ≡ order_of_kind found.0 (written_head found.1 fields.now) fields.now) }
+    ensures why { IfErr result (λ why. order_entry fields.now ≡ Err why) }
+{
+    let kind = in_column(1, read_kind(column_text(fields, 1)))?;
+    let time = head_time(fields, stamps)?;
+    Ok((kind, time))
+}
+
+/// Hands on the record that nine fields mean in an order log, or gives the first column that is not in its
+/// form.
+pub(crate) fn take_order<K: Collector<Entry = OrderRecord>>(
+    entries: &mut K,
+    fields: &NineFields<'_>,
+    stamps: &mut StampReader,
+) -> Result<Result<(), Reason>, NoMemory>
+    requires { HasPlace K.has_taken entries.old }
+    ensures { let says = entry_says (order_entry fields.now) in
+        IfOk result (TakesFields says (K.has_taken entries.old) (K.has_taken entries.new)) }
+{
+    match kind_and_time(fields, stamps) {
+        Ok((kind, time)) => take_order_of_kind(entries, kind, time, fields),
+        Err(why) => Ok(Err(why)),
+    }
 }
 
 fn test_limit(fields: &NineFields<'_>) -> Result<(), Reason>
     ensures { (head : Head) (life : Life) → result ≡ tested (limit_order head life fields.now) }
 {
-    side_at(6, fields)?;
-    quantity_at(7, fields)?;
-    price_at(8, fields)?;
-    empty_at(9, fields)
+    limit_terms(fields)?;
+    Ok(())
 }
 
 fn test_market(fields: &NineFields<'_>) -> Result<(), Reason>
     ensures { (head : Head) → result ≡ tested (market_order head fields.now) }
 {
-    side_at(6, fields)?;
-    quantity_at(7, fields)?;
-    empty_at(8, fields)?;
-    empty_at(9, fields)
-}
-
-fn test_cancel(fields: &NineFields<'_>) -> Result<(), Reason>
-    ensures { (head : Head) → result ≡ tested (cancel head fields.now) }
-{
-    empty_at(6, fields)?;
-    empty_at(7, fields)?;
-    empty_at(8, fields)?;
-    test_name(9, fields)
+    market_terms(fields)?;
+    Ok(())
 }
 
 fn test_replacement(fields: &NineFields<'_>) -> Result<(), Reason>
     ensures { (head : Head) → result ≡ tested (replacement head fields.now) }
 {
-    side_at(6, fields)?;
-    quantity_at(7, fields)?;
-    price_at(8, fields)?;
-    test_name(9, fields)
+    replacement_terms(fields)?;
+    Ok(())
 }
 
 fn test_order_of_kind(kind: Kind, fields: &NineFields<'_>) -> Result<(), Reason>
@@ -209,11 +339,9 @@ fn test_order_of_kind(kind: Kind, fields: &NineFields<'_>) -> Result<(), Reason>
 }
 
 /// Whether nine fields mean a record in an order log, or else the first column that is not in its form.
-#[tactic(auto, unfolding(crate::specs::OrderLines::order_entry))]
 pub(crate) fn test_order(fields: &NineFields<'_>, stamps: &mut StampReader) -> Result<(), Reason>
     ensures { result ≡ tested (order_entry fields.now) }
 {
-    let kind = in_column(1, read_kind(column_text(fields, 1)))?;
-    test_head(fields, stamps)?;
+    let (kind, _) = kind_and_time(fields, stamps)?;
     test_order_of_kind(kind, fields)
 }

@@ -7,7 +7,7 @@ ghost use Rattle.csv_logs.specs.Written.{order_fields, side_text, kind_text, lim
 ghost use Rattle.csv_logs.specs.WrittenLines.{IsAtLine, IsLineOf, IsOrderLine, WritesLine, have_name_bytes, cancel_order, new_order, replace_order};
 
 use crate::entries::LogEntry;
-use crate::orders::Head;
+use crate::orders::{Head, Terms};
 use audit_base::columns::columns;
 use audit_base::faults::NoMemory;
 use audit_base::field_texts::{price_text, quantity_text, stamp_text};
@@ -62,26 +62,6 @@ fn limit_bytes(alloc: Global, life: Life, price: Price) -> Result<Vec<u8>, NoMem
     match life {
         Life::Rests | Life::Immediate => Ok(text),
         Life::Market => Ok(Vec::new(alloc)),
-    }
-}
-
-/// What an order asks for.
-#[derive(Clone, Copy)]
-struct Terms {
-    side: Side,
-    quantity: Quantity,
-    price: Price,
-}
-
-impl Terms {
-    fn of(side: Side, quantity: Quantity, price: Price) -> Terms
-        ensures { result ≡ record { side = side; quantity = quantity; price = price } }
-    {
-        Terms {
-            side,
-            quantity,
-            price,
-        }
     }
 }
 
