@@ -21,7 +21,7 @@ parted (Upto p) limits rising = IsPartitionedBy-leb (λ l. l.limit) limits p ris
 module _ (edge : Edge) (limits : List LimitQuantity) (rising : IsNonDecreasingBy (λ l. l.limit) limits) where
   -- where the limit at k counts, those before it do
   pub count-upto : (k : ℕ) (e : LimitQuantity) → k < length limits → counts edge (get_or limits k e).limit ≡ true → AllCount edge limits (k + 1)
-  count-upto k e lt t j d zero_le below =
+  count-upto k e lt t j d low below =
       parted edge limits rising j k d (omega arith) lt (subst (λ (l : LimitQuantity). counts edge l.limit ≡ true) (get_or-default limits k e d lt) t)
 
   -- where the limit at n does not count, none from there on does
