@@ -1,4 +1,4 @@
-use Rattle.std.proofs.Common.{◌≡◌, ap, subst, sym, ◌∙◌}
+use Rattle.std.proofs.Common.{ap, subst, sym, ◌∙◌}
 use Rattle.std.specs.Prelude.{IfOk}
 use Rattle.csv_logs.specs.Steps.{TakesFields, fields_say}
 use Rattle.csv_logs.proofs.FeedLemmas.{unbroken-says}

@@ -1,4 +1,4 @@
-use Rattle.std.proofs.Common.{◌≡◌, List, ℕ, length, ap, ◌∙◌, arith}
+use Rattle.std.proofs.Common.{List, ℕ, ap, ◌∙◌, arith}
 use Rattle.csv.specs.Records.{field_at}
 use Rattle.csv_logs.proofs.FieldLemmas.{text-at, text-none}
 use Rattle.csv_logs.proofs.nine_fields.NineFields.get.Goals as goal
