@@ -1,6 +1,6 @@
 //! Where tags stand among the fields of a body, and a body that is written.
 use audit_base::sizes::LONGEST_BODY;
-use fix_fields::field::{Field, Found};
+use fix_fields::field::{Field, Found, Placed};
 use fix_fields::find::find_field;
 use fix_fields::notes::TagNotes;
 use fix_fields::split::fields;
@@ -27,30 +27,24 @@ fn the_first_field_is_found(rt: HostRuntime) {
 #[test]
 fn noted_tags_are_found(rt: HostRuntime) {
     let mut notes = TagNotes::new();
-    let noted = [35, 11, 55, 527].map(|tag| Field {
+    assert_eq!(rt; notes.find(35), Placed::Absent);
+    let noted = [(35, 3), (34, 8), (11, 14), (527, 20)].map(|(tag, from)| Field {
         tag,
-        from: 0,
-        to: 1,
-    });
-    let repeated = [35, 55, 55, 11].map(|tag| Field {
-        tag,
-        from: 0,
-        to: 1,
+        from,
+        to: 30,
     });
     notes.note(&noted);
-    for (tag, want) in [
-        (35, Found::One(0)),
-        (55, Found::One(2)),
-        (527, Found::One(3)),
-        (159, Found::Absent),
-        (160, Found::Absent),
-    ] {
-        assert_eq!(rt; notes.find_field(&noted, tag), want, "{tag}");
-    }
+    assert_eq!(rt; notes.find(35), Placed::One { from: 3, to: 30 });
+    assert_eq!(rt; notes.find(527), Placed::One { from: 20, to: 30 });
+    assert_eq!(rt; notes.find(55), Placed::Absent);
+    let repeated = [(35, 3), (55, 8), (55, 14), (55, 20)].map(|(tag, from)| Field {
+        tag,
+        from,
+        to: 30,
+    });
     notes.note(&repeated);
-    for (tag, want) in [(55, Found::Many(1)), (11, Found::One(3))] {
-        assert_eq!(rt; notes.find_field(&repeated, tag), want, "{tag}");
-    }
+    assert_eq!(rt; notes.find(55), Placed::Many { from: 8, to: 30 });
+    assert_eq!(rt; notes.find(11), Placed::Absent);
 }
 
 #[test]

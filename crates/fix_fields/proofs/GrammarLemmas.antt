@@ -34,7 +34,7 @@ same_value None tag v w x y p q e = same_until 1 v w x y p.no_end q.no_end e
 same_value (Some before) tag v w x y p q e = counted_or_delimited (is_pair before.tag tag) (length_form before.value) v w x y p q e
 
 -- tags before `=` and equal bytes are equal
-same_tag : (t u : ℕ) (x y : List ℕ) → IsTag t → IsTag u → decimal t ++ 61 ∷ x ≡ decimal u ++ 61 ∷ y → (t ≡ u) × (x ≡ y)
+pub same_tag : (t u : ℕ) (x y : List ℕ) → IsTag t → IsTag u → decimal t ++ 61 ∷ x ≡ decimal u ++ 61 ∷ y → (t ≡ u) × (x ≡ y)
 same_tag t u x y p q e =
     let same = same_until 61 (decimal t) (decimal u) x y (decimal_no_equals t p) (decimal_no_equals u q) e in
     (decimal_injective t u (omega (arith, p.high)) (omega (arith, q.high)) same.0, same.1)

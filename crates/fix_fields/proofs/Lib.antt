@@ -3,6 +3,7 @@ pub mod FindLemmas
 pub mod GrammarLemmas
 pub mod LawLemmas
 pub mod ReadingLemmas
+pub mod HandLemmas
 pub mod RefusalLemmas
 pub mod SearchLemmas
 pub mod TagLemmas

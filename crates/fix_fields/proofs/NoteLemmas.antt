@@ -1,172 +1,123 @@
--- What is found of a tag where one more field stands behind others, and what is noted of it.
-use Rattle.std.proofs.Common.{◌≡◌, ◌⊎◌, ℕ, ◌+◌, ◌-◌, ◌<◌, ◌≤◌, Bool, true, false, cond, eqb, ltb, Option, Some, None, List, [], ◌∷◌, ◌++◌, length, get_or, set, replicate, ap, sym, refl, inl, inr, ◌∙◌, arith, rules}
-use Rattle.std.specs.List.{count_by, position, position_or_len}
-use Rattle.std.proofs.lemmas.Bool.{cases_eq}
+-- Notes of tags, field by field.
+use Rattle.std.proofs.Common.{◌≡◌, ◌≢◌, ℕ, zero, suc, Bool, true, false, cond, eqb, Option, Some, None, List, [], ◌∷◌, ◌++◌, get_or, replicate, ap, sym, refl, ◌∙◌, inl, inr, arith}
+use Rattle.std.specs.List.{find, list_all}
+use Rattle.std.specs.Option.{option_map}
+use Rattle.std.proofs.lemmas.Bool.{and_parts, cases_Bool, eqb-true}
 use Rattle.std.proofs.lemmas.Bool.Decides.{nat_tests}
-use Rattle.std.proofs.lemmas.List.{length-append, get_or-replicate, get_or-set_same, get_or-set_other}
-use Rattle.std.proofs.lemmas.List.Elements.{All-from_get_or}
-use Rattle.std.proofs.lemmas.List.Folds.{position_or_len_push}
-use Rattle.std.proofs.lemmas.List.Sums.{sum_by-append, sum_by-cons, fails_before_first, prefix_len-le-length}
 use Rattle.fix_fields.specs.declared.field.Field.{Field}
-use Rattle.fix_fields.specs.declared.field.Found.TheVariants.{Absent, One, Many}
-use Rattle.fix_fields.specs.TagSearch.{found_at, found_of, has_tag}
-use Rattle.fix_fields.specs.TagNotes.{noted, AreNoted, place_of}
-use Rattle.fix_fields.proofs.FindLemmas.{count_none}
+use Rattle.fix_fields.specs.declared.field.Placed.{Placed}
+use Rattle.fix_fields.specs.declared.field.Placed.TheVariants.{Absent, One, Many}
+use Rattle.fix_fields.specs.declared.notes.TagNotes.{TagNotes}
+use Rattle.fix_fields.specs.TagNotes.{AreNotesOf, fields_with, first_placed, note_at, noted, place_of, placed_of, places, with_field}
 
--- the first place below a length, if there is one
-abbrev place_in : ℕ → ℕ → Option ℕ
-place_in first len = cond (ltb first len) (Some first) None
+-- what is found in a list passes what all of it pass, and the test by which it was found
+module _ (P Q : ℕ × ℕ → Bool) where
+  found-step : (b : Bool) (p x : ℕ × ℕ) (rest : Option (ℕ × ℕ)) → P p ≡ b → Q p ≡ true → (rest ≡ Some x → (P x ≡ true) × (Q x ≡ true))
+      → cond b (Some p) rest ≡ Some x → (P x ≡ true) × (Q x ≡ true)
+  found-step true p x rest is all later found =
+      let same : p ≡ x = cc found in (ap P (sym same) ∙ is, ap Q (sym same) ∙ all)
+  found-step false p x rest is all later found = later found
 
--- one more element that fails
-place-fails : (first len next more : ℕ) → next ≡ cond (eqb first len) (len + 1) first → more ≡ len + 1 → first ≤ len → place_in next more ≡ place_in first len
-place-fails first len next more is size le = elim (cases_eq first len) [
-  | inl same ↦
-      let at : eqb first len ≡ true = grind (arith, nat_tests, same) in
-      let end : next ≡ len + 1 = is ∙ ap (λ (b : Bool). cond {A = ℕ} b (len + 1) first) at in
-      let new : ltb next more ≡ false = grind (arith, nat_tests, end, size) in
-      let old : ltb first len ≡ false = grind (arith, nat_tests, same) in rw (new, old) refl
-  | inr other ↦
-      let below : first < len = omega (arith, le, other) in
-      let at : eqb first len ≡ false = grind (arith, nat_tests, below) in
-      let here : next ≡ first = is ∙ ap (λ (b : Bool). cond {A = ℕ} b (len + 1) first) at in
-      let new : ltb next more ≡ true = grind (arith, nat_tests, here, size, below) in
-      let old : ltb first len ≡ true = grind (arith, nat_tests, below) in rw (new, old) (ap (λ (n : ℕ). Some n) here)
-]
+  found-passes : (all : List (ℕ × ℕ)) (x : ℕ × ℕ) → list_all Q all ≡ true → find P all ≡ Some x → (P x ≡ true) × (Q x ≡ true)
+  found-passes [] x every found = absurd (cc found)
+  found-passes (p ∷ all) x every found =
+      let both = and_parts (Q p) (list_all Q all) every in
+      found-step (P p) p x (find P all) refl both.0 (found-passes all x both.1) found
 
--- one more element that passes, where none did
-place-passes : (first len next more : ℕ) → next ≡ cond (eqb first len) (len + 0) first → more ≡ len + 1 → first ≡ len → place_in next more ≡ Some len
-place-passes first len next more is size same =
-    let at : eqb first len ≡ true = grind (arith, nat_tests, same) in
-    let end : next ≡ len + 0 = is ∙ ap (λ (b : Bool). cond {A = ℕ} b (len + 0) first) at in
-    let here : next ≡ len = omega (arith, end) in
-    let new : ltb next more ≡ true = grind (arith, nat_tests, here, size) in rw new (ap (λ (n : ℕ). Some n) here)
+-- the tag that is noted at a place
+tag_at : ℕ → ℕ
+tag_at place = get_or (11 ∷ 31 ∷ 32 ∷ 35 ∷ 38 ∷ 40 ∷ 41 ∷ 43 ∷ 44 ∷ 49 ∷ 54 ∷ 55 ∷ 56 ∷ 59 ∷ 60 ∷ 110 ∷ 111 ∷ 150 ∷ 527 ∷ []) place 0
 
-found-not-absent : (c : Bool) (first : ℕ) → cond c (One first) (Many first) ≡ Absent → false ≡ true
-found-not-absent true first h = (cc)
-found-not-absent false first h = (cc)
+place-some : (found : Option (ℕ × ℕ)) (place : ℕ) → option_map (λ p. p.1) found ≡ Some place → (x : ℕ × ℕ) × (found ≡ Some x) × (x.1 ≡ place)
+place-some None place is = absurd (cc is)
+place-some (Some x) place is = (x, refl, (cc))
 
--- what is absent has no place
-no-place : (b : Bool) (first count : ℕ) → found_at (cond b (Some first) None) count ≡ Absent → b ≡ false
-no-place true first count h = sym (found-not-absent (eqb count 1) first h)
-no-place false first count h = refl
+-- each place is that of its tag
+all-own : list_all (λ p. eqb (tag_at p.1) p.0) places ≡ true
+unfolding tag_at
+all-own = refl
 
-module _ (fields : List Field) (field : Field) (tag : ℕ) where
-  first : ℕ
-  first = position_or_len (has_tag tag) fields
-
-  within : position_or_len (has_tag tag) fields ≤ length fields
-  within = prefix_len-le-length _ fields
-
-  size : length (fields ++ field ∷ []) ≡ length fields + 1
-  size = length-append fields (field ∷ [])
-
-  counts : count_by (has_tag tag) (fields ++ field ∷ []) ≡ count_by (has_tag tag) fields + cond (has_tag tag field) 1 0
-  counts =
-      let one = sum_by-cons (λ f. cond {A = ℕ} (has_tag tag f) 1 0) field [] in
-      sum_by-append (λ f. cond {A = ℕ} (has_tag tag f) 1 0) fields (field ∷ []) ∙ ap (λ (n : ℕ). count_by (has_tag tag) fields + n) (omega (arith, one))
-
-  -- a field with another tag changes nothing
-  pub found-other : has_tag tag field ≡ false → found_of (fields ++ field ∷ []) tag ≡ found_of fields tag
-  found-other fails =
-      let next : position_or_len (has_tag tag) (fields ++ field ∷ []) ≡ cond (eqb (position_or_len (has_tag tag) fields) (length fields)) (length fields + 1) (position_or_len (has_tag tag) fields) =
-      position_or_len_push (has_tag tag) fields field ∙ ap (λ (b : Bool). cond {A = ℕ} (eqb (position_or_len (has_tag tag) fields) (length fields)) (length fields + cond b 0 1) (position_or_len (has_tag tag) fields)) fails in
-      let place = place-fails (position_or_len (has_tag tag) fields) (length fields) (position_or_len (has_tag tag) (fields ++ field ∷ [])) (length (fields ++ field ∷ [])) next size within in
-      let same : count_by (has_tag tag) (fields ++ field ∷ []) ≡ count_by (has_tag tag) fields =
-      counts ∙ ap (λ (b : Bool). count_by (has_tag tag) fields + cond {A = ℕ} b 1 0) fails ∙ omega arith in
-      ap (λ (o : Option ℕ). found_at o (count_by (has_tag tag) (fields ++ field ∷ []))) place ∙ ap (λ (n : ℕ). found_at (position (has_tag tag) fields) n) same
-
-  -- the first field with a tag is the one with it
-  pub found-first : has_tag tag field ≡ true → found_of fields tag ≡ Absent → found_of (fields ++ field ∷ []) tag ≡ One (length fields)
-  found-first passes absent =
-      let none : ltb (position_or_len (has_tag tag) fields) (length fields) ≡ false = no-place (ltb (position_or_len (has_tag tag) fields) (length fields)) (position_or_len (has_tag tag) fields) (count_by (has_tag tag) fields) absent in
-      let all : position_or_len (has_tag tag) fields ≡ length fields = grind (arith, nat_tests, none, within) in
-      let zero_count : count_by (has_tag tag) fields ≡ 0 =
-      count_none (has_tag tag) fields (All-from_get_or (λ (f : Field). has_tag tag f ≡ false) fields field (λ k low. fails_before_first (has_tag tag) fields k field (omega (arith, all, low)))) in
-      let next : position_or_len (has_tag tag) (fields ++ field ∷ []) ≡ cond (eqb (position_or_len (has_tag tag) fields) (length fields)) (length fields + 0) (position_or_len (has_tag tag) fields) =
-      position_or_len_push (has_tag tag) fields field ∙ ap (λ (b : Bool). cond {A = ℕ} (eqb (position_or_len (has_tag tag) fields) (length fields)) (length fields + cond b 0 1) (position_or_len (has_tag tag) fields)) passes in
-      let place = place-passes (position_or_len (has_tag tag) fields) (length fields) (position_or_len (has_tag tag) (fields ++ field ∷ [])) (length (fields ++ field ∷ [])) next size all in
-      let one : count_by (has_tag tag) (fields ++ field ∷ []) ≡ 1 =
-      counts ∙ ap (λ (b : Bool). count_by (has_tag tag) fields + cond {A = ℕ} b 1 0) passes ∙ omega (arith, zero_count) in
-      ap (λ (o : Option ℕ). found_at o (count_by (has_tag tag) (fields ++ field ∷ []))) place ∙ ap (λ (n : ℕ). found_at (Some (length fields)) n) one
-
--- the place of a note, where the two tests of its tag are known
-place-of-tests : (tag place : ℕ) (low trade : Bool) → cond low (Some tag) (cond trade (Some 160) None) ≡ Some place
-    → ((low ≡ true) × (place ≡ tag)) ⊎ ((trade ≡ true) × (place ≡ 160))
-place-of-tests tag place true trade has = inl (refl, (cc))
-place-of-tests tag place false true has = inr (refl, (cc))
-place-of-tests tag place false false has = (cc)
-
--- the place of a low tag
-pub place-low : (tag : ℕ) → tag < 160 → place_of tag ≡ Some tag
-place-low tag low =
-    let test : ltb tag 160 ≡ true = grind (arith, nat_tests, low) in rw test refl
-
--- any other tag but 527 has no place
-pub place-none : (tag : ℕ) → 160 ≤ tag → (tag ≡ 527 → ⊥) → place_of tag ≡ None
-place-none tag high other =
-    let test : ltb tag 160 ≡ false = grind (arith, nat_tests, high) in
-    let apart : eqb tag 527 ≡ false = grind (arith, nat_tests, other) in rw (test, apart) refl
-
--- a tag that is noted is below 160, or 527
-place-cases : (tag place : ℕ) → place_of tag ≡ Some place → ((tag < 160) × (place ≡ tag)) ⊎ ((tag ≡ 527) × (place ≡ 160))
-place-cases tag place has = elim (place-of-tests tag place (ltb tag 160) (eqb tag 527) has) [
-  | inl (low, own) ↦ inl (grind (arith, nat_tests, low), own)
-  | inr (trade, last) ↦ inr (grind (arith, nat_tests, trade), last)
-]
-
--- there is room for each note
-place-below : (tag place : ℕ) → place_of tag ≡ Some place → place < 161
-place-below tag place has = elim (place-cases tag place has) [
-  | inl (low, own) ↦ omega (arith, low, own)
-  | inr (trade, last) ↦ omega (arith, last)
-]
+own-tag : (tag place : ℕ) → place_of tag ≡ Some place → tag_at place ≡ tag
+own-tag tag place is =
+    let some = place-some (find (λ p. eqb p.0 tag) places) place is in
+    let passes = found-passes (λ p. eqb p.0 tag) (λ p. eqb (tag_at p.1) p.0) places some.0 all-own some.1 in
+    ap tag_at (sym some.2) ∙ eqb-true (tag_at some.0.1) some.0.0 passes.1 ∙ eqb-true some.0.0 tag passes.0
 
 -- no two tags have one place
-place-apart : (a b p q : ℕ) → place_of a ≡ Some p → place_of b ≡ Some q → q ≡ p → a ≡ b
-place-apart a b p q has other same = elim (place-cases a p has) [
-  | inl (low, own) ↦ elim (place-cases b q other) [
-    | inl (below, same-place) ↦ omega (arith, own, same-place, same)
-    | inr (trade, last) ↦ omega (arith, low, own, last, same)
-  ]
-  | inr (trade, last) ↦ elim (place-cases b q other) [
-    | inl (below, same-place) ↦ omega (arith, last, below, same-place, same)
-    | inr (trade2, last2) ↦ omega (arith, trade, trade2)
-  ]
+place-apart : (a b p q : ℕ) → place_of a ≡ Some p → place_of b ≡ Some q → q ≡ p → b ≡ a
+place-apart a b p q first second same = sym (own-tag b q second) ∙ ap tag_at same ∙ own-tag a p first
+
+-- one more field with the tag, or with another
+with-more : (b : Bool) (tag : ℕ) (field : Field) (fields rest : List Field) → cond b (field ∷ fields ++ rest) (fields ++ rest) ≡ cond b (field ∷ fields) fields ++ rest
+with-more true tag field fields rest = refl
+with-more false tag field fields rest = refl
+
+fields_with-append : (tag : ℕ) (fields : List Field) (field : Field) → fields_with tag (fields ++ field ∷ []) ≡ fields_with tag fields ++ fields_with tag (field ∷ [])
+fields_with-append tag [] field = refl
+fields_with-append tag (f ∷ fields) field =
+    ap (λ (rest : List Field). cond (eqb f.tag tag) (f ∷ rest) rest) (fields_with-append tag fields field)
+    ∙ with-more (eqb f.tag tag) tag f (fields_with tag fields) (fields_with tag (field ∷ []))
+
+first-more : (fields : List Field) (field : Field) → first_placed (fields ++ field ∷ []) ≡ with_field (first_placed fields) field
+first-more [] field = refl
+first-more (f ∷ []) field = refl
+first-more (f ∷ g ∷ fields) field = refl
+
+append-none : (fields : List Field) → fields ++ [] ≡ fields
+append-none [] = refl
+append-none (f ∷ fields) = ap (λ (rest : List Field). f ∷ rest) (append-none fields)
+
+placed-own : (fields : List Field) (field : Field) (tag : ℕ) → eqb field.tag tag ≡ true → placed_of (fields ++ field ∷ []) tag ≡ with_field (placed_of fields tag) field
+placed-own fields field tag is =
+    ap first_placed (fields_with-append tag fields field ∙ ap (λ (b : Bool). fields_with tag fields ++ cond b (field ∷ []) []) is)
+    ∙ first-more (fields_with tag fields) field
+
+placed-other : (fields : List Field) (field : Field) (tag : ℕ) → eqb field.tag tag ≡ false → placed_of (fields ++ field ∷ []) tag ≡ placed_of fields tag
+placed-other fields field tag is =
+    ap first_placed (fields_with-append tag fields field ∙ ap (λ (b : Bool). fields_with tag fields ++ cond b (field ∷ []) []) is ∙ append-none (fields_with tag fields))
+
+-- a field whose tag is not noted changes nothing
+pub notes-past : (notes : TagNotes) (fields : List Field) (field : Field) → place_of field.tag ≡ None → AreNotesOf notes fields → AreNotesOf notes (fields ++ field ∷ [])
+notes-past notes fields field past are tag place has = elim (cases_Bool (eqb field.tag tag)) [
+  | inl same ↦ let none : place_of tag ≡ None = ap place_of (sym (eqb-true field.tag tag same)) ∙ past in absurd (cc (none, has))
+  | inr other ↦ are tag place has ∙ sym (placed-other fields field tag other)
 ]
 
--- no field is noted at first
-pub noted-none : AreNoted (replicate 161 0) []
-noted-none tag place has = ap noted (sym (get_or-replicate 161 place 0 0 (place-below tag place has)))
-
--- a field whose tag is not noted changes no note
-pub noted-past : (notes : List ℕ) (fields : List Field) (field : Field) → place_of field.tag ≡ None → AreNoted notes fields → AreNoted notes (fields ++ field ∷ [])
-noted-past notes fields field past are tag place has = elim (cases_eq field.tag tag) [
-  | inl same ↦ let none : place_of tag ≡ None = ap place_of (sym same) ∙ past in (cc)
-  | inr other ↦
-      let fails : has_tag tag field ≡ false = grind (arith, nat_tests, other) in found-other fields field tag fails ∙ are tag place has
-]
-
--- a field whose tag has no note yet is noted
-pub noted-more : (notes : List ℕ) (fields : List Field) (field : Field) (at : ℕ) → length notes ≡ 161 → place_of field.tag ≡ Some at → get_or notes at 0 ≡ 0
-    → AreNoted notes fields → AreNoted (set notes at (length fields + 1)) (fields ++ field ∷ [])
-noted-more notes fields field at size own free are tag place has = elim (cases_eq field.tag tag) [
+-- a field that is noted at the place of its tag
+pub notes-more : (old new : TagNotes) (fields : List Field) (field : Field) (at : ℕ) → place_of field.tag ≡ Some at → note_at new at ≡ with_field (note_at old at) field
+    → ((other : ℕ) → other ≢ at → note_at new other ≡ note_at old other) → AreNotesOf old fields → AreNotesOf new (fields ++ field ∷ [])
+notes-more old new fields field at own here others are tag place has = elim (cases_Bool (eqb field.tag tag)) [
   | inl same ↦
-      let passes : has_tag tag field ≡ true = grind (arith, nat_tests, same) in
-      let found : place_of tag ≡ Some at = ap place_of (sym same) ∙ own in
-      let here : at ≡ place = (cc) in
-      let note : get_or notes place 0 ≡ 0 = ap (λ (t : ℕ). get_or notes t 0) (sym here) ∙ free in
-      let absent : found_of fields tag ≡ Absent = are tag place has ∙ ap noted note in
-      let new : get_or (set notes at (length fields + 1)) place 0 ≡ length fields + 1 =
-      ap (λ (t : ℕ). get_or (set notes at (length fields + 1)) t 0) (sym here) ∙ get_or-set_same notes at (length fields + 1) 0 (omega (arith, size, place-below field.tag at own)) in
-      found-first fields field tag passes absent ∙ sym (ap noted new ∙ noted-one (length fields))
+      let tags : field.tag ≡ tag = eqb-true field.tag tag same in
+      let both : Some at ≡ Some place = sym own ∙ ap place_of tags ∙ has in
+      let place-is : at ≡ place = cc both in
+      ap (note_at new) (sym place-is) ∙ here ∙ ap (λ (p : Placed). with_field p field) (ap (note_at old) place-is ∙ are tag place has)
+      ∙ sym (placed-own fields field tag same)
   | inr other ↦
-      let fails : has_tag tag field ≡ false = grind (arith, nat_tests, other) in
-      let old : get_or (set notes at (length fields + 1)) place 0 ≡ get_or notes place 0 =
-      get_or-set_other notes at place (length fields + 1) 0 (λ e. other (place-apart field.tag tag at place own has e)) in
-      found-other fields field tag fails ∙ are tag place has ∙ ap noted (sym old)
+      let apart : place ≢ at = λ e. (let same : tag ≡ field.tag = place-apart field.tag tag at place own has e in
+      let test : eqb field.tag tag ≡ true = grind (arith, nat_tests, same) in cc (test, other)) in
+      others place apart ∙ are tag place has ∙ sym (placed-other fields field tag other)
 ]
-  where
-    noted-one : (n : ℕ) → noted (n + 1) ≡ One n
-    noted-one n =
-        let test : eqb (n + 1) 0 ≡ false = search (rules, nat_tests) in
-        let same : n + 1 - 1 ≡ n = omega arith in rw test (ap (λ (m : ℕ). One m) same)
+
+zeros : (n k : ℕ) → get_or (replicate n zero) k zero ≡ zero
+zeros zero k = refl
+zeros (suc n) zero = refl
+zeros (suc n) (suc k) = zeros n k
+
+-- notes of no fields say that each tag is absent
+pub notes-none : (notes : TagNotes) → notes.counts ≡ replicate 19 0 → AreNotesOf notes []
+notes-none notes none tag place has =
+    let count : get_or notes.counts place 0 ≡ 0 = ap (λ (counts : List ℕ). get_or counts place 0) none ∙ zeros 19 place in
+    ap (λ (n : ℕ). noted n (get_or notes.starts place 0) (get_or notes.ends place 0)) count
+
+-- what a note says, by its count
+pub noted-none : (count from to : ℕ) → count ≡ 0 → noted count from to ≡ Absent
+noted-none count from to none = ap (λ (n : ℕ). noted n from to) none
+
+pub noted-one : (count from to : ℕ) → count ≡ 1 → noted count from to ≡ One from to
+noted-one count from to one = ap (λ (n : ℕ). noted n from to) one
+
+pub noted-many : (count from to : ℕ) → count ≢ 0 → count ≢ 1 → noted count from to ≡ Many from to
+noted-many count from to some more =
+    let zero_test : eqb count 0 ≡ false = grind (arith, nat_tests, some) in
+    let one_test : eqb count 1 ≡ false = grind (arith, nat_tests, more) in rw (zero_test, one_test) refl

@@ -4,9 +4,9 @@ use Rattle.std.specs.Fmt.{decimal}
 use Rattle.std.specs.Option.{option_map, ForSome}
 use Rattle.std.proofs.lemmas.List.{append-nil, append_assoc, length-append, length-drop, drop_all, map_push}
 use Rattle.fix_fields.specs.declared.field.Field.{Field}
-use Rattle.fix_fields.specs.Grammar.{TagValue, IsField, AreFields, IsUnreadable, NoField, field_bytes, bytes_of, last_of, begins_with_type}
+use Rattle.fix_fields.specs.Grammar.{TagValue, IsField, AreFields, IsUnreadable, NoField, field_bytes, bytes_of, last_of}
 use Rattle.fix_fields.specs.Ranges.{HasRangeIn, shown, all_shown, range_of, ranges_of}
-use Rattle.fix_fields.specs.FieldAt.{BeginsAt, first_is_type}
+use Rattle.fix_fields.specs.FieldAt.{BeginsAt}
 use Rattle.fix_fields.proofs.GrammarLemmas.{one_reading, no_field_at_end}
 
 -- up to byte `at` the body is these fields, which show these tags and values, and `before` is the last of them
@@ -97,10 +97,6 @@ pub whole : (body : List ℕ) (fields : List Field) (before : Option Field) (at 
 whole body fields before at h end =
     h.bytes ∙ ap (λ (r : List ℕ). bytes_of (all_shown body fields) ++ r) (drop_all at body end) ∙ append-nil (bytes_of (all_shown body fields))
 
-typed_is : (body : List ℕ) (fields : List Field) → begins_with_type (all_shown body fields) ≡ first_is_type fields
-typed_is body [] = refl
-typed_is body (f ∷ fs) = refl
-
 -- where no field can be read from byte `at` on
 module _ (body : List ℕ) (fields : List Field) (before : Option Field) (at : ℕ) (h : HasRead body fields before at) (low : at < length body)
     (none : NoField (option_map (shown body) before) (drop at body)) where
@@ -129,13 +125,3 @@ module _ (body : List ℕ) (fields : List Field) (before : Option Field) (at : �
   whole_not_stuck n u =
       let same = same_reading body (all_shown body fields) u.front [] u.left read (to_the_fault body n u) in
       let size : 0 ≡ length u.left = ap length same.1 in omega (arith, u.nonempty)
-
-  -- and no other fields are the body's
-  pub whole_only : (fs : List TagValue) → body ≡ bytes_of fs → AreFields None fs → all_shown body fields ≡ fs
-  whole_only fs bytes forms =
-      let same = same_reading body (all_shown body fields) fs [] [] read (to_the_end body fs bytes forms) in same.0
-
-  -- so they begin with the type where the body's fields do
-  pub whole_typed : (fs : List TagValue) → body ≡ bytes_of fs → AreFields None fs → begins_with_type fs ≡ first_is_type fields
-  whole_typed fs bytes forms =
-      ap begins_with_type (sym (whole_only fs bytes forms)) ∙ typed_is body fields

@@ -1,9 +1,10 @@
 -- One field of a body, by the byte at which it begins.
-use Rattle.std.specs.Prelude.{◌≡◌, ◌≢◌, ℕ, Bool, false, ◌+◌, ◌<◌, ◌==◌, Option, List, [], ◌∷◌, ◌++◌, length, take, drop}
+use Rattle.std.specs.Prelude.{◌≡◌, ◌≢◌, ℕ, Bool, ◌+◌, ◌<◌, ◌==◌, Option, Some, None, List, ◌∷◌, ◌++◌, length, take, drop, if◌then◌else◌}
 use Rattle.std.specs.Fmt.{decimal}
 use Rattle.audit_base.specs.Sizes.{soh}
 use Rattle.fix_fields.specs.declared.field.Field.{Field}
 use Rattle.fix_fields.specs.Grammar.{TagValue, IsField, IsTag, field_bytes}
+use Rattle.fix_fields.specs.Pairs.{is_length}
 use Rattle.fix_fields.specs.Ranges.{HasRangeIn, shown, range_of}
 
 -- whether the byte is `=` (61)
@@ -34,7 +35,7 @@ pub record BeginsAt (body : List ℕ) (at : ℕ) (before : Option TagValue) (fie
   pub range : field ≡ range_of at (shown body field)
   pub within : HasRangeIn body field
 
--- the first of the ranges is that of the message type
-abbrev pub first_is_type : List Field → Bool
-first_is_type [] = false
-first_is_type (field ∷ fields) = field.tag == 35
+-- the field right before, where its value may count the one behind it
+abbrev pub counter_of : Option Field → Option Field
+counter_of None = None
+counter_of (Some field) = if is_length field.tag then Some field else None

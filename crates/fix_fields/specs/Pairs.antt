@@ -1,6 +1,6 @@
 -- The data fields, whose values are counted: each has a length field right before it.
 use Rattle.std.specs.Prelude.{ℕ, Bool, false, ◌==◌, Option, Some, None, List, [], ◌∷◌}
-use Rattle.std.specs.List.{find}
+use Rattle.std.specs.List.{find, list_any}
 use Rattle.std.specs.Option.{option_map}
 
 -- the tag of a length field, and the tag of the data field that it counts
@@ -22,3 +22,7 @@ is_tag (Some t) tag = t == tag
 -- whether the two tags are a pair of the table
 abbrev pub is_pair : ℕ → ℕ → Bool
 is_pair length_tag data_tag = is_tag (length_tag_of data_tag) length_tag
+
+-- whether there is a pair with this length tag
+abbrev pub is_length : ℕ → Bool
+is_length tag = list_any (λ p. p.0 == tag) pairs

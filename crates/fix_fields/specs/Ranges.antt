@@ -33,3 +33,9 @@ pub record HasRangeIn (body : List ℕ) (field : Field) : Type 0 where
 pub record AreFieldsOf (body : List ℕ) (fields : List Field) : Type 0 where
   pub read : Fields body (all_shown body fields)
   pub ranges : fields ≡ ranges_of 0 (all_shown body fields)
+
+-- the body is fields, and these have been taken
+pub record HandsFields (has_taken : List Field → Type 0) (body : List ℕ) : Type 0 where
+  pub fields : List Field
+  pub are : AreFieldsOf body fields
+  pub taken : has_taken fields

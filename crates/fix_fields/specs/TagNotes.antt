@@ -1,32 +1,64 @@
--- Notes of where the tags of a body's fields stand.
-use Rattle.std.specs.Prelude.{◌≡◌, ℕ, ◌-◌, ◌==◌, nat_lt, true, Option, Some, None, List, [], ◌∷◌, ◌++◌, length, slice_index, if◌then◌else◌}
+-- Notes of where the values of tags stand.
+use Rattle.std.specs.Prelude.{◌≡◌, ℕ, ◌==◌, Option, Some, List, [], ◌∷◌, IsSome, slice_index, if◌then◌else◌}
+use Rattle.std.specs.List.{find}
+use Rattle.std.specs.Option.{option_map}
 use Rattle.fix_fields.specs.declared.field.Field.{Field}
-use Rattle.fix_fields.specs.declared.field.Found.{Found}
-use Rattle.fix_fields.specs.declared.field.Found.TheVariants.{Absent, One}
+use Rattle.fix_fields.specs.declared.field.Placed.{Placed}
+use Rattle.fix_fields.specs.declared.field.Placed.TheVariants.{Absent, One, Many}
 use Rattle.fix_fields.specs.declared.notes.TagNotes.{TagNotes}
-use Rattle.fix_fields.specs.TagSearch.{found_of}
+use Rattle.fix_fields.specs.Ranges.{HandsFields}
 
--- what a note says of its tag: 0 that it is absent, any other number that it stands in one field, whose
--- index is one less
-abbrev pub noted : ℕ → Found
-noted note = if note == 0 then Absent else One (note - 1)
+-- the fields with a tag, in their order
+abbrev pub fields_with : ℕ → List Field → List Field
+fields_with tag [] = []
+fields_with tag (field ∷ fields) =
+    if field.tag == tag then field ∷ fields_with tag fields else fields_with tag fields
 
--- the place of the note of a tag, where it is noted: its own below 160, and the one behind them for 527
+-- where the value of the first of some fields stands, and whether there are more
+abbrev pub first_placed : List Field → Placed
+first_placed [] = Absent
+first_placed (field ∷ []) = One field.from field.to
+first_placed (field ∷ next ∷ fields) = Many field.from field.to
+
+-- where the value of the first field with a tag stands, and whether there are more
+abbrev pub placed_of : List Field → ℕ → Placed
+placed_of fields tag = first_placed (fields_with tag fields)
+
+-- the tags that are noted, those that the tables of messages ask for, each with the place of its note
+abbrev pub places : List (ℕ × ℕ)
+places =
+    (11, 0) ∷ (31, 1) ∷ (32, 2) ∷ (35, 3) ∷ (38, 4) ∷ (40, 5) ∷ (41, 6) ∷ (43, 7) ∷ (44, 8) ∷ (49, 9)
+    ∷ (54, 10) ∷ (55, 11) ∷ (56, 12) ∷ (59, 13) ∷ (60, 14) ∷ (110, 15) ∷ (111, 16) ∷ (150, 17)
+    ∷ (527, 18) ∷ []
+
+-- the place of the note of a tag, where it is noted
 abbrev pub place_of : ℕ → Option ℕ
-place_of tag = if nat_lt tag 160 then Some tag else if tag == 527 then Some 160 else None
+place_of tag = option_map (λ p. p.1) (find (λ p. p.0 == tag) places)
 
--- the notes say what is found of their tags among the fields
-abbrev pub AreNoted : List ℕ → List Field → Type 0
-AreNoted notes fields =
-    (tag place : ℕ) → place_of tag ≡ Some place
-    → found_of fields tag ≡ noted (slice_index notes place)
+-- the tag is noted
+abbrev pub IsNoted : ℕ → Type 0
+IsNoted tag = IsSome (place_of tag)
 
--- where the notes may be used, they are those of the fields
+-- what a note says: how many fields have its tag, two where there are more, and where the value of the first stands
+abbrev pub noted : ℕ → ℕ → ℕ → Placed
+noted count from to = if count == 0 then Absent else if count == 1 then One from to else Many from to
+
+-- the note at a place
+abbrev pub note_at : TagNotes → ℕ → Placed
+note_at notes place =
+    noted (slice_index notes.counts place) (slice_index notes.starts place) (slice_index notes.ends place)
+
+-- what is found of a tag with one more field that has it
+abbrev pub with_field : Placed → Field → Placed
+with_field Absent field = One field.from field.to
+with_field (One from to) field = Many from to
+with_field (Many from to) field = Many from to
+
+-- the notes say where the values of their tags stand among the fields
 abbrev pub AreNotesOf : TagNotes → List Field → Type 0
-AreNotesOf notes fields = notes.usable ≡ true → AreNoted notes.notes fields
+AreNotesOf notes fields =
+    (tag place : ℕ) → place_of tag ≡ Some place → note_at notes place ≡ placed_of fields tag
 
--- the field behind so many others, which has this tag, is noted
-abbrev pub NotesField : List ℕ → List ℕ → ℕ → ℕ → Type 0
-NotesField old new tag index =
-    (fields : List Field) (field : Field) → field.tag ≡ tag → length fields ≡ index
-    → AreNoted old fields → AreNoted new (fields ++ field ∷ [])
+-- the body is fields, and these are notes of them
+abbrev pub HasNotes : List ℕ → TagNotes → Type 0
+HasNotes body notes = HandsFields (AreNotesOf notes) body

@@ -29,6 +29,7 @@ pub(crate) fn ends_of_front<'b>(text: &'b [u8], size: usize) -> Memchr<'b>
 }
 
 /// The first SOH at the byte `at` or behind it. Those before it are passed over.
+#[inline(always)]
 pub(crate) fn next_end(body: &[u8], ends: &mut Memchr<'_>, at: usize) -> Option<usize>
     requires { SeeksEnd body.now at ends.old }
     ensures first { IsFirst (IsEnd body.now) at (length body.now) result }

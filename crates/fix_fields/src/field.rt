@@ -35,6 +35,15 @@ impl<T: Drop> From<AllocFailed<T>> for FieldFault {
     }
 }
 
+/// Where the value of the first field with a tag stands, and whether there are more: in the bytes of the body
+/// from the byte `from` on and up to the byte `to`.
+#[derive(Clone, Copy, Debug, PartialEq, Eq)]
+pub enum Placed {
+    Absent,
+    One { from: usize, to: usize },
+    Many { from: usize, to: usize },
+}
+
 /// The index of the first field with a tag, from 0, and whether there are more.
 #[derive(Clone, Copy, Debug, PartialEq, Eq)]
 pub enum Found {

@@ -1,139 +1,145 @@
-//! Notes of where tags stand, for a body of which many tags are looked up: one pass over its fields,
-//! and then no search for a tag.
-ghost use Rattle.std.specs.Prelude.{◌≡◌, ◌<◌, ◌+◌, IsTrue, List, replicate, slice_index, slice_set};
+//! Notes of where the values of some tags stand. They are taken as the fields of a body are read, so that there
+//! is neither a list of the fields nor a search for a tag.
+ghost use Rattle.std.specs.Prelude.{◌≡◌, ◌≢◌, ◌<◌, ◌∷◌, ◌++◌, [], ℕ, List, IfSome};
 ghost use Rattle.fix_fields.specs.declared.field.Field.{Field};
-ghost use Rattle.fix_fields.specs.TagNotes.{AreNoted, AreNotesOf, NotesField, place_of};
-ghost use Rattle.fix_fields.specs.TagSearch.{found_of};
+ghost use Rattle.fix_fields.specs.TagNotes.{AreNotesOf, IsNoted, note_at, place_of, placed_of, with_field};
 
-use crate::field::{Field, Found};
-use crate::find::find_field;
+use crate::field::{Field, Placed};
+use crate::taker::FieldTaker;
+use std::alloc::AllocFailed;
 
-/// The tags below this one are noted, each at its own place.
-const LOW_TAGS: u32 = 160;
+/// How many tags are noted.
+const NOTES: usize = 19;
 
-/// How many notes there are: those of the low tags, and behind them the one of tag 527.
-const NOTES: usize = 161;
-
-/// SecondaryExecID (527), which both reports of a trade have.
-const SECONDARY_EXEC_ID: u32 = 527;
-
-/// The most fields that are noted, since a note is one byte.
-const MOST_FIELDS: usize = 254;
-
-/// Where the tags of a body's fields stand. A body of more than 254 fields, or with two fields of one
-/// tag that is noted, has no notes: there, and for all other tags, the fields are searched.
+/// Where the values of the tags stand that the tables of messages ask for, each at a place of its own.
 #[derive(Drop)]
 pub struct TagNotes {
-    notes: [u8; NOTES],
-    usable: bool,
+    /// How many fields have the tag, two where there are more.
+    counts: [u8; NOTES],
+    /// Where the value of the first of them begins.
+    starts: [usize; NOTES],
+    /// Where it ends.
+    ends: [usize; NOTES],
 }
 
 /// The place of the note of a tag, if it is noted. Where the tag is known as the program is compiled, so is
 /// the place.
 #[inline(always)]
 fn place_of(tag: u32) -> Option<usize>
-    ensures { result ≡ place_of tag }
+    ensures value { result ≡ place_of tag }
+    ensures inside { IfSome result (λ place. place < 19) }
 {
-    if tag < LOW_TAGS {
-        Some(tag as usize)
-    } else if tag == SECONDARY_EXEC_ID {
-        Some(NOTES - 1)
-    } else {
-        None
+    match tag {
+        11 => Some(0),
+        31 => Some(1),
+        32 => Some(2),
+        35 => Some(3),
+        38 => Some(4),
+        40 => Some(5),
+        41 => Some(6),
+        43 => Some(7),
+        44 => Some(8),
+        49 => Some(9),
+        54 => Some(10),
+        55 => Some(11),
+        56 => Some(12),
+        59 => Some(13),
+        60 => Some(14),
+        110 => Some(15),
+        111 => Some(16),
+        150 => Some(17),
+        527 => Some(18),
+        _ => None,
     }
-}
-
-/// Writes a note that the field with this index has the tag of the note. False says that another field has it.
-#[inline(always)]
-fn set_note(notes: &mut [u8; NOTES], place: usize, index: usize) -> bool
-    requires inside { place < 161 }
-    requires few { index < 254 }
-    ensures free { IsTrue result → slice_index notes.old place ≡ 0 }
-    ensures noted { IsTrue result → notes.new ≡ slice_set notes.old place (index + 1) }
-{
-    if notes[place] != 0 {
-        return false;
-    }
-    notes[place] = index as u8 + 1;
-    true
-}
-
-/// Notes that the field with this index has the tag. False says that it can't be noted, since another
-/// field has the tag.
-#[inline(always)]
-fn note(notes: &mut [u8; NOTES], tag: u32, index: usize) -> bool
-    requires { index < 254 }
-    ensures { IsTrue result → NotesField notes.old notes.new tag index }
-{
-    if tag < LOW_TAGS {
-        set_note(notes, tag as usize, index)
-    } else if tag == SECONDARY_EXEC_ID {
-        set_note(notes, NOTES - 1, index)
-    } else {
-        true
-    }
-}
-
-/// Notes all fields. False says that not all can be noted.
-fn note_all(notes: &mut [u8; NOTES], fields: &[Field]) -> bool
-    requires { notes.old ≡ replicate 161 0 }
-    ensures { IsTrue result → AreNoted notes.new fields.now }
-{
-    if fields.len() > MOST_FIELDS {
-        return false;
-    }
-    for (index, field) in fields.iter().enumerate() {
-        if !note(notes, field.tag, index) {
-            return false;
-        }
-    }
-    true
-}
-
-/// Searches the fields for a tag. It stands apart, since most tags that are looked up are noted.
-#[cold]
-#[inline(never)]
-fn search(fields: &[Field], tag: u32) -> Found
-    ensures { result ≡ found_of fields.now tag }
-{
-    find_field(fields, tag)
 }
 
 impl TagNotes {
-    /// No notes of any fields: it serves every list, by searching it.
+    /// Notes of no fields.
     pub fn new() -> TagNotes
-        ensures { (fields : List Field) → AreNotesOf result fields }
+        ensures { AreNotesOf result [] }
     {
         TagNotes {
-            notes: [0; NOTES],
-            usable: false,
+            counts: [0; NOTES],
+            starts: [0; NOTES],
+            ends: [0; NOTES],
         }
     }
 
-    /// Notes the tags of these fields, in place of those noted before.
+    /// Drops what is noted.
+    pub(crate) fn clear(&mut self)
+        ensures { AreNotesOf self.new [] }
+    {
+        self.counts = [0; NOTES];
+    }
+
+    /// Notes these fields, in place of those noted before.
     pub fn note(&mut self, fields: &[Field])
         ensures { AreNotesOf self.new fields.now }
     {
-        self.notes = [0; NOTES];
-        self.usable = note_all(&mut self.notes, fields);
+        self.clear();
+        for field in fields {
+            self.add(*field);
+        }
     }
 
-    /// The first field with the tag, and whether there are more, among the fields that are noted.
+    /// Notes a field at the place of its tag.
     #[inline(always)]
-    pub fn find_field(&self, fields: &[Field], tag: u32) -> Found
-        requires { AreNotesOf self.now fields.now }
-        ensures { result ≡ found_of fields.now tag }
+    fn put(&mut self, place: usize, field: Field)
+        requires { place < 19 }
+        ensures here { note_at self.new place ≡ with_field (note_at self.old place) field }
+        ensures others { (other : ℕ) → other ≢ place → note_at self.new other
+            ≡ note_at self.old other }
     {
-        if !self.usable {
-            return search(fields, tag);
+        if self.counts[place] != 0 {
+            self.counts[place] = 2;
+            return;
         }
-        let Some(place) = place_of(tag) else {
-            return search(fields, tag);
+        self.counts[place] = 1;
+        self.starts[place] = field.from;
+        self.ends[place] = field.to;
+    }
+
+    /// Notes one more field.
+    #[inline(always)]
+    fn add(&mut self, field: Field)
+        ensures { (fields : List Field) → AreNotesOf self.old fields
+            → AreNotesOf self.new (fields ++ field ∷ []) }
+    {
+        let Some(place) = place_of(field.tag) else {
+            return;
         };
-        if self.notes[place] == 0 {
-            Found::Absent
+        self.put(place, field);
+    }
+
+    /// Where the value of the first field with the tag stands, and whether there are more, among the fields that
+    /// are noted.
+    #[inline(always)]
+    pub fn find(&self, tag: u32) -> Placed
+        requires { IsNoted tag }
+        ensures { (fields : List Field) → AreNotesOf self.now fields
+            → result ≡ placed_of fields tag }
+    {
+        let Some(place) = place_of(tag) else {
+            unreachable!()
+        };
+        let (from, to) = (self.starts[place], self.ends[place]);
+        if self.counts[place] == 0 {
+            Placed::Absent
+        } else if self.counts[place] == 1 {
+            Placed::One { from, to }
         } else {
-            Found::One(self.notes[place] as usize - 1)
+            Placed::Many { from, to }
         }
+    }
+}
+
+/// Notes take the fields whose tags are noted.
+impl FieldTaker for TagNotes {
+    ghost has_taken = { AreNotesOf };
+
+    #[inline(always)]
+    fn take(&mut self, field: Field) -> Result<(), AllocFailed<Field>> {
+        self.add(field);
+        Ok(())
     }
 }

@@ -1,17 +1,21 @@
 //! Reads a body as its list of fields, in one pass from left to right.
-ghost use Rattle.std.specs.Prelude.{◌≡◌, ◌≤◌, ◌+◌, ℕ, List, [], length, take, drop, IfOk, IfErr, IfSome, IfNone, IsOk, IsOkAnd, OnOk, OnErr};
+ghost use Rattle.std.specs.Prelude.{◌≡◌, ◌≤◌, ◌+◌, ℕ, List, [], None, Some, length, take, drop, IfOk, IfErr, IfSome, IfNone, IsOk, IsOkAnd, OnOk, OnErr};
 ghost use Rattle.std.specs.Option.{option_map, ForSome};
 ghost use Rattle.std.specs.Result.{IsErrOf};
 ghost use Rattle.audit_base.specs.Sizes.{longest_body};
 ghost use Rattle.fix_fields.specs.Ends.{HoldsEnds};
 ghost use Rattle.fix_fields.specs.Refusals.{Refuses, OrMemory};
-ghost use Rattle.fix_fields.specs.Grammar.{TagValue, Fields, IsUnreadable, LacksType, NoField};
-ghost use Rattle.fix_fields.specs.Ranges.{AreFieldsOf, HasRangeIn, all_shown, shown};
-ghost use Rattle.fix_fields.specs.FieldAt.{BeginsAt, first_is_type};
+ghost use Rattle.fix_fields.specs.Grammar.{TagValue, AreFields, Fields, IsUnreadable, LacksType, NoField, begins_with_type, bytes_of};
+ghost use Rattle.fix_fields.specs.Ranges.{AreFieldsOf, HandsFields, HasRangeIn, all_shown, shown};
+ghost use Rattle.fix_fields.specs.TagNotes.{HasNotes};
+ghost use Rattle.fix_fields.specs.FieldAt.{BeginsAt, counter_of};
 
 use crate::ends::{ends_of, ends_of_front};
 use crate::field::{Field, FieldFault};
+use crate::notes::TagNotes;
+use crate::pairs::is_length;
 use crate::tags::tag_at;
+use crate::taker::FieldTaker;
 use crate::values::value_size;
 use memchr::Memchr;
 use std::alloc::Global;
@@ -88,6 +92,28 @@ pub fn read_front_fields(text: &[u8], size: usize, list: &mut Vec<Field>) -> Res
     refill(&text[..size], ends_of_front(text, size), list)
 }
 
+/// Notes where the values of tags stand in the body that the first `size` bytes of a text are, in place of what
+/// was noted before. The answer is that of `read_front_fields`, and no memory is taken.
+pub fn note_front_fields(text: &[u8], size: usize, notes: &mut TagNotes) -> Result<(), FieldFault>
+    requires inside { size ≤ length text.now }
+    requires short { size ≤ longest_body }
+
+    // What each answer says.
+    ensures notes { OnOk result (HasNotes (take size text.now) notes.new) }
+    ensures fault { IfErr result (λ e. Refuses (take size text.now) e) }
+
+    // Each comes wherever what it says holds.
+    ensures reads { (fs : List TagValue) → Fields (take size text.now) fs
+        → OrMemory result (IsOk result) }
+    ensures unreadable { (n : ℕ) → IsUnreadable (take size text.now) n
+        → OrMemory result (IsErrOf result (FieldFault.Field n)) }
+    ensures untyped { LacksType (take size text.now)
+        → OrMemory result (IsErrOf result FieldFault.MsgType) }
+{
+    notes.clear();
+    hand_fields(&text[..size], ends_of_front(text, size), notes)
+}
+
 /// Reads the fields of a body, whose SOH bytes are given, into a list whose members are dropped.
 fn refill(body: &[u8], ends: Memchr<'_>, list: &mut Vec<Field>) -> Result<(), FieldFault>
     requires size { length body.now ≤ longest_body }
@@ -109,7 +135,7 @@ fn refill(body: &[u8], ends: Memchr<'_>, list: &mut Vec<Field>) -> Result<(), Fi
 }
 
 /// The same into an empty list; after a fault it holds the fields before that.
-fn append_fields(body: &[u8], mut ends: Memchr<'_>, list: &mut Vec<Field>) -> Result<(), FieldFault>
+fn append_fields(body: &[u8], ends: Memchr<'_>, list: &mut Vec<Field>) -> Result<(), FieldFault>
     requires size { length body.now ≤ longest_body }
     requires ends { HoldsEnds body.now 0 ends }
     requires empty { list.old.items ≡ [] }
@@ -120,25 +146,58 @@ fn append_fields(body: &[u8], mut ends: Memchr<'_>, list: &mut Vec<Field>) -> Re
         → OrMemory result (IsErrOf result (FieldFault.Field n)) }
     ensures untyped { LacksType body.now → OrMemory result (IsErrOf result FieldFault.MsgType) }
 {
-    let mut before = None;
+    hand_fields(body, ends, list)
+}
+
+/// Hands the fields of a body, whose SOH bytes are given, to a taker that has been handed none; of a body with
+/// a fault, the fields before it. Of the field right before the next one only one that may count it is kept.
+fn hand_fields<T: FieldTaker>(
+    body: &[u8],
+    mut ends: Memchr<'_>,
+    taker: &mut T,
+) -> Result<(), FieldFault>
+    requires size { length body.now ≤ longest_body }
+    requires ends { HoldsEnds body.now 0 ends }
+    requires empty { T.has_taken taker.old [] }
+    ensures fields { OnOk result (HandsFields (T.has_taken taker.new) body.now) }
+    ensures fault { IfErr result (λ e. Refuses body.now e) }
+    ensures reads { (fs : List TagValue) → Fields body.now fs → OrMemory result (IsOk result) }
+    ensures unreadable { (n : ℕ) → IsUnreadable body.now n
+        → OrMemory result (IsErrOf result (FieldFault.Field n)) }
+    ensures untyped { LacksType body.now → OrMemory result (IsErrOf result FieldFault.MsgType) }
+{
+    let mut counter = None;
     let mut at = 0;
     while at < body.len() {
-        let Some(field) = field_at(body, at, before, &mut ends) else {
+        let Some(field) = field_at(body, at, counter, &mut ends) else {
             return Err(FieldFault::Field(at as u32));
         };
-        list.push(field)?;
-        before = Some(field);
+        taker.take(field)?;
+        counter = counter_of(field);
         at = field.to + 1;
     }
-    if begins_with_type(list) {
+    if begins_with_type(body) {
         Ok(())
     } else {
         Err(FieldFault::MsgType)
     }
 }
 
+/// The field, if its value may count the one behind it.
+#[inline(always)]
+fn counter_of(field: Field) -> Option<Field>
+    ensures { result ≡ counter_of (Some field) }
+{
+    if is_length(field.tag) {
+        Some(field)
+    } else {
+        None
+    }
+}
+
 /// The field that begins at byte `at`, where `before` is the field right before it, and `ends` gives
 /// the SOH bytes from there on; None exactly where no field can be read there.
+#[inline(always)]
 fn field_at(body: &[u8], at: usize, before: Option<Field>, ends: &mut Memchr<'_>) -> Option<Field>
     requires before { ForSome before (λ f. HasRangeIn body.now f) }
     requires at { at ≤ length body.now }
@@ -157,11 +216,14 @@ fn field_at(body: &[u8], at: usize, before: Option<Field>, ends: &mut Memchr<'_>
     })
 }
 
-fn begins_with_type(fields: &[Field]) -> bool
-    ensures { result ≡ first_is_type fields.now }
+/// Whether the first field of a body that is fields to its end is the message type.
+#[inline(never)]
+fn begins_with_type(body: &[u8]) -> bool
+    ensures { (fields : List TagValue) → body.now ≡ bytes_of fields → AreFields None fields
+        → result ≡ begins_with_type fields }
 {
-    match fields.first() {
-        Some(field) => field.tag == MSG_TYPE,
+    match tag_at(body) {
+        Some((tag, _)) => tag == MSG_TYPE,
         None => false,
     }
 }

@@ -19,6 +19,7 @@ use memchr::Memchr;
 /// The number of bytes of the value at the byte `from` of the body, where `before` is the field right
 /// before the field with this tag, and `ends` gives the SOH bytes from there on. None exactly where no
 /// value in its form and SOH stand there.
+#[inline(always)]
 pub fn value_size(
     body: &[u8],
     before: Option<Field>,
@@ -44,7 +45,10 @@ pub fn value_size(
     }
 }
 
-/// The same of a data field behind a length field with the value `count`.
+/// The same of a data field behind a length field with the value `count`. It stands apart, since most fields are
+/// no data fields.
+#[cold]
+#[inline(never)]
 fn data_size(count: &[u8], bytes: &[u8]) -> Option<usize>
     ensures end { IfSome result (EndsAt bytes.now) }
     ensures form { IfSome result (λ n. length_form count.now ≡ Some n) }
@@ -60,6 +64,7 @@ fn data_size(count: &[u8], bytes: &[u8]) -> Option<usize>
 }
 
 /// How far the first SOH at the byte `from` or behind it is from there.
+#[inline(always)]
 fn first_soh(body: &[u8], from: usize, ends: &mut Memchr<'_>) -> Option<usize>
     requires from { from ≤ length body.now }
     requires ends { SeeksEnd body.now from ends.old }
@@ -71,6 +76,7 @@ fn first_soh(body: &[u8], from: usize, ends: &mut Memchr<'_>) -> Option<usize>
 }
 
 /// The same of any other field.
+#[inline(always)]
 fn delimited_size(body: &[u8], from: usize, ends: &mut Memchr<'_>) -> Option<usize>
     requires from { from ≤ length body.now }
     requires ends { SeeksEnd body.now from ends.old }

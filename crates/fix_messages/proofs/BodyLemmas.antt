@@ -13,6 +13,9 @@ use Rattle.audit_base.specs.declared.faults.Reason.TheVariants as reason
 use Rattle.fix_fields.specs.Forms.{length_form, tag_form}
 use Rattle.fix_fields.specs.Grammar.{TagValue, AreFields, Fields, HasForm, IsField, IsDelimited, IsUnreadable, LacksType, NoField, bytes_of, field_bytes, last_of}
 use Rattle.fix_fields.specs.Pairs.{is_pair}
+use Rattle.fix_fields.specs.Ranges.{all_shown}
+use Rattle.fix_fields.specs.TagNotes.{HasNotes}
+use Rattle.fix_fields.specs.declared.notes.TagNotes.{TagNotes}
 use Rattle.fix_fields.proofs.GrammarLemmas.{field_bytes-append, no_field_at_end, one_reading}
 use Rattle.fix_fields.proofs.ReadingLemmas.{length-field_bytes}
 use Rattle.fix_fields.proofs.SearchLemmas.{split_at}
@@ -20,7 +23,7 @@ use Rattle.fix_fields.proofs.TagLemmas.{decimal_no_equals, tag_form-decimal, tag
 use Rattle.fix_messages.specs.declared.meanings.MessageFault.{MessageFault}
 use Rattle.fix_messages.specs.Bodies.{body_says, reasoned, says_of}
 use Rattle.fix_messages.specs.Steps.{TakesSaid}
-use Rattle.fix_messages.specs.BodyFields.{Split, ended_field, is_end, is_equals, next_field, some_size, split_from, split_next, split_of, tagged_field, value_size}
+use Rattle.fix_messages.specs.BodyFields.{Split, ended_field, fields_of, is_end, is_equals, next_field, some_size, split_from, split_next, split_of, tagged_field, value_size}
 
 -- a byte behind bytes that are others stands right there
 position-until : (b : ℕ) (front more : List ℕ) → All (λ x. x ≢ b) front → position_or_len (λ x. x == b) (front ++ b ∷ more) ≡ length front
@@ -183,6 +186,13 @@ pub body-split : (body : List ℕ) → IsSplit None body (split_of body)
 unfolding split_of
 body-split body = split-is (length body) None body (omega arith)
 
+-- the fields of a body are these alone
+pub fields-are : (body : List ℕ) (fields : List TagValue) → Fields body fields → fields_of body ≡ fields
+fields-are body fields is =
+    let s = body-split body in
+    let same = one_reading None (split_of body).fields fields (split_of body).left [] s.forms is.forms s.none (no_field_at_end (last_of None fields))
+    (sym s.whole ∙ is.bytes ∙ sym (append-nil (bytes_of fields))) in same.0
+
 left-says : {R : Type 0} (meaning : List TagValue → Result (Option R) MessageFault) (front : List TagValue) (left : List ℕ) → 0 < length left
     → says_of meaning front left ≡ Err (reason.Field (length (bytes_of front)))
 left-says meaning front [] h = absurd (omega (arith, h))
@@ -202,6 +212,12 @@ module _ {R : Type 0} (meaning : List TagValue → Result (Option R) MessageFaul
   fields-say fields is =
       reading-says fields [] (is.bytes ∙ sym (append-nil (bytes_of fields))) is.forms (no_field_at_end (last_of None fields))
       ∙ ap (λ (t : Bool). cond {A = Result (Option R) Reason} t (reasoned (meaning fields)) (Err reason.MsgType)) is.typed
+
+  -- notes of a body tell its fields
+  pub notes-say : (notes : TagNotes) → HasNotes body notes → reasoned (meaning (fields_of body)) ≡ body_says meaning body
+  notes-say notes has =
+      let fields = all_shown body has.fields in
+      ap (λ (fs : List TagValue). reasoned (meaning fs)) (fields-are body fields has.are.read) ∙ sym (fields-say fields has.are.read)
 
   pub unreadable-says : (n : ℕ) → IsUnreadable body n → body_says meaning body ≡ Err (reason.Field n)
   unreadable-says n is =

@@ -1,113 +1,115 @@
--- What `find_field` finds among the ranges of a body's fields, in the words of the fields' values.
-use Rattle.std.proofs.Common.{◌≡◌, ℕ, suc, ◌+◌, Bool, true, false, cond, not, eqb, ltb, Option, Some, None, Result, Ok, Err, List, [], ◌∷◌, length, ap, sym, refl, ◌∙◌, arith, rules}
-use Rattle.std.specs.Prelude.{slice_get, option_map}
-use Rattle.std.specs.List.{find, count_by, position_or_len}
-use Rattle.std.proofs.lemmas.Bool.Decides.{nat_tests}
-use Rattle.std.proofs.lemmas.List.Folds.{find_at}
-use Rattle.std.proofs.lemmas.List.Sums.{sum_by-cons}
-use Rattle.std.proofs.lemmas.Option.{slice_get-map}
+-- What the notes of a body say of its fields, in the words of the fields' values.
+use Rattle.std.proofs.Common.{◌≡◌, ℕ, ◌<◌, ◌≤◌, Bool, true, false, cond, Some, None, Result, Ok, Err, Option, List, [], ◌∷◌, length, map, ap, sym, refl, subst, ◌∙◌}
+use Rattle.std.specs.List.{All, slice_range}
+use Rattle.std.proofs.lemmas.List.Elements.{All-head, All-tail, All-cons}
 use Rattle.fix_fields.specs.declared.field.Field.{Field}
-use Rattle.fix_fields.specs.declared.field.Found.{Found}
-use Rattle.fix_fields.specs.declared.field.Found.TheVariants.{Absent, One, Many}
-use Rattle.fix_fields.specs.TagSearch.{found_at, found_of, has_tag}
-use Rattle.fix_fields.specs.Grammar.{TagValue}
-use Rattle.fix_fields.specs.Ranges.{all_shown, shown}
+use Rattle.fix_fields.specs.declared.field.Placed.{Placed}
+use Rattle.fix_fields.specs.declared.field.Placed.TheVariants.{Absent, One, Many}
+use Rattle.fix_fields.specs.declared.notes.TagNotes.{TagNotes}
+use Rattle.fix_fields.specs.TagNotes.{AreNotesOf, HasNotes, fields_with, first_placed, placed_of}
+use Rattle.fix_fields.specs.Grammar.{TagValue, begins_with_type}
+use Rattle.fix_fields.specs.Ranges.{HasRangeIn, all_shown}
+use Rattle.fix_fields.proofs.LawLemmas.{AreFieldsOf-within}
 use Rattle.fix_messages.specs.declared.meanings.MessageFault.{MessageFault}
 use Rattle.fix_messages.specs.declared.meanings.MessageFault.TheVariants as fault
-use Rattle.fix_messages.specs.Rows.{values_of, value_of, value_in, first_of, only, only_of}
+use Rattle.fix_messages.specs.BodyFields.{fields_of}
+use Rattle.fix_messages.specs.Rows.{values_of, value_of, first_of, only, only_of, type_of}
+use Rattle.fix_messages.proofs.BodyLemmas.{fields-are}
 
-some-value : (v : List ℕ) (vs : List (List ℕ)) → ltb 0 (length (v ∷ vs)) ≡ true
-some-value v vs = search (rules, nat_tests)
+-- the values of some fields
+values : List ℕ → List Field → List (List ℕ)
+values body fields = map (λ f. slice_range body f.from f.to) fields
 
-count-step : (b : Bool) (v : List ℕ) (vs : List (List ℕ)) (n : ℕ) → length vs ≡ n → length (cond b (v ∷ vs) vs) ≡ cond b 1 0 + n
-count-step true v vs n h = omega (arith, h)
-count-step false v vs n h = omega (arith, h)
+values-step : (b : Bool) (body : List ℕ) (f : Field) (fields : List Field) (rest : List (List ℕ)) → rest ≡ map (λ g. slice_range body g.from g.to) fields
+    → cond b (slice_range body f.from f.to ∷ rest) rest ≡ map (λ g. slice_range body g.from g.to) (cond b (f ∷ fields) fields)
+values-step true body f fields rest is = ap (λ (r : List (List ℕ)). slice_range body f.from f.to ∷ r) is
+values-step false body f fields rest is = is
 
--- a tag has as many values as fields
-counted : (body : List ℕ) (tag : ℕ) (fields : List Field) → length (values_of tag (all_shown body fields)) ≡ count_by (has_tag tag) fields
-counted body tag [] = refl
-counted body tag (field ∷ fields) =
-    count-step (has_tag tag field) (shown body field).value (values_of tag (all_shown body fields)) (count_by (has_tag tag) fields) (counted body tag fields)
-    ∙ sym (sum_by-cons (λ f. cond (has_tag tag f) 1 0) field fields)
+-- the values of a tag are those of the fields with the tag
+values-with : (body : List ℕ) (tag : ℕ) (fields : List Field) → values_of tag (all_shown body fields) ≡ map (λ f. slice_range body f.from f.to) (fields_with tag fields)
+values-with body tag [] = refl
+values-with body tag (f ∷ fields) =
+    values-step (Rattle.std.specs.Prelude.nat_eq f.tag tag) body f (fields_with tag fields) (values_of tag (all_shown body fields)) (values-with body tag fields)
 
-some-step : (b : Bool) (v : List ℕ) (vs : List (List ℕ)) (n m : ℕ) → ltb 0 (length vs) ≡ ltb n m → ltb 0 (length (cond b (v ∷ vs) vs)) ≡ ltb (cond (not b) (1 + n) 0) (suc m)
-some-step true v vs n m h = search (rules, nat_tests)
-some-step false v vs n m h = grind (arith, nat_tests, h)
+-- what is noted says which value the tag has
+abbrev pub only_placed : List ℕ → ℕ → Placed → Result (Option (List ℕ)) MessageFault
+only_placed body tag Absent = Ok None
+only_placed body tag (One from to) = Ok (Some (slice_range body from to))
+only_placed body tag (Many from to) = Err (fault.Repeated tag)
 
--- it has one exactly where it has a first place
-has-value : (body : List ℕ) (tag : ℕ) (fields : List Field) → ltb 0 (length (values_of tag (all_shown body fields))) ≡ ltb (position_or_len (has_tag tag) fields) (length fields)
-has-value body tag [] = refl
-has-value body tag (field ∷ fields) =
-    some-step (has_tag tag field) (shown body field).value (values_of tag (all_shown body fields)) (position_or_len (has_tag tag) fields) (length fields) (has-value body tag fields)
+abbrev pub first_value : List ℕ → Placed → List ℕ
+first_value body Absent = []
+first_value body (One from to) = slice_range body from to
+first_value body (Many from to) = slice_range body from to
 
-first-step : (b : Bool) (body : List ℕ) (field : Field) (o : Option Field) (vs : List (List ℕ)) → value_in (option_map (shown body) o) ≡ first_of vs
-    → value_in (option_map (shown body) (cond b (Some field) o)) ≡ first_of (cond b ((shown body field).value ∷ vs) vs)
-first-step true body field o vs h = refl
-first-step false body field o vs h = h
+only-first : (body : List ℕ) (tag : ℕ) (fields : List Field) → only_placed body tag (first_placed fields) ≡ only_of tag (map (λ f. slice_range body f.from f.to) fields)
+only-first body tag [] = refl
+only-first body tag (f ∷ []) = refl
+only-first body tag (f ∷ g ∷ fields) = refl
 
-first-found : (body : List ℕ) (tag : ℕ) (fields : List Field) → value_in (option_map (shown body) (find (has_tag tag) fields)) ≡ value_of tag (all_shown body fields)
-first-found body tag [] = refl
-first-found body tag (field ∷ fields) =
-    first-step (has_tag tag field) body field (find (has_tag tag) fields) (values_of tag (all_shown body fields)) (first-found body tag fields)
+value-first : (body : List ℕ) (fields : List Field) → first_value body (first_placed fields) ≡ first_of (map (λ f. slice_range body f.from f.to) fields)
+value-first body [] = refl
+value-first body (f ∷ []) = refl
+value-first body (f ∷ g ∷ fields) = refl
 
--- the first value stands at the first place
-first-value : (body : List ℕ) (tag : ℕ) (fields : List Field) → value_in (slice_get (all_shown body fields) (position_or_len (has_tag tag) fields)) ≡ value_of tag (all_shown body fields)
-first-value body tag fields =
-    ap value_in (slice_get-map (shown body) fields (position_or_len (has_tag tag) fields))
-    ∙ ap (λ (o : Option Field). value_in (option_map (shown body) o)) (sym (find_at (has_tag tag) fields)) ∙ first-found body tag fields
+-- the range of a value that is noted lies in the body
+InBody : List ℕ → Placed → Type 0
+InBody body Absent = Unit {0}
+InBody body (One from to) = (from ≤ to) × (to < length body)
+InBody body (Many from to) = (from ≤ to) × (to < length body)
 
--- what is found says which value the tag has
-abbrev pub only_found : ℕ → List TagValue → Found → Result (Option (List ℕ)) MessageFault
-only_found tag all Absent = Ok None
-only_found tag all (One at) = Ok (Some (value_in (slice_get all at)))
-only_found tag all (Many at) = Err (fault.Repeated tag)
+within-first : (body : List ℕ) (fields : List Field) → All (HasRangeIn body) fields → InBody body (first_placed fields)
+unfolding InBody
+within-first body [] all = tt
+within-first body (f ∷ []) all = let here = All-head (HasRangeIn body) f [] all in (here.order, here.high)
+within-first body (f ∷ g ∷ fields) all = let here = All-head (HasRangeIn body) f (g ∷ fields) all in (here.order, here.high)
 
-not-one : (n : ℕ) → eqb (suc (suc n)) 1 ≡ false
-not-one n = search (rules, nat_tests)
+within-step : (b : Bool) (body : List ℕ) (f : Field) (fields : List Field) → HasRangeIn body f → All (HasRangeIn body) fields → All (HasRangeIn body) (cond b (f ∷ fields) fields)
+within-step true body f fields here rest = All-cons (HasRangeIn body) f fields here rest
+within-step false body f fields here rest = rest
 
-only-place : (tag : ℕ) (all : List TagValue) (vs : List (List ℕ)) (at : ℕ) (b : Bool) → ltb 0 (length vs) ≡ b → value_in (slice_get all at) ≡ first_of vs
-    → only_found tag all (found_at (cond b (Some at) None) (length vs)) ≡ only_of tag vs
-only-place tag all [] at true h e = (cc)
-only-place tag all [] at false h e = refl
-only-place tag all (v ∷ []) at true h e = ap (λ (t : List ℕ). Ok (Some t)) e
-only-place tag all (v ∷ []) at false h e = let t : true ≡ false = sym (some-value v []) ∙ h in cc
-only-place tag all (v ∷ w ∷ vs) at true h e = ap (λ (b : Bool). only_found tag all (cond b (One at) (Many at))) (not-one (length vs))
-only-place tag all (v ∷ w ∷ vs) at false h e = let t : true ≡ false = sym (some-value v (w ∷ vs)) ∙ h in cc
+within-with : (body : List ℕ) (tag : ℕ) (fields : List Field) → All (HasRangeIn body) fields → All (HasRangeIn body) (fields_with tag fields)
+within-with body tag [] all = all
+within-with body tag (f ∷ fields) all =
+    within-step (Rattle.std.specs.Prelude.nat_eq f.tag tag) body f (fields_with tag fields) (All-head (HasRangeIn body) f fields all)
+    (within-with body tag fields (All-tail (HasRangeIn body) f fields all))
 
-pub only-found : (body : List ℕ) (tag : ℕ) (fields : List Field) → only_found tag (all_shown body fields) (found_of fields tag) ≡ only tag (all_shown body fields)
-only-found body tag fields =
-    ap (λ (n : ℕ). only_found tag (all_shown body fields) (found_at (cond (ltb (position_or_len (has_tag tag) fields) (length fields)) (Some (position_or_len (has_tag tag) fields)) None) n)) (sym (counted body tag fields))
-    ∙ only-place tag (all_shown body fields) (values_of tag (all_shown body fields)) (position_or_len (has_tag tag) fields) (ltb (position_or_len (has_tag tag) fields) (length fields)) (has-value body tag fields) (first-value body tag fields)
+-- what is found by notes of a body
+module _ (body : List ℕ) (notes : TagNotes) (has : HasNotes body notes) (tag : ℕ) (placed : Placed) (all : List TagValue)
+    (found : (fields : List Field) → AreNotesOf notes fields → placed ≡ placed_of fields tag) (is : fields_of body ≡ all) where
+  shown-all : all_shown body has.fields ≡ all
+  shown-all = sym (fields-are body (all_shown body has.fields) has.are.read) ∙ is
 
--- what stands at the place that is found
-abbrev pub value_found : List TagValue → Found → List ℕ
-value_found all Absent = []
-value_found all (One at) = value_in (slice_get all at)
-value_found all (Many at) = value_in (slice_get all at)
+  pub says-only : only_placed body tag placed ≡ only tag all
+  says-only =
+      ap (only_placed body tag) (found has.fields has.taken) ∙ only-first body tag (fields_with tag has.fields)
+      ∙ ap (only_of tag) (sym (values-with body tag has.fields)) ∙ ap (only tag) shown-all
 
-value-place : (all : List TagValue) (vs : List (List ℕ)) (at : ℕ) (b c : Bool) (n : ℕ) → ltb 0 (length vs) ≡ b → eqb n 1 ≡ c → value_in (slice_get all at) ≡ first_of vs
-    → value_found all (cond b (cond c (One at) (Many at)) Absent) ≡ first_of vs
-value-place all vs at true true n h k e = e
-value-place all vs at true false n h k e = e
-value-place all [] at false c n h k e = refl
-value-place all (v ∷ vs) at false c n h k e = let t : true ≡ false = sym (some-value v vs) ∙ h in cc
+  pub says-value : first_value body placed ≡ value_of tag all
+  says-value =
+      ap (first_value body) (found has.fields has.taken) ∙ value-first body (fields_with tag has.fields)
+      ∙ ap first_of (sym (values-with body tag has.fields)) ∙ ap (value_of tag) shown-all
 
-found-by : (b : Bool) (at n : ℕ) → found_at (cond b (Some at) None) n ≡ cond b (cond (eqb n 1) (One at) (Many at)) Absent
-found-by true at n = refl
-found-by false at n = refl
+  says-within : InBody body placed
+  says-within =
+      subst (InBody body) (sym (found has.fields has.taken))
+      (within-first body (fields_with tag has.fields) (within-with body tag has.fields (AreFieldsOf-within body has.fields has.are)))
 
-pub value-found : (body : List ℕ) (tag : ℕ) (fields : List Field) → value_found (all_shown body fields) (found_of fields tag) ≡ value_of tag (all_shown body fields)
-value-found body tag fields =
-    let at = position_or_len (has_tag tag) fields in
-    let n = count_by (has_tag tag) fields in
-    ap (value_found (all_shown body fields)) (found-by (ltb at (length fields)) at n)
-    ∙ value-place (all_shown body fields) (values_of tag (all_shown body fields)) at (ltb at (length fields)) (eqb n 1) n (has-value body tag fields) refl (first-value body tag fields)
+  pub one-within : (from to : ℕ) → placed ≡ One from to → (from ≤ to) × (to < length body)
+  unfolding InBody
+  one-within from to e = subst (InBody body) e says-within
 
--- the same where the fields are known by another name
-pub says-only : (body : List ℕ) (tag : ℕ) (fields : List Field) (all : List TagValue) (found : Found) → found ≡ found_of fields tag → all_shown body fields ≡ all → only_found tag all found ≡ only tag all
-says-only body tag fields all found h e =
-    ap (λ (xs : List TagValue). only_found tag xs found) (sym e) ∙ ap (only_found tag (all_shown body fields)) h ∙ only-found body tag fields ∙ ap (only tag) e
+  pub many-within : (from to : ℕ) → placed ≡ Many from to → (from ≤ to) × (to < length body)
+  unfolding InBody
+  many-within from to e = subst (InBody body) e says-within
 
-pub says-value : (body : List ℕ) (tag : ℕ) (fields : List Field) (all : List TagValue) (found : Found) → found ≡ found_of fields tag → all_shown body fields ≡ all → value_found all found ≡ value_of tag all
-says-value body tag fields all found h e =
-    ap (λ (xs : List TagValue). value_found xs found) (sym e) ∙ ap (value_found (all_shown body fields)) h ∙ value-found body tag fields ∙ ap (value_of tag) e
+-- the type of a message is the value of its tag
+type-first : (fields : List TagValue) → begins_with_type fields ≡ true → value_of 35 fields ≡ type_of fields
+type-first [] typed = refl
+type-first (f ∷ fields) typed = ap (λ (b : Bool). first_of (cond b (f.value ∷ values_of 35 fields) (values_of 35 fields))) typed
+
+pub type-is : (body : List ℕ) (notes : TagNotes) (all : List TagValue) → HasNotes body notes → fields_of body ≡ all → value_of 35 all ≡ type_of all
+type-is body notes all has is =
+    let same : all_shown body has.fields ≡ all = sym (fields-are body (all_shown body has.fields) has.are.read) ∙ is in
+    let typed : begins_with_type all ≡ true = ap begins_with_type (sym same) ∙ has.are.read.typed in
+    type-first all typed

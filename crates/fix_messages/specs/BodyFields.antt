@@ -65,3 +65,7 @@ split_from (suc most) before bytes =
 -- all fields that can be read from the front of a body: each takes a byte at least
 unfoldable pub split_of : List ℕ → Split
 split_of body = split_from (length body) None body
+
+-- the fields of a body
+abbrev pub fields_of : List ℕ → List TagValue
+fields_of body = (split_of body).fields

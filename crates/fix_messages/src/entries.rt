@@ -3,9 +3,10 @@ ghost use Rattle.std.specs.Prelude.{◌≡◌, ◌≤◌, ◌-◌, ◌∷◌, []
 ghost use Rattle.std.specs.List.{slice_range};
 ghost use Rattle.audit_base.specs.Sizes.{longest_body};
 ghost use Rattle.fix_fields.specs.Grammar.{TagValue};
-ghost use Rattle.fix_fields.specs.Ranges.{AreFieldsOf, all_shown};
+ghost use Rattle.fix_fields.specs.TagNotes.{HasNotes};
 ghost use Rattle.fix_messages.specs.declared.meanings.MessageFault.{MessageFault};
 ghost use Rattle.fix_messages.specs.Bodies.{body_says, fault_reason, reasoned};
+ghost use Rattle.fix_messages.specs.BodyFields.{fields_of};
 ghost use Rattle.fix_messages.specs.Steps.{TakesSaid};
 ghost use Rattle.log_source.specs.Collectors.{HasPlace};
 ghost use Rattle.log_source.specs.Handing.{Adds};
@@ -17,9 +18,10 @@ use crate::orders::order_text;
 use crate::reports::{ReportText, report_text};
 use audit_base::faults::{NoMemory, Reason};
 use audit_base::records::{OrderRecord, Traded};
-use fix_fields::field::{Field, FieldFault};
+use audit_base::stamp_reader::StampReader;
+use fix_fields::field::FieldFault;
 use fix_fields::notes::TagNotes;
-use fix_fields::split::read_front_fields;
+use fix_fields::split::note_front_fields;
 use log_source::collector::Collector;
 
 /// A record of a FIX log: an order, or a report of a trade.
@@ -31,16 +33,17 @@ pub trait FixEntry: Traded {
     ghost sound: { Self → Type 0 };
 
     /// Hands the record that the fields of a body mean to a collector, if they mean one, and gives the
-    /// first test that they fail. Where their tags stand is noted in place of what was noted before.
+    /// first test that they fail. Where their values stand has been noted, and this reader reads their point
+    /// in time.
     fn take_fields<K: Collector<Entry = Self>>(
         entries: &mut K,
         body: &[u8],
-        fields: &[Field],
-        notes: &mut TagNotes,
+        notes: &TagNotes,
+        stamps: &mut StampReader,
     ) -> Result<Result<(), Reason>, NoMemory>
-        requires fields { AreFieldsOf body.now fields.now }
+        requires notes { HasNotes body.now notes.now }
         requires place { HasPlace K.has_taken entries.old }
-        ensures { IfOk result (TakesSaid (reasoned (meaning (all_shown body.now fields.now)))
+        ensures { IfOk result (TakesSaid (reasoned (meaning (fields_of body.now)))
             (K.has_taken entries.old) (K.has_taken entries.new)) };
 
     /// Every record that fields mean is sound. This call does nothing: it only has its contract.
@@ -59,11 +62,11 @@ impl FixEntry for OrderRecord {
     fn take_fields<K: Collector<Entry = OrderRecord>>(
         entries: &mut K,
         body: &[u8],
-        fields: &[Field],
-        notes: &mut TagNotes,
+        notes: &TagNotes,
+        stamps: &mut StampReader,
     ) -> Result<Result<(), Reason>, NoMemory> {
-        let message = Message::of(body, fields, notes);
-        take_order(entries, order_text(&message))
+        let message = Message::of(body, notes);
+        take_order(entries, order_text(&message, stamps))
     }
 
     fn means_sound_records() {}
@@ -80,11 +83,11 @@ impl FixEntry for Report {
     fn take_fields<K: Collector<Entry = Report>>(
         entries: &mut K,
         body: &[u8],
-        fields: &[Field],
-        notes: &mut TagNotes,
+        notes: &TagNotes,
+        stamps: &mut StampReader,
     ) -> Result<Result<(), Reason>, NoMemory> {
-        let message = Message::of(body, fields, notes);
-        take_report(entries, report_text(&message))
+        let message = Message::of(body, notes);
+        take_report(entries, report_text(&message, stamps))
     }
 
     fn means_sound_records() {}
@@ -188,15 +191,15 @@ fn take_report<K: Collector<Entry = Report>>(
 }
 
 /// Hands on the record that the body of a message means, if it means one, and gives the first test that
-/// the body fails. The body stands in a text from one byte on and up to another. Its fields are read into a
-/// list, and its tags noted in notes, that may be used again for the next body.
+/// the body fails. The body stands in a text from one byte on and up to another. Notes are taken of its fields in
+/// place of what was noted before.
 pub(crate) fn take_body<R: FixEntry, K: Collector<Entry = R>>(
     entries: &mut K,
     text: &[u8],
     from: usize,
     to: usize,
-    fields: &mut Vec<Field>,
     notes: &mut TagNotes,
+    stamps: &mut StampReader,
 ) -> Result<Result<(), Reason>, NoMemory>
     requires place { HasPlace K.has_taken entries.old }
     requires ordered { from ≤ to }
@@ -206,8 +209,8 @@ pub(crate) fn take_body<R: FixEntry, K: Collector<Entry = R>>(
         (K.has_taken entries.old) (K.has_taken entries.new)) }
 {
     let body = &text[from..to];
-    match read_front_fields(&text[from..], to - from, fields) {
-        Ok(()) => R::take_fields(entries, body, fields, notes),
+    match note_front_fields(&text[from..], to - from, notes) {
+        Ok(()) => R::take_fields(entries, body, notes, stamps),
         Err(FieldFault::Field(at)) => Ok(Err(Reason::Field(at))),
         Err(FieldFault::MsgType) => Ok(Err(Reason::MsgType)),
         Err(FieldFault::Memory) => Err(NoMemory),

@@ -10,7 +10,7 @@ use crate::entries::{FixEntry, take_body};
 use crate::meanings::Report;
 use audit_base::faults::{BadPlace, LogFault, NoMemory, Reason};
 use audit_base::records::OrderRecord;
-use fix_fields::field::Field;
+use audit_base::stamp_reader::StampReader;
 use fix_fields::notes::TagNotes;
 use fix_framing::framer::{Framer, Step};
 use fix_framing::frames::FrameFault;
@@ -85,7 +85,11 @@ impl<R: FixEntry, K: Collector<Entry = R>> FixFeed<K> {
     }
 
     // Takes the next message. True says that it was good, and that another may follow.
-    fn take_next(&mut self, fields: &mut Vec<Field>, notes: &mut TagNotes) -> Result<bool, NoMemory>
+    fn take_next(
+        &mut self,
+        notes: &mut TagNotes,
+        stamps: &mut StampReader,
+    ) -> Result<bool, NoMemory>
         requires good { self.old.bad ≡ None }
         requires room { HasLog K.has_taken R.meaning self.old }
         ensures { IfOk result (λ more. MatchBool more
@@ -101,7 +105,7 @@ impl<R: FixEntry, K: Collector<Entry = R>> FixFeed<K> {
             }
             Step::Whole { start, body, to } => {
                 let held = self.framer.held();
-                match take_body(&mut self.entries, held, body, to, fields, notes)? {
+                match take_body(&mut self.entries, held, body, to, notes, stamps)? {
                     Ok(()) => Ok(true),
                     Err(reason) => {
                         let bad = bad_at(&self.entries, start, reason);
@@ -113,17 +117,17 @@ impl<R: FixEntry, K: Collector<Entry = R>> FixFeed<K> {
         }
     }
 
-    // Takes messages as long as there is one and it is good. All have their fields read into one list, and
-    // their tags noted in the same notes.
+    // Takes messages as long as there is one and it is good. All have their values noted in the same notes, and
+    // their points in time read by one reader.
     fn take_messages(&mut self) -> Result<(), NoMemory>
         requires good { self.old.bad ≡ None }
         requires room { HasLog K.has_taken R.meaning self.old }
         ensures { OnOk result (Ends K.has_taken R.meaning self.old self.new) }
     {
-        let mut fields = Vec::new(self.alloc);
         let mut notes = TagNotes::new();
+        let mut stamps = StampReader::new();
         'messages: loop {
-            if !self.take_next(&mut fields, &mut notes)? {
+            if !self.take_next(&mut notes, &mut stamps)? {
                 return Ok(());
             }
         }

@@ -1,6 +1,7 @@
 //! The messages of an order log: new orders, cancels and replacements, by the table of each.
 ghost use Rattle.std.specs.Prelude.{◌≡◌};
 ghost use Rattle.fix_fields.specs.Ranges.{AreFieldsOf, all_shown};
+ghost use Rattle.fix_fields.specs.TagNotes.{IsNoted};
 ghost use Rattle.fix_messages.specs.OrderTables.{limits_form, limits_at, price_by, life_form, life_at, life_by, limit_form, limit_at, resting_form, resting_at, unconditional, new_order, cancel, replacement, order_by, order_entry, order_meaning};
 
 use crate::meanings::{MessageFault, OrderMeaning};
@@ -11,6 +12,7 @@ use crate::rows::{
     supported, type_at,
 };
 use audit_base::numbers::{Price, market_price};
+use audit_base::stamp_reader::StampReader;
 use audit_base::terms::{Life, Side};
 use fix_fields::field::Field;
 use fix_fields::notes::TagNotes;
@@ -36,6 +38,7 @@ fn read_limits(text: &[u8]) -> Option<Limits>
 
 #[inline(always)]
 fn limits_at(tag: u32, message: &Message<'_>) -> Result<Limits, MessageFault>
+    requires { IsNoted tag }
     ensures { result ≡ limits_at tag message.now }
 {
     supported(tag, read_limits(required(tag, message)?))
@@ -48,6 +51,7 @@ fn price_by(
     tag: u32,
     message: &Message<'_>,
 ) -> Result<Price, MessageFault>
+    requires { IsNoted tag }
     ensures { result ≡ price_by limits side tag message.now }
 {
     match limits {
@@ -73,6 +77,7 @@ fn read_life(text: &[u8]) -> Option<Life>
 
 #[inline(always)]
 fn life_at(tag: u32, message: &Message<'_>) -> Result<Life, MessageFault>
+    requires { IsNoted tag }
     ensures { result ≡ life_at tag message.now }
 {
     match message.only(tag)? {
@@ -98,6 +103,7 @@ fn read_limit(text: &[u8]) -> Option<()>
 
 #[inline(always)]
 fn limit_at(tag: u32, message: &Message<'_>) -> Result<(), MessageFault>
+    requires { IsNoted tag }
     ensures { result ≡ limit_at tag message.now }
 {
     supported(tag, read_limit(required(tag, message)?))
@@ -115,6 +121,7 @@ fn read_resting(text: &[u8]) -> Option<()>
 
 #[inline(always)]
 fn resting_at(tag: u32, message: &Message<'_>) -> Result<(), MessageFault>
+    requires { IsNoted tag }
     ensures { result ≡ resting_at tag message.now }
 {
     match message.only(tag)? {
@@ -134,11 +141,14 @@ fn unconditional(message: &Message<'_>) -> Result<(), MessageFault>
 
 /// Type D, a new order.
 #[tactic(auto, unfolding(crate::specs::OrderTables::new_order))]
-fn new_order<'m>(message: &'m Message<'_>) -> Result<OrderText<'m>, MessageFault>
+fn new_order<'m>(
+    message: &'m Message<'_>,
+    stamps: &mut StampReader,
+) -> Result<OrderText<'m>, MessageFault>
     ensures { result ≡ new_order message.now }
 {
     type_at(b"D", message)?;
-    let head = head_at(49, message)?;
+    let head = head_at(49, message, stamps)?;
     let side = side_at(54, message)?;
     let quantity = quantity_at(38, message)?;
     let limits = limits_at(40, message)?;
@@ -156,11 +166,14 @@ fn new_order<'m>(message: &'m Message<'_>) -> Result<OrderText<'m>, MessageFault
 
 /// Type F, a cancel.
 #[tactic(auto, unfolding(crate::specs::OrderTables::cancel))]
-fn cancel<'m>(message: &'m Message<'_>) -> Result<OrderText<'m>, MessageFault>
+fn cancel<'m>(
+    message: &'m Message<'_>,
+    stamps: &mut StampReader,
+) -> Result<OrderText<'m>, MessageFault>
     ensures { result ≡ cancel message.now }
 {
     type_at(b"F", message)?;
-    let head = head_at(49, message)?;
+    let head = head_at(49, message, stamps)?;
     let target = name_at(41, message)?;
     let parts = OrderParts::Cancel { target };
     Ok(OrderText { head, parts })
@@ -168,11 +181,14 @@ fn cancel<'m>(message: &'m Message<'_>) -> Result<OrderText<'m>, MessageFault>
 
 /// Type G, a replacement.
 #[tactic(auto, unfolding(crate::specs::OrderTables::replacement))]
-fn replacement<'m>(message: &'m Message<'_>) -> Result<OrderText<'m>, MessageFault>
+fn replacement<'m>(
+    message: &'m Message<'_>,
+    stamps: &mut StampReader,
+) -> Result<OrderText<'m>, MessageFault>
     ensures { result ≡ replacement message.now }
 {
     type_at(b"G", message)?;
-    let head = head_at(49, message)?;
+    let head = head_at(49, message, stamps)?;
     let target = name_at(41, message)?;
     let side = side_at(54, message)?;
     let quantity = quantity_at(38, message)?;
@@ -192,15 +208,16 @@ fn replacement<'m>(message: &'m Message<'_>) -> Result<OrderText<'m>, MessageFau
 fn order_by<'m>(
     kind: &[u8],
     message: &'m Message<'_>,
+    stamps: &mut StampReader,
 ) -> Result<Option<OrderText<'m>>, MessageFault>
     ensures { result ≡ order_by kind.now message.now }
 {
     if is_word(b"D", kind) {
-        Ok(Some(new_order(message)?))
+        Ok(Some(new_order(message, stamps)?))
     } else if is_word(b"F", kind) {
-        Ok(Some(cancel(message)?))
+        Ok(Some(cancel(message, stamps)?))
     } else if is_word(b"G", kind) {
-        Ok(Some(replacement(message)?))
+        Ok(Some(replacement(message, stamps)?))
     } else {
         Ok(None)
     }
@@ -211,13 +228,14 @@ fn order_by<'m>(
 #[tactic(auto, unfolding(crate::specs::OrderTables::order_entry))]
 pub(crate) fn order_text<'m>(
     message: &'m Message<'_>,
+    stamps: &mut StampReader,
 ) -> Result<Option<OrderText<'m>>, MessageFault>
     ensures { result ≡ order_entry message.now }
 {
     if is_copy(message) {
         Ok(None)
     } else {
-        order_by(message.kind(), message)
+        order_by(message.kind(), message, stamps)
     }
 }
 
@@ -228,8 +246,8 @@ pub fn order_of(body: &[u8], fields: &[Field]) -> Result<OrderMeaning, MessageFa
     ensures { result ≡ order_meaning (all_shown body.now fields.now) }
 {
     let mut notes = TagNotes::new();
-    let message = Message::of(body, fields, &mut notes);
-    match order_text(&message)? {
+    let message = Message::with_fields(body, fields, &mut notes);
+    match order_text(&message, &mut StampReader::new())? {
         Some(order) => Ok(OrderMeaning::Entry(order.record())),
         None => Ok(OrderMeaning::Skip),
     }

@@ -11,6 +11,7 @@ use crate::rows::{
     head_at, is_copy, is_word, name_at, price_at, quantity_at, side_at, type_at, word_at,
 };
 use audit_base::numbers::{Price, Quantity};
+use audit_base::stamp_reader::StampReader;
 use audit_base::terms::Side;
 use fix_fields::field::Field;
 use fix_fields::notes::TagNotes;
@@ -70,13 +71,16 @@ impl<'m> ReportText<'m> {
 
 /// Type 8 with execution type F, a report of a trade.
 #[tactic(auto, unfolding(crate::specs::ReportTable::trade_report))]
-fn trade_report<'m>(message: &'m Message<'_>) -> Result<ReportText<'m>, MessageFault>
+fn trade_report<'m>(
+    message: &'m Message<'_>,
+    stamps: &mut StampReader,
+) -> Result<ReportText<'m>, MessageFault>
     ensures { result ≡ trade_report message.now }
 {
     type_at(b"8", message)?;
     word_at(b"F", 150, message)?;
     let trade = name_at(527, message)?;
-    let head = head_at(56, message)?;
+    let head = head_at(56, message, stamps)?;
     let side = side_at(54, message)?;
     let quantity = quantity_at(32, message)?;
     let price = price_at(31, message)?;
@@ -108,13 +112,14 @@ fn is_passed_over(message: &Message<'_>) -> bool
 #[tactic(auto, unfolding(crate::specs::ReportTable::report_entry))]
 pub(crate) fn report_text<'m>(
     message: &'m Message<'_>,
+    stamps: &mut StampReader,
 ) -> Result<Option<ReportText<'m>>, MessageFault>
     ensures { result ≡ report_entry message.now }
 {
     if is_passed_over(message) {
         Ok(None)
     } else {
-        Ok(Some(trade_report(message)?))
+        Ok(Some(trade_report(message, stamps)?))
     }
 }
 
@@ -125,8 +130,8 @@ pub fn report_of(body: &[u8], fields: &[Field]) -> Result<ReportMeaning, Message
     ensures { result ≡ report_meaning (all_shown body.now fields.now) }
 {
     let mut notes = TagNotes::new();
-    let message = Message::of(body, fields, &mut notes);
-    match report_text(&message)? {
+    let message = Message::with_fields(body, fields, &mut notes);
+    match report_text(&message, &mut StampReader::new())? {
         Some(report) => Ok(ReportMeaning::Entry(report.record())),
         None => Ok(ReportMeaning::Skip),
     }

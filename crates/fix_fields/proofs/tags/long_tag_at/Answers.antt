@@ -3,7 +3,7 @@ use Rattle.std.specs.Fmt.{decimal}
 use Rattle.std.proofs.lemmas.List.{length-take-le}
 use Rattle.fix_fields.proofs.SearchLemmas.{first_equals}
 use Rattle.fix_fields.proofs.TagLemmas.{no_equals, no_tag, tag_split, tag_form-some}
-use Rattle.fix_fields.proofs.tags.tag_at.Goals as goal
+use Rattle.fix_fields.proofs.tags.long_tag_at.Goals as goal
 
 pub overflow_add-result : goal.overflow_add-result
 overflow_add-result c =
