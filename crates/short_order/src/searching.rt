@@ -50,7 +50,8 @@ fn next_best(
     requires inside { index < length orders.now }
     requires count { length traded.now ≡ length orders.now }
     requires held { IfSome held (Stands orders.now side) }
-    ensures { result ≡ spec.next_best orders.now (is_short_on orders.now traded.now side) held index }
+    ensures { result
+        ≡ spec.next_best orders.now (is_short_on orders.now traded.now side) held index }
 {
     if is_short_on(orders, traded, side, index) {
         Some(better_of(orders, held, index))

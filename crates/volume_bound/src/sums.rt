@@ -108,7 +108,8 @@ impl Sums {
     /// added once.
     pub(crate) fn executable_after(&self, last: Counted, price: u64) -> Counted
         requires { IsCounted self.now last }
-        ensures same { result.cut ≡ record { price = price; volume = executable_of self.now price } }
+        ensures same { result.cut
+            ≡ record { price = price; volume = executable_of self.now price } }
         ensures counted { IsCounted self.now result }
     {
         let bids = self.bids.add(Edge::Below(price), last.bids);
