@@ -42,8 +42,6 @@ pub struct CsvFeed<K> {
     pub header: bool,
     /// The first bad line, once it has ended.
     pub bad: Option<BadPlace>,
-    /// What reads the points in time of the lines.
-    pub stamps: StampReader,
 }
 
 /// The feed of an order log.
@@ -65,7 +63,6 @@ impl<R: LogEntry, K: Collector<Entry = R>> CsvFeed<K> {
             offset: 0,
             header: false,
             bad: None,
-            stamps: StampReader::new(),
         }
     }
 
@@ -115,7 +112,7 @@ impl<R: LogEntry, K: Collector<Entry = R>> CsvFeed<K> {
             &mut self.entries,
             self.header,
             text,
-            &mut self.stamps,
+            &mut StampReader::new(),
         )?;
         self.move_on(start, size, outcome);
         Ok(())
@@ -127,6 +124,7 @@ impl<R: LogEntry, K: Collector<Entry = R>> CsvFeed<K> {
         &mut self,
         reader: &mut Reader<I>,
         fields: &mut Fields,
+        stamps: &mut StampReader,
         line: &[u8],
         unquoted: bool,
     ) -> Result<(), NoMemory>
@@ -147,7 +145,7 @@ impl<R: LogEntry, K: Collector<Entry = R>> CsvFeed<K> {
             return self.end_line(line);
         }
         fields.read_next(reader, unquoted)?;
-        let outcome = take_fields(&mut self.entries, self.header, fields, &mut self.stamps)?;
+        let outcome = take_fields(&mut self.entries, self.header, fields, stamps)?;
         self.move_on(self.offset, line.len() + 1, outcome);
         Ok(())
     }
@@ -169,6 +167,7 @@ impl<R: LogEntry, K: Collector<Entry = R>> CsvFeed<K> {
         &mut self,
         reader: &mut Reader<I>,
         fields: &mut Fields,
+        stamps: &mut StampReader,
         text: &'p [u8],
     ) -> Result<&'p [u8], NoMemory>
         requires started { 0 < self.old.offset }
@@ -190,7 +189,7 @@ impl<R: LogEntry, K: Collector<Entry = R>> CsvFeed<K> {
             if !unquoted && !is_closed(text) {
                 break;
             }
-            self.read_line(reader, fields, line, unquoted)?;
+            self.read_line(reader, fields, stamps, line, unquoted)?;
             left = later;
         }
         Ok(left)
@@ -215,9 +214,10 @@ impl<R: LogEntry, K: Collector<Entry = R>> CsvFeed<K> {
         ensures rest { OnOk result (self.new.rest.items ≡ []) }
     {
         let mut fields = Fields::new(self.alloc);
+        let mut stamps = StampReader::new();
         let unquoted = is_unquoted(without_cr(line));
-        self.read_line(reader, &mut fields, line, unquoted)?;
-        self.read_lines(reader, &mut fields, text)
+        self.read_line(reader, &mut fields, &mut stamps, line, unquoted)?;
+        self.read_lines(reader, &mut fields, &mut stamps, text)
     }
 
     // Takes a line that has ended, without its LF, and closed lines from the start of the text behind it, as
