@@ -107,13 +107,12 @@ impl<R: LogEntry, K: Collector<Entry = R>> CsvFeed<K> {
             self.offset += size as u64;
             return Ok(());
         }
-        let mut stamps = StampReader::new();
         let outcome = take_text(
             self.alloc,
             &mut self.entries,
             self.header,
             text,
-            &mut stamps,
+            &mut StampReader::new(),
         )?;
         self.move_on(start, size, outcome);
         Ok(())
