@@ -93,7 +93,7 @@ pub fn read_front_fields(text: &[u8], size: usize, list: &mut Vec<Field>) -> Res
 }
 
 /// Notes where the values of tags stand in the body that the first `size` bytes of a text are, in place of what
-/// was noted before. The answer is that of `read_front_fields`, and no memory is taken.
+/// was noted before. The answer is that of `read_front_fields`.
 pub fn note_front_fields(text: &[u8], size: usize, notes: &mut TagNotes) -> Result<(), FieldFault>
     requires inside { size ≤ length text.now }
     requires short { size ≤ longest_body }
@@ -102,7 +102,7 @@ pub fn note_front_fields(text: &[u8], size: usize, notes: &mut TagNotes) -> Resu
     ensures notes { OnOk result (HasNotes (take size text.now) notes.new) }
     ensures fault { IfErr result (λ e. Refuses (take size text.now) e) }
 
-    // Each comes wherever what it says holds.
+    // Each comes wherever what it says holds, unless memory runs out.
     ensures reads { (fs : List TagValue) → Fields (take size text.now) fs
         → OrMemory result (IsOk result) }
     ensures unreadable { (n : ℕ) → IsUnreadable (take size text.now) n
