@@ -77,7 +77,8 @@ fn show_traded<L: OrderLines>(orders: &L, order: TradedOrder) -> Option<Shown>
     requires inside { order.index < length (L.orders orders.now) }
     ensures { result ≡ spec.show_traded (L.orders orders.now) order }
 {
-    Some(Shown::Order(orders.line_at(order.index, order.traded)))
+    let line = orders.line_at(order.index, order.traded)?;
+    Some(Shown::Order(line))
 }
 
 /// The short order of a side with its due, where there is one.
@@ -86,7 +87,7 @@ fn show_due<L: OrderLines>(orders: &L, short: Option<DueOrder>) -> Option<Shown>
     ensures { result ≡ option_and_then (spec.show_due (L.orders orders.now)) short }
 {
     let short = short?;
-    let line = orders.line_at(short.order.index, short.order.traded);
+    let line = orders.line_at(short.order.index, short.order.traded)?;
     Some(Shown::Due(line, short.due))
 }
 

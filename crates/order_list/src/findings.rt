@@ -10,8 +10,12 @@ use audit_base::order_lines::OrderLines;
 impl<'a> OrderLines for OrderList<'a> {
     ghost orders = { λ orders. orders };
 
-    fn line_at(&self, index: usize, traded: u128) -> OrderLine {
-        self.at(index).line(traded)
+    fn line_at(&self, index: usize, traded: u128) -> Option<OrderLine> {
+        if index < self.len() {
+            Some(self.at(index).line(traded))
+        } else {
+            None
+        }
     }
 }
 
