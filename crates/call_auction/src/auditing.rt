@@ -16,7 +16,7 @@ use audit_base::terms::{Side, VolumeRule};
 use matching_core::outcomes::{CheckFault, Outcome, Reached};
 use matching_core::totals::Totals;
 use order_list::lists::OrderList;
-use short_order::searching::best_short;
+use short_order::searching::best_short_on;
 use std::alloc::Global;
 
 /// The best order of a side that is not fully traded, with what it traded and its due.
@@ -31,7 +31,7 @@ fn short_with_due(
     ensures short { IsShortOf orders.now traded.now greatest side result }
     ensures inside { IfSome result (λ short. short.order.index < length orders.now) }
 {
-    let index = best_short(orders, traded, side)?;
+    let index = best_short_on(orders, traded, side)?;
     Some(DueOrder {
         order: TradedOrder {
             index,

@@ -7,7 +7,7 @@ ghost use Rattle.matching_core.specs.Answers.{IfFound};
 
 use audit_base::orders::Deal;
 use audit_base::ranges::deals_in_range;
-use fairness::checking::check_fair;
+use fairness::checking::check_fair_unranked;
 use matching_core::checking::check_matching;
 use matching_core::outcomes::CheckFault;
 use matching_core::totals::Totals;
@@ -32,6 +32,6 @@ pub fn fair_matching(
 {
     deals_in_range(deals);
     let totals = check_matching(alloc, orders, deals, uniform)?;
-    check_fair(orders, deals, totals.as_slice())?;
+    check_fair_unranked(orders, deals, totals.as_slice())?;
     Ok(totals)
 }

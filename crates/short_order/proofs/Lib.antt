@@ -1,1 +1,2 @@
+mod RankedLemmas
 mod ShortLemmas

@@ -4,7 +4,8 @@ use Rattle.std.specs.Prelude.{◌≡◌, ℕ, Bool, ◌&&◌, nat_lt, List, Opti
 use Rattle.audit_base.specs.declared.terms.Side.{Side}
 use Rattle.audit_base.specs.declared.orders.Order.{Order}
 use Rattle.audit_base.specs.declared.orders.Deal.{Deal}
-use Rattle.audit_base.specs.Orders.{order_at, quantity_at, stands_on}
+use Rattle.audit_base.specs.Orders.{order_at, quantity_at, stands_on, IsOrderList}
+use Rattle.audit_base.specs.Priority.{IsRanked}
 use Rattle.audit_base.specs.CallOffences.{best_short}
 use Rattle.audit_base.specs.Deals.{AreTotals}
 
@@ -15,6 +16,17 @@ is_short_on orders traded side i =
     stands_on side (order_at orders i) && nat_lt (slice_index traded i) (quantity_at orders i)
 
 -- whichever deals the numbers are of: the best short order of the side, if it has one
-abbrev pub IsBestShortOf : List Order → List ℕ → Side → Option ℕ → Type 0
-IsBestShortOf orders traded side found =
+abbrev pub IsBestShortOn : List Order → List ℕ → Side → Option ℕ → Type 0
+IsBestShortOn orders traded side found =
     (deals : List Deal) → AreTotals orders deals traded → found ≡ best_short orders deals side
+
+-- by these numbers the order at i trades less than its quantity
+abbrev pub is_short_by : List Order → List ℕ → ℕ → Bool
+is_short_by orders traded i = nat_lt (slice_index traded i) (quantity_at orders i)
+
+-- whichever side the ranks are of, and whichever deals the numbers: the best short order of that
+-- side, if it has one
+abbrev pub IsBestShortOf : List Order → List ℕ → List ℕ → Option ℕ → Type 0
+IsBestShortOf orders ranked traded found =
+    (side : Side) (deals : List Deal) → IsOrderList orders → IsRanked orders side ranked
+    → AreTotals orders deals traded → found ≡ best_short orders deals side

@@ -1,8 +1,8 @@
-//! The best order of a side that is short.
+//! The best order of a side that is short, where the side has no rank at hand: one pass over the orders.
 ghost use Rattle.std.specs.Prelude.{◌≡◌, ◌<◌, IfSome, length};
 ghost use Rattle.audit_base.specs.Orders.{side_at, IsOrderList, Stands};
 ghost use Rattle.audit_base.specs.Priority.{best};
-ghost use Rattle.short_order.specs.ShortOrders.{IsBestShortOf, is_short_on};
+ghost use Rattle.short_order.specs.ShortOrders.{IsBestShortOn, is_short_on};
 ghost use Rattle.short_order.specs.Searching as spec;
 
 use audit_base::terms::Side;
@@ -63,11 +63,11 @@ fn next_best(
 /// The best order of a side (price-time priority) that is short: no record cancels it, and what it has
 /// traded is below its quantity. None exactly where none is short. `traded` is what each order has traded,
 /// by its index. One pass over the orders. Takes no memory.
-pub fn best_short(orders: &OrderList<'_>, traded: &[u128], side: Side) -> Option<usize>
+pub fn best_short_on(orders: &OrderList<'_>, traded: &[u128], side: Side) -> Option<usize>
     requires order_list { IsOrderList orders.now }
     requires count { length traded.now ≡ length orders.now }
     ensures best { result ≡ best orders.now (is_short_on orders.now traded.now side) }
-    ensures of_deals { IsBestShortOf orders.now traded.now side result }
+    ensures of_deals { IsBestShortOn orders.now traded.now side result }
     ensures inside { IfSome result (λ i. i < length orders.now) }
 {
     let mut held = None;

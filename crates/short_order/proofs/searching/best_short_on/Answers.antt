@@ -2,7 +2,7 @@ use Rattle.std.proofs.Common.{◌≡◌, ℕ, length, subst, add-one, arith}
 use Rattle.short_order.specs.ShortOrders.{is_short_on}
 use Rattle.short_order.specs.Searching.{IsFoundBelow}
 use Rattle.short_order.proofs.ShortLemmas.{best-found, found-best, found-next, short-stands}
-use Rattle.short_order.proofs.searching.best_short.Goals as goal
+use Rattle.short_order.proofs.searching.best_short_on.Goals as goal
 
 pub loop-index-preserved : goal.loop-index-preserved
 loop-index-preserved c =
