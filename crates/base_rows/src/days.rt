@@ -14,7 +14,14 @@ fn name(rt: &impl Abort, text: &str) -> Name {
 #[test]
 fn a_symbol_keeps_the_index_of_its_first_record(rt: HostRuntime) {
     let mut symbols = Symbols::new(rt.alloc(), HashSeed::fixed());
-    let rows = [("Z", 0), ("Y", 1), ("Z", 0), ("-x", 2), ("a b", 3), ("Y", 1)];
+    let rows = [
+        ("Z", 0),
+        ("Y", 1),
+        ("Z", 0),
+        ("-x", 2),
+        ("a b", 3),
+        ("Y", 1),
+    ];
     for &(text, want) in &rows {
         let index = symbols.meet(&name(&rt, text)).expect(&rt, "memory");
         assert_eq!(rt; index, want);
@@ -28,7 +35,10 @@ fn a_symbol_keeps_the_index_of_its_first_record(rt: HostRuntime) {
 #[test]
 fn shares_deal_the_symbols_out_in_turn(rt: HostRuntime) {
     let first = Share::of(1, 2).expect(&rt, "a share");
-    assert_eq!(rt; (first.has(0), first.has(1), first.has(2)), (true, false, true));
+    assert_eq!(rt;
+        (first.has(0), first.has(1), first.has(2)),
+        (true, false, true)
+    );
     assert!(rt; Share::whole().has(7));
     let refused = [(0, 1), (2, 1), (1, 0), (1, 65_537)];
     for &(number, count) in &refused {
@@ -47,7 +57,8 @@ fn each_line_of_a_symbol_has_it_before(rt: HostRuntime) {
     append_day_line(rt.alloc(), counts, b"matching", &mut out).expect(&rt, "memory");
     let report = b"accepted,matching,a b\ntotals,0,0,0\n";
     append_symbol_lines(&name(&rt, "a b"), report, &mut out).expect(&rt, "memory");
-    assert_eq!(rt; out.as_slice(),
+    assert_eq!(rt;
+        out.as_slice(),
         b"day,2,1,1,matching\na b,accepted,matching,a b\na b,totals,0,0,0\n".as_slice()
     );
 }
