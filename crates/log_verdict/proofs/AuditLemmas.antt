@@ -30,7 +30,7 @@ use Rattle.log_verdict.specs.declared.reading.Unread.TheVariants as unread
 use Rattle.log_verdict.specs.declared.stops.Stop.{Stop}
 use Rattle.log_verdict.specs.declared.stops.Stop.TheVariants as stop
 use Rattle.log_verdict.specs.BothLogs.{without_log, Decides, DecidesTrades, IsAfterOrders, IsAdmitted, IsEndOf, ReadsAfterOrders, StaysWithin, StaysWithinAt}
-use Rattle.log_verdict.specs.Collecting.{step_of, HasCollected, HasTrades, IsReadAs}
+use Rattle.log_verdict.specs.Collecting.{step_of, HasCollected, HasTrades, IsReadAs, IsUnread}
 use Rattle.log_verdict.specs.LogVerdicts.{order_log, trade_log}
 use Rattle.log_verdict.specs.Steps.{Reading, IsReadFault, IsTooLong, KeepsLogs, EndsWithin, NeverFall}
 use Rattle.record_verdict.specs.BeforeRule.{found_or_sound, IsBeforeRule}
@@ -199,6 +199,13 @@ module _ (r : Reading) (scope : Scope) (trades : Source) (entries : List OrderRe
       → IsReadAs r Trades trades.name.now (λ bytes. trade_log trades.form bytes ≡ Ok (Err finding)) → IsAfterOrders r scope trades entries (upto.Found finding)
   after_alone finding history is read =
       record { bytes = read.bytes; read = read.read; holds = rw read.holds (alone_found scope entries history finding is) }
+
+  -- where the trade log was not read into trades, what is answered says why
+  pub after_unread : (why : Unread) → IsUnread (trade_log trades.form) r Trades trades.name.now why → DecidesTrades r scope trades entries (without_log Trades why)
+  after_unread (unread.Bad bad) is = record { bytes = is.bytes; read = is.read; holds = rw is.holds refl }
+  after_unread unread.ReadFault is = (refl, is)
+  after_unread unread.TooLong is = (refl, is)
+  after_unread unread.Memory is = tt
 
   -- what the trades come to that were handed to a collector
   pub after_ended : (has_taken : List TradeRecord → Type 0) (ended : ResolvedTrades) → IsAdmitted scope entries ended.history

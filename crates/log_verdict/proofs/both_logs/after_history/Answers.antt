@@ -3,7 +3,7 @@ use Rattle.audit_base.specs.declared.orders.Order.{Order}
 use Rattle.matching_core.specs.DealsDraft.{IsDealsDraft}
 use Rattle.log_verdict.specs.BothLogs.{IsAdmitted}
 use Rattle.log_verdict.specs.Steps.{reading_by}
-use Rattle.log_verdict.proofs.AuditLemmas.{after_alone, after_ended, deals_counted, ends_as}
+use Rattle.log_verdict.proofs.AuditLemmas.{after_alone, after_ended, after_unread, deals_counted, ends_as}
 use Rattle.log_verdict.proofs.both_logs.after_history.Goals as goal
 
 pub returns-in-Ok-Trades-clause-decides : goal.returns-in-Ok-Trades-clause-decides
@@ -27,3 +27,14 @@ of-requires-clause-counted g c = λ none.
     let place = rw c.in-Ok-Trades.field-0-is at c.in-Ok-Trades.ensures.few in
     rw (c.end.ensures.deals place.entries place.has none, c.end.ensures.count place.entries place.has)
     (deals_counted g.M.AuditedHistory.orders g.M.AuditedHistory.symbol place.entries)
+
+pub of-requires-clause-few : goal.of-requires-clause-few
+of-requires-clause-few g c =
+    let place = rw c.in-Ok-Trades.field-0-is at c.in-Ok-Trades.ensures.few in
+    rw (c.end.ensures.count place.entries place.has) place.few
+
+pub returns-in-Err-clause-decides : goal.returns-in-Err-clause-decides
+returns-in-Err-clause-decides g c = λ entries is.
+    rw c.answer_without.ensures.answer
+    (after_unread (reading_by c.args.trades.now g.F.Shelf c.args.shelf.now c.collect_trades.new.shelf) c.args.scope.now c.args.trades.now entries
+    c.in-Err.unread c.in-Err.ensures.read)
