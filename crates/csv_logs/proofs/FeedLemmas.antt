@@ -108,7 +108,7 @@ unfolding full_lines
 full-front [] more w = (full_lines more, refl)
 full-front (byte ∷ rest) more w = (filter is_full (placed (length (byte ∷ rest)) (cut_lines more)), after-some (byte ∷ rest) more w (λ z. cc z))
 
--- no LF stands behind the last one
+-- no LF is behind the last one
 no-lf-behind : (n : ℕ) (lines rest : List ℕ) → length lines ≤ n → list_any is_lf rest ≡ false → list_any is_lf (drop n (lines ++ rest)) ≡ false
 no-lf-behind n [] rest h none = no-lf-drop n rest none
 no-lf-behind zero (byte ∷ lines) rest h none = absurd (omega (arith, h))

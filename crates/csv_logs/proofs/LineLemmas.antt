@@ -90,7 +90,7 @@ filter-append test (x ∷ xs) ys = elim (cases_Bool (test x)) [
   | inr fails ↦ rw fails (filter-append test xs ys)
 ]
 
--- the mark stands in the first line
+-- the mark is in the first line
 pub mark_size-whole : (text more : List ℕ) → is_whole text ≡ true → (text ≡ [] → ⊥) → mark_size (text ++ more) ≡ mark_size text
 mark_size-whole [] more w n = absurd (n refl)
 mark_size-whole (a ∷ []) more w n = rw (eqb-true a 10 w) refl
@@ -136,7 +136,7 @@ no-lf-drop zero line e = e
 no-lf-drop (suc n) [] e = refl
 no-lf-drop (suc n) (byte ∷ rest) e = no-lf-drop n rest (or_parts (byte == 10) (list_any is_lf rest) e).1
 
--- the lines after whole lines stand where these end
+-- the lines after whole lines begin where these end
 pub after-some : (text more : List ℕ) → is_whole text ≡ true → (text ≡ [] → ⊥)
     → full_lines (text ++ more) ≡ full_lines text ++ filter is_full (placed (length text) (cut_lines more))
 unfolding full_lines

@@ -65,7 +65,7 @@ no-cr line unquoted = false_from_ne_true (ends_with ◌==◌ line (13 ∷ [])) (
 pub unquoted-cr : (line : List ℕ) → list_all is_unquoted_byte line ≡ true → without_cr line ≡ line
 unquoted-cr line unquoted = rw (no-cr line unquoted) refl
 
--- a unquoted line stands as it is
+-- an unquoted line stays as it is
 pub unquoted-line_at : (start : ℕ) (line : List ℕ) → list_all is_unquoted_byte line ≡ true → line_at start line ≡ record { start = start; text = line }
 unquoted-line_at zero line unquoted =
     ap (λ (m : ℕ). let l : Line = record { start = m; text = without_cr (drop m line) } in l) (unquoted-mark line unquoted)

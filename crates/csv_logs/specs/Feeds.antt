@@ -1,4 +1,5 @@
--- What a CSV feed stands for, and what it and the readers of whole logs answer. The code of LF is 10.
+-- What a CSV feed stands for, and what it and the readers of whole logs answer. The code of LF is
+-- 10.
 use Rattle.std.specs.Prelude.{◌≡◌, ⊤, ℕ, Bool, true, false, ◌==◌, ◌≤◌, IsTrue, Option, Some, None, Result, Ok, Err, List, [], ◌∷◌, ◌++◌, length, drop, MatchResult}
 use Rattle.std.specs.Global.{Vec}
 use Rattle.std.specs.List.{list_any}
@@ -27,13 +28,14 @@ is_whole [] = true
 is_whole (byte ∷ []) = is_lf byte
 is_whole (byte ∷ next ∷ rest) = is_whole (next ∷ rest)
 
--- these lines are all good, `header` says whether the header is among them, and `entries` are their records
+-- these lines are all good, `header` says whether the header is among them, and `entries` are
+-- their records
 abbrev pub IsPassed : {R : Type 0} → Row → Meaning R → Bool → List R → List Line → Type 0
 IsPassed names entry false entries lines = (lines ≡ []) × (entries ≡ [])
 IsPassed names entry true entries lines = read_lines names entry 0 lines ≡ Ok entries
 
--- No bad line has ended yet: `offset` is the number of bytes up to the last LF and with it, and `rest` is
--- the bytes after these.
+-- No bad line has ended yet: `offset` is the number of bytes up to the last LF and with it, and
+-- `rest` is the bytes after these.
 pub record IsOpen {R : Type 0} (names : Row) (entry : Meaning R) (entries : List R)
     (rest : List ℕ) (offset : ℕ) (header : Bool) (log : List ℕ) : Type 0 where
   pub lines : List ℕ

@@ -1,5 +1,5 @@
--- What a CSV log says: its records, or its first bad line. The words take the names of a log's columns
--- and what nine fields mean, so that they serve order logs and trade logs.
+-- What a CSV log says: its records, or its first bad line. The definitions take the names of a
+-- log's columns and what nine fields mean, so that they serve order logs and trade logs.
 use Rattle.std.specs.Prelude.{◌≡◌, ◌⊎◌, ◌↔◌, ℕ, Bool, not, ◌+◌, ◌==◌, ◌&&◌, IsTrue, Result, Ok, Err, List, [], ◌∷◌, ◌++◌, map, length, false, if◌then◌else◌}
 use Rattle.std.specs.Cmp.Lexicographic.{pointwise}
 use Rattle.audit_base.specs.declared.faults.Reason.{Reason}
@@ -17,8 +17,8 @@ use Rattle.csv_logs.specs.TradeLines.{trade_entry}
 abbrev pub fields_entry : {R : Type 0} → Meaning R → Row → Result R Reason
 fields_entry entry fields = if length fields == 9 then entry fields else Err reason.Columns
 
--- a line that is not empty is a record, or the first test that it fails: its bytes and quotes, its nine
--- fields, each column in turn
+-- a line that is not empty is a record, or the first test that it fails: its bytes and quotes,
+-- its nine fields, each column in turn
 unfoldable pub line_entry : {R : Type 0} → Meaning R → List ℕ → Result R Reason
 line_entry entry line = if is_broken line then Err reason.Break else fields_entry entry (line_fields line)
 
@@ -71,7 +71,8 @@ order_log log = read_log order_columns order_entry log
 abbrev pub trade_log : List ℕ → Result (List TradeRecord) BadPlace
 trade_log log = read_log trade_columns trade_entry log
 
--- The log is good with these records: its first line that is not empty is the header, and each further one is a record.
+-- The log is good with these records: its first line that is not empty is the header, and each
+-- further one is a record.
 pub record IsGood {R : Type 0} (names : Row) (entry : Meaning R) (log : List ℕ) (entries : List R) : Type 0 where
   pub header : Line
   pub lines : List Line
@@ -111,7 +112,8 @@ pub record HasBadLine {R : Type 0} (names : Row) (entry : Meaning R) (log : List
 abbrev pub IsBad : {R : Type 0} → Row → Meaning R → List ℕ → BadPlace → Type 0
 IsBad names entry log bad = LacksHeader log bad ⊎ (HasBadHeader names log bad ⊎ HasBadLine names entry log bad)
 
--- A log is read in one way: it is good with one list of records or bad at one place, and never both.
+-- A log is read in one way: it is good with one list of records or bad at one place, and never
+-- both.
 pub record IsOnlyReading {R : Type 0} (names : Row) (entry : Meaning R) (log : List ℕ)
     (reading : Reading R) : Type 0 where
   pub good : (entries : List R) → IsGood names entry log entries ↔ (reading ≡ Ok entries)

@@ -4,7 +4,7 @@ use Rattle.std.specs.List.{list_all}
 use Rattle.audit_base.specs.Names.{is_name_byte}
 use Rattle.csv_logs.specs.declared.nine_fields.NineFields.TheInside.{Inside}
 
--- the fields, each where it stands
+-- the fields, each where it is
 abbrev pub shown : Inside → List (List ℕ)
 shown fields = map (λ text. text.now) fields.texts
 

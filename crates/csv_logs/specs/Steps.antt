@@ -39,14 +39,14 @@ abbrev pub fields_say : {R : Type 0} → Row → Meaning R → Bool → Row → 
 fields_say names entry true fields = entry_says (fields_entry entry fields)
 fields_say names entry false fields = header_says (same_fields fields names)
 
--- what a line that is not empty says: nothing but the header as the first one, then a record; or the
--- first test that it fails
+-- what a line that is not empty says: nothing but the header as the first one, then a record; or
+-- the first test that it fails
 abbrev pub line_says : {R : Type 0} → Row → Meaning R → Bool → List ℕ → Says R
 line_says names entry true text = entry_says (line_entry entry text)
 line_says names entry false text = header_says (is_header names text)
 
--- Fields that say this were taken: a record that they mean was handed on, and the outcome is the first
--- test that they fail, if any.
+-- Fields that say this were taken: a record that they mean was handed on, and the outcome is the
+-- first test that they fail, if any.
 abbrev pub TakesFields : {R : Type 0} → Says R → Taken R → Taken R → Outcome → Type 0
 TakesFields (Ok new) before after outcome = Adds before after (option_to_list new) × (outcome ≡ Ok tt)
 TakesFields (Err why) before after outcome = Adds before after [] × (outcome ≡ Err why)
@@ -77,8 +77,8 @@ pub record HasLine {R : Type 0} (names : Row) (entry : Meaning R) (has_taken : T
   pub stands : IsOpen names entry entries line offset header log
   pub room : length log ≤ longest_read
 
--- Some log that ends with this line, not ended, is with the line's LF and the text behind it no longer
--- than a log that is read may be.
+-- Some log that ends with this line, not ended, is with the line's LF and the text behind it no
+-- longer than a log that is read may be.
 pub record HasLines {R : Type 0} (names : Row) (entry : Meaning R) (has_taken : Taken R)
     (line : List ℕ) (offset : ℕ) (header : Bool) (text : List ℕ) : Type 0 where
   pub entries : List R
@@ -87,8 +87,8 @@ pub record HasLines {R : Type 0} (names : Row) (entry : Meaning R) (has_taken : 
   pub stands : IsOpen names entry entries line offset header log
   pub room : length log + length (10 ∷ text) ≤ longest_read
 
--- What stood for a log with a line that has not ended stands for it with that line ended, and with the
--- text behind it up to what is left of that.
+-- What stood for a log with a line that has not ended stands for it with that line ended, and
+-- with the text behind it up to what is left of that.
 pub record EndsLines {R : Type 0} (names : Row) (entry : Meaning R) (before : Taken R) (line : List ℕ)
     (offset : ℕ) (header : Bool) (new : List ℕ → Type 0) (text left : List ℕ) : Type 0 where
   pub done : List ℕ
@@ -109,8 +109,8 @@ abbrev pub FeedMoves : {K R : Type 0} → TakenBy K R → Outcome → ℕ → �
 FeedMoves has_taken outcome start size old new =
     Moves outcome start size (has_taken new.entries) old.offset new.offset new.header new.bad
 
--- some log that the feed stands for, ended with this line in place of its rest, is no longer than a log
--- that is read may be
+-- some log that the feed stands for, ended with this line in place of its rest, is no longer than
+-- a log that is read may be
 abbrev pub FeedHasLine : {K R : Type 0} → TakenBy K R → Row → Meaning R → CsvFeed K → List ℕ → Type 0
 FeedHasLine has_taken names entry feed line =
     HasLine names entry (has_taken feed.entries) line feed.offset feed.header
@@ -122,8 +122,8 @@ FeedEndsLine has_taken names entry old new line rest =
     EndsLine names entry (has_taken old.entries) line old.offset old.header
     (has_taken new.entries) rest new.offset new.header new.bad
 
--- some log that the feed stands for, ended with this line in place of its rest and followed by this text,
--- is no longer than a log that is read may be
+-- some log that the feed stands for, ended with this line in place of its rest and followed by
+-- this text, is no longer than a log that is read may be
 abbrev pub FeedHasLines : {K R : Type 0} → TakenBy K R → Row → Meaning R → CsvFeed K → List ℕ → List ℕ
     → Type 0
 FeedHasLines has_taken names entry feed line text =

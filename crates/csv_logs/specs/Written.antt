@@ -1,5 +1,5 @@
--- How logs are written: the header, then a line for each record, of canonical texts joined by commas.
--- The codes of `,` and LF are 44 and 10.
+-- How logs are written: the header, then a line for each record, of canonical texts joined by
+-- commas. The codes of `,` and LF are 44 and 10.
 use Rattle.std.specs.Prelude.{◌≡◌, ℕ, All, Ok, List, [], ◌∷◌, ◌++◌, codes, decimal}
 use Rattle.std.specs.List.{flat_map, join_with_byte}
 use Rattle.audit_base.specs.Numbers.{price_text}
@@ -68,6 +68,7 @@ abbrev pub IsReadAgain : {R : Type 0} → Row → Meaning R → (R → Type 0) �
 IsReadAgain names entry sound fields records =
     All sound records → read_log names entry (log_text names fields records) ≡ Ok records
 
--- the canonical order log of these records says these records, where those of life Market have the market price
+-- the canonical order log of these records says these records, where those of life Market have
+-- the market price
 abbrev pub AreOrdersReadAgain : List OrderRecord → Type 0
 AreOrdersReadAgain records = All HasMarketPrice records → order_log (orders_text records) ≡ Ok records

@@ -28,19 +28,20 @@ abbrev pub replace_order : Head → Terms → List ℕ → OrderRecord
 replace_order head terms target =
     record_of.Replace head.key head.time head.symbol target terms.side terms.quantity terms.price
 
--- every byte of these fields may stand in a name: none is a comma, a quote or the end of a line, so
+-- every byte of these fields may be in a name: none is a comma, a quote or the end of a line, so
 -- that the fields are written unquoted
 abbrev pub have_name_bytes : Row → Bool
 have_name_bytes fields = list_all (list_all is_name_byte) fields
 
--- The fields of a record's line are nine, hold no byte that ends a field, and mean the record if it can be read at all.
+-- The fields of a record's line are nine, hold no byte that ends a field, and mean the record if
+-- it can be read at all.
 pub record IsLineOf {R : Type 0} (meaning : Meaning R) (sound : R → Type 0) (entry : R)
     (fields : Row) : Type 0 where
   pub nine : length fields ≡ 9
   pub unquoted : have_name_bytes fields ≡ true
   pub again : sound entry → meaning fields ≡ Ok entry
 
--- A writer by `csv`'s defaults stands at the start of a line.
+-- A writer by `csv`'s defaults is at the start of a line.
 pub record IsAtLine {W : Type 0} (writer : Writer W) : Type 0 where
   pub fields : fields_written writer ≡ 0
   pub bytes : has_written writer ≡ false
@@ -50,11 +51,13 @@ pub record IsAtLine {W : Type 0} (writer : Writer W) : Type 0 where
 abbrev pub WritesLine : {W : Type 0} → (W → Option (List ℕ)) → Writer W → Writer W → Row → Type 0
 WritesLine contents old new fields = Appends (text_written contents old) (text_written contents new) (line_text fields)
 
--- the fields of an order's line are nine, need no quotes, and mean the order if it has the price of its life
+-- the fields of an order's line are nine, need no quotes, and mean the order if it has the price
+-- of its life
 abbrev pub IsOrderLine : OrderRecord → Type 0
 IsOrderLine order = IsLineOf order_entry HasMarketPrice order (order_fields order)
 
--- The text that was written is the header and the lines of these records, each of which means its record.
+-- The text that was written is the header and the lines of these records, each of which means its
+-- record.
 pub record IsLogText {R : Type 0} (names : Row) (meaning : Meaning R) (sound : R → Type 0)
     (fields : R → Row) (text : LogText R) (entries : List R) : Type 0 where
   pub at_line : IsAtLine text.writer

@@ -1,6 +1,6 @@
 //! The columns of a line, each read in its form. A column that is not in its form is named by its
-//! number, from 1 on. Names are tested first, and copied when all columns of the line are known to be in
-//! their forms, so that each is written once, where it stays.
+//! number, from 1 on. Names are tested first, and copied when all columns of the line are known
+//! to be in their forms, so that each is written once, where it stays.
 ghost use Rattle.std.specs.Prelude.{◌≡◌, ◌+◌, ◌<◌, ◌↔◌, Err, IfErr, IsTrue, Ok, OnOk, Some, map};
 ghost use Rattle.csv.specs.Records.{field_at};
 ghost use Rattle.audit_base.specs.Names.{is_name};

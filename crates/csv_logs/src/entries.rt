@@ -36,8 +36,8 @@ pub trait LogEntry: Traded {
     fn are_names(fields: &Fields) -> bool
         ensures { result ≡ same_fields fields.now names };
 
-    /// Hands the record that these nine fields mean to a collector, or gives the first column that is not
-    /// in its form.
+    /// Hands the record that these nine fields mean to a collector, or gives the first column
+    /// that is not in its form.
     fn take_nine<K: Collector<Entry = Self>>(
         entries: &mut K,
         fields: &NineFields<'_>,
@@ -128,8 +128,8 @@ impl LogEntry for TradeRecord {
     fn means_sound_records() {}
 }
 
-/// Hands on that there is a record which the collector does not look at, where nine fields mean one, or tells
-/// the first column that is not in its form.
+/// Hands on that there is a record which the collector does not look at, where nine fields mean
+/// one, or gives the first column that is not in its form.
 fn pass_entry<R: LogEntry, K: Collector<Entry = R>>(
     entries: &mut K,
     fields: &NineFields<'_>,
@@ -146,8 +146,8 @@ fn pass_entry<R: LogEntry, K: Collector<Entry = R>>(
     Ok(())
 }
 
-/// Hands on the record that nine fields mean, or tells the first column that is not in its form. Where
-/// the collector does not look at records of the symbol, none is made.
+/// Hands on the record that nine fields mean, or gives the first column that is not in its form.
+/// Where the collector does not look at records of the symbol, none is made.
 fn take_entry<R: LogEntry, K: Collector<Entry = R>>(
     entries: &mut K,
     fields: &NineFields<'_>,

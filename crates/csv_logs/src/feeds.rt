@@ -26,9 +26,9 @@ use std::alloc::Global;
 use std::io::Read;
 use std::mem;
 
-/// What is kept of a log that comes in pieces. A piece may end anywhere: within the byte order mark,
-/// between CR and LF, within a quoted field. Only the line that has not ended is kept as bytes. After a
-/// bad line further pieces are taken without being looked at.
+/// What is kept of a log that comes in pieces. A piece may end anywhere: within the byte order
+/// mark, between CR and LF, within a quoted field. Only the line that has not ended is kept as
+/// bytes. After a bad line further pieces are taken without being looked at.
 #[derive(Drop)]
 pub struct CsvFeed<K> {
     pub alloc: Global,
@@ -51,7 +51,7 @@ pub type CsvOrderFeed = CsvFeed<Vec<OrderRecord>>;
 pub type CsvTradeFeed = CsvFeed<Vec<TradeRecord>>;
 
 impl<R: LogEntry, K: Collector<Entry = R>> CsvFeed<K> {
-    /// A feed that no bytes have come to, over a collector that has been handed nothing.
+    /// A feed that has been handed no bytes, over a collector that has been handed nothing.
     pub fn over(alloc: Global, entries: K) -> Self
         requires { K.has_taken entries [] }
         ensures { StandsFor K.has_taken R.names R.meaning result [] }
@@ -66,8 +66,8 @@ impl<R: LogEntry, K: Collector<Entry = R>> CsvFeed<K> {
         }
     }
 
-    // Goes behind a line that is not empty and has been taken, given where it starts, how many bytes it
-    // has with its LF, and what was outcome of it.
+    // Goes behind a line that is not empty and has been taken, given where it starts, how many
+    // bytes it has with its LF, and what was outcome of it.
     fn move_on(&mut self, start: u64, size: usize, outcome: Result<(), Reason>)
         requires place { IfErr outcome (λ why. HasPlace K.has_taken self.old.entries) }
         requires fits { self.old.offset + size < 2 ^ 64 }
@@ -118,8 +118,8 @@ impl<R: LogEntry, K: Collector<Entry = R>> CsvFeed<K> {
         Ok(())
     }
 
-    // Takes a closed line that has ended, without its LF, from a reader that stands at it, given whether it
-    // is known to be unquoted. The reader then stands at the next line.
+    // Takes a closed line that has ended, without its LF, from a reader that is at it, given
+    // whether it is known to be unquoted. The reader is then at the next line.
     fn read_line<I: Read>(
         &mut self,
         reader: &mut Reader<I>,
@@ -161,8 +161,8 @@ impl<R: LogEntry, K: Collector<Entry = R>> CsvFeed<K> {
         Ok(line)
     }
 
-    // Takes closed lines from the start of a text, as far as there are such, from a reader that stands at
-    // it, and gives the rest.
+    // Takes closed lines from the start of a text, as far as there are such, from a reader that
+    // is at it, and gives the rest.
     fn read_lines<'p, I: Read>(
         &mut self,
         reader: &mut Reader<I>,
@@ -195,8 +195,8 @@ impl<R: LogEntry, K: Collector<Entry = R>> CsvFeed<K> {
         Ok(left)
     }
 
-    // Takes a closed line that has ended, without its LF, from a reader that stands at it, and closed lines
-    // from the start of the text behind it, as far as there are such, and gives the rest.
+    // Takes a closed line that has ended, without its LF, from a reader that is at it, and closed
+    // lines from the start of the text behind it, as far as there are such, and gives the rest.
     fn read_on<'p, I: Read>(
         &mut self,
         reader: &mut Reader<I>,
@@ -220,8 +220,9 @@ impl<R: LogEntry, K: Collector<Entry = R>> CsvFeed<K> {
         self.read_lines(reader, &mut fields, &mut stamps, text)
     }
 
-    // Takes a line that has ended, without its LF, and closed lines from the start of the text behind it, as
-    // far as there are such, and gives the rest. Where the line is closed too, one reader reads all of them.
+    // Takes a line that has ended, without its LF, and closed lines from the start of the text
+    // behind it, as far as there are such, and gives the rest. Where the line is closed too, one
+    // reader reads all of them.
     fn take_lines<'p>(&mut self, line: &[u8], text: &'p [u8]) -> Result<&'p [u8], NoMemory>
         requires good { self.old.bad ≡ None }
         requires rest { self.old.rest.items ≡ [] }
@@ -242,8 +243,8 @@ impl<R: LogEntry, K: Collector<Entry = R>> CsvFeed<K> {
         self.read_on(&mut reader, line, text)
     }
 
-    // Takes the end of a line whose front is in `rest`, without its LF, and closed lines from the start of the
-    // text behind it, and gives the rest of that.
+    // Takes the end of a line whose front is in `rest`, without its LF, and closed lines from the
+    // start of the text behind it, and gives the rest of that.
     fn end_rest<'p>(&mut self, end: &[u8], text: &'p [u8]) -> Result<&'p [u8], NoMemory>
         requires good { self.old.bad ≡ None }
         requires room { let line = self.old.rest.items ++ end.now in
@@ -268,10 +269,10 @@ impl<R: LogEntry, K: Collector<Entry = R>> CsvFeed<K> {
         Ok(())
     }
 
-    /// The collector, which has been handed exactly the records of the log that has come, or its first bad
-    /// line: what the reading of the whole log gives, for every log that the feed stands for. Each record
-    /// is sound: one of life Market has the market price of its side. Each has at least nine bytes of the
-    /// log, so there is a place for one more.
+    /// The collector, which has been handed exactly the records of the log that has come, or its
+    /// first bad line: what the reading of the whole log gives, for every log that the feed
+    /// stands for. Each record is sound: one of life Market has the market price of its side.
+    /// Each has at least nine bytes of the log, so there is a place for one more.
     #[tactic(auto, using(crate::proofs::ReadingLemmas::log_sound, crate::proofs::SizeLemmas::log_nine))]
     pub fn close(mut self) -> Result<K, LogFault>
         requires { IsWithinLimit K.has_taken R.names R.meaning self }
@@ -303,15 +304,15 @@ impl<R: LogEntry, K: Collector<Entry = R>> CsvFeed<K> {
 }
 
 impl<R: LogEntry> CsvFeed<Vec<R>> {
-    /// A feed that no bytes have come to.
+    /// A feed that has been handed no bytes.
     pub fn new(alloc: Global) -> Self
         ensures { StandsFor ⟦<Vec<R> as Collector>⟧.has_taken R.names R.meaning result [] }
     {
         CsvFeed::over(alloc, Vec::new(alloc))
     }
 
-    /// The records of the log that has come, or its first bad line: what the reading of the whole log
-    /// gives, for every log that the feed stands for.
+    /// The records of the log that has come, or its first bad line: what the reading of the whole
+    /// log gives, for every log that the feed stands for.
     pub fn finish(self) -> Result<Vec<R>, LogFault>
         requires { IsWithinLimit ⟦<Vec<R> as Collector>⟧.has_taken R.names R.meaning self }
         ensures reads { let has_taken = ⟦<Vec<R> as Collector>⟧.has_taken in

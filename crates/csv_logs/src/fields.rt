@@ -1,6 +1,6 @@
-//! The fields of a line, and whether it is known that their bytes may stand in names. They may on an
-//! unquoted line, whose bytes have all been looked at before `csv` reads it. So a name there is tested by
-//! its size alone.
+//! The fields of a line, and whether it is known that a name may have their bytes. They may on an
+//! unquoted line, whose bytes have all been looked at before `csv` reads it. So a name there is
+//! tested by its size alone.
 ghost use Rattle.std.specs.Prelude.{◌≡◌, [], OnOk, IfOk, IsTrue, length, option_map};
 ghost use Rattle.std.specs.List.{list_all};
 ghost use Rattle.audit_base.specs.Names.{is_name_byte};
@@ -53,8 +53,8 @@ impl Fields {
         }
     }
 
-    /// Reads the fields of the closed line that a reader stands at, in place of those before, given whether
-    /// the line is known to be unquoted.
+    /// Reads the fields of the closed line that a reader is at, in place of those before, given
+    /// whether the line is known to be unquoted.
     pub(crate) fn read_next<I: Read>(
         &mut self,
         reader: &mut Reader<I>,
@@ -83,7 +83,7 @@ impl Fields {
         self.texts.get(index)
     }
 
-    /// Whether it is known that all bytes of all fields may stand in names.
+    /// Whether it is known that a name may have all bytes of all fields.
     pub(crate) fn have_name_bytes(&self) -> bool
         ensures { IsTrue result → IsTrue (list_all (list_all is_name_byte) self.now) }
     {

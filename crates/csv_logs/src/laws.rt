@@ -1,12 +1,12 @@
-//! That each log is read in one way, and what its records hold, apart from every call: so this holds of logs of
-//! any length, and where a call would run out of memory.
+//! That each log is read in one way, and what its records hold, apart from every call: so this
+//! holds of logs of any length, and where a call would run out of memory.
 ghost use Rattle.audit_base.specs.Columns.{order_columns, trade_columns};
 ghost use Rattle.csv_logs.specs.Laws.{LogsAreReadOnce, OrdersAreInRange, OrdersHaveNineBytes, TradesAreInRange, TradesHaveNineBytes};
 ghost use Rattle.csv_logs.specs.OrderLines.{order_entry};
 ghost use Rattle.csv_logs.specs.TradeLines.{trade_entry};
 
-/// Each list of bytes is as an order log, and as a trade log, good with exactly one list of records, or bad at
-/// exactly one place, with its offset and its reason, and never both.
+/// Each list of bytes is as an order log, and as a trade log, good with exactly one list of
+/// records, or bad at exactly one place, with its offset and its reason, and never both.
 pub fn logs_are_read_once()
     ensures orders { LogsAreReadOnce order_columns order_entry }
     ensures trades { LogsAreReadOnce trade_columns trade_entry }
@@ -18,7 +18,8 @@ pub fn records_are_in_range()
     ensures trades { TradesAreInRange }
 {}
 
-/// Each record of a good log has at least nine bytes of it, so a log of n bytes has at most n / 9 records.
+/// Each record of a good log has at least nine bytes of it, so a log of n bytes has at most n / 9
+/// records.
 pub fn records_have_nine_bytes()
     ensures orders { OrdersHaveNineBytes }
     ensures trades { TradesHaveNineBytes }

@@ -58,8 +58,8 @@ impl<R: LogLine> LogText<R> {
     }
 }
 
-/// A log that is written as it is read, in whatever form: a collector that keeps no record, only the
-/// canonical text.
+/// A log that is written as it is read, in whatever form: a collector that keeps no record, only
+/// the canonical text.
 #[derive(Drop)]
 pub struct ConvertedLog<R> {
     text: LogText<R>,
@@ -67,7 +67,7 @@ pub struct ConvertedLog<R> {
 }
 
 impl<R: LogLine> ConvertedLog<R> {
-    /// A log that no records have come to.
+    /// A log that has been handed no records.
     pub fn new(alloc: Global) -> Result<ConvertedLog<R>, NoMemory>
         ensures { IfOk result (λ log. IsConvertedLog R.names R.meaning R.sound R.fields log []) }
     {

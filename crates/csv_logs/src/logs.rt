@@ -31,13 +31,14 @@ fn entries_of<R: LogEntry>(alloc: Global, bytes: &[u8]) -> Result<Vec<R>, LogFau
     feed.finish()
 }
 
-/// The orders, cancels and replacements of an order log of at most 34,359,738,368 bytes, in order. The
-/// answer is `Bad` exactly where the log is bad: its place is one more than the number of records before
-/// the first bad line, over all symbols; its offset is that of the line's first byte, the byte order
-/// mark and empty lines counted; its reason is the first test that the line fails. A missing header is
-/// bad at the log's length. Each log is good with one list or bad at one place, and never both. A
-/// market order has the market price of its side. The answer is `Memory` where there was too little. Each
-/// record has at least nine bytes of the log, so the places of all records fit 32 bits.
+/// The orders, cancels and replacements of an order log of at most 34,359,738,368 bytes, in
+/// order. The answer is `Bad` exactly where the log is bad: its place is one more than the number
+/// of records before the first bad line, over all symbols; its offset is that of the line's first
+/// byte, the byte order mark and empty lines counted; its reason is the first test that the line
+/// fails. A missing header is bad at the log's length. Each log is good with one list or bad at
+/// one place, and never both. A market order has the market price of its side. The answer is
+/// `Memory` where there was too little. Each record has at least nine bytes of the log, so the
+/// places of all records fit 32 bits.
 pub fn csv_orders_of(alloc: Global, bytes: &[u8]) -> Result<Vec<OrderRecord>, LogFault>
     requires { length bytes.now ≤ longest_read }
     ensures reads { IsReadAs (order_log bytes.now) result }
@@ -49,8 +50,8 @@ pub fn csv_orders_of(alloc: Global, bytes: &[u8]) -> Result<Vec<OrderRecord>, Lo
     entries_of(alloc, bytes)
 }
 
-/// The trades of a trade log of at most 34,359,738,368 bytes, in order. `Bad` and `Memory` come as for an
-/// order log, and each record has at least nine bytes as there.
+/// The trades of a trade log of at most 34,359,738,368 bytes, in order. `Bad` and `Memory` come
+/// as for an order log, and each record has at least nine bytes as there.
 pub fn csv_trades_of(alloc: Global, bytes: &[u8]) -> Result<Vec<TradeRecord>, LogFault>
     requires { length bytes.now ≤ longest_read }
     ensures reads { IsReadAs (trade_log bytes.now) result }

@@ -52,8 +52,8 @@ fn trade_terms(fields: &NineFields<'_>, stamps: &mut StampReader) -> Result<Trad
     })
 }
 
-/// Hands on the record that nine fields mean in a trade log, or gives the first column that is not in its
-/// form. The record is made where it is handed on, and not copied.
+/// Hands on the record that nine fields mean in a trade log, or gives the first column that is
+/// not in its form. The record is made where it is handed on, and not copied.
 pub(crate) fn take_trade<K: Collector<Entry = TradeRecord>>(
     entries: &mut K,
     fields: &NineFields<'_>,
@@ -80,7 +80,8 @@ pub(crate) fn take_trade<K: Collector<Entry = TradeRecord>>(
     }
 }
 
-/// Whether nine fields mean a record in a trade log, or else the first column that is not in its form.
+/// Whether nine fields mean a record in a trade log, or else the first column that is not in its
+/// form.
 pub(crate) fn test_trade(fields: &NineFields<'_>, stamps: &mut StampReader) -> Result<(), Reason>
     ensures { result ≡ tested (trade_entry fields.now) }
 {

@@ -33,8 +33,8 @@ fn append<R: LogLine>(alloc: Global, entries: &[R], out: &mut Vec<u8>) -> Result
 }
 
 /// Appends the canonical order log of these records: the header, and a line for each. Out of
-/// memory leaves `out` as before. What is written is read again as the same records, where those of life
-/// Market have the market price.
+/// memory leaves `out` as before. What is written is read again as the same records, where those
+/// of life Market have the market price.
 pub fn write_orders(
     alloc: Global,
     entries: &[OrderRecord],

@@ -7,7 +7,7 @@ use Rattle.fix_fields.specs.Ends.{IsEnd, AreEnds, HoldsEnds, IsClosed, SeeksEnd}
 use Rattle.fix_fields.proofs.PlaceLemmas.{fails-here}
 
 module _ (body : List ℕ) where
-  -- a byte that is no SOH may stand before them
+  -- a byte that is no SOH may be before them
   ends-behind : (i : ℕ) (ends : List ℕ) → is_byte 1 (get_or body i 0) ≡ false → AreEnds body (i + 1) ends → AreEnds body i ends
   ends-behind i [] fails are = fails-here (is_byte 1) body i (length body) fails are
   ends-behind i (end ∷ ends) fails are =
@@ -48,7 +48,7 @@ module _ (body : List ℕ) where
       let here : get_or (take size body) (length (take size body) - 1) 0 ≡ 1 =
       ap (λ (n : ℕ). get_or (take size body) (n - 1) 0) long ∙ get_or-take size body (size - 1) 0 (omega (arith, some)) ∙ last in (omega (arith, long, some), rw here refl)
 
-  -- a byte of the body stands in each text that begins with it
+  -- a byte of the body is in each text that begins with it
   passes-in : (more : List ℕ) (k : ℕ) → k < length body → IsEnd body k → IsEnd (body ++ more) k
   passes-in more k inside passes = ap (is_byte 1) (get_or_append_left body more 0 k inside) ∙ passes
 

@@ -49,14 +49,14 @@ one_field before f g x y p q e =
     let values = same_value before f.tag f.value g.value x y p.value_form form tags.1 in
     (λ i. record { tag = tags.0 i; value = values.0 i }, values.1)
 
--- where a tag and `=` stand at the front, and behind them no value for it, no field does
+-- where a tag and `=` are at the front, and behind them no value for it, no field is
 pub no_value : (before : Option TagValue) (bytes rest : List ℕ) (tag : ℕ) → IsTag tag → bytes ≡ decimal tag ++ 61 ∷ rest
     → ((value more : List ℕ) → HasForm before tag value → rest ≢ value ++ 1 ∷ more) → NoField before bytes
 no_value before bytes rest tag is e none field more form here =
     let tags = same_tag tag field.tag rest (field.value ++ 1 ∷ more) is form.tag_form (sym e ∙ here ∙ field_bytes-append field more) in
     none field.value more (subst (λ (t : ℕ). HasForm before t field.value) (sym tags.0) form.value_form) tags.1
 
--- no field stands at the end
+-- no field is at the end
 pub no_field_at_end : (before : Option TagValue) → NoField before []
 no_field_at_end before field more form e =
     let size : 0 ≡ length (decimal field.tag) + length (61 ∷ (field.value ++ 1 ∷ more)) =

@@ -14,7 +14,7 @@ use Rattle.fix_fields.specs.FieldAt.{BeginsAt, counter_of}
 use Rattle.fix_fields.proofs.GrammarLemmas.{field_bytes-append, same_tag}
 use Rattle.fix_fields.proofs.ReadingLemmas.{HasRead, HasRead-more, HasRead-none, whole}
 
--- a tag that is no length tag stands in no pair
+-- a tag that is no length tag is in no pair
 none-step : (b : Bool) (p : ℕ × ℕ) (rest : Option (ℕ × ℕ)) (tag : ℕ) → eqb p.0 tag ≡ false → is_tag (option_map (λ q. q.0) rest) tag ≡ false
     → is_tag (option_map (λ q. q.0) (cond b (Some p) rest)) tag ≡ false
 none-step true p rest tag here later = here

@@ -11,18 +11,18 @@ use Rattle.fix_fields.specs.Ranges.{HasRangeIn, shown, range_of}
 abbrev pub is_equals_sign : ℕ → Bool
 is_equals_sign byte = byte == 61
 
--- the tag and `=` stand at the front, as so many bytes
+-- the tag and `=` are at the front, as `size` bytes
 pub record IsTagAt (bytes : List ℕ) (tag size : ℕ) : Type 0 where
   pub form : IsTag tag
   pub split : bytes ≡ decimal tag ++ 61 ∷ drop size bytes
   pub counted : size ≡ length (decimal tag) + 1
 
--- a value of n bytes stands at the front, and SOH behind it
+-- a value of n bytes is at the front, and SOH behind it
 pub record EndsAt (bytes : List ℕ) (n : ℕ) : Type 0 where
   pub within : n < length bytes
   pub split : bytes ≡ take n bytes ++ soh ∷ drop (n + 1) bytes
 
--- no value that meets the condition stands at the front with SOH behind it
+-- no value that meets the condition is at the front with SOH behind it
 abbrev pub NoValue : (List ℕ → Type 0) → List ℕ → Type 0
 NoValue IsWanted bytes =
     (value more : List ℕ) → IsWanted value → bytes ≢ value ++ soh ∷ more

@@ -38,12 +38,12 @@ HasForm (Some before) tag value =
     MatchBool (is_pair before.tag tag)
     (length_form before.value ≡ Some (length value)) (IsDelimited value)
 
--- this may stand as a field where `before` is the field right before it
+-- this may be a field where `before` is the field right before it
 pub record IsField (before : Option TagValue) (field : TagValue) : Type 0 where
   pub tag_form : IsTag field.tag
   pub value_form : HasForm before field.tag field.value
 
--- each may stand as a field after the one before it, and the first after `before`
+-- each may be a field after the one before it, and the first after `before`
 abbrev pub AreFields : Option TagValue → List TagValue → Type 0
 AreFields before [] = Unit {0}
 AreFields before (field ∷ fields) = IsField before field × AreFields (Some field) fields
@@ -69,7 +69,7 @@ abbrev pub NoField : Option TagValue → List ℕ → Type 0
 NoField before bytes =
     (field : TagValue) (more : List ℕ) → IsField before field → bytes ≢ field_bytes field ++ more
 
--- the first field of the body that can't be read begins at byte n: before it stand fields, and no
+-- the first field of the body that can't be read begins at byte n: before it are fields, and no
 -- field begins there
 pub record IsUnreadable (body : List ℕ) (n : ℕ) : Type 0 where
   pub front : List TagValue

@@ -10,7 +10,7 @@ pairs =
     ∷ (354, 355) ∷ (356, 357) ∷ (358, 359) ∷ (360, 361) ∷ (362, 363) ∷ (364, 365)
     ∷ (445, 446) ∷ (618, 619) ∷ (621, 622) ∷ []
 
--- the length tag that stands beside a data tag in the table; None of a tag that is no data tag
+-- the length tag that is beside a data tag in the table; None of a tag that is no data tag
 abbrev pub length_tag_of : ℕ → Option ℕ
 length_tag_of data_tag = option_map (λ p. p.0) (find (λ p. p.1 == data_tag) pairs)
 

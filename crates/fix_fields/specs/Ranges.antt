@@ -1,4 +1,4 @@
--- Where the values of the fields stand in the body.
+-- Where the values of the fields are in the body.
 use Rattle.std.specs.Prelude.{◌≡◌, ℕ, ◌+◌, ◌<◌, ◌≤◌, List, [], ◌∷◌, length, map, slice_range}
 use Rattle.std.specs.Fmt.{decimal}
 use Rattle.fix_fields.specs.declared.field.Field.{Field}
@@ -24,12 +24,12 @@ ranges_of at [] = []
 ranges_of at (field ∷ fields) =
     range_of at field ∷ ranges_of (at + length (field_bytes field)) fields
 
--- the range of the field lies within the body, and a byte stands behind it
+-- the range of the field lies within the body, and a byte is behind it
 pub record HasRangeIn (body : List ℕ) (field : Field) : Type 0 where
   pub order : field.from ≤ field.to
   pub high : field.to < length body
 
--- these are the fields of the body, each with the range in which its value stands
+-- these are the fields of the body, each with the range in which its value is
 pub record AreFieldsOf (body : List ℕ) (fields : List Field) : Type 0 where
   pub read : Fields body (all_shown body fields)
   pub ranges : fields ≡ ranges_of 0 (all_shown body fields)

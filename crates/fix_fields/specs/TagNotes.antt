@@ -1,4 +1,4 @@
--- Notes of where the values of tags stand.
+-- Notes of where the values of tags are.
 use Rattle.std.specs.Prelude.{◌≡◌, ℕ, ◌==◌, Option, Some, List, [], ◌∷◌, IsSome, slice_index, if◌then◌else◌}
 use Rattle.std.specs.List.{find}
 use Rattle.std.specs.Option.{option_map}
@@ -14,17 +14,18 @@ fields_with tag [] = []
 fields_with tag (field ∷ fields) =
     if field.tag == tag then field ∷ fields_with tag fields else fields_with tag fields
 
--- where the value of the first of some fields stands, and whether there are more
+-- where the value of the first of some fields is, and whether there are more
 abbrev pub first_placed : List Field → Placed
 first_placed [] = Absent
 first_placed (field ∷ []) = One field.from field.to
 first_placed (field ∷ next ∷ fields) = Many field.from field.to
 
--- where the value of the first field with a tag stands, and whether there are more
+-- where the value of the first field with a tag is, and whether there are more
 abbrev pub placed_of : List Field → ℕ → Placed
 placed_of fields tag = first_placed (fields_with tag fields)
 
--- the tags that are noted, those that the tables of messages ask for, each with the place of its note
+-- the tags that are noted, those that the tables of messages ask for, each with the place of its
+-- note
 abbrev pub places : List (ℕ × ℕ)
 places =
     (11, 0) ∷ (31, 1) ∷ (32, 2) ∷ (35, 3) ∷ (38, 4) ∷ (40, 5) ∷ (41, 6) ∷ (43, 7) ∷ (44, 8) ∷ (49, 9)
@@ -39,7 +40,8 @@ place_of tag = option_map (λ p. p.1) (find (λ p. p.0 == tag) places)
 abbrev pub IsNoted : ℕ → Type 0
 IsNoted tag = IsSome (place_of tag)
 
--- what a note says: how many fields have its tag, two where there are more, and where the value of the first stands
+-- what a note says: how many fields have its tag, two where there are more, and where the value
+-- of the first is
 abbrev pub noted : ℕ → ℕ → ℕ → Placed
 noted count from to = if count == 0 then Absent else if count == 1 then One from to else Many from to
 
@@ -54,7 +56,7 @@ with_field Absent field = One field.from field.to
 with_field (One from to) field = Many from to
 with_field (Many from to) field = Many from to
 
--- the notes say where the values of their tags stand among the fields
+-- the notes say where the values of their tags are among the fields
 abbrev pub AreNotesOf : TagNotes → List Field → Type 0
 AreNotesOf notes fields =
     (tag place : ℕ) → place_of tag ≡ Some place → note_at notes place ≡ placed_of fields tag

@@ -1,5 +1,5 @@
-//! Notes of where the values of some tags stand. They are taken as the fields of a body are read, so that there
-//! is neither a list of the fields nor a search for a tag.
+//! Notes of where the values of some tags are. They are taken as the fields of a body are read,
+//! so that there is neither a list of the fields nor a search for a tag.
 ghost use Rattle.std.specs.Prelude.{◌≡◌, ◌≢◌, ◌<◌, ◌∷◌, ◌++◌, [], ℕ, List, IfSome};
 ghost use Rattle.fix_fields.specs.declared.field.Field.{Field};
 ghost use Rattle.fix_fields.specs.TagNotes.{AreNotesOf, IsNoted, note_at, place_of, placed_of, with_field};
@@ -11,7 +11,8 @@ use std::alloc::AllocFailed;
 /// How many tags are noted.
 const NOTES: usize = 19;
 
-/// Where the values of the tags stand that the tables of messages ask for, each at a place of its own.
+/// Where the values of those tags are that the tables of messages ask for, each at a place of its
+/// own.
 #[derive(Drop)]
 pub struct TagNotes {
     /// How many fields have the tag, two where there are more.
@@ -22,8 +23,8 @@ pub struct TagNotes {
     ends: [usize; NOTES],
 }
 
-/// The place of the note of a tag, if it is noted. Where the tag is known as the program is compiled, so is
-/// the place.
+/// The place of the note of a tag, if it is noted. Where the tag is known as the program is
+/// compiled, so is the place.
 #[inline(always)]
 fn place_of(tag: u32) -> Option<usize>
     ensures value { result ≡ place_of tag }
@@ -111,8 +112,8 @@ impl TagNotes {
         self.put(place, field);
     }
 
-    /// Where the value of the first field with the tag stands, and whether there are more, among the fields that
-    /// are noted.
+    /// Where the value of the first field with the tag is, and whether there are more, among the
+    /// fields that are noted.
     #[inline(always)]
     pub fn find(&self, tag: u32) -> Placed
         requires { IsNoted tag }

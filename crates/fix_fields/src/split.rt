@@ -29,8 +29,8 @@ const MSG_TYPE: u32 = 35;
 /// but that of a data field right behind its length field is as many bytes as that field says in
 /// 1 to 7 digits, whatever they are.
 ///
-/// `Field` tells the byte at which the first field begins that can't be read in this way. `MsgType`
-/// says that all fields can be read, but there is none or the first has another tag.
+/// `Field` gives the byte at which the first field begins that can't be read in this way.
+/// `MsgType` says that all fields can be read, but there is none or the first has another tag.
 pub fn fields(alloc: Global, body: &[u8]) -> Result<Vec<Field>, FieldFault>
     requires { length body.now ≤ longest_body }
 
@@ -69,9 +69,9 @@ pub fn read_fields(body: &[u8], list: &mut Vec<Field>) -> Result<(), FieldFault>
     refill(body, ends_of(body), list)
 }
 
-/// Reads the fields of the body that the first `size` bytes of a text are, as `read_fields` does. The
-/// bytes behind the body change nothing: where there are some, the last fields of the body are found
-/// as fast as the others.
+/// Reads the fields of the body that the first `size` bytes of a text are, as `read_fields` does.
+/// The bytes behind the body change nothing: where there are some, the last fields of the body
+/// are found as fast as the others.
 pub fn read_front_fields(text: &[u8], size: usize, list: &mut Vec<Field>) -> Result<(), FieldFault>
     requires inside { size ≤ length text.now }
     requires short { size ≤ longest_body }
@@ -92,8 +92,8 @@ pub fn read_front_fields(text: &[u8], size: usize, list: &mut Vec<Field>) -> Res
     refill(&text[..size], ends_of_front(text, size), list)
 }
 
-/// Notes where the values of tags stand in the body that the first `size` bytes of a text are, in place of what
-/// was noted before. The answer is that of `read_front_fields`.
+/// Notes where the values of tags are in the body that the first `size` bytes of a text are, in
+/// place of what was noted before. The answer is that of `read_front_fields`.
 pub fn note_front_fields(text: &[u8], size: usize, notes: &mut TagNotes) -> Result<(), FieldFault>
     requires inside { size ≤ length text.now }
     requires short { size ≤ longest_body }
@@ -149,8 +149,9 @@ fn append_fields(body: &[u8], ends: Memchr<'_>, list: &mut Vec<Field>) -> Result
     hand_fields(body, ends, list)
 }
 
-/// Hands the fields of a body, whose SOH bytes are given, to a taker that has been handed none; of a body with
-/// a fault, the fields before it. Of the field right before the next one only one that may count it is kept.
+/// Hands the fields of a body, whose SOH bytes are given, to a taker that has been handed none;
+/// of a body with a fault, the fields before it. Of the field right before the next one only one
+/// that may count it is kept.
 fn hand_fields<T: FieldTaker>(
     body: &[u8],
     mut ends: Memchr<'_>,
@@ -195,8 +196,8 @@ fn counter_of(field: Field) -> Option<Field>
     }
 }
 
-/// The field that begins at byte `at`, where `before` is the field right before it, and `ends` gives
-/// the SOH bytes from there on; None exactly where no field can be read there.
+/// The field that begins at byte `at`, where `before` is the field right before it, and `ends`
+/// gives the SOH bytes from there on; None exactly where no field can be read there.
 #[inline(always)]
 fn field_at(body: &[u8], at: usize, before: Option<Field>, ends: &mut Memchr<'_>) -> Option<Field>
     requires before { ForSome before (λ f. HasRangeIn body.now f) }

@@ -16,9 +16,9 @@ use audit_base::digits::read_digits;
 use audit_base::sizes::SOH;
 use memchr::Memchr;
 
-/// The number of bytes of the value at the byte `from` of the body, where `before` is the field right
-/// before the field with this tag, and `ends` gives the SOH bytes from there on. None exactly where no
-/// value in its form and SOH stand there.
+/// The number of bytes of the value at the byte `from` of the body, where `before` is the field
+/// right before the field with this tag, and `ends` gives the SOH bytes from there on. None
+/// exactly where no value in its form and SOH are there.
 #[inline(always)]
 pub fn value_size(
     body: &[u8],
@@ -45,8 +45,8 @@ pub fn value_size(
     }
 }
 
-/// The same of a data field behind a length field with the value `count`. It stands apart, since most fields are
-/// no data fields.
+/// The same of a data field behind a length field with the value `count`. It is apart, since most
+/// fields are no data fields.
 #[cold]
 #[inline(never)]
 fn data_size(count: &[u8], bytes: &[u8]) -> Option<usize>

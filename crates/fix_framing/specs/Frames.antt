@@ -14,7 +14,7 @@ use Rattle.fix_framing.specs.declared.frames.FrameFault.TheVariants.{Begin, Leng
 unfoldable pub header : List ℕ
 header = codes "8=FIX.4.4" ++ soh ∷ codes "9="
 
--- what stands before the checksum field: the header, the digits of the body's length, SOH, the body
+-- what is before the checksum field: the header, the digits of the body's length, SOH, the body
 abbrev pub before_checksum : List ℕ → List ℕ → List ℕ
 before_checksum digits body = header ++ digits ++ soh ∷ body
 

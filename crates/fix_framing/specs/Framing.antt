@@ -76,9 +76,9 @@ abbrev pub Keeps : Framer → Framer → Type 0
 Keeps old new =
     (fed : List ℕ) (frames : List (List ℕ)) → StandsFor old fed frames → StandsFor new fed frames
 
--- Whole: behind CR and LF alone stands the next frame of the bytes fed, from start on. Its body
--- stands from `body` to `to` in the bytes held, and it ends at `to + 7` there. It is appended to
--- the frames
+-- Whole: behind CR and LF alone is the next frame of the bytes fed, from start on. Its body runs
+-- from `body` to `to` in the bytes held, and it ends at `to + 7` there. It is appended to the
+-- frames
 pub record GivesFrame (old new : Framer) (start body to : ℕ) : Type 0 where
   pub gap : List ℕ
   pub frame : List ℕ

@@ -25,7 +25,7 @@ use Rattle.fix_messages.specs.Bodies.{body_says, reasoned, says_of}
 use Rattle.fix_messages.specs.Steps.{TakesSaid}
 use Rattle.fix_messages.specs.BodyFields.{Split, ended_field, fields_of, is_end, is_equals, next_field, some_size, split_from, split_next, split_of, tagged_field, value_size}
 
--- a byte behind bytes that are others stands right there
+-- a byte behind bytes that are others is right there
 position-until : (b : ℕ) (front more : List ℕ) → All (λ x. x ≢ b) front → position_or_len (λ x. x == b) (front ++ b ∷ more) ≡ length front
 position-until b [] more others = let same = eq-eqb b b refl in rw same refl
 position-until b (x ∷ front) more others =
@@ -213,7 +213,7 @@ module _ {R : Type 0} (meaning : List TagValue → Result (Option R) MessageFaul
       reading-says fields [] (is.bytes ∙ sym (append-nil (bytes_of fields))) is.forms (no_field_at_end (last_of None fields))
       ∙ ap (λ (t : Bool). cond {A = Result (Option R) Reason} t (reasoned (meaning fields)) (Err reason.MsgType)) is.typed
 
-  -- notes of a body tell its fields
+  -- notes of a body say its fields
   pub notes-say : (notes : TagNotes) → HasNotes body notes → reasoned (meaning (fields_of body)) ≡ body_says meaning body
   notes-say notes has =
       let fields = all_shown body has.fields in

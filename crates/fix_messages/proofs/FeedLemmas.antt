@@ -223,13 +223,13 @@ read-kept reading (Ok kept) is = is.reads ∙ ap (λ entries. Ok entries) (sym i
 read-kept reading (Err why) is = is
 
 module _ {K R : Type 0} (has_taken : K → List R → Type 0) (meaning : List TagValue → Result (Option R) MessageFault) where
-  -- a feed that came to a bad message
+  -- a feed that met a bad message
   pub shut-reads : (feed : FixFeed K) (bad : BadPlace) (log : List ℕ) → feed.bad ≡ Some bad → StandsFor has_taken meaning feed log → read_log meaning log ≡ Err bad
   shut-reads feed bad log is stood =
       let shut : IsShut meaning feed.framer bad log = subst (λ (b : Option BadPlace). StandsAt (has_taken feed.entries) meaning feed.framer b log) is stood in
       ap (read_log meaning) (sym (append-nil log)) ∙ shut.is_bad []
 
-  -- a feed that came to none
+  -- a feed that met none
   pub open-reads : (feed : FixFeed K) (log : List ℕ) → feed.bad ≡ None → StandsFor has_taken meaning feed log → HasRead (has_taken feed.entries) meaning feed.framer log
   open-reads feed log is stood =
       let opened : IsOpen (has_taken feed.entries) meaning feed.framer log = subst (λ (b : Option BadPlace). StandsAt (has_taken feed.entries) meaning feed.framer b log) is stood in opened.reads

@@ -1,6 +1,5 @@
--- The fields of a body, found one after another from its front: as many as can be read, and the bytes that are left.
--- The codes of `=` and
--- SOH are 61 and 1.
+-- The fields of a body, found one after another from its front: as many as can be read, and the
+-- bytes that are left. The codes of `=` and SOH are 61 and 1.
 use Rattle.std.specs.Prelude.{ℕ, zero, suc, ◌==◌, Bool, Option, Some, None, List, [], ◌∷◌, length, take, drop, slice_index, nat_lt, if◌then◌else◌}
 use Rattle.std.specs.List.{before_first, after_first, position_or_len}
 use Rattle.fix_fields.specs.Forms.{tag_form, length_form}
@@ -22,19 +21,19 @@ abbrev pub counted_size : Option TagValue → Option ℕ
 counted_size None = None
 counted_size (Some before) = length_form before.value
 
--- how many bytes the value of a field with this tag has: as many as the field before it counts, or those up to the
--- first SOH
+-- how many bytes the value of a field with this tag has: as many as the field before it counts,
+-- or those up to the first SOH
 abbrev pub value_size : Option TagValue → ℕ → List ℕ → Option ℕ
 value_size before tag bytes =
     if is_counted before tag then counted_size before else some_size (position_or_len is_end bytes)
 
--- the field with this tag, whose value is so many bytes with SOH behind them
+-- the field with this tag, whose value has this many bytes, with SOH behind them
 abbrev pub ended_field : ℕ → List ℕ → Option ℕ → Option TagValue
 ended_field tag bytes None = None
 ended_field tag bytes (Some size) =
     if slice_index bytes size == 1 then Some (record { tag = tag; value = take size bytes }) else None
 
--- the field with the tag that stands before `=`
+-- the field with the tag that is before `=`
 abbrev pub tagged_field : Option TagValue → Option ℕ → List ℕ → Option TagValue
 tagged_field before None bytes = None
 tagged_field before (Some tag) bytes = ended_field tag bytes (value_size before tag bytes)

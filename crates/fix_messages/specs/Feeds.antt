@@ -25,8 +25,8 @@ abbrev pub read_frames : {R : Type 0} → Meaning R → List (List ℕ) → Resu
 read_frames meaning [] = Ok []
 read_frames meaning (frame ∷ frames) = after_frame (body_says meaning (body_of frame)) (read_frames meaning frames)
 
--- The framer stands for this log with some frames, each of them means a record or nothing, and their records have
--- been handed on in order.
+-- The framer stands for this log with some frames, each of them means a record or nothing, and
+-- their records have been handed on in order.
 pub record HasRead {R : Type 0} (has_taken : List R → Type 0) (meaning : Meaning R) (framer : Framer)
     (log : List ℕ)
     : Type 0 where

@@ -32,8 +32,8 @@ abbrev pub TradesAreInRange : Type 0
 TradesAreInRange = (log : List ℕ)
     → IfOk (report_log log) (λ reports. IfOk (pairing reports) AreTrades)
 
--- each record of a good order log, and each report of a good log of reports, has at least nine bytes
--- of the log
+-- each record of a good order log, and each report of a good log of reports, has at least nine
+-- bytes of the log
 abbrev pub OrdersHaveNineBytes : Type 0
 OrdersHaveNineBytes = (log : List ℕ)
     → IfOk (order_log log) (λ entries. HasNineBytesEach entries log)

@@ -1,6 +1,5 @@
--- What a FIX log says: its records, or its first bad message. The words take what the fields of a message mean, so
--- that they serve
--- order logs and trade logs.
+-- What a FIX log says: its records, or its first bad message. The definitions take what the
+-- fields of a message mean, so that they serve order logs and trade logs.
 use Rattle.std.specs.Prelude.{◌≡◌, ◌↔◌, ◌⊎◌, Bool, false, not, ℕ, zero, suc, ◌+◌, ◌-◌, Option, Some, None, Result, Ok, Err, List, [], ◌∷◌, ◌++◌, length, IsTrue, if◌then◌else◌}
 use Rattle.std.specs.List.{list_all, flat_map}
 use Rattle.std.specs.Option.{option_to_list}
@@ -25,20 +24,21 @@ frame_reason Truncated = reason.Truncated
 frame_reason Trailer = reason.Trailer
 frame_reason Checksum = reason.Checksum
 
--- a place of a log at which a message has to begin: its offset, and the body of the message, or the first test of
--- frames that fails there
+-- a place of a log at which a message has to begin: its offset, and the body of the message, or
+-- the first test of frames that fails there
 pub record Item : Type 0 where
   pub start : ℕ
   pub body : Result (List ℕ) FrameFault
 
--- the item at a text that does not begin with CR or LF, and the items behind its message, if there is one
+-- the item at a text that does not begin with CR or LF, and the items behind its message, if
+-- there is one
 abbrev pub item_and : ℕ → List ℕ → Option FrameFault → List Item → List Item
 item_and at text None later = record { start = at; body = Ok (body_of text) } ∷ later
 item_and at text (Some fault) later = record { start = at; body = Err fault } ∷ []
 
--- The items of a log from byte `at` on, whose first `inside` bytes belong to the message before: CR and LF bytes are
--- passed over, a
--- message begins at any other byte, and behind a place where none begins nothing is read.
+-- The items of a log from byte `at` on, whose first `inside` bytes belong to the message before:
+-- CR and LF bytes are passed over, a message begins at any other byte, and behind a place where
+-- none begins nothing is read.
 abbrev pub items_from : ℕ → ℕ → List ℕ → List Item
 items_from inside at [] = []
 items_from zero at (byte ∷ rest) =
@@ -87,7 +87,8 @@ AreMessages text (body ∷ bodies) =
     (gap : List ℕ) × (frame : List ℕ) × (rest : List ℕ) × IsTrue (list_all is_break gap) × IsFrame frame body
     × (text ≡ gap ++ (frame ++ rest)) × AreMessages rest bodies
 
--- The text is messages each of which means a record or nothing, and these are their records in order.
+-- The text is messages each of which means a record or nothing, and these are their records in
+-- order.
 pub record HasRecords {R : Type 0} (meaning : Meaning R) (text : List ℕ) (entries : List R) : Type 0 where
   pub bodies : List (List ℕ)
   pub messages : AreMessages text bodies
@@ -120,9 +121,9 @@ pub record HasBadBody {R : Type 0} (meaning : Meaning R) (text : List ℕ) (why 
   pub message : IsFrame frame body
   pub fails : BodySays meaning body (Err why)
 
--- The log is bad there: behind messages that are good, and CR and LF bytes, no message begins, or one that fails a
--- test. The place is one
--- more than the number of records before it, and the offset that of its first byte.
+-- The log is bad there: behind messages that are good, and CR and LF bytes, no message begins, or
+-- one that fails a test. The place is one more than the number of records before it, and the
+-- offset that of its first byte.
 pub record IsBad {R : Type 0} (meaning : Meaning R) (log : List ℕ) (bad : BadPlace) : Type 0 where
   pub front : List ℕ
   pub left : List ℕ
@@ -133,7 +134,8 @@ pub record IsBad {R : Type 0} (meaning : Meaning R) (log : List ℕ) (bad : BadP
   pub fails : LacksFrame left why ⊎ HasBadBody meaning left why
   pub place : bad ≡ record { place = length entries + 1; offset = length front; reason = why }
 
--- A log is read in one way: it is good with one list of records or bad at one place, and never both.
+-- A log is read in one way: it is good with one list of records or bad at one place, and never
+-- both.
 pub record IsOnlyReading {R : Type 0} (meaning : Meaning R) (log : List ℕ) (reading : Result (List R) BadPlace)
     : Type 0 where
   pub good : (entries : List R) → IsGood meaning log entries ↔ (reading ≡ Ok entries)

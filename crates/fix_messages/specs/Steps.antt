@@ -22,8 +22,8 @@ use Rattle.fix_messages.specs.declared.writers.Terms.{Terms}
 use Rattle.fix_messages.specs.Bodies.{Meaning}
 use Rattle.fix_messages.specs.Feeds.{HasRead, StandsAt}
 
--- A body that says this was taken: a record that it means was handed on, and the first test that it fails is the
--- answer.
+-- A body that says this was taken: a record that it means was handed on, and the first test that
+-- it fails is the answer.
 abbrev pub TakesSaid : {R : Type 0} → Result (Option R) Reason → (List R → Type 0) → (List R → Type 0)
     → Result (Unit {0}) Reason → Type 0
 TakesSaid (Ok new) before after answer = Adds before after (option_to_list new) × (answer ≡ Ok tt)
@@ -36,7 +36,8 @@ pub record HasLog {K R : Type 0} (has_taken : K → List R → Type 0) (meaning 
   pub reads : HasRead (has_taken feed.entries) meaning feed.framer log
   pub within : length log ≤ longest_read
 
--- A good message was taken: what was read of a log stays read, with the message, and fewer bytes are left.
+-- A good message was taken: what was read of a log stays read, with the message, and fewer bytes
+-- are left.
 pub record Goes {K R : Type 0} (has_taken : K → List R → Type 0) (meaning : Meaning R) (old new : FixFeed K)
     : Type 0 where
   pub good : new.bad ≡ None
@@ -44,8 +45,8 @@ pub record Goes {K R : Type 0} (has_taken : K → List R → Type 0) (meaning : 
       → HasRead (has_taken new.entries) meaning new.framer log
   pub shorter : length (unframed new.framer) < length (unframed old.framer)
 
--- No message was left to take, or a bad one came: the feed stands for each log that was read so far. Where none is
--- bad, what is left is no whole message.
+-- No message was left to take, or a bad one came: the feed stands for each log that was read so
+-- far. Where none is bad, what is left is no whole message.
 pub record Ends {K R : Type 0} (has_taken : K → List R → Type 0) (meaning : Meaning R) (old new : FixFeed K)
     : Type 0 where
   pub stands : (log : List ℕ) → HasRead (has_taken old.entries) meaning old.framer log

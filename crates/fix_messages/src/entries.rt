@@ -1,4 +1,5 @@
-//! What a kind of log has of its own, what the fields of a message mean, and what a body says by that.
+//! What a kind of log has of its own, what the fields of a message mean, and what a body says by
+//! that.
 ghost use Rattle.std.specs.Prelude.{◌≡◌, ◌≤◌, ◌-◌, ◌∷◌, [], IfOk, IfSome, List, OnOk, Option, Result, length};
 ghost use Rattle.std.specs.List.{slice_range};
 ghost use Rattle.audit_base.specs.Sizes.{longest_body};
@@ -32,9 +33,9 @@ pub trait FixEntry: Traded {
     // What holds of every record that fields mean.
     ghost sound: { Self → Type 0 };
 
-    /// Hands the record that the fields of a body mean to a collector, if they mean one, and gives the
-    /// first test that they fail. Where their values stand has been noted, and this reader reads their point
-    /// in time.
+    /// Hands the record that the fields of a body mean to a collector, if they mean one, and
+    /// gives the first test that they fail. The places of their values have been noted, and this
+    /// reader reads their point in time.
     fn take_fields<K: Collector<Entry = Self>>(
         entries: &mut K,
         body: &[u8],
@@ -104,8 +105,8 @@ fn reason_of(fault: MessageFault) -> Reason
     }
 }
 
-/// Makes the record of an order and hands it on. Room for a record is made ready where this is called,
-/// so it stands apart from the test whether the collector looks at the order.
+/// Makes the record of an order and hands it on. Room for a record is made ready where this is
+/// called, so it is apart from the test whether the collector looks at the order.
 fn keep_order<K: Collector<Entry = OrderRecord>>(
     entries: &mut K,
     order: &OrderText<'_>,
@@ -117,7 +118,8 @@ fn keep_order<K: Collector<Entry = OrderRecord>>(
     entries.take(order.record())
 }
 
-/// Hands on an order that stands in a message. Its record is made only where the collector looks at it.
+/// Hands on an order whose names are in a message. Its record is made only where the collector
+/// looks at it.
 fn hand_on_order<K: Collector<Entry = OrderRecord>>(
     entries: &mut K,
     order: &OrderText<'_>,
@@ -151,7 +153,8 @@ fn hand_on_report<K: Collector<Entry = Report>>(
     }
 }
 
-/// Hands on the order that a message means, if it means one, and gives the first test that it fails.
+/// Hands on the order that a message means, if it means one, and gives the first test that it
+/// fails.
 fn take_order<K: Collector<Entry = OrderRecord>>(
     entries: &mut K,
     meaning: Result<Option<OrderText<'_>>, MessageFault>,
@@ -190,9 +193,9 @@ fn take_report<K: Collector<Entry = Report>>(
     }
 }
 
-/// Hands on the record that the body of a message means, if it means one, and gives the first test that
-/// the body fails. The body stands in a text from one byte on and up to another. Notes are taken of its fields in
-/// place of what was noted before.
+/// Hands on the record that the body of a message means, if it means one, and gives the first
+/// test that the body fails. The body is in a text from one byte on and up to another. Notes are
+/// taken of its fields in place of what was noted before.
 pub(crate) fn take_body<R: FixEntry, K: Collector<Entry = R>>(
     entries: &mut K,
     text: &[u8],

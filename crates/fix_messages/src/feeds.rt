@@ -1,4 +1,5 @@
-//! Feeds: what takes a FIX log piece by piece, hands on its records, and stops at the first bad message.
+//! Feeds: what takes a FIX log piece by piece, hands on its records, and stops at the first bad
+//! message.
 ghost use Rattle.std.specs.Prelude.{◌≡◌, ◌-◌, ◌<◌, ◌^◌, ℕ, List, [], All, None, Some, Ok, vec_len, IfOk, OnOk, MatchBool};
 ghost use Rattle.log_source.specs.Collectors.{HasNineBytesEach, HasPlace};
 ghost use Rattle.fix_framing.specs.Framing.{held};
@@ -18,8 +19,9 @@ use log_source::collector::Collector;
 use log_source::feed::Feed;
 use std::alloc::Global;
 
-/// What is kept of a log that comes in pieces. A piece may end anywhere. Only the message that isn't all
-/// there is kept as bytes. After a bad message further pieces are taken without being looked at.
+/// What is kept of a log that comes in pieces. A piece may end anywhere. Only the message that
+/// isn't all there is kept as bytes. After a bad message further pieces are taken without being
+/// looked at.
 #[derive(Drop)]
 pub struct FixFeed<K> {
     pub alloc: Global,
@@ -62,7 +64,7 @@ fn bad_at<K: Collector>(entries: &K, offset: u64, reason: Reason) -> BadPlace
 }
 
 impl<R: FixEntry, K: Collector<Entry = R>> FixFeed<K> {
-    /// A feed that no bytes have come to, over a collector that has been handed nothing.
+    /// A feed that has been handed no bytes, over a collector that has been handed nothing.
     pub fn over(alloc: Global, entries: K) -> Self
         requires { K.has_taken entries [] }
         ensures { StandsFor K.has_taken R.meaning result [] }
@@ -117,8 +119,8 @@ impl<R: FixEntry, K: Collector<Entry = R>> FixFeed<K> {
         }
     }
 
-    // Takes messages as long as there is one and it is good. All have their values noted in the same notes, and
-    // their points in time read by one reader.
+    // Takes messages as long as there is one and it is good. All have their values noted in the
+    // same notes, and their points in time read by one reader.
     fn take_messages(&mut self) -> Result<(), NoMemory>
         requires good { self.old.bad ≡ None }
         requires room { HasLog K.has_taken R.meaning self.old }
@@ -133,10 +135,10 @@ impl<R: FixEntry, K: Collector<Entry = R>> FixFeed<K> {
         }
     }
 
-    /// The collector, which has been handed exactly the records of the log that has come, or its first bad
-    /// message: what the reading of the whole log gives, for every log that the feed stands for. Each record
-    /// is sound: one of life Market has the market price of its side. Each has at least nine bytes of the
-    /// log, so there is a place for one more.
+    /// The collector, which has been handed exactly the records of the log that has come, or its
+    /// first bad message: what the reading of the whole log gives, for every log that the feed
+    /// stands for. Each record is sound: one of life Market has the market price of its side.
+    /// Each has at least nine bytes of the log, so there is a place for one more.
     #[tactic(auto, using(crate::proofs::PricedLemmas::log_sound, crate::proofs::SizeLemmas::log_nine))]
     pub fn close(mut self) -> Result<K, LogFault>
         requires { IsWithin K.has_taken R.meaning self }
@@ -165,15 +167,15 @@ impl<R: FixEntry, K: Collector<Entry = R>> FixFeed<K> {
 }
 
 impl<R: FixEntry> FixFeed<Vec<R>> {
-    /// A feed that no bytes have come to.
+    /// A feed that has been handed no bytes.
     pub fn new(alloc: Global) -> Self
         ensures { StandsFor ⟦<Vec<R> as Collector>⟧.has_taken R.meaning result [] }
     {
         FixFeed::over(alloc, Vec::new(alloc))
     }
 
-    /// The records of the log that has come, or its first bad message: what the reading of the whole log
-    /// gives, for every log that the feed stands for.
+    /// The records of the log that has come, or its first bad message: what the reading of the
+    /// whole log gives, for every log that the feed stands for.
     pub fn finish(self) -> Result<Vec<R>, LogFault>
         requires { IsWithin ⟦<Vec<R> as Collector>⟧.has_taken R.meaning self }
         ensures reads { let has_taken = ⟦<Vec<R> as Collector>⟧.has_taken in

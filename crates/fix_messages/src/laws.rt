@@ -1,5 +1,5 @@
-//! What holds of all written messages, in one sentence each. Nothing is computed here: a law is a function's
-//! contract, so that the check proves it.
+//! What holds of all written messages, in one sentence each. Nothing is computed here: a law is a
+//! function's contract, so that the check proves it.
 ghost use Rattle.std.specs.Prelude.{◌≡◌, All, List, Ok};
 ghost use Rattle.std.specs.List.{flat_map};
 ghost use Rattle.audit_base.specs.declared.records.OrderRecord.{OrderRecord};

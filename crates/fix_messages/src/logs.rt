@@ -30,16 +30,16 @@ fn entries_of<R: FixEntry>(alloc: Global, bytes: &[u8]) -> Result<Vec<R>, LogFau
     feed.finish()
 }
 
-/// The new orders, cancels and replacements of an order log of at most 34,359,738,368 bytes, in order.
-/// Messages of other types and possible duplicates are passed over.
+/// The new orders, cancels and replacements of an order log of at most 34,359,738,368 bytes, in
+/// order. Messages of other types and possible duplicates are passed over.
 ///
-/// The answer is `Bad` exactly where the log is bad: its place is one more than the number of records
-/// before the first bad message, over all symbols; its offset is that of the message's first byte,
-/// behind CR and LF bytes; its reason is the first test that the message fails: the tests of its
-/// frame, of its fields, and of the table of its type. Each log is good with one list or bad at one
-/// place, and never both. A market order has the market price of its side. The answer is `Memory` where
-/// there was too little. Each record has at least nine bytes of the log, so the places of all records
-/// fit 32 bits.
+/// The answer is `Bad` exactly where the log is bad: its place is one more than the number of
+/// records before the first bad message, over all symbols; its offset is that of the message's
+/// first byte, behind CR and LF bytes; its reason is the first test that the message fails: the
+/// tests of its frame, of its fields, and of the table of its type. Each log is good with one
+/// list or bad at one place, and never both. A market order has the market price of its side. The
+/// answer is `Memory` where there was too little. Each record has at least nine bytes of the log,
+/// so the places of all records fit 32 bits.
 pub fn fix_orders_of(alloc: Global, bytes: &[u8]) -> Result<Vec<OrderRecord>, LogFault>
     requires { length bytes.now ≤ longest_read }
     ensures reads { IsReadAs (order_log bytes.now) result }
@@ -51,10 +51,10 @@ pub fn fix_orders_of(alloc: Global, bytes: &[u8]) -> Result<Vec<OrderRecord>, Lo
     entries_of(alloc, bytes)
 }
 
-/// The trade reports of a trade log of at most 34,359,738,368 bytes, in order: execution reports of
-/// execution type F. Messages of other types, possible duplicates and reports of other execution
-/// types are passed over. `Bad` and `Memory` come as for an order log, and each report has at least nine
-/// bytes as there.
+/// The trade reports of a trade log of at most 34,359,738,368 bytes, in order: execution reports
+/// of execution type F. Messages of other types, possible duplicates and reports of other
+/// execution types are passed over. `Bad` and `Memory` come as for an order log, and each report
+/// has at least nine bytes as there.
 pub fn fix_reports_of(alloc: Global, bytes: &[u8]) -> Result<Vec<Report>, LogFault>
     requires { length bytes.now ≤ longest_read }
     ensures reads { IsReadAs (report_log bytes.now) result }

@@ -15,8 +15,8 @@ use std::marker::Model;
 /// The type of a message, which is its first field.
 const MSG_TYPE: u32 = 35;
 
-/// The body of a message, and where the values of tags stand in it. Contracts see the list of its fields, which
-/// is nowhere made.
+/// The body of a message, and where the values of tags are in it. Contracts see the list of its
+/// fields, which is nowhere made.
 #[derive(Drop)]
 pub(crate) struct Message<'a> {
     body: &'a [u8],

@@ -223,7 +223,7 @@ fn order_by<'m>(
     }
 }
 
-/// The order that a message means, where it stands in the message, or nothing, or the first test that
+/// The order that a message means, as it is in the message, or nothing, or the first test that
 /// fails.
 #[tactic(auto, unfolding(crate::specs::OrderTables::order_entry))]
 pub(crate) fn order_text<'m>(

@@ -17,8 +17,8 @@ use fix_fields::field::Field;
 use fix_fields::notes::TagNotes;
 use std::marker::Model;
 
-/// A report of a trade whose names stand in a message: its record is made only where it is looked at.
-/// Contracts see the record.
+/// A report of a trade whose names are in a message: its record is made only where it is looked
+/// at. Contracts see the record.
 #[derive(Drop)]
 pub(crate) struct ReportText<'m> {
     trade: NameText<'m>,
@@ -107,7 +107,7 @@ fn is_passed_over(message: &Message<'_>) -> bool
     !is_word(b"8", message.kind()) || is_copy(message) || is_other(message)
 }
 
-/// The report that a message means, where it stands in the message, or nothing, or the first test that
+/// The report that a message means, as it is in the message, or nothing, or the first test that
 /// fails.
 #[tactic(auto, unfolding(crate::specs::ReportTable::report_entry))]
 pub(crate) fn report_text<'m>(

@@ -1,5 +1,5 @@
-//! Writing logs: one message for an order, two for a trade. A value of a field is always the canonical
-//! text of what it says.
+//! Writing logs: one message for an order, two for a trade. A value of a field is always the
+//! canonical text of what it says.
 ghost use Rattle.std.specs.Prelude.{◌≡◌, ◌<◌, ◌^◌, ◌∷◌, ◌++◌, [], IfOk, IsTrue, Ok, OnErr, OnOk, map};
 ghost use Rattle.audit_base.specs.Names.{is_name};
 ghost use Rattle.audit_base.specs.Numbers.{is_quantity};
@@ -226,10 +226,10 @@ fn write_order_fields(
     }
 }
 
-/// Appends the message of an order, in canonical texts: type D of a new order, F of a cancel, G of a
-/// replacement, with `EXCHANGE` as TargetCompID. A market order is written with no price. The message
-/// means the order again, where a market order has the market price of its side. Out of memory leaves
-/// `out` as before.
+/// Appends the message of an order, in canonical texts: type D of a new order, F of a cancel, G
+/// of a replacement, with `EXCHANGE` as TargetCompID. A market order is written with no price.
+/// The message means the order again, where a market order has the market price of its side. Out
+/// of memory leaves `out` as before.
 pub fn write_order(alloc: Global, entry: &OrderRecord, out: &mut Vec<u8>) -> Result<(), NoMemory>
     ensures appended { OnOk result (out.new.items ≡ out.old.items ++ order_text entry.now) }
     ensures unchanged { OnErr result (out.new.items ≡ out.old.items) }
@@ -288,9 +288,9 @@ fn trade_messages(alloc: Global, trade: &TradeRecord) -> Result<Vec<u8>, NoMemor
     Ok(text)
 }
 
-/// Appends the two messages of a trade, in canonical texts: execution reports of execution type F with
-/// `EXCHANGE` as SenderCompID, the buyer's and then the seller's. The two pair into the trade again. Out
-/// of memory leaves `out` as before.
+/// Appends the two messages of a trade, in canonical texts: execution reports of execution type F
+/// with `EXCHANGE` as SenderCompID, the buyer's and then the seller's. The two pair into the
+/// trade again. Out of memory leaves `out` as before.
 pub fn write_trade(alloc: Global, trade: &TradeRecord, out: &mut Vec<u8>) -> Result<(), NoMemory>
     ensures appended { OnOk result (out.new.items ≡ out.old.items ++ trade_text trade.now) }
     ensures unchanged { OnErr result (out.new.items ≡ out.old.items) }

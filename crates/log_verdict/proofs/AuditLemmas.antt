@@ -170,7 +170,7 @@ trades_found scope entries ts history finding is found = by_finding finding (ap 
     by_finding None e = rw (is.formed, admits, e) refl
     by_finding (Some f) e = rw (is.formed, admits, e) refl
 
--- what trades come to that have been gathered
+-- what trades give that have been gathered
 ended_before : (scope : Scope) (entries : List OrderRecord) (ts : List TradeRecord) (ended : ResolvedTrades) → IsAdmitted scope entries ended.history → IsEndOf scope ts ended
     → IsBeforeRule scope entries (Ok ts) (found_or_sound ended ended.finding)
 ended_before scope entries ts ended is end = by_finding ended.finding refl
@@ -207,7 +207,7 @@ module _ (r : Reading) (scope : Scope) (trades : Source) (entries : List OrderRe
   after_unread unread.TooLong is = (refl, is)
   after_unread unread.Memory is = tt
 
-  -- what the trades come to that were handed to a collector
+  -- what the trades give that were handed to a collector
   pub after_ended : (has_taken : List TradeRecord → Type 0) (ended : ResolvedTrades) → IsAdmitted scope entries ended.history
       → IsReadAs r Trades trades.name.now (λ bytes. HasTrades has_taken (trade_log trades.form bytes)) → ((ts : List TradeRecord) → has_taken ts → IsEndOf scope ts ended)
       → IsAfterOrders r scope trades entries (found_or_sound ended ended.finding)

@@ -38,7 +38,8 @@ pub record HaveOneLimit (orders trades : Source) : Type 0 where
 abbrev pub IsUntouched : Reading → Which → Type 0
 IsUntouched r log = r.after log ≡ r.before log
 
--- the trade log was read to its end, and this holds of the records of both logs, or of its first bad place
+-- the trade log was read to its end, and this holds of the records of both logs, or of its first
+-- bad place
 abbrev pub ReadsTrades : Reading → Source → (Result (List TradeRecord) Finding → Type 0)
     → (BadPlace → Type 0) → Type 0
 ReadsTrades r trades of_trades of_bad =
@@ -53,8 +54,8 @@ ReadsAfterOrders r trades of_records of_bad (Err bad) = of_bad Orders bad × IsU
 ReadsAfterOrders r trades of_records of_bad (Ok entries) =
     ReadsTrades r trades (of_records entries) (of_bad Trades)
 
--- the order log was read to its end, and the trade log where that is in its grammar; this holds of the
--- records of both, or of the first bad place
+-- the order log was read to its end, and the trade log where that is in its grammar; this holds
+-- of the records of both, or of the first bad place
 abbrev pub ReadsLogs : Reading → Source → Source
     → (List OrderRecord → Result (List TradeRecord) Finding → Type 0) → (Which → BadPlace → Type 0)
     → Type 0
@@ -62,13 +63,13 @@ ReadsLogs r orders trades of_records of_bad =
     IsReadAs r Orders orders.name.now
     (λ bytes. ReadsAfterOrders r trades of_records of_bad (order_log orders.form bytes))
 
--- both logs were read, and come to this before the rule is looked at
+-- both logs were read, and give this before the rule is looked at
 abbrev pub ReadsUpToRule : Reading → Scope → Source → Source → BeforeRule → Type 0
 ReadsUpToRule r scope orders trades reached =
     ReadsLogs r orders trades (λ entries paired. IsBeforeRule scope entries paired reached)
     (λ log bad. reached ≡ upto.Malformed log bad)
 
--- the trade log was read, and comes to this after these records of the order log
+-- the trade log was read, and gives this after these records of the order log
 abbrev pub IsAfterOrders : Reading → Scope → Source → List OrderRecord → BeforeRule → Type 0
 IsAfterOrders r scope trades entries reached =
     ReadsTrades r trades (λ paired. IsBeforeRule scope entries paired reached)
@@ -105,7 +106,7 @@ pub record StopsAtLength (r : Reading) (orders trades : Source) (log : Which) : 
   pub is_started : IsStarted r orders log
   pub long : IsTooLong r (step_of r log (source_of orders trades log).name.now)
 
--- why it is not known what two logs come to
+-- why it is not known what two logs give
 abbrev pub IsAuditStop : Reading → Source → Source → Stop → Type 0
 IsAuditStop r orders trades (stop.ReadFault log) = StopsAtFault r orders trades log
 IsAuditStop r orders trades (stop.TooLong log) = StopsAtLength r orders trades log
@@ -138,7 +139,7 @@ DecidesTrades r scope trades entries result =
     MatchResult result (IsAfterOrders r scope trades entries)
     (IsLogStop r Trades trades.name.now)
 
--- what both logs come to, or why that is not known
+-- what both logs give, or why that is not known
 abbrev pub Decides : Reading → Scope → Source → Source → Result BeforeRule Stop → Type 0
 Decides r scope orders trades result =
     MatchResult result (ReadsUpToRule r scope orders trades) (IsAuditStop r orders trades)
@@ -163,7 +164,8 @@ pub record IsAdmitted (scope : Scope) (entries : List OrderRecord)
   pub orders : history ≡ order_list scope.symbol entries
   pub admits : unadmitted_order scope.admission history ≡ None
 
--- What was gathered of these trades came to this end.
+-- What was gathered of these trades: how many they are, their first finding, and, where there is
+-- none, their deals.
 pub record IsEndOf (scope : Scope) (trades : List TradeRecord)
     (ended : ResolvedTrades) : Type 0 where
   pub count : ended.count ≡ length trades

@@ -1,5 +1,5 @@
--- Handing the records of one log to a collector: what is known of the log and of the collector afterwards,
--- or why it was not done.
+-- Handing the records of one log to a collector: what is known of the log and of the collector
+-- afterwards, or why it was not done.
 use Rattle.std.specs.Prelude.{◌≡◌, ◌≤◌, ℕ, List, Result, Ok, Err, MatchResult}
 use Rattle.csv_logs.specs.Feeds.{HasRead}
 use Rattle.audit_base.specs.declared.terms.Which.{Which}
@@ -33,7 +33,8 @@ pub record IsReadAs (r : Reading) (log : Which) (name : List ℕ)
   pub read : IsRead r (step_of r log name) bytes
   pub holds : says bytes
 
--- why a log was not read into records: its first bad place, a fault, its length, or that memory ran out
+-- why a log was not read into records: its first bad place, a fault, its length, or that memory
+-- ran out
 abbrev pub IsUnread : {R : Type 0} → (List ℕ → Result R BadPlace) → Reading → Which → List ℕ
     → Unread → Type 0
 IsUnread meaning r log name (unread.Bad bad) =
@@ -42,8 +43,8 @@ IsUnread meaning r log name unread.ReadFault = IsReadFault r (step_of r log name
 IsUnread meaning r log name unread.TooLong = IsTooLong r (step_of r log name)
 IsUnread meaning r log name unread.Memory = Unit {0}
 
--- a log was handed to a collector, which has been handed exactly the records that its bytes mean, or it was
--- not for a cause
+-- a log was handed to a collector, which has been handed exactly the records that its bytes mean,
+-- or it was not for a cause
 abbrev pub CollectsLog : {K R : Type 0} → (K → List R → Type 0)
     → (List ℕ → Result (List R) BadPlace) → Reading → Which → List ℕ → Result K Unread → Type 0
 CollectsLog has_taken meaning r log name result =
@@ -58,7 +59,8 @@ pub record HasTrades {R : Type 0} (has_taken : List R → Type 0)
   pub has : has_taken trades
   pub says : said ≡ Ok (Ok trades)
 
--- what came of the trades of a log: a collector that has been handed exactly them, or finding 4 in their place
+-- what came of the trades of a log: a collector that has been handed exactly them, or finding 4
+-- in their place
 abbrev pub HasCollected : {K R : Type 0} → (K → List R → Type 0) → Collected K
     → Result (Result (List R) Finding) BadPlace → Type 0
 HasCollected has_taken (collected.Trades collector) said = HasTrades (has_taken collector) said

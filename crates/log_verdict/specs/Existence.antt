@@ -10,8 +10,8 @@ pub record IsOnlyVerdict (q : Question) (orders trades : Log) (verdict : Verdict
   pub is : IsLogVerdict q orders trades verdict
   pub one : (other : Verdict) → IsLogVerdict q orders trades other → other ≡ verdict
 
--- whatever bytes two logs have, in whatever forms, they have exactly one verdict on each question; of
--- the order log there are at most as many bytes as a reading may be given
+-- whatever bytes two logs have, in whatever forms, they have exactly one verdict on each
+-- question; of the order log there are at most as many bytes as a reading may be given
 abbrev pub LogVerdictExists : Type 0
 LogVerdictExists = (q : Question) (orders trades : Log) → length orders.bytes ≤ longest_read
     → (verdict : Verdict) × IsOnlyVerdict q orders trades verdict

@@ -1,5 +1,5 @@
-//! Reading two logs up to the rule: each is handed record by record to what is kept of it, and what they
-//! come to is given, or why that is not known.
+//! Reading two logs up to the rule: each is handed record by record to what is kept of it, and
+//! what they give is answered, or why that is not known.
 ghost use Rattle.std.specs.Prelude.{◌≡◌, ◌≤◌, List, IfOk, Result, Some};
 ghost use Rattle.audit_base.specs.declared.findings.Finding.{Finding};
 ghost use Rattle.audit_base.specs.declared.records.OrderRecord.{OrderRecord};
@@ -129,7 +129,7 @@ fn after_orders<S: AuditedSymbol, F: Shelf>(
     }
 }
 
-/// What two logs come to before the rule is looked at, by the history of the symbol.
+/// What two logs give before the rule is looked at, by the history of the symbol.
 fn read_about<S: AuditedSymbol, F: Shelf>(
     alloc: Global,
     shelf: &mut F,
@@ -153,8 +153,8 @@ fn read_about<S: AuditedSymbol, F: Shelf>(
     }
 }
 
-/// What two logs come to before the rule is looked at, or why that is not known. The order log is read
-/// first, and the trade log only where that is in its grammar.
+/// What two logs give before the rule is looked at, or why that is not known. The order log is
+/// read first, and the trade log only where that is in its grammar.
 pub fn read_both<F: Shelf>(
     alloc: Global,
     shelf: &mut F,

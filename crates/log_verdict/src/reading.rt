@@ -1,4 +1,5 @@
-//! Handing the records of a log of a shelf to a collector, piece by piece, in the form that the log is read in.
+//! Handing the records of a log of a shelf to a collector, piece by piece, in the form that the
+//! log is read in.
 ghost use Rattle.std.specs.Prelude.{◌≡◌, ◌≤◌, ◌≢◌, [], IfOk};
 ghost use Rattle.audit_base.specs.declared.terms.Which.{Which};
 ghost use Rattle.csv_logs.specs.Logs.{read_log};
@@ -65,8 +66,8 @@ impl From<LogFault> for Unread {
     }
 }
 
-/// Hands the records of the CSV log of this name to a collector. Where the log is not in its grammar it
-/// is still read to its end.
+/// Hands the records of the CSV log of this name to a collector. Where the log is not in its
+/// grammar it is still read to its end.
 fn collect_csv<F: Shelf, R: LogEntry, K: Collector<Entry = R>>(
     alloc: Global,
     shelf: &mut F,

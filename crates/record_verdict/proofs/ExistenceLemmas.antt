@@ -79,7 +79,7 @@ module _ (laws : Laws) where
   only-ones rule.Maximum orders deals list regular ranges c = λ i lt. laws.quantities of_volume.Maximum orders deals list ranges c i
   only-ones rule.Continuous orders deals list regular ranges c = laws.pairs orders deals list regular ranges c
 
-  -- deals that conform come to an accepted log
+  -- deals that conform give an accepted log
   acceptance : (q : Question) (orders : List Order) (deals : List Deal) → IsOrderList orders → AreOrders orders → Regular orders → AreDeals deals → Conforms q.rule orders deals
       → (the_verdict : Verdict) × IsAcceptance q orders deals the_verdict
   acceptance q orders deals list numbers regular ranges c =

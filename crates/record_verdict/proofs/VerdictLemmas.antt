@@ -1,4 +1,4 @@
--- The verdict on two logs by what they come to before the rule is looked at.
+-- The verdict on two logs by what they give before the rule is looked at.
 use Rattle.std.proofs.Common.{◌≡◌, ◌∙◌, sym, subst, refl, ℕ, List, length, cond, Option, Some, None, Result, Ok}
 use Rattle.std.specs.Prelude.{MatchOption, is_some, option_and_then}
 use Rattle.audit_base.specs.declared.faults.BadPlace.{BadPlace}

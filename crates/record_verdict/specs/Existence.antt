@@ -10,8 +10,8 @@ use Rattle.audit_report.specs.declared.verdicts.Verdict.{Verdict}
 use Rattle.record_verdict.specs.declared.questions.Question.{Question}
 use Rattle.record_verdict.specs.Judgements.{IsJudged}
 
--- under each of the five rules the records of two logs have a verdict: a finding, or what an accepted
--- log comes to, with its bound, its table and its only quantities
+-- under each of the five rules the records of two logs have a verdict: a finding, or what is
+-- reported of an accepted log, with its bound, its table and its only quantities
 abbrev pub JudgementExists : Type 0
 JudgementExists = (q : Question) (entries : List OrderRecord)
     (paired : Result (List TradeRecord) Finding) → length entries < 2 ^ 32 → AreRecords entries

@@ -1,4 +1,5 @@
--- The verdict on the records of two logs: the finding of the rules, or what an accepted log comes to.
+-- The verdict on the records of two logs: the finding of the rules, or what is reported of an
+-- accepted log.
 use Rattle.std.specs.Prelude.{◌≡◌, ◌<◌, ℕ, Bool, true, false, nat_lt, List, [], Option, None, Result, length, map, filter_map, flat_map, is_some, if◌then◌else◌, MatchOption, IfSome, IsSomeAnd}
 use Rattle.std.specs.List.{range_with_len}
 use Rattle.audit_base.specs.declared.terms.Rule.{Rule}
@@ -58,8 +59,8 @@ abbrev pub table_lines : Rule → Bool → List Order → List Deal → List Lin
 table_lines the_rule false orders deals = []
 table_lines the_rule true orders deals = rule_lines the_rule orders deals
 
--- the bound that is reported: where the rule asks for the greatest volume, the least price that shows
--- the volume, else none
+-- the bound that is reported: where the rule asks for the greatest volume, the least price that
+-- shows the volume, else none
 abbrev pub IsBoundShown : Rule → List Order → ℕ → Option Cut → Type 0
 IsBoundShown the_rule orders reached bound =
     MatchOption (volume_rule the_rule) (bound ≡ None)
@@ -75,8 +76,8 @@ abbrev pub EachPairOnly : List Order → List Deal → Type 0
 EachPairOnly orders deals =
     (bid ask : ℕ) → OnlyPair rule.Continuous orders bid ask (pair deals bid ask)
 
--- the quantities are the only conforming ones: of a call that asks for the greatest volume each order's,
--- of continuous trading each pair's; a call that does not ask for it claims none
+-- the quantities are the only conforming ones: of a call that asks for the greatest volume each
+-- order's, of continuous trading each pair's; a call that does not ask for it claims none
 abbrev pub AreOnlyQuantities : Rule → List Order → List Deal → Type 0
 AreOnlyQuantities the_rule orders deals =
     MatchOption (call_rule the_rule) (EachPairOnly orders deals)
@@ -106,8 +107,8 @@ IsOutcome q orders deals found the_verdict =
     MatchOption found (IsAcceptance q orders deals the_verdict)
     (λ finding. the_verdict ≡ verdict.Rejected finding)
 
--- The verdict on the records of two logs is that of the rules, which have no other. `trades` are those of
--- the trade log, or finding 4 in their place.
+-- The verdict on the records of two logs is that of the rules, which have no other. `trades` are
+-- those of the trade log, or finding 4 in their place.
 pub record IsJudged (q : Question) (entries : List OrderRecord)
     (trades : Result (List TradeRecord) Finding) (the_verdict : Verdict) : Type 0 where
   pub found : Option Finding

@@ -1,4 +1,5 @@
--- The verdict on records, stage by stage: what is known of it once the stages before have no finding.
+-- The verdict on records, stage by stage: what is known of it once the stages before have no
+-- finding.
 use Rattle.std.specs.Prelude.{◌≡◌, ℕ, List, [], ◌∷◌, Option, Some, Result, length, MatchOption}
 use Rattle.audit_base.specs.declared.records.OrderRecord.{OrderRecord}
 use Rattle.audit_base.specs.declared.records.TradeRecord.{TradeRecord}
@@ -62,8 +63,8 @@ pub record IsJudgedDeals (q : Question) (orders : List Order) (deals : List Deal
   pub by_the_rule : IsRuleVerdict q.rule orders deals count found
   pub outcome : IsOutcome q orders deals found the_verdict
 
--- The verdict on what two logs come to before the rule is looked at: their first bad place, the finding, or
--- that of the rule on sound trades; and so it is that on whatever records come to this.
+-- The verdict on what two logs give before the rule is looked at: their first bad place, the
+-- finding, or that of the rule on sound trades; and so it is that on whatever records give this.
 pub record VerdictIs (q : Question) (reached : BeforeRule) (the_verdict : Verdict) : Type 0 where
   pub of_place : (log : Which) (bad : BadPlace) → reached ≡ upto.Malformed log bad
       → the_verdict ≡ verdict.Malformed log bad

@@ -60,8 +60,8 @@ accepted_verdict q orders deals reached = verdict.Accepted (record {
   table = table_lines q.rule q.table orders deals;
 })
 
--- The deals conform to the rule, with what each order traded, the volume and the bound; the quantities are
--- the only ones.
+-- The deals conform to the rule, with what each order traded, the volume and the bound; the
+-- quantities are the only ones.
 pub record IsRuleConforming (the_rule : Rule) (orders : List Order) (deals : List Deal)
     (count : ℕ) (reached : Reached) : Type 0 where
   pub conforms : IsRuleVerdict the_rule orders deals count None
@@ -82,12 +82,12 @@ abbrev pub IsCallAudited : CallRule → List Order → List Deal → Outcome →
 IsCallAudited the_rule orders deals the_outcome =
     (count : ℕ) → IsRuleAudited (rule_of_call the_rule) orders deals count the_outcome
 
--- what deals come to that conform to a rule without a bound
+-- the outcome of deals that conform to a rule without a bound
 abbrev pub conforming_outcome : List ℕ × ℕ → Outcome
 conforming_outcome totals =
     outcome.Conforms (record { traded = totals; bound = None })
 
--- what deals come to in which a check found this
+-- the outcome of deals in which a check found this
 abbrev pub IsOutcomeOfFault : CheckFault → Outcome → Type 0
 IsOutcomeOfFault (fault.Found finding) the_outcome = the_outcome ≡ outcome.Broken finding
 IsOutcomeOfFault fault.Memory the_outcome = ⊥

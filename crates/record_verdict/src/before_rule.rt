@@ -1,5 +1,5 @@
-//! What two logs come to before the rule is looked at. Every command that judges two logs reads them to
-//! here, and goes its own way from here on.
+//! What two logs give before the rule is looked at. Every command that judges two logs reads them
+//! to here, and goes its own way from here on.
 ghost use Rattle.std.specs.Prelude.{◌≡◌, ◌<◌, ◌≤◌, ◌-◌, ◌^◌, None, length};
 ghost use Rattle.audit_base.specs.Deals.{AreDeals, IsDealList};
 ghost use Rattle.record_verdict.specs.BeforeRule.{found_or_sound, is_malformed, IsJudgeable};
@@ -9,7 +9,7 @@ use audit_base::findings::Finding;
 use audit_base::terms::Which;
 use matching_core::deals_draft::ResolvedTrades;
 
-/// What two logs come to before the rule is looked at.
+/// What two logs give before the rule is looked at.
 #[derive(Drop)]
 pub enum BeforeRule {
     /// A log is not in its grammar, and this is its first bad place.

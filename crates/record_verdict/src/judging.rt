@@ -1,5 +1,5 @@
-//! Judging logs that have been read: the stages of the verdict, each handed to the crate that decides
-//! it.
+//! Judging logs that have been read: the stages of the verdict, each handed to the crate that
+//! decides it.
 ghost use Rattle.std.specs.Prelude.{◌≡◌, ◌<◌, ◌-◌, ◌^◌, length, IfOk};
 ghost use Rattle.audit_base.specs.Trades.{AreTrades};
 ghost use Rattle.audit_base.specs.Verdicts as spec;
@@ -37,7 +37,8 @@ fn paired_in_range(trades: &Paired)
     }
 }
 
-/// What is found where the rule does not admit an order of the history: a call takes only orders that rest.
+/// What is found where the rule does not admit an order of the history: a call takes only orders
+/// that rest.
 pub fn call_finding(rule: Rule, orders: &OrderList<'_>) -> Option<Finding>
     ensures { result ≡ spec.call_finding rule orders.now }
 {
@@ -106,14 +107,14 @@ fn judge_records(
     }
 }
 
-/// The verdict of a rule on the records of two logs: the first stage with a finding decides, and where
-/// there is none the log is accepted, with the bound of `uniform` and `maximum`, and, where a table is
-/// asked for, with the line of each order, or under `continuous` of each pair that trades. The verdict is
-/// never `Malformed`.
+/// The verdict of a rule on the records of two logs: the first stage with a finding decides, and
+/// where there is none the log is accepted, with the bound of `uniform` and `maximum`, and, where
+/// a table is asked for, with the line of each order, or under `continuous` of each pair that
+/// trades. The verdict is never `Malformed`.
 ///
-/// The stages are the history (a key twice, a time that goes back, an unknown target; then, under a rule
-/// of a call, an order that does not rest), a report without its partner, the trades (an id twice, an
-/// unknown order), and the rule.
+/// The stages are the history (a key twice, a time that goes back, an unknown target; then, under
+/// a rule of a call, an order that does not rest), a report without its partner, the trades (an
+/// id twice, an unknown order), and the rule.
 pub fn judge(
     alloc: Global,
     rule: Rule,

@@ -1,5 +1,5 @@
-//! The table of an accepted log: under a rule of a call what each order of the history traded, under
-//! `continuous` what each pair of a bid and an ask did.
+//! The table of an accepted log: under a rule of a call what each order of the history traded,
+//! under `continuous` what each pair of a bid and an ask did.
 ghost use Rattle.std.specs.Prelude.{◌≡◌, ◌<◌, ◌++◌, ◌∷◌, [], All, IfOk, OnOk, length};
 ghost use Rattle.audit_base.specs.Deals.{AreTotals, IsDealList};
 ghost use Rattle.record_verdict.specs.Judgements as table;

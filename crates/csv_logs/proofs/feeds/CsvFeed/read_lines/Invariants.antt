@@ -5,7 +5,8 @@ use Rattle.csv_logs.specs.Feeds.{StandsFor}
 use Rattle.csv_logs.specs.Steps.{Goes}
 use Rattle.csv_logs.proofs.feeds.CsvFeed.read_lines.Given as goal
 
--- what was taken of the text is what the feed has come to stand for, and the reader stands at what is left
+-- what was taken of the text is what the feed has come to stand for, and the reader is at what is
+-- left
 abbrev pub invariant-lines : goal.invariant-lines
 invariant-lines g l = record {
   goes : Goes (StandsFor g.K.Collector.has_taken g.R.LogEntry.names g.R.LogEntry.meaning l.fn.self) (StandsFor g.K.Collector.has_taken g.R.LogEntry.names g.R.LogEntry.meaning l.self) l.fn.text l.left;
