@@ -25,7 +25,8 @@ Meaning R = Row → Result R Reason
 
 -- the first record that `csv` reads, by its defaults, from a line and one LF
 abbrev pub first_read : List ℕ → Option Read
-first_read line = next_record default_config st.StartRecord [] [] (strip_bom (line ++ 10 ∷ []))
+first_read line =
+    next_record default_config st.StartRecord [] [] (strip_bom (line ++ 10 ∷ []))
 
 -- the fields of a line: those of that record
 unfoldable pub line_fields : List ℕ → Row
@@ -73,7 +74,8 @@ empty_form (byte ∷ rest) = None
 -- `B` for a bid, `S` for an ask
 abbrev pub side_form : List ℕ → Option Side
 side_form [] = None
-side_form (byte ∷ []) = if byte == 66 then Some side.Buy else if byte == 83 then Some side.Sell else None
+side_form (byte ∷ []) =
+    if byte == 66 then Some side.Buy else if byte == 83 then Some side.Sell else None
 side_form (byte ∷ next ∷ rest) = None
 
 -- the values of a column

@@ -46,34 +46,37 @@ pub record IsOpen {R : Type 0} (names : Row) (entry : Meaning R) (entries : List
   pub good : IsPassed names entry header entries (full_lines lines)
 
 -- The log is bad at a line that has ended with an LF, and nothing of it is kept.
-pub record IsShut {R : Type 0} (names : Row) (entry : Meaning R) (rest : List ℕ) (bad : BadPlace)
-    (log : List ℕ) : Type 0 where
+pub record IsShut {R : Type 0} (names : Row) (entry : Meaning R) (rest : List ℕ)
+    (bad : BadPlace) (log : List ℕ) : Type 0 where
   pub is_bad : read_log names entry log ≡ Err bad
   pub ended : IsTrue (list_any is_lf (drop bad.offset log))
   pub nothing : rest ≡ []
 
 -- these fields of a feed stand for this log
-abbrev pub StandsAt : {R : Type 0} → Row → Meaning R → List R → List ℕ → ℕ → Bool → Option BadPlace
-    → List ℕ → Type 0
+abbrev pub StandsAt : {R : Type 0} → Row → Meaning R → List R → List ℕ → ℕ → Bool
+    → Option BadPlace → List ℕ → Type 0
 StandsAt names entry entries rest offset header None log =
     IsOpen names entry entries rest offset header log
-StandsAt names entry entries rest offset header (Some bad) log = IsShut names entry rest bad log
+StandsAt names entry entries rest offset header (Some bad) log =
+    IsShut names entry rest bad log
 
 -- The feed has been handed some records, and with these its fields stand for this log.
 pub record StandsWith {R : Type 0} (has_taken : Taken R) (names : Row) (entry : Meaning R)
-    (rest : List ℕ) (offset : ℕ) (header : Bool) (bad : Option BadPlace) (log : List ℕ) : Type 0 where
+    (rest : List ℕ) (offset : ℕ) (header : Bool) (bad : Option BadPlace) (log : List ℕ)
+    : Type 0 where
   pub entries : List R
   pub has : has_taken entries
   pub stands : StandsAt names entry entries rest offset header bad log
 
 -- the feed stands for this log; `has_taken` says what its collector has been handed
-abbrev pub StandsFor : {K R : Type 0} → TakenBy K R → Row → Meaning R → CsvFeed K → List ℕ → Type 0
+abbrev pub StandsFor : {K R : Type 0} → TakenBy K R → Row → Meaning R → CsvFeed K → List ℕ
+    → Type 0
 StandsFor has_taken names entry feed log =
     StandsWith (has_taken feed.entries) names entry feed.rest.items feed.offset feed.header feed.bad log
 
 -- The feed stands for some log that is no longer than a log that is read may be.
-pub record IsWithinLimit {K R : Type 0} (has_taken : TakenBy K R) (names : Row) (entry : Meaning R)
-    (feed : CsvFeed K) : Type 0 where
+pub record IsWithinLimit {K R : Type 0} (has_taken : TakenBy K R) (names : Row)
+    (entry : Meaning R) (feed : CsvFeed K) : Type 0 where
   pub log : List ℕ
   pub stands : StandsFor has_taken names entry feed log
   pub within : length log ≤ longest_read
@@ -91,7 +94,8 @@ IsCause reading fault.Memory = ⊤
 
 -- what a log says is answered: a list of its records, or why there is none
 abbrev pub IsReadAs : {R : Type 0} → Reading R → Result (Vec R) LogFault → Type 0
-IsReadAs reading result = MatchResult result (λ records. reading ≡ Ok records.items) (IsCause reading)
+IsReadAs reading result =
+    MatchResult result (λ records. reading ≡ Ok records.items) (IsCause reading)
 
 -- the same, where the records were handed to a collector
 abbrev pub IsHandedAs : {K R : Type 0} → TakenBy K R → Reading R → Result K LogFault → Type 0

@@ -24,7 +24,8 @@ join_first byte (line ∷ lines) = (byte ∷ line) ∷ lines
 -- a text, cut at each LF; the last line may lack its LF, and nothing after the last LF is no line
 abbrev pub cut_lines : List ℕ → List (List ℕ)
 cut_lines [] = []
-cut_lines (byte ∷ rest) = if byte == 10 then [] ∷ cut_lines rest else join_first byte (cut_lines rest)
+cut_lines (byte ∷ rest) =
+    if byte == 10 then [] ∷ cut_lines rest else join_first byte (cut_lines rest)
 
 -- a line with one CR at its end taken off
 abbrev pub without_cr : List ℕ → List ℕ
@@ -41,4 +42,5 @@ is_full line = not (length line.text == 0)
 
 -- the lines of a log that are not empty: after the mark, if there is one, the log is cut into lines
 unfoldable pub full_lines : List ℕ → List Line
-full_lines log = filter is_full (placed (mark_size log) (cut_lines (drop (mark_size log) log)))
+full_lines log =
+    filter is_full (placed (mark_size log) (cut_lines (drop (mark_size log) log)))

@@ -20,11 +20,13 @@ fields_entry entry fields = if length fields == 9 then entry fields else Err rea
 -- a line that is not empty is a record, or the first test that it fails: its bytes and quotes,
 -- its nine fields, each column in turn
 unfoldable pub line_entry : {R : Type 0} → Meaning R → List ℕ → Result R Reason
-line_entry entry line = if is_broken line then Err reason.Break else fields_entry entry (line_fields line)
+line_entry entry line =
+    if is_broken line then Err reason.Break else fields_entry entry (line_fields line)
 
 -- this is the symbol of the record that was read, if one was
 abbrev pub IsSymbolOf : {R : Type 0} → (R → List ℕ) → Result R Reason → List ℕ → Type 0
-IsSymbolOf symbol_of reading symbol = (entry : _) → reading ≡ Ok entry → symbol_of entry ≡ symbol
+IsSymbolOf symbol_of reading symbol =
+    (entry : _) → reading ≡ Ok entry → symbol_of entry ≡ symbol
 
 -- these are the same fields, byte for byte
 abbrev pub same_fields : Row → Row → Bool
@@ -46,17 +48,20 @@ with_first entry (Err bad) = Err bad
 -- a line with `before` records before it, and what the lines after it say
 abbrev pub after_line : {R : Type 0} → ℕ → ℕ → Result R Reason → Reading R → Reading R
 after_line before start (Ok entry) later = with_first entry later
-after_line before start (Err why) later = Err (record { place = before + 1; offset = start; reason = why })
+after_line before start (Err why) later =
+    Err (record { place = before + 1; offset = start; reason = why })
 
 -- the records of these lines, or the first of them that is none
 abbrev pub read_entries : {R : Type 0} → Meaning R → ℕ → List Line → Reading R
 read_entries entry before [] = Ok []
 read_entries entry before (line ∷ lines) =
-    after_line before line.start (line_entry entry line.text) (read_entries entry (before + 1) lines)
+    after_line before line.start (line_entry entry line.text)
+    (read_entries entry (before + 1) lines)
 
 -- the header, and the records of the lines after it; `size` is the log's length
 abbrev pub read_lines : {R : Type 0} → Row → Meaning R → ℕ → List Line → Reading R
-read_lines names entry size [] = Err (record { place = 1; offset = size; reason = reason.Header })
+read_lines names entry size [] =
+    Err (record { place = 1; offset = size; reason = reason.Header })
 read_lines names entry size (header ∷ lines) =
     if is_header names header.text then read_entries entry 0 lines
     else Err (record { place = 1; offset = header.start; reason = reason.Header })
@@ -73,7 +78,8 @@ trade_log log = read_log trade_columns trade_entry log
 
 -- The log is good with these records: its first line that is not empty is the header, and each
 -- further one is a record.
-pub record IsGood {R : Type 0} (names : Row) (entry : Meaning R) (log : List ℕ) (entries : List R) : Type 0 where
+pub record IsGood {R : Type 0} (names : Row) (entry : Meaning R) (log : List ℕ)
+    (entries : List R) : Type 0 where
   pub header : Line
   pub lines : List Line
   pub cut : full_lines log ≡ header ∷ lines
@@ -95,7 +101,8 @@ pub record HasBadHeader (names : Row) (log : List ℕ) (bad : BadPlace) : Type 0
 
 -- After the header and lines that are records, a line fails a test: its place is one more than the
 -- number of those records.
-pub record HasBadLine {R : Type 0} (names : Row) (entry : Meaning R) (log : List ℕ) (bad : BadPlace) : Type 0 where
+pub record HasBadLine {R : Type 0} (names : Row) (entry : Meaning R) (log : List ℕ)
+    (bad : BadPlace) : Type 0 where
   pub header : Line
   pub good : List Line
   pub line : Line
@@ -110,7 +117,8 @@ pub record HasBadLine {R : Type 0} (names : Row) (entry : Meaning R) (log : List
 
 -- the log is bad there
 abbrev pub IsBad : {R : Type 0} → Row → Meaning R → List ℕ → BadPlace → Type 0
-IsBad names entry log bad = LacksHeader log bad ⊎ (HasBadHeader names log bad ⊎ HasBadLine names entry log bad)
+IsBad names entry log bad =
+    LacksHeader log bad ⊎ (HasBadHeader names log bad ⊎ HasBadLine names entry log bad)
 
 -- A log is read in one way: it is good with one list of records or bad at one place, and never
 -- both.

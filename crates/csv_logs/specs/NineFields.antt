@@ -11,4 +11,5 @@ shown fields = map (λ text. text.now) fields.texts
 -- They are nine, and where it is known, each byte of each is one that a name may hold.
 pub record AreTested (fields : Inside) : Type 0 where
   pub nine : length fields.texts ≡ 9
-  pub bytes : fields.have_name_bytes ≡ true → IsTrue (list_all (list_all is_name_byte) (shown fields))
+  pub bytes : fields.have_name_bytes ≡ true
+      → IsTrue (list_all (list_all is_name_byte) (shown fields))

@@ -62,14 +62,16 @@ pub record IsSetUp {R : Type 0} (reader : Reader R) : Type 0 where
   pub sound : has_failed reader ≡ false
 
 -- The next record of the reader is that of this text.
-pub record IsReading {R : Type 0} (remaining : Remaining R) (reader : Reader R) (text : List ℕ) : Type 0 where
+pub record IsReading {R : Type 0} (remaining : Remaining R) (reader : Reader R)
+    (text : List ℕ) : Type 0 where
   pub setup : IsSetUp reader
   pub source : List ℕ
   pub known : source_of remaining reader ≡ Some source
   pub next : record_from (reader_state reader) source ≡ record_from st.StartRecord text
 
 -- It is that of a text that begins with this line.
-pub record IsReadingLine {R : Type 0} (remaining : Remaining R) (reader : Reader R) (line : List ℕ) : Type 0 where
+pub record IsReadingLine {R : Type 0} (remaining : Remaining R) (reader : Reader R)
+    (line : List ℕ) : Type 0 where
   pub later : List ℕ
   pub reads : IsReading remaining reader (line ++ 10 ∷ later)
 
@@ -86,7 +88,8 @@ pub record IsAtClosed {R : Type 0} (remaining : Remaining R) (reader : Reader R)
 -- A reader that was at this line is at what follows it.
 abbrev pub PassesLine : {R : Type 0} → Remaining R → Reader R → Reader R → List ℕ → Type 0
 PassesLine remaining old new line =
-    (later : List ℕ) → IsReading remaining old (line ++ 10 ∷ later) → IsReading remaining new later
+    (later : List ℕ) → IsReading remaining old (line ++ 10 ∷ later)
+    → IsReading remaining new later
 
 -- A reader that was at a closed line that is not empty gave its fields, and is at what follows
 -- it.

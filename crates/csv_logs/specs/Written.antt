@@ -22,7 +22,8 @@ line_text fields = join_with_byte 44 fields ++ 10 ∷ []
 
 -- the header and a line for each record
 abbrev pub log_text : {R : Type 0} → Row → (R → Row) → List R → List ℕ
-log_text names fields entries = line_text names ++ flat_map (λ entry. line_text (fields entry)) entries
+log_text names fields entries =
+    line_text names ++ flat_map (λ entry. line_text (fields entry)) entries
 
 abbrev pub side_text : Side → List ℕ
 side_text side.Buy = codes "B"
@@ -42,19 +43,19 @@ limit_text life.Market price = []
 -- the nine fields of an order's line
 abbrev pub order_fields : OrderRecord → Row
 order_fields (record_of.New key time symbol side quantity price life) =
-    kind_text life ∷ key.firm ∷ key.id ∷ stamp_text time ∷ symbol ∷ side_text side ∷ decimal quantity
-    ∷ limit_text life price ∷ [] ∷ []
+    kind_text life ∷ key.firm ∷ key.id ∷ stamp_text time ∷ symbol ∷ side_text side
+    ∷ decimal quantity ∷ limit_text life price ∷ [] ∷ []
 order_fields (record_of.Cancel key time symbol target) =
     codes "X" ∷ key.firm ∷ key.id ∷ stamp_text time ∷ symbol ∷ [] ∷ [] ∷ [] ∷ target ∷ []
 order_fields (record_of.Replace key time symbol target side quantity price) =
-    codes "R" ∷ key.firm ∷ key.id ∷ stamp_text time ∷ symbol ∷ side_text side ∷ decimal quantity
-    ∷ price_text price ∷ target ∷ []
+    codes "R" ∷ key.firm ∷ key.id ∷ stamp_text time ∷ symbol ∷ side_text side
+    ∷ decimal quantity ∷ price_text price ∷ target ∷ []
 
 -- the nine fields of a trade's line
 abbrev pub trade_fields : TradeRecord → Row
 trade_fields trade =
-    trade.trade ∷ stamp_text trade.time ∷ trade.symbol ∷ trade.buy.firm ∷ trade.buy.id ∷ trade.sell.firm
-    ∷ trade.sell.id ∷ decimal trade.quantity ∷ price_text trade.price ∷ []
+    trade.trade ∷ stamp_text trade.time ∷ trade.symbol ∷ trade.buy.firm ∷ trade.buy.id
+    ∷ trade.sell.firm ∷ trade.sell.id ∷ decimal trade.quantity ∷ price_text trade.price ∷ []
 
 -- the canonical order log and trade log of a list
 abbrev pub orders_text : List OrderRecord → List ℕ
@@ -64,11 +65,13 @@ abbrev pub trades_text : List TradeRecord → List ℕ
 trades_text trades = log_text trade_columns trade_fields trades
 
 -- the log that is written of these records says these records, where each of them is sound
-abbrev pub IsReadAgain : {R : Type 0} → Row → Meaning R → (R → Type 0) → (R → Row) → List R → Type 0
+abbrev pub IsReadAgain : {R : Type 0} → Row → Meaning R → (R → Type 0) → (R → Row) → List R
+    → Type 0
 IsReadAgain names entry sound fields records =
     All sound records → read_log names entry (log_text names fields records) ≡ Ok records
 
 -- the canonical order log of these records says these records, where those of life Market have
 -- the market price
 abbrev pub AreOrdersReadAgain : List OrderRecord → Type 0
-AreOrdersReadAgain records = All HasMarketPrice records → order_log (orders_text records) ≡ Ok records
+AreOrdersReadAgain records =
+    All HasMarketPrice records → order_log (orders_text records) ≡ Ok records

@@ -19,7 +19,8 @@ use Rattle.csv_logs.specs.declared.orders.Terms.{Terms}
 
 -- the records of an order's parts
 abbrev pub new_order : Head → Terms → Life → OrderRecord
-new_order head terms life = record_of.New head.key head.time head.symbol terms.side terms.quantity terms.price life
+new_order head terms life =
+    record_of.New head.key head.time head.symbol terms.side terms.quantity terms.price life
 
 abbrev pub cancel_order : Head → List ℕ → OrderRecord
 cancel_order head target = record_of.Cancel head.key head.time head.symbol target
@@ -48,8 +49,10 @@ pub record IsAtLine {W : Type 0} (writer : Writer W) : Type 0 where
   pub setup : writer_setup writer ≡ default_writer
 
 -- the line of these fields is appended to what the writer has written
-abbrev pub WritesLine : {W : Type 0} → (W → Option (List ℕ)) → Writer W → Writer W → Row → Type 0
-WritesLine contents old new fields = Appends (text_written contents old) (text_written contents new) (line_text fields)
+abbrev pub WritesLine : {W : Type 0} → (W → Option (List ℕ)) → Writer W → Writer W → Row
+    → Type 0
+WritesLine contents old new fields =
+    Appends (text_written contents old) (text_written contents new) (line_text fields)
 
 -- the fields of an order's line are nine, need no quotes, and mean the order if it has the price
 -- of its life
@@ -61,13 +64,15 @@ IsOrderLine order = IsLineOf order_entry HasMarketPrice order (order_fields orde
 pub record IsLogText {R : Type 0} (names : Row) (meaning : Meaning R) (sound : R → Type 0)
     (fields : R → Row) (text : LogText R) (entries : List R) : Type 0 where
   pub at_line : IsAtLine text.writer
-  pub written : text.writer.wtr.inner.items ++ text.writer.wtr.buf ≡ log_text names fields entries
+  pub written : text.writer.wtr.inner.items ++ text.writer.wtr.buf
+      ≡ log_text names fields entries
   pub nine : length names ≡ 9
   pub unquoted : have_name_bytes names ≡ true
   pub lines : All (λ entry. IsLineOf meaning sound entry (fields entry)) entries
 
 -- The log has been handed these records, and their lines are its text.
-pub record IsConvertedLog {R : Type 0} (names : Row) (meaning : Meaning R) (sound : R → Type 0)
-    (fields : R → Row) (log : ConvertedLog R) (entries : List R) : Type 0 where
+pub record IsConvertedLog {R : Type 0} (names : Row) (meaning : Meaning R)
+    (sound : R → Type 0) (fields : R → Row) (log : ConvertedLog R) (entries : List R)
+    : Type 0 where
   pub count : log.count ≡ length entries
   pub text : IsLogText names meaning sound fields log.text entries

@@ -11,7 +11,8 @@ IsEnd body = Passes (is_byte soh) body
 abbrev pub AreEnds : List ℕ → ℕ → List ℕ → Type 0
 AreEnds body from [] = Nowhere (IsEnd body) from (length body)
 AreEnds body from (end ∷ ends) =
-    NoneBefore (IsEnd body) from (length body) end × IsEnd body end × AreEnds body (end + 1) ends
+    NoneBefore (IsEnd body) from (length body) end × IsEnd body end
+    × AreEnds body (end + 1) ends
 
 -- the last byte of the body is SOH
 abbrev pub IsClosed : List ℕ → Type 0

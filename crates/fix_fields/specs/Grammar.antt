@@ -67,7 +67,8 @@ pub record Fields (body : List ℕ) (fields : List TagValue) : Type 0 where
 -- no bytes at the front can be read as a field after `before`
 abbrev pub NoField : Option TagValue → List ℕ → Type 0
 NoField before bytes =
-    (field : TagValue) (more : List ℕ) → IsField before field → bytes ≢ field_bytes field ++ more
+    (field : TagValue) (more : List ℕ) → IsField before field
+    → bytes ≢ field_bytes field ++ more
 
 -- the first field of the body that can't be read begins at byte n: before it are fields, and no
 -- field begins there

@@ -18,4 +18,5 @@ pub record IsOrdinary (before : Option TagValue) (field : TagValue) : Type 0 whe
 -- table
 abbrev pub AreOrdinary : Option TagValue → List TagValue → Type 0
 AreOrdinary before [] = Unit {0}
-AreOrdinary before (field ∷ fields) = IsOrdinary before field × AreOrdinary (Some field) fields
+AreOrdinary before (field ∷ fields) =
+    IsOrdinary before field × AreOrdinary (Some field) fields

@@ -28,9 +28,9 @@ placed_of fields tag = first_placed (fields_with tag fields)
 -- note
 abbrev pub places : List (ℕ × ℕ)
 places =
-    (11, 0) ∷ (31, 1) ∷ (32, 2) ∷ (35, 3) ∷ (38, 4) ∷ (40, 5) ∷ (41, 6) ∷ (43, 7) ∷ (44, 8) ∷ (49, 9)
-    ∷ (54, 10) ∷ (55, 11) ∷ (56, 12) ∷ (59, 13) ∷ (60, 14) ∷ (110, 15) ∷ (111, 16) ∷ (150, 17)
-    ∷ (527, 18) ∷ []
+    (11, 0) ∷ (31, 1) ∷ (32, 2) ∷ (35, 3) ∷ (38, 4) ∷ (40, 5) ∷ (41, 6) ∷ (43, 7) ∷ (44, 8)
+    ∷ (49, 9) ∷ (54, 10) ∷ (55, 11) ∷ (56, 12) ∷ (59, 13) ∷ (60, 14) ∷ (110, 15) ∷ (111, 16)
+    ∷ (150, 17) ∷ (527, 18) ∷ []
 
 -- the place of the note of a tag, where it is noted
 abbrev pub place_of : ℕ → Option ℕ
@@ -43,12 +43,14 @@ IsNoted tag = IsSome (place_of tag)
 -- what a note says: how many fields have its tag, two where there are more, and where the value
 -- of the first is
 abbrev pub noted : ℕ → ℕ → ℕ → Placed
-noted count from to = if count == 0 then Absent else if count == 1 then One from to else Many from to
+noted count from to =
+    if count == 0 then Absent else if count == 1 then One from to else Many from to
 
 -- the note at a place
 abbrev pub note_at : TagNotes → ℕ → Placed
 note_at notes place =
-    noted (slice_index notes.counts place) (slice_index notes.starts place) (slice_index notes.ends place)
+    noted (slice_index notes.counts place) (slice_index notes.starts place)
+    (slice_index notes.ends place)
 
 -- what is found of a tag with one more field that has it
 abbrev pub with_field : Placed → Field → Placed

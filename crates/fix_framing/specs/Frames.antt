@@ -94,7 +94,8 @@ ends_in_length r = length r == 12 + length (length_digits r)
 -- 1,048,576
 abbrev pub has_bad_length : List ℕ → Bool
 has_bad_length r =
-    length (length_digits r) == 0 || not (slice_index r (12 + length (length_digits r)) == soh)
+    length (length_digits r) == 0
+    || not (slice_index r (12 + length (length_digits r)) == soh)
     || nat_lt longest_body (body_size r)
 
 -- test 6: after that SOH r has fewer than 7 bytes more than the body

@@ -69,12 +69,14 @@ Feeds old new piece =
 
 -- the piece is appended to what was unframed, and nothing more is framed
 abbrev pub AppendsUnframed : Framer → Framer → List ℕ → Type 0
-AppendsUnframed old new piece = (unframed new ≡ unframed old ++ piece) × (reached new ≡ reached old)
+AppendsUnframed old new piece =
+    (unframed new ≡ unframed old ++ piece) × (reached new ≡ reached old)
 
 -- what the old framer stands for, the new one stands for
 abbrev pub Keeps : Framer → Framer → Type 0
 Keeps old new =
-    (fed : List ℕ) (frames : List (List ℕ)) → StandsFor old fed frames → StandsFor new fed frames
+    (fed : List ℕ) (frames : List (List ℕ)) → StandsFor old fed frames
+    → StandsFor new fed frames
 
 -- Whole: behind CR and LF alone is the next frame of the bytes fed, from start on. Its body runs
 -- from `body` to `to` in the bytes held, and it ends at `to + 7` there. It is appended to the
@@ -97,7 +99,8 @@ pub record GivesFrame (old new : Framer) (start body to : ℕ) : Type 0 where
 -- Wait: the unframed bytes are CR and LF alone, or end within a message
 abbrev pub IsUnfinished : Framer → Type 0
 IsUnfinished framer =
-    IsTrue (list_all is_break (unframed framer)) ⊎ (frame_fault (next_text framer) ≡ Some Truncated)
+    IsTrue (list_all is_break (unframed framer))
+    ⊎ (frame_fault (next_text framer) ≡ Some Truncated)
 
 -- After it the framer holds fewer bytes than the longest message has, and they end with the last
 -- byte fed, where anything is unframed but CR and LF

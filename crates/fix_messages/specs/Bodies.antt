@@ -24,25 +24,28 @@ reasoned (Ok entry) = Ok entry
 reasoned (Err fault) = Err (fault_reason fault)
 
 -- the body has fields, and this is what they mean
-pub record SaysFields {R : Type 0} (meaning : Meaning R) (body : List ℕ) (said : Result (Option R) Reason)
-    : Type 0 where
+pub record SaysFields {R : Type 0} (meaning : Meaning R) (body : List ℕ)
+    (said : Result (Option R) Reason) : Type 0 where
   pub fields : List TagValue
   pub read : Fields body fields
   pub means : said ≡ reasoned (meaning fields)
 
 -- a field of the body can't be read, and the first such begins at this byte
-pub record SaysUnreadable {R : Type 0} (body : List ℕ) (said : Result (Option R) Reason) : Type 0 where
+pub record SaysUnreadable {R : Type 0} (body : List ℕ) (said : Result (Option R) Reason)
+    : Type 0 where
   pub at : ℕ
   pub unreadable : IsUnreadable body at
   pub means : said ≡ Err (reason.Field at)
 
 -- the body has no message type
-pub record SaysUntyped {R : Type 0} (body : List ℕ) (said : Result (Option R) Reason) : Type 0 where
+pub record SaysUntyped {R : Type 0} (body : List ℕ) (said : Result (Option R) Reason)
+    : Type 0 where
   pub untyped : LacksType body
   pub means : said ≡ Err reason.MsgType
 
 abbrev pub BodySays : {R : Type 0} → Meaning R → List ℕ → Result (Option R) Reason → Type 0
-BodySays meaning body said = SaysFields meaning body said ⊎ (SaysUnreadable body said ⊎ SaysUntyped body said)
+BodySays meaning body said =
+    SaysFields meaning body said ⊎ (SaysUnreadable body said ⊎ SaysUntyped body said)
 
 -- the bodies say these records in turn, each its own one or nothing, and there are no more
 abbrev pub BodiesSay : {R : Type 0} → Meaning R → List (List ℕ) → List (Option R) → Type 0
@@ -53,8 +56,10 @@ BodiesSay meaning (body ∷ bodies) (said ∷ others) =
     BodySays meaning body (Ok said) × BodiesSay meaning bodies others
 
 -- what fields say behind which these bytes are left
-abbrev pub says_of : {R : Type 0} → Meaning R → List TagValue → List ℕ → Result (Option R) Reason
-says_of meaning fields [] = if begins_with_type fields then reasoned (meaning fields) else Err reason.MsgType
+abbrev pub says_of : {R : Type 0} → Meaning R → List TagValue → List ℕ
+    → Result (Option R) Reason
+says_of meaning fields [] =
+    if begins_with_type fields then reasoned (meaning fields) else Err reason.MsgType
 says_of meaning fields (byte ∷ left) = Err (reason.Field (length (bytes_of fields)))
 
 -- what a body says, found from its front: `BodySays` holds of it and of nothing else

@@ -25,13 +25,15 @@ counted_size (Some before) = length_form before.value
 -- or those up to the first SOH
 abbrev pub value_size : Option TagValue → ℕ → List ℕ → Option ℕ
 value_size before tag bytes =
-    if is_counted before tag then counted_size before else some_size (position_or_len is_end bytes)
+    if is_counted before tag then counted_size before
+    else some_size (position_or_len is_end bytes)
 
 -- the field with this tag, whose value has this many bytes, with SOH behind them
 abbrev pub ended_field : ℕ → List ℕ → Option ℕ → Option TagValue
 ended_field tag bytes None = None
 ended_field tag bytes (Some size) =
-    if slice_index bytes size == 1 then Some (record { tag = tag; value = take size bytes }) else None
+    if slice_index bytes size == 1 then Some (record { tag = tag; value = take size bytes })
+    else None
 
 -- the field with the tag that is before `=`
 abbrev pub tagged_field : Option TagValue → Option ℕ → List ℕ → Option TagValue
@@ -40,7 +42,9 @@ tagged_field before (Some tag) bytes = ended_field tag bytes (value_size before 
 
 -- the field at the front of the bytes, where `before` is the field right before it
 abbrev pub next_field : Option TagValue → List ℕ → Option TagValue
-next_field before bytes = tagged_field before (tag_form (before_first is_equals bytes)) (after_first is_equals bytes)
+next_field before bytes =
+    tagged_field before (tag_form (before_first is_equals bytes))
+    (after_first is_equals bytes)
 
 -- fields from the front, and the bytes that are left behind them
 pub record Split : Type 0 where

@@ -48,15 +48,16 @@ items_from zero at (byte ∷ rest) =
 items_from (suc inside) at (byte ∷ rest) = items_from inside (at + 1) rest
 
 -- what an item says, by what bodies say
-abbrev pub item_says : {R : Type 0} → (List ℕ → Result (Option R) Reason) → Result (List ℕ) FrameFault
-    → Result (Option R) Reason
+abbrev pub item_says : {R : Type 0} → (List ℕ → Result (Option R) Reason)
+    → Result (List ℕ) FrameFault → Result (Option R) Reason
 item_says says (Ok body) = says body
 item_says says (Err fault) = Err (frame_reason fault)
 
 -- one record before others: it counts for the place of what is bad behind it
 abbrev pub with_first : {R : Type 0} → R → Result (List R) BadPlace → Result (List R) BadPlace
 with_first entry (Ok entries) = Ok (entry ∷ entries)
-with_first entry (Err bad) = Err (record { place = bad.place + 1; offset = bad.offset; reason = bad.reason })
+with_first entry (Err bad) =
+    Err (record { place = bad.place + 1; offset = bad.offset; reason = bad.reason })
 
 -- an item at this offset, and what the items after it say
 abbrev pub after_item : {R : Type 0} → ℕ → Result (Option R) Reason → Result (List R) BadPlace
@@ -66,9 +67,11 @@ after_item start (Ok (Some entry)) later = with_first entry later
 after_item start (Err why) later = Err (record { place = 1; offset = start; reason = why })
 
 -- the records of these items, or the first of them that is bad
-abbrev pub read_items : {R : Type 0} → (List ℕ → Result (Option R) Reason) → List Item → Result (List R) BadPlace
+abbrev pub read_items : {R : Type 0} → (List ℕ → Result (Option R) Reason) → List Item
+    → Result (List R) BadPlace
 read_items says [] = Ok []
-read_items says (item ∷ items) = after_item item.start (item_says says item.body) (read_items says items)
+read_items says (item ∷ items) =
+    after_item item.start (item_says says item.body) (read_items says items)
 
 -- what a log says: its records, or its first bad place
 unfoldable pub read_log : {R : Type 0} → Meaning R → List ℕ → Result (List R) BadPlace
@@ -84,12 +87,13 @@ report_log log = read_log report_entry log
 abbrev pub AreMessages : List ℕ → List (List ℕ) → Type 0
 AreMessages text [] = IsTrue (list_all is_break text)
 AreMessages text (body ∷ bodies) =
-    (gap : List ℕ) × (frame : List ℕ) × (rest : List ℕ) × IsTrue (list_all is_break gap) × IsFrame frame body
-    × (text ≡ gap ++ (frame ++ rest)) × AreMessages rest bodies
+    (gap : List ℕ) × (frame : List ℕ) × (rest : List ℕ) × IsTrue (list_all is_break gap)
+    × IsFrame frame body × (text ≡ gap ++ (frame ++ rest)) × AreMessages rest bodies
 
 -- The text is messages each of which means a record or nothing, and these are their records in
 -- order.
-pub record HasRecords {R : Type 0} (meaning : Meaning R) (text : List ℕ) (entries : List R) : Type 0 where
+pub record HasRecords {R : Type 0} (meaning : Meaning R) (text : List ℕ) (entries : List R)
+    : Type 0 where
   pub bodies : List (List ℕ)
   pub messages : AreMessages text bodies
   pub meanings : List (Option R)
@@ -113,7 +117,8 @@ pub record LacksFrame (text : List ℕ) (why : Reason) : Type 0 where
   pub reason_is : why ≡ frame_reason fault
 
 -- A message begins the text, and its body fails a test.
-pub record HasBadBody {R : Type 0} (meaning : Meaning R) (text : List ℕ) (why : Reason) : Type 0 where
+pub record HasBadBody {R : Type 0} (meaning : Meaning R) (text : List ℕ) (why : Reason)
+    : Type 0 where
   pub frame : List ℕ
   pub body : List ℕ
   pub rest : List ℕ
@@ -124,7 +129,8 @@ pub record HasBadBody {R : Type 0} (meaning : Meaning R) (text : List ℕ) (why 
 -- The log is bad there: behind messages that are good, and CR and LF bytes, no message begins, or
 -- one that fails a test. The place is one more than the number of records before it, and the
 -- offset that of its first byte.
-pub record IsBad {R : Type 0} (meaning : Meaning R) (log : List ℕ) (bad : BadPlace) : Type 0 where
+pub record IsBad {R : Type 0} (meaning : Meaning R) (log : List ℕ) (bad : BadPlace)
+    : Type 0 where
   pub front : List ℕ
   pub left : List ℕ
   pub cut : log ≡ front ++ left
@@ -136,7 +142,7 @@ pub record IsBad {R : Type 0} (meaning : Meaning R) (log : List ℕ) (bad : BadP
 
 -- A log is read in one way: it is good with one list of records or bad at one place, and never
 -- both.
-pub record IsOnlyReading {R : Type 0} (meaning : Meaning R) (log : List ℕ) (reading : Result (List R) BadPlace)
-    : Type 0 where
+pub record IsOnlyReading {R : Type 0} (meaning : Meaning R) (log : List ℕ)
+    (reading : Result (List R) BadPlace) : Type 0 where
   pub good : (entries : List R) → IsGood meaning log entries ↔ (reading ≡ Ok entries)
   pub bad : (place : BadPlace) → IsBad meaning log place ↔ (reading ≡ Err place)

@@ -24,22 +24,23 @@ use Rattle.fix_messages.specs.Feeds.{HasRead, StandsAt}
 
 -- A body that says this was taken: a record that it means was handed on, and the first test that
 -- it fails is the answer.
-abbrev pub TakesSaid : {R : Type 0} → Result (Option R) Reason → (List R → Type 0) → (List R → Type 0)
-    → Result (Unit {0}) Reason → Type 0
-TakesSaid (Ok new) before after answer = Adds before after (option_to_list new) × (answer ≡ Ok tt)
+abbrev pub TakesSaid : {R : Type 0} → Result (Option R) Reason → (List R → Type 0)
+    → (List R → Type 0) → Result (Unit {0}) Reason → Type 0
+TakesSaid (Ok new) before after answer =
+    Adds before after (option_to_list new) × (answer ≡ Ok tt)
 TakesSaid (Err why) before after answer = Adds before after [] × (answer ≡ Err why)
 
 -- The framer of a feed stands for some log that is no longer than a log that is read may be.
-pub record HasLog {K R : Type 0} (has_taken : K → List R → Type 0) (meaning : Meaning R) (feed : FixFeed K)
-    : Type 0 where
+pub record HasLog {K R : Type 0} (has_taken : K → List R → Type 0) (meaning : Meaning R)
+    (feed : FixFeed K) : Type 0 where
   pub log : List ℕ
   pub reads : HasRead (has_taken feed.entries) meaning feed.framer log
   pub within : length log ≤ longest_read
 
 -- A good message was taken: what was read of a log stays read, with the message, and fewer bytes
 -- are left.
-pub record Goes {K R : Type 0} (has_taken : K → List R → Type 0) (meaning : Meaning R) (old new : FixFeed K)
-    : Type 0 where
+pub record Goes {K R : Type 0} (has_taken : K → List R → Type 0) (meaning : Meaning R)
+    (old new : FixFeed K) : Type 0 where
   pub good : new.bad ≡ None
   pub reads : (log : List ℕ) → HasRead (has_taken old.entries) meaning old.framer log
       → HasRead (has_taken new.entries) meaning new.framer log
@@ -47,8 +48,8 @@ pub record Goes {K R : Type 0} (has_taken : K → List R → Type 0) (meaning : 
 
 -- No message was left to take, or a bad one came: the feed stands for each log that was read so
 -- far. Where none is bad, what is left is no whole message.
-pub record Ends {K R : Type 0} (has_taken : K → List R → Type 0) (meaning : Meaning R) (old new : FixFeed K)
-    : Type 0 where
+pub record Ends {K R : Type 0} (has_taken : K → List R → Type 0) (meaning : Meaning R)
+    (old new : FixFeed K) : Type 0 where
   pub stands : (log : List ℕ) → HasRead (has_taken old.entries) meaning old.framer log
       → StandsAt (has_taken new.entries) meaning new.framer new.bad log
   pub cut : new.bad ≡ None → frame_fault (next_text new.framer) ≡ Some Truncated
@@ -56,11 +57,13 @@ pub record Ends {K R : Type 0} (has_taken : K → List R → Type 0) (meaning : 
 -- the place of a bad message behind the records that were handed on
 abbrev pub IsPlace : {R : Type 0} → (List R → Type 0) → ℕ → Reason → BadPlace → Type 0
 IsPlace has_taken start why bad =
-    (entries : List _) → has_taken entries → bad ≡ record { place = length entries + 1; offset = start; reason = why }
+    (entries : List _) → has_taken entries
+    → bad ≡ record { place = length entries + 1; offset = start; reason = why }
 
 -- the records of an order's parts
 abbrev pub new_order : Head → Terms → Life → OrderRecord
-new_order head terms life = record_of.New head.key head.time head.symbol terms.side terms.quantity terms.price life
+new_order head terms life =
+    record_of.New head.key head.time head.symbol terms.side terms.quantity terms.price life
 
 abbrev pub cancel_order : Head → List ℕ → OrderRecord
 cancel_order head target = record_of.Cancel head.key head.time head.symbol target
@@ -86,7 +89,8 @@ as_bytes (Ok text) = Ok text.now
 as_bytes (Err why) = Err why
 
 -- the same, where there may be none
-abbrev pub as_some_bytes : Result (Option (Bor (List ℕ))) MessageFault → Result (Option (List ℕ)) MessageFault
+abbrev pub as_some_bytes : Result (Option (Bor (List ℕ))) MessageFault
+    → Result (Option (List ℕ)) MessageFault
 as_some_bytes (Ok None) = Ok None
 as_some_bytes (Ok (Some text)) = Ok (Some text.now)
 as_some_bytes (Err why) = Err why

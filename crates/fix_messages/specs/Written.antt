@@ -32,8 +32,8 @@ side_text side.Sell = codes "2"
 -- the fields that the messages of an order log begin with
 abbrev pub head_fields : List ℕ → Key → Moment → List ℕ → List TagValue
 head_fields type key time symbol =
-    field 35 type ∷ field 49 key.firm ∷ field 56 (codes "EXCHANGE") ∷ field 11 key.id ∷ field 60 (stamp_text time)
-    ∷ field 55 symbol ∷ []
+    field 35 type ∷ field 49 key.firm ∷ field 56 (codes "EXCHANGE") ∷ field 11 key.id
+    ∷ field 60 (stamp_text time) ∷ field 55 symbol ∷ []
 
 -- the fields of a side and a quantity
 abbrev pub size_fields : Side → ℕ → List TagValue
@@ -42,13 +42,15 @@ size_fields side quantity = field 54 (side_text side) ∷ field 38 (decimal quan
 -- the fields of an order type, a price and a life: a market order has no price
 abbrev pub limit_fields : Life → ℕ → List TagValue
 limit_fields life.Rests price = field 40 (codes "2") ∷ field 44 (price_text price) ∷ []
-limit_fields life.Immediate price = field 40 (codes "2") ∷ field 44 (price_text price) ∷ field 59 (codes "3") ∷ []
+limit_fields life.Immediate price =
+    field 40 (codes "2") ∷ field 44 (price_text price) ∷ field 59 (codes "3") ∷ []
 limit_fields life.Market price = field 40 (codes "1") ∷ []
 
 -- the fields of an order's message
 abbrev pub order_fields : OrderRecord → List TagValue
 order_fields (record_of.New key time symbol side quantity price life) =
-    head_fields (codes "D") key time symbol ++ size_fields side quantity ++ limit_fields life price
+    head_fields (codes "D") key time symbol ++ size_fields side quantity
+    ++ limit_fields life price
 order_fields (record_of.Cancel key time symbol target) =
     head_fields (codes "F") key time symbol ++ field 41 target ∷ []
 order_fields (record_of.Replace key time symbol target side quantity price) =
@@ -58,9 +60,11 @@ order_fields (record_of.Replace key time symbol target side quantity price) =
 -- the fields of a report's message
 abbrev pub report_fields : Report → List TagValue
 report_fields report =
-    field 35 (codes "8") ∷ field 49 (codes "EXCHANGE") ∷ field 56 report.key.firm ∷ field 11 report.key.id
-    ∷ field 150 (codes "F") ∷ field 527 report.trade ∷ field 60 (stamp_text report.time) ∷ field 55 report.symbol
-    ∷ field 54 (side_text report.side) ∷ field 32 (decimal report.quantity) ∷ field 31 (price_text report.price) ∷ []
+    field 35 (codes "8") ∷ field 49 (codes "EXCHANGE") ∷ field 56 report.key.firm
+    ∷ field 11 report.key.id ∷ field 150 (codes "F") ∷ field 527 report.trade
+    ∷ field 60 (stamp_text report.time) ∷ field 55 report.symbol
+    ∷ field 54 (side_text report.side) ∷ field 32 (decimal report.quantity)
+    ∷ field 31 (price_text report.price) ∷ []
 
 -- the message of an order, of a report, and the two messages of a trade
 abbrev pub order_text : OrderRecord → List ℕ
@@ -97,7 +101,8 @@ pub record AreTerms (quantity price : ℕ) : Type 0 where
 abbrev pub IsOrderInForm : OrderRecord → Type 0
 IsOrderInForm (record_of.New key time symbol side quantity price life) =
     IsHead key time symbol × AreTerms quantity price
-IsOrderInForm (record_of.Cancel key time symbol target) = IsHead key time symbol × IsTrue (is_name target)
+IsOrderInForm (record_of.Cancel key time symbol target) =
+    IsHead key time symbol × IsTrue (is_name target)
 IsOrderInForm (record_of.Replace key time symbol target side quantity price) =
     IsHead key time symbol × IsTrue (is_name target) × AreTerms quantity price
 

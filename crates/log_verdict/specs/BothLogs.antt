@@ -48,17 +48,18 @@ ReadsTrades r trades of_trades of_bad =
 
 -- the order log said this: where it is out of its grammar, the trade log is not started
 abbrev pub ReadsAfterOrders : Reading → Source
-    → (List OrderRecord → Result (List TradeRecord) Finding → Type 0) → (Which → BadPlace → Type 0)
-    → Result (List OrderRecord) BadPlace → Type 0
-ReadsAfterOrders r trades of_records of_bad (Err bad) = of_bad Orders bad × IsUntouched r Trades
+    → (List OrderRecord → Result (List TradeRecord) Finding → Type 0)
+    → (Which → BadPlace → Type 0) → Result (List OrderRecord) BadPlace → Type 0
+ReadsAfterOrders r trades of_records of_bad (Err bad) =
+    of_bad Orders bad × IsUntouched r Trades
 ReadsAfterOrders r trades of_records of_bad (Ok entries) =
     ReadsTrades r trades (of_records entries) (of_bad Trades)
 
 -- the order log was read to its end, and the trade log where that is in its grammar; this holds
 -- of the records of both, or of the first bad place
 abbrev pub ReadsLogs : Reading → Source → Source
-    → (List OrderRecord → Result (List TradeRecord) Finding → Type 0) → (Which → BadPlace → Type 0)
-    → Type 0
+    → (List OrderRecord → Result (List TradeRecord) Finding → Type 0)
+    → (Which → BadPlace → Type 0) → Type 0
 ReadsLogs r orders trades of_records of_bad =
     IsReadAs r Orders orders.name.now
     (λ bytes. ReadsAfterOrders r trades of_records of_bad (order_log orders.form bytes))
@@ -128,7 +129,8 @@ IsLengthStop (Err stop.Memory) = ⊥
 
 -- why nothing is said of one log
 abbrev pub IsLogStop : Reading → Which → List ℕ → Stop → Type 0
-IsLogStop r log name (stop.ReadFault which) = (which ≡ log) × IsReadFault r (step_of r log name)
+IsLogStop r log name (stop.ReadFault which) =
+    (which ≡ log) × IsReadFault r (step_of r log name)
 IsLogStop r log name (stop.TooLong which) = (which ≡ log) × IsTooLong r (step_of r log name)
 IsLogStop r log name stop.Memory = Unit {0}
 
@@ -145,7 +147,8 @@ Decides r scope orders trades result =
     MatchResult result (ReadsUpToRule r scope orders trades) (IsAuditStop r orders trades)
 
 -- the verdict on both logs, or why there is none
-abbrev pub DecidesVerdict : Reading → Question → Source → Source → Result Verdict Stop → Type 0
+abbrev pub DecidesVerdict : Reading → Question → Source → Source → Result Verdict Stop
+    → Type 0
 DecidesVerdict r q orders trades result =
     MatchResult result (ReadsVerdict r q orders trades) (IsAuditStop r orders trades)
 
@@ -170,4 +173,5 @@ pub record IsEndOf (scope : Scope) (trades : List TradeRecord)
     (ended : ResolvedTrades) : Type 0 where
   pub count : ended.count ≡ length trades
   pub finding : unsound_trade ended.history scope.symbol trades ≡ ended.finding
-  pub deals : ended.finding ≡ None → ended.deals.items ≡ deals_of ended.history scope.symbol trades
+  pub deals : ended.finding ≡ None
+      → ended.deals.items ≡ deals_of ended.history scope.symbol trades

@@ -19,7 +19,8 @@ use Rattle.log_verdict.specs.Steps.{Reading, Step, IsRead, IsReadFault, IsTooLon
 
 -- the step of a call that started one log
 abbrev pub step_of : Reading → Which → List ℕ → Step
-step_of r log name = record { log = log; name = name; before = r.before log; after = r.after log }
+step_of r log name =
+    record { log = log; name = name; before = r.before log; after = r.after log }
 
 -- Only this slot was touched, and its faults did not fall.
 pub record TouchesOnly (r : Reading) (log : Which) : Type 0 where
@@ -46,10 +47,12 @@ IsUnread meaning r log name unread.Memory = Unit {0}
 -- a log was handed to a collector, which has been handed exactly the records that its bytes mean,
 -- or it was not for a cause
 abbrev pub CollectsLog : {K R : Type 0} → (K → List R → Type 0)
-    → (List ℕ → Result (List R) BadPlace) → Reading → Which → List ℕ → Result K Unread → Type 0
+    → (List ℕ → Result (List R) BadPlace) → Reading → Which → List ℕ → Result K Unread
+    → Type 0
 CollectsLog has_taken meaning r log name result =
     MatchResult result
-    (λ collector. IsReadAs r log name (λ bytes. HasRead (has_taken collector) (meaning bytes)))
+    (λ collector. IsReadAs r log name
+    (λ bytes. HasRead (has_taken collector) (meaning bytes)))
     (IsUnread meaning r log name)
 
 -- The collector has been handed exactly these trades, and the log says that they are its own.
@@ -63,7 +66,8 @@ pub record HasTrades {R : Type 0} (has_taken : List R → Type 0)
 -- in their place
 abbrev pub HasCollected : {K R : Type 0} → (K → List R → Type 0) → Collected K
     → Result (Result (List R) Finding) BadPlace → Type 0
-HasCollected has_taken (collected.Trades collector) said = HasTrades (has_taken collector) said
+HasCollected has_taken (collected.Trades collector) said =
+    HasTrades (has_taken collector) said
 HasCollected has_taken (collected.Alone finding) said = said ≡ Ok (Err finding)
 
 -- a collector that is there has been handed fewer trades than there are places

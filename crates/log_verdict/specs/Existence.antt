@@ -6,7 +6,8 @@ use Rattle.record_verdict.specs.declared.questions.Question.{Question}
 use Rattle.log_verdict.specs.LogVerdicts.{Log, IsLogVerdict}
 
 -- A verdict that is the only one.
-pub record IsOnlyVerdict (q : Question) (orders trades : Log) (verdict : Verdict) : Type 0 where
+pub record IsOnlyVerdict (q : Question) (orders trades : Log) (verdict : Verdict)
+    : Type 0 where
   pub is : IsLogVerdict q orders trades verdict
   pub one : (other : Verdict) → IsLogVerdict q orders trades other → other ≡ verdict
 

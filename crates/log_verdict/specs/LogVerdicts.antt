@@ -62,7 +62,8 @@ abbrev pub OfLogs : (List OrderRecord → Result (List TradeRecord) Finding → 
     → (Which → BadPlace → Type 0) → Log → Log → Type 0
 OfLogs of_records of_bad orders trades =
     MatchResult (order_log orders.form orders.bytes)
-    (λ entries. MatchResult (trade_log trades.form trades.bytes) (of_records entries) (of_bad Trades))
+    (λ entries. MatchResult (trade_log trades.form trades.bytes) (of_records entries)
+    (of_bad Trades))
     (of_bad Orders)
 
 -- Verdict: that of the first bad place, or else that of the records

@@ -39,7 +39,8 @@ reading shelf old new = reading_within longest_log shelf old new
 -- No call changes whether what the shelf has is known, or what it has in a slot under a name.
 pub record KeepsLogs {S : Type 0} (shelf : Shelf S) (old new : S) : Type 0 where
   pub tells : shelf.tells new ≡ shelf.tells old
-  pub logs : (log : Which) (name : List ℕ) → shelf.log_of new log name ≡ shelf.log_of old log name
+  pub logs : (log : Which) (name : List ℕ)
+      → shelf.log_of new log name ≡ shelf.log_of old log name
 
 -- A log that was started: its slot, its name, and what was in the slot before and after.
 pub record Step : Type 0 where

@@ -30,7 +30,8 @@ abbrev pub IsBeforeRule : Scope → List OrderRecord → Result (List TradeRecor
 IsBeforeRule scope entries paired (upto.Malformed log bad) = ⊥
 IsBeforeRule scope entries paired (upto.Found finding) =
     early_finding scope entries paired ≡ Some finding
-IsBeforeRule scope entries paired (upto.Sound resolved) = AreSound scope entries paired resolved
+IsBeforeRule scope entries paired (upto.Sound resolved) =
+    AreSound scope entries paired resolved
 
 -- a log is not in its grammar
 abbrev pub is_malformed : BeforeRule → Bool

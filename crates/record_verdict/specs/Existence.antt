@@ -14,6 +14,7 @@ use Rattle.record_verdict.specs.Judgements.{IsJudged}
 -- reported of an accepted log, with its bound, its table and its only quantities
 abbrev pub JudgementExists : Type 0
 JudgementExists = (q : Question) (entries : List OrderRecord)
-    (paired : Result (List TradeRecord) Finding) → length entries < 2 ^ 32 → AreRecords entries
+    (paired : Result (List TradeRecord) Finding) → length entries < 2 ^ 32
+    → AreRecords entries
     → AreTrades (paired_trades paired)
     → (the_verdict : Verdict) × IsJudged q entries paired the_verdict

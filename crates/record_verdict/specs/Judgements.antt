@@ -97,7 +97,8 @@ pub record IsAcceptedLog (q : Question) (orders : List Order) (deals : List Deal
 
 -- the verdict is that the log is accepted
 abbrev pub IsAcceptance : Question → List Order → List Deal → Verdict → Type 0
-IsAcceptance q orders deals (verdict.Accepted accepted) = IsAcceptedLog q orders deals accepted
+IsAcceptance q orders deals (verdict.Accepted accepted) =
+    IsAcceptedLog q orders deals accepted
 IsAcceptance q orders deals (verdict.Rejected finding) = ⊥
 IsAcceptance q orders deals (verdict.Malformed log bad) = ⊥
 

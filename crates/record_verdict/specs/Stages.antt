@@ -23,8 +23,8 @@ use Rattle.record_verdict.specs.Scopes.{scope_of}
 use Rattle.record_verdict.specs.Judgements.{IsJudged, IsOutcome}
 
 -- the rule decides where no stage before it has a finding
-abbrev pub FoundAfter : Option Finding → Question → List Order → List Deal → ℕ → Option Finding
-    → Type 0
+abbrev pub FoundAfter : Option Finding → Question → List Order → List Deal → ℕ
+    → Option Finding → Type 0
 FoundAfter before q orders deals count found =
     MatchOption before (IsRuleVerdict q.rule orders deals count found)
     (λ finding. found ≡ Some finding)
@@ -43,7 +43,8 @@ pub record IsJudgedHistory (q : Question) (orders : List Order)
   pub found : Option Finding
   pub by_the_rules : FoundAfter (first_of (call_finding q.rule orders ∷ pairing_finding trades
       ∷ unsound_trade orders q.symbol (paired_trades trades) ∷ []))
-      q orders (deals_of orders q.symbol (paired_trades trades)) (length (paired_trades trades))
+      q orders (deals_of orders q.symbol (paired_trades trades))
+      (length (paired_trades trades))
       found
   pub outcome : IsOutcome q orders (deals_of orders q.symbol (paired_trades trades))
       found the_verdict
@@ -65,7 +66,8 @@ pub record IsJudgedDeals (q : Question) (orders : List Order) (deals : List Deal
 
 -- The verdict on what two logs give before the rule is looked at: their first bad place, the
 -- finding, or that of the rule on sound trades; and so it is that on whatever records give this.
-pub record VerdictIs (q : Question) (reached : BeforeRule) (the_verdict : Verdict) : Type 0 where
+pub record VerdictIs (q : Question) (reached : BeforeRule) (the_verdict : Verdict)
+    : Type 0 where
   pub of_place : (log : Which) (bad : BadPlace) → reached ≡ upto.Malformed log bad
       → the_verdict ≡ verdict.Malformed log bad
   pub of_finding : (finding : Finding) → reached ≡ upto.Found finding
@@ -73,4 +75,5 @@ pub record VerdictIs (q : Question) (reached : BeforeRule) (the_verdict : Verdic
   pub of_deals : (sound : ResolvedTrades) → reached ≡ upto.Sound sound
       → IsJudgedDeals q sound.history sound.deals.items sound.count the_verdict
   pub of_records : (entries : List OrderRecord) (paired : Result (List TradeRecord) Finding)
-      → IsBeforeRule (scope_of q) entries paired reached → IsJudged q entries paired the_verdict
+      → IsBeforeRule (scope_of q) entries paired reached
+      → IsJudged q entries paired the_verdict
