@@ -1,5 +1,5 @@
--- What a CSV feed stands for, and what it and the readers of whole logs answer. The code of LF is
--- 10.
+-- What a CSV feed stands for, and what it and the readers of whole
+-- logs answer. The code of LF is 10.
 use Rattle.std.specs.Prelude.{◌≡◌, ⊤, ℕ, Bool, true, false, ◌==◌, ◌≤◌, IsTrue, Option, Some, None, Result, Ok, Err, List, [], ◌∷◌, ◌++◌, length, drop, MatchResult}
 use Rattle.std.specs.Global.{Vec}
 use Rattle.std.specs.List.{list_any}
@@ -28,8 +28,8 @@ is_whole [] = true
 is_whole (byte ∷ []) = is_lf byte
 is_whole (byte ∷ next ∷ rest) = is_whole (next ∷ rest)
 
--- these lines are all good, `header` says whether the header is among them, and `entries` are
--- their records
+-- these lines are all good, `header` says whether the header is among
+-- them, and `entries` are their records
 abbrev pub IsPassed : {R : Type 0} → Row → Meaning R → Bool → List R → List Line → Type 0
 IsPassed names entry false entries lines = (lines ≡ []) × (entries ≡ [])
 IsPassed names entry true entries lines = read_lines names entry 0 lines ≡ Ok entries
@@ -61,16 +61,16 @@ StandsAt names entry entries rest offset header (Some bad) log =
     IsShut names entry rest bad log
 
 -- The feed has been handed some records, and with these its fields stand for this log.
-pub record StandsWith {R : Type 0} (has_taken : Taken R) (names : Row) (entry : Meaning R)
-    (rest : List ℕ) (offset : ℕ) (header : Bool) (bad : Option BadPlace) (log : List ℕ)
-    : Type 0 where
+pub record StandsWith {R : Type 0} (has_taken : Taken R) (names : Row)
+    (entry : Meaning R) (rest : List ℕ) (offset : ℕ) (header : Bool)
+    (bad : Option BadPlace) (log : List ℕ) : Type 0 where
   pub entries : List R
   pub has : has_taken entries
   pub stands : StandsAt names entry entries rest offset header bad log
 
 -- the feed stands for this log; `has_taken` says what its collector has been handed
-abbrev pub StandsFor : {K R : Type 0} → TakenBy K R → Row → Meaning R → CsvFeed K → List ℕ
-    → Type 0
+abbrev pub StandsFor : {K R : Type 0} → TakenBy K R → Row → Meaning R → CsvFeed K
+    → List ℕ → Type 0
 StandsFor has_taken names entry feed log =
     StandsWith (has_taken feed.entries) names entry feed.rest.items feed.offset feed.header feed.bad log
 
@@ -82,7 +82,8 @@ pub record IsWithinLimit {K R : Type 0} (has_taken : TakenBy K R) (names : Row)
   pub within : length log ≤ longest_read
 
 -- The collector has been handed exactly the records of a good log.
-pub record HasRead {R : Type 0} (has_taken : Taken R) (reading : Reading R) : Type 0 where
+pub record HasRead {R : Type 0} (has_taken : Taken R) (reading : Reading R)
+    : Type 0 where
   pub entries : List R
   pub has : has_taken entries
   pub reads : reading ≡ Ok entries
@@ -98,6 +99,8 @@ IsReadAs reading result =
     MatchResult result (λ records. reading ≡ Ok records.items) (IsCause reading)
 
 -- the same, where the records were handed to a collector
-abbrev pub IsHandedAs : {K R : Type 0} → TakenBy K R → Reading R → Result K LogFault → Type 0
+abbrev pub IsHandedAs : {K R : Type 0} → TakenBy K R → Reading R
+    → Result K LogFault → Type 0
 IsHandedAs has_taken reading result =
-    MatchResult result (λ collector. HasRead (has_taken collector) reading) (IsCause reading)
+    MatchResult result (λ collector. HasRead (has_taken collector) reading)
+    (IsCause reading)

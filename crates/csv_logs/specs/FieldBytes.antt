@@ -12,4 +12,5 @@ shown fields = fields_of fields.texts
 -- where it is known, each byte of each field is one that a name may hold
 abbrev pub IsTested : Inside → Type 0
 IsTested fields =
-    fields.have_name_bytes ≡ true → IsTrue (list_all (list_all is_name_byte) (shown fields))
+    fields.have_name_bytes ≡ true
+    → IsTrue (list_all (list_all is_name_byte) (shown fields))

@@ -1,6 +1,6 @@
--- What a reader must believe: how a log is cut into lines, what nine fields mean, what a good and
--- a bad log is, that each log is one of them, with numbers in range, what a feed stands for, and
--- the canonical log.
+-- What a reader must believe: how a log is cut into lines, what nine fields mean, what a
+-- good and a bad log is, that each log is one of them, with numbers in range, what a feed
+-- stands for, and the canonical log.
 pub mod Lines
 pub mod Columns
 pub mod OrderLines

@@ -2,8 +2,8 @@
 use Rattle.std.specs.Prelude.{ℕ, Bool, not, ◌+◌, ◌-◌, ◌==◌, List, [], ◌∷◌, length, take, drop, filter, if◌then◌else◌}
 use Rattle.std.specs.List.{ends_with, starts_with}
 
--- a line of a log: the offset in the log of its first byte, and its bytes without the end of the
--- line
+-- a line of a log: the offset in the log of its first byte, and
+-- its bytes without the end of the line
 pub record Line : Type 0 where
   pub start : ℕ
   pub text : List ℕ
@@ -35,7 +35,8 @@ without_cr line = if ends_with ◌==◌ line (13 ∷ []) then take (length line 
 abbrev pub placed : ℕ → List (List ℕ) → List Line
 placed start [] = []
 placed start (line ∷ lines) =
-    record { start = start; text = without_cr line } ∷ placed (start + length line + 1) lines
+    record { start = start; text = without_cr line }
+    ∷ placed (start + length line + 1) lines
 
 abbrev pub is_full : Line → Bool
 is_full line = not (length line.text == 0)

@@ -120,8 +120,8 @@ abbrev pub IsBad : {R : Type 0} → Row → Meaning R → List ℕ → BadPlace 
 IsBad names entry log bad =
     LacksHeader log bad ⊎ (HasBadHeader names log bad ⊎ HasBadLine names entry log bad)
 
--- A log is read in one way: it is good with one list of records or bad at one place, and never
--- both.
+-- A log is read in one way: it is good with one list of records
+-- or bad at one place, and never both.
 pub record IsOnlyReading {R : Type 0} (names : Row) (entry : Meaning R) (log : List ℕ)
     (reading : Reading R) : Type 0 where
   pub good : (entries : List R) → IsGood names entry log entries ↔ (reading ≡ Ok entries)

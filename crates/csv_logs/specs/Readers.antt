@@ -1,5 +1,5 @@
--- Lines that are read one after another by one reader of `csv`: what the private functions that
--- share a reader say.
+-- Lines that are read one after another by one reader of `csv`: what the private
+-- functions that share a reader say.
 use Rattle.std.specs.Prelude.{◌≡◌, ◌==◌, ◌&&◌, ◌||◌, not, ℕ, Bool, true, false, Option, Some, List, [], ◌∷◌, ◌++◌, length}
 use Rattle.std.specs.List.{list_all}
 use Rattle.csv.specs.Machine.{Read, next_record, step}
@@ -48,8 +48,8 @@ state_of place.InField = st.InField
 state_of place.InQuotes = st.InQuoted
 state_of place.AfterQuote = st.AfterQuote
 
--- a line whose fields do not depend on what follows it: it isn't broken, and its quotes close
--- before its end
+-- a line whose fields do not depend on what follows it: it isn't broken,
+-- and its quotes close before its end
 abbrev pub is_closed : List ℕ → Bool
 is_closed line = not (is_broken line) && not (is_quoted (state_behind st.StartField line))
 
@@ -91,8 +91,7 @@ PassesLine remaining old new line =
     (later : List ℕ) → IsReading remaining old (line ++ 10 ∷ later)
     → IsReading remaining new later
 
--- A reader that was at a closed line that is not empty gave its fields, and is at what follows
--- it.
+-- A reader that was at a closed line that is not empty gave its fields, and is at what follows it.
 abbrev pub ReadsLine : {R : Type 0} → Remaining R → Reader R → Reader R → Row → Type 0
 ReadsLine remaining old new fields =
     (line later : List ℕ) → is_closed (without_cr line) ≡ true

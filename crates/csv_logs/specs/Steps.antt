@@ -48,14 +48,15 @@ line_says names entry false text = header_says (is_header names text)
 
 -- Fields that say this were taken: a record that they mean was handed on, and the outcome is the
 -- first test that they fail, if any.
-abbrev pub TakesFields : {R : Type 0} → Says R → Taken R → Taken R → Outcome → Type 0
+abbrev pub TakesFields : {R : Type 0} → Says R → Taken R → Taken R → Outcome
+    → Type 0
 TakesFields (Ok new) before after outcome =
     Adds before after (option_to_list new) × (outcome ≡ Ok tt)
 TakesFields (Err why) before after outcome = Adds before after [] × (outcome ≡ Err why)
 
 -- the feed has gone behind a line of `size` bytes that starts at `start`, whose outcome was this
-abbrev pub Moves : {R : Type 0} → Outcome → ℕ → ℕ → Taken R → ℕ → ℕ → Bool → Option BadPlace
-    → Type 0
+abbrev pub Moves : {R : Type 0} → Outcome → ℕ → ℕ → Taken R → ℕ → ℕ → Bool
+    → Option BadPlace → Type 0
 Moves (Ok done) start size has_taken offset offset' header' bad' =
     (offset' ≡ offset + size) × (header' ≡ true) × (bad' ≡ None)
 Moves (Err why) start size has_taken offset offset' header' bad' =
@@ -63,8 +64,8 @@ Moves (Err why) start size has_taken offset offset' header' bad' =
     → bad' ≡ Some (record { place = length entries + 1; offset = start; reason = why })
 
 -- what stood for a log with a line that has not ended stands for it with that line ended
-abbrev pub EndsLine : {R : Type 0} → Row → Meaning R → Taken R → List ℕ → ℕ → Bool → Taken R
-    → List ℕ → ℕ → Bool → Option BadPlace → Type 0
+abbrev pub EndsLine : {R : Type 0} → Row → Meaning R → Taken R → List ℕ → ℕ → Bool
+    → Taken R → List ℕ → ℕ → Bool → Option BadPlace → Type 0
 EndsLine names entry before line offset header after rest' offset' header' bad' =
     (entries : List _) (log : List ℕ) → before entries
     → IsOpen names entry entries line offset header log
@@ -108,15 +109,16 @@ pub record Goes (old new : List ℕ → Type 0) (piece left : List ℕ) : Type 0
 -- The same, said of a feed before and after, where `has_taken` is its collector's meaning.
 
 -- the feed has gone behind a line of `size` bytes that starts at `start`, whose outcome was this
-abbrev pub FeedMoves : {K R : Type 0} → TakenBy K R → Outcome → ℕ → ℕ → CsvFeed K → CsvFeed K
-    → Type 0
+abbrev pub FeedMoves : {K R : Type 0} → TakenBy K R → Outcome → ℕ → ℕ → CsvFeed K
+    → CsvFeed K → Type 0
 FeedMoves has_taken outcome start size old new =
-    Moves outcome start size (has_taken new.entries) old.offset new.offset new.header new.bad
+    Moves outcome start size
+    (has_taken new.entries) old.offset new.offset new.header new.bad
 
 -- some log that the feed stands for, ended with this line in place of its rest, is no longer than
 -- a log that is read may be
-abbrev pub FeedHasLine : {K R : Type 0} → TakenBy K R → Row → Meaning R → CsvFeed K → List ℕ
-    → Type 0
+abbrev pub FeedHasLine : {K R : Type 0} → TakenBy K R → Row → Meaning R
+    → CsvFeed K → List ℕ → Type 0
 FeedHasLine has_taken names entry feed line =
     HasLine names entry (has_taken feed.entries) line feed.offset feed.header
 
@@ -129,8 +131,8 @@ FeedEndsLine has_taken names entry old new line rest =
 
 -- some log that the feed stands for, ended with this line in place of its rest and followed by
 -- this text, is no longer than a log that is read may be
-abbrev pub FeedHasLines : {K R : Type 0} → TakenBy K R → Row → Meaning R → CsvFeed K → List ℕ
-    → List ℕ → Type 0
+abbrev pub FeedHasLines : {K R : Type 0} → TakenBy K R → Row → Meaning R
+    → CsvFeed K → List ℕ → List ℕ → Type 0
 FeedHasLines has_taken names entry feed line text =
     HasLines names entry (has_taken feed.entries) line feed.offset feed.header text
 
@@ -142,8 +144,8 @@ FeedEndsLines has_taken names entry old new line text left =
     (StandsFor has_taken names entry new) text left
 
 -- the feed has taken a piece up to what is left of it
-abbrev pub FeedGoes : {K R : Type 0} → TakenBy K R → Row → Meaning R → CsvFeed K → CsvFeed K
-    → List ℕ → List ℕ → Type 0
+abbrev pub FeedGoes : {K R : Type 0} → TakenBy K R → Row → Meaning R → CsvFeed K
+    → CsvFeed K → List ℕ → List ℕ → Type 0
 FeedGoes has_taken names entry old new =
     Goes (StandsFor has_taken names entry old) (StandsFor has_taken names entry new)
 

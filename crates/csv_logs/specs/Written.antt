@@ -70,8 +70,8 @@ abbrev pub IsReadAgain : {R : Type 0} → Row → Meaning R → (R → Type 0) �
 IsReadAgain names entry sound fields records =
     All sound records → read_log names entry (log_text names fields records) ≡ Ok records
 
--- the canonical order log of these records says these records, where those of life Market have
--- the market price
+-- the canonical order log of these records says these records, where those
+-- of life Market have the market price
 abbrev pub AreOrdersReadAgain : List OrderRecord → Type 0
 AreOrdersReadAgain records =
     All HasMarketPrice records → order_log (orders_text records) ≡ Ok records

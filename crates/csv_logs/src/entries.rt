@@ -1,5 +1,5 @@
-//! What a kind of log has of its own, the names of its columns and what nine fields mean, and what
-//! its lines say by that.
+//! What a kind of log has of its own, the names of its columns and what nine fields
+//! mean, and what its lines say by that.
 ghost use Rattle.std.specs.Prelude.{◌≡◌, ℕ, IfOk, List, Ok, Result, false};
 ghost use Rattle.audit_base.specs.declared.faults.Reason.{Reason};
 ghost use Rattle.csv_logs.specs.Columns.{tested};

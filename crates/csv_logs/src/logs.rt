@@ -45,7 +45,8 @@ pub fn csv_orders_of(alloc: Global, bytes: &[u8]) -> Result<Vec<OrderRecord>, Lo
     ensures priced { IfOk result (λ entries. All HasMarketPrice entries.items) }
     ensures few { IfOk result (λ entries. vec_len entries < 2 ^ 32 - 1) }
     ensures nine { IfOk result (λ entries. HasNineBytesEach entries.items bytes.now) }
-    ensures unique { IsOnlyReading order_columns order_entry bytes.now (order_log bytes.now) }
+    ensures unique { IsOnlyReading order_columns order_entry bytes.now
+        (order_log bytes.now) }
 {
     entries_of(alloc, bytes)
 }
@@ -57,7 +58,8 @@ pub fn csv_trades_of(alloc: Global, bytes: &[u8]) -> Result<Vec<TradeRecord>, Lo
     ensures reads { IsReadAs (trade_log bytes.now) result }
     ensures few { IfOk result (λ entries. vec_len entries < 2 ^ 32 - 1) }
     ensures nine { IfOk result (λ entries. HasNineBytesEach entries.items bytes.now) }
-    ensures unique { IsOnlyReading trade_columns trade_entry bytes.now (trade_log bytes.now) }
+    ensures unique { IsOnlyReading trade_columns trade_entry bytes.now
+        (trade_log bytes.now) }
 {
     entries_of(alloc, bytes)
 }

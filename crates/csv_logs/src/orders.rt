@@ -129,7 +129,8 @@ fn test_cancel(fields: &NineFields<'_>) -> Result<(), Reason>
 fn replacement_terms(fields: &NineFields<'_>) -> Result<Terms, Reason>
     ensures named { OnOk result (HasName 9 fields.now) }
     ensures read { IfOk result (λ terms. (head : Head)
-        → replacement head fields.now ≡ Ok (replace_order head terms (column_text 9 fields.now))) }
+        → replacement head fields.now
+        ≡ Ok (replace_order head terms (column_text 9 fields.now))) }
     ensures why { IfErr result (λ why. (head : Head) → replacement head fields.now ≡ Err why) }
 {
     let side = side_at(6, fields)?;
@@ -171,7 +172,8 @@ fn take_limit<K: Collector<Entry = OrderRecord>>(
 ) -> Result<Result<(), Reason>, NoMemory>
     requires names { HasHeadNames fields.now }
     requires place { HasPlace K.has_taken entries.old }
-    ensures { let says = entry_says (limit_order (written_head time fields.now) life fields.now) in
+    ensures { let says = entry_says
+        (limit_order (written_head time fields.now) life fields.now) in
         IfOk result (TakesFields says (K.has_taken entries.old) (K.has_taken entries.new)) }
 {
     match limit_terms(fields) {
@@ -275,8 +277,8 @@ fn take_order_of_kind<K: Collector<Entry = OrderRecord>>(
     }
 }
 
-/// The kind of a line and its time, in the columns that every order line has, whose names are
-/// tested.
+/// The kind of a line and its time, in the columns that every
+/// order line has, whose names are tested.
 #[inline(always)]
 #[tactic(auto, unfolding(crate::specs::OrderLines::order_entry))]
 fn kind_and_time(fields: &NineFields<'_>, stamps: &mut StampReader) -> Result<(Kind, Stamp), Reason>
@@ -290,8 +292,8 @@ fn kind_and_time(fields: &NineFields<'_>, stamps: &mut StampReader) -> Result<(K
     Ok((kind, time))
 }
 
-/// Hands on the record that nine fields mean in an order log, or gives the first column that is
-/// not in its form.
+/// Hands on the record that nine fields mean in an order log, or gives the
+/// first column that is not in its form.
 pub(crate) fn take_order<K: Collector<Entry = OrderRecord>>(
     entries: &mut K,
     fields: &NineFields<'_>,
@@ -308,7 +310,8 @@ pub(crate) fn take_order<K: Collector<Entry = OrderRecord>>(
 }
 
 fn test_limit(fields: &NineFields<'_>) -> Result<(), Reason>
-    ensures { (head : Head) (life : Life) → result ≡ tested (limit_order head life fields.now) }
+    ensures { (head : Head) (life : Life)
+        → result ≡ tested (limit_order head life fields.now) }
 {
     limit_terms(fields)?;
     Ok(())
@@ -339,8 +342,8 @@ fn test_order_of_kind(kind: Kind, fields: &NineFields<'_>) -> Result<(), Reason>
     }
 }
 
-/// Whether nine fields mean a record in an order log, or else the first column that is not in its
-/// form.
+/// Whether nine fields mean a record in an order log, or else the
+/// first column that is not in its form.
 pub(crate) fn test_order(fields: &NineFields<'_>, stamps: &mut StampReader) -> Result<(), Reason>
     ensures { result ≡ tested (order_entry fields.now) }
 {

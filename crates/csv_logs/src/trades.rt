@@ -36,7 +36,8 @@ pub(crate) struct TradeTerms {
 #[tactic(auto, unfolding(crate::specs::TradeLines::trade_entry))]
 fn trade_terms(fields: &NineFields<'_>, stamps: &mut StampReader) -> Result<TradeTerms, Reason>
     ensures named { OnOk result (HasTradeNames fields.now) }
-    ensures read { IfOk result (λ terms. trade_entry fields.now ≡ Ok (written_trade terms fields.now)) }
+    ensures read { IfOk result
+        (λ terms. trade_entry fields.now ≡ Ok (written_trade terms fields.now)) }
     ensures why { IfErr result (λ why. trade_entry fields.now ≡ Err why) }
 {
     test_name(1, fields)?;
@@ -80,8 +81,8 @@ pub(crate) fn take_trade<K: Collector<Entry = TradeRecord>>(
     }
 }
 
-/// Whether nine fields mean a record in a trade log, or else the first column that is not in its
-/// form.
+/// Whether nine fields mean a record in a trade log, or else the
+/// first column that is not in its form.
 pub(crate) fn test_trade(fields: &NineFields<'_>, stamps: &mut StampReader) -> Result<(), Reason>
     ensures { result ≡ tested (trade_entry fields.now) }
 {

@@ -70,8 +70,8 @@ NoField before bytes =
     (field : TagValue) (more : List ℕ) → IsField before field
     → bytes ≢ field_bytes field ++ more
 
--- the first field of the body that can't be read begins at byte n: before it are fields, and no
--- field begins there
+-- the first field of the body that can't be read begins at byte n: before it
+-- are fields, and no field begins there
 pub record IsUnreadable (body : List ℕ) (n : ℕ) : Type 0 where
   pub front : List TagValue
   pub left : List ℕ

@@ -14,8 +14,8 @@ pub record IsOrdinary (before : Option TagValue) (field : TagValue) : Type 0 whe
   pub delimited : IsDelimited field.value
   pub uncounted : IsFalse (is_counted before field.tag)
 
--- fields whose values end at the next SOH, no two of which follow one another as a pair of the
--- table
+-- fields whose values end at the next SOH, no two of which follow
+-- one another as a pair of the table
 abbrev pub AreOrdinary : Option TagValue → List TagValue → Type 0
 AreOrdinary before [] = Unit {0}
 AreOrdinary before (field ∷ fields) =

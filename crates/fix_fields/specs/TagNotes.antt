@@ -24,8 +24,8 @@ first_placed (field ∷ next ∷ fields) = Many field.from field.to
 abbrev pub placed_of : List Field → ℕ → Placed
 placed_of fields tag = first_placed (fields_with tag fields)
 
--- the tags that are noted, those that the tables of messages ask for, each with the place of its
--- note
+-- the tags that are noted, those that the tables of messages ask
+-- for, each with the place of its note
 abbrev pub places : List (ℕ × ℕ)
 places =
     (11, 0) ∷ (31, 1) ∷ (32, 2) ∷ (35, 3) ∷ (38, 4) ∷ (40, 5) ∷ (41, 6) ∷ (43, 7) ∷ (44, 8)
@@ -40,8 +40,8 @@ place_of tag = option_map (λ p. p.1) (find (λ p. p.0 == tag) places)
 abbrev pub IsNoted : ℕ → Type 0
 IsNoted tag = IsSome (place_of tag)
 
--- what a note says: how many fields have its tag, two where there are more, and where the value
--- of the first is
+-- what a note says: how many fields have its tag, two where there are more,
+-- and where the value of the first is
 abbrev pub noted : ℕ → ℕ → ℕ → Placed
 noted count from to =
     if count == 0 then Absent else if count == 1 then One from to else Many from to

@@ -15,4 +15,5 @@ found_at (Some first) count = if count == 1 then One first else Many first
 
 -- the index of the first field with the tag, and whether it is the only one
 abbrev pub found_of : List Field → ℕ → Found
-found_of fields tag = found_at (position (has_tag tag) fields) (count_by (has_tag tag) fields)
+found_of fields tag =
+    found_at (position (has_tag tag) fields) (count_by (has_tag tag) fields)

@@ -11,8 +11,8 @@ use std::alloc::AllocFailed;
 /// How many tags are noted.
 const NOTES: usize = 19;
 
-/// Where the values of those tags are that the tables of messages ask for, each at a place of its
-/// own.
+/// Where the values of those tags are that the tables of messages
+/// ask for, each at a place of its own.
 #[derive(Drop)]
 pub struct TagNotes {
     /// How many fields have the tag, two where there are more.
@@ -112,8 +112,8 @@ impl TagNotes {
         self.put(place, field);
     }
 
-    /// Where the value of the first field with the tag is, and whether there are more, among the
-    /// fields that are noted.
+    /// Where the value of the first field with the tag is, and whether there are
+    /// more, among the fields that are noted.
     #[inline(always)]
     pub fn find(&self, tag: u32) -> Placed
         requires { IsNoted tag }

@@ -203,8 +203,10 @@ fn field_at(body: &[u8], at: usize, before: Option<Field>, ends: &mut Memchr<'_>
     requires before { ForSome before (λ f. HasRangeIn body.now f) }
     requires at { at ≤ length body.now }
     requires ends { HoldsEnds body.now at ends.old }
-    ensures found { IfSome result (BeginsAt body.now at (option_map (shown body.now) before)) }
-    ensures none { IfNone result (NoField (option_map (shown body.now) before) (drop at body.now)) }
+    ensures found { IfSome result
+        (BeginsAt body.now at (option_map (shown body.now) before)) }
+    ensures none { IfNone result
+        (NoField (option_map (shown body.now) before) (drop at body.now)) }
     ensures ends { IfSome result (λ field. HoldsEnds body.now (field.to + 1) ends.new) }
 {
     let (tag, size) = tag_at(&body[at..])?;

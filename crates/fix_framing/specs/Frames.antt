@@ -22,9 +22,9 @@ before_checksum digits body = header ++ digits ++ soh ∷ body
 abbrev pub checksum_field : List ℕ → List ℕ
 checksum_field digits = codes "10=" ++ digits ++ soh ∷ []
 
--- Frame: the text is a message with this body. Its length's 1 to 9 digits write the number of bytes
--- of the body, at most 1,048,576, and its three last digits the sum of all bytes before `10=`,
--- modulo 256
+-- Frame: the text is a message with this body. Its length's 1 to 9 digits write the
+-- number of bytes of the body, at most 1,048,576, and its three last digits the sum of
+-- all bytes before `10=`, modulo 256
 pub record IsFrame (text body : List ℕ) : Type 0 where
   pub length_digits : List ℕ
   pub sum_digits : List ℕ
@@ -90,8 +90,8 @@ has_long_length r = nat_le 10 (length (length_digits r))
 abbrev pub ends_in_length : List ℕ → Bool
 ends_in_length r = length r == 12 + length (length_digits r)
 
--- test 5: no digit follows the header, or the byte after the digits isn't SOH, or the value exceeds
--- 1,048,576
+-- test 5: no digit follows the header, or the byte after the digits isn't
+-- SOH, or the value exceeds 1,048,576
 abbrev pub has_bad_length : List ℕ → Bool
 has_bad_length r =
     length (length_digits r) == 0

@@ -37,9 +37,9 @@ IsFramed text (frame ∷ more) =
     × IsTrue (list_all is_break gap) × IsFrame frame body
     × (text ≡ gap ++ (frame ++ rest)) × IsFramed rest more
 
--- The framer stands for these bytes fed and these frames: the bytes fed are some `base` bytes
--- followed by those that it holds, and the first `base + next` of them are the frames with CR and
--- LF around them
+-- The framer stands for these bytes fed and these frames: the bytes fed are some
+-- `base` bytes followed by those that it holds, and the first `base + next` of them
+-- are the frames with CR and LF around them
 pub record StandsFor (framer : Framer) (fed : List ℕ) (frames : List (List ℕ)) : Type 0 where
   pub before : List ℕ
   pub dropped : length before ≡ framer.base
@@ -47,8 +47,8 @@ pub record StandsFor (framer : Framer) (fed : List ℕ) (frames : List (List ℕ
   pub within : reached framer ≤ length fed
   pub framed : IsFramed (take (reached framer) fed) frames
 
--- the offset, in any bytes fed that the framer stands for, of the first unframed byte that is
--- neither CR nor LF
+-- the offset, in any bytes fed that the framer stands for, of the first
+-- unframed byte that is neither CR nor LF
 pub record IsNextOffset (framer : Framer) (at : ℕ) : Type 0 where
   pub counted : at ≡ next_offset framer
   pub there : (fed : List ℕ) (frames : List (List ℕ))
@@ -78,9 +78,9 @@ Keeps old new =
     (fed : List ℕ) (frames : List (List ℕ)) → StandsFor old fed frames
     → StandsFor new fed frames
 
--- Whole: behind CR and LF alone is the next frame of the bytes fed, from start on. Its body runs
--- from `body` to `to` in the bytes held, and it ends at `to + 7` there. It is appended to the
--- frames
+-- Whole: behind CR and LF alone is the next frame of the bytes fed, from start on.
+-- Its body runs from `body` to `to` in the bytes held, and it ends at `to + 7`
+-- there. It is appended to the frames
 pub record GivesFrame (old new : Framer) (start body to : ℕ) : Type 0 where
   pub gap : List ℕ
   pub frame : List ℕ
@@ -113,8 +113,8 @@ pub record Waits (old new : Framer) : Type 0 where
       → ¬ IsTrue (list_all is_break (unframed old)) → (0 < length (held new))
       × (slice_get (held new) (length (held new) - 1) ≡ slice_get fed (length fed - 1))
 
--- Fault: from `at` on, the first byte behind CR and LF, the bytes fail a test, whatever follows
--- them. Nothing changes
+-- Fault: from `at` on, the first byte behind CR and LF, the bytes fail a test,
+-- whatever follows them. Nothing changes
 pub record Refuses (old new : Framer) (at : ℕ) (fault : FrameFault) : Type 0 where
   pub failing : frame_fault (next_text old) ≡ Some fault
   pub bad : fault ≢ Truncated

@@ -68,8 +68,8 @@ impl Framer {
         }
     }
 
-    /// Takes the next piece of the bytes, which are fewer than 2^64 in all. Out of memory, nothing
-    /// changes.
+    /// Takes the next piece of the bytes, which are fewer than 2^64 in
+    /// all. Out of memory, nothing changes.
     pub fn feed(&mut self, piece: &[u8]) -> Result<(), NoMemory>
         requires { HasRoom self.old piece.now }
         ensures ok { OnOk result (Feeds self.old self.new piece.now) }

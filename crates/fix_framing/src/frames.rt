@@ -103,8 +103,8 @@ fn length_window(text: &[u8]) -> &[u8]
     &rest[..rest.len().min(10)]
 }
 
-/// How many digits follow the header, before the SOH that ends them: tests 3 to 5 but for their
-/// value.
+/// How many digits follow the header, before the SOH that ends
+/// them: tests 3 to 5 but for their value.
 fn length_field(text: &[u8]) -> Result<usize, FrameFault>
     requires { 12 ≤ length text.now }
     ensures ok { IfOk result (λ digits. IsLengthField (drop 12 text.now) digits) }

@@ -7,8 +7,8 @@ use Rattle.fix_messages.specs.declared.meanings.MessageFault.{MessageFault}
 use Rattle.fix_messages.specs.declared.meanings.MessageFault.TheVariants.{Missing, Repeated, Value, Unsupported}
 use Rattle.fix_messages.specs.BodyFields.{split_of}
 
--- what the fields of a message mean in a kind of log: a record, or nothing, or the first test
--- that they fail
+-- what the fields of a message mean in a kind of log: a record, or
+-- nothing, or the first test that they fail
 abbrev pub Meaning : Type 0 → Type 0
 Meaning R = List TagValue → Result (Option R) MessageFault
 
@@ -62,7 +62,7 @@ says_of meaning fields [] =
     if begins_with_type fields then reasoned (meaning fields) else Err reason.MsgType
 says_of meaning fields (byte ∷ left) = Err (reason.Field (length (bytes_of fields)))
 
--- what a body says, found from its front: `BodySays` holds of it and of nothing else
--- (`BodySaysOnce`)
+-- what a body says, found from its front: `BodySays` holds of it
+-- and of nothing else (`BodySaysOnce`)
 unfoldable pub body_says : {R : Type 0} → Meaning R → List ℕ → Result (Option R) Reason
 body_says meaning body = says_of meaning (split_of body).fields (split_of body).left

@@ -44,26 +44,26 @@ pub record IsOpen {R : Type 0} (has_taken : List R → Type 0) (meaning : Meanin
   pub short : length (framing.held framer) < longest_frame
 
 -- The log and every longer log that begins with it are bad at this place, and no bytes are held.
-pub record IsShut {R : Type 0} (meaning : Meaning R) (framer : Framer) (bad : BadPlace)
-    (log : List ℕ) : Type 0 where
+pub record IsShut {R : Type 0} (meaning : Meaning R) (framer : Framer)
+    (bad : BadPlace) (log : List ℕ) : Type 0 where
   pub is_bad : (more : List ℕ) → read_log meaning (log ++ more) ≡ Err bad
   pub nothing : framing.held framer ≡ []
 
 -- these fields of a feed stand for this log
-abbrev pub StandsAt : {R : Type 0} → (List R → Type 0) → Meaning R → Framer → Option BadPlace
-    → List ℕ → Type 0
+abbrev pub StandsAt : {R : Type 0} → (List R → Type 0) → Meaning R → Framer
+    → Option BadPlace → List ℕ → Type 0
 StandsAt has_taken meaning framer None log = IsOpen has_taken meaning framer log
 StandsAt has_taken meaning framer (Some bad) log = IsShut meaning framer bad log
 
 -- the feed stands for this log; `has_taken` says what its collector has been handed
-abbrev pub StandsFor : {K R : Type 0} → (K → List R → Type 0) → Meaning R → FixFeed K → List ℕ
-    → Type 0
+abbrev pub StandsFor : {K R : Type 0} → (K → List R → Type 0) → Meaning R
+    → FixFeed K → List ℕ → Type 0
 StandsFor has_taken meaning feed log =
     StandsAt (has_taken feed.entries) meaning feed.framer feed.bad log
 
 -- The feed stands for some log that is no longer than a log that is read may be.
-pub record IsWithin {K R : Type 0} (has_taken : K → List R → Type 0) (meaning : Meaning R)
-    (feed : FixFeed K) : Type 0 where
+pub record IsWithin {K R : Type 0} (has_taken : K → List R → Type 0)
+    (meaning : Meaning R) (feed : FixFeed K) : Type 0 where
   pub log : List ℕ
   pub stands : StandsFor has_taken meaning feed log
   pub within : length log ≤ longest_read

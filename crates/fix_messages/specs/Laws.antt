@@ -17,7 +17,8 @@ BodySaysOnce {R} meaning = (body : List ℕ) (said : Result (Option R) Reason)
 
 -- each log is good with exactly one list of records, or bad at exactly one place, and never both
 abbrev pub LogsAreReadOnce : {R : Type 0} → Meaning R → Type 0
-LogsAreReadOnce meaning = (log : List ℕ) → IsOnlyReading meaning log (read_log meaning log)
+LogsAreReadOnce meaning =
+    (log : List ℕ) → IsOnlyReading meaning log (read_log meaning log)
 
 -- the numbers of each record of a good order log are in range
 abbrev pub OrdersAreInRange : Type 0
@@ -32,8 +33,8 @@ abbrev pub TradesAreInRange : Type 0
 TradesAreInRange = (log : List ℕ)
     → IfOk (report_log log) (λ reports. IfOk (pairing reports) AreTrades)
 
--- each record of a good order log, and each report of a good log of reports, has at least nine
--- bytes of the log
+-- each record of a good order log, and each report of a good log of reports,
+-- has at least nine bytes of the log
 abbrev pub OrdersHaveNineBytes : Type 0
 OrdersHaveNineBytes = (log : List ℕ)
     → IfOk (order_log log) (λ entries. HasNineBytesEach entries log)

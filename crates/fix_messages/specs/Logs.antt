@@ -30,8 +30,8 @@ pub record Item : Type 0 where
   pub start : ℕ
   pub body : Result (List ℕ) FrameFault
 
--- the item at a text that does not begin with CR or LF, and the items behind its message, if
--- there is one
+-- the item at a text that does not begin with CR or LF, and the items
+-- behind its message, if there is one
 abbrev pub item_and : ℕ → List ℕ → Option FrameFault → List Item → List Item
 item_and at text None later = record { start = at; body = Ok (body_of text) } ∷ later
 item_and at text (Some fault) later = record { start = at; body = Err fault } ∷ []
@@ -54,7 +54,8 @@ item_says says (Ok body) = says body
 item_says says (Err fault) = Err (frame_reason fault)
 
 -- one record before others: it counts for the place of what is bad behind it
-abbrev pub with_first : {R : Type 0} → R → Result (List R) BadPlace → Result (List R) BadPlace
+abbrev pub with_first : {R : Type 0} → R → Result (List R) BadPlace
+    → Result (List R) BadPlace
 with_first entry (Ok entries) = Ok (entry ∷ entries)
 with_first entry (Err bad) =
     Err (record { place = bad.place + 1; offset = bad.offset; reason = bad.reason })
@@ -90,8 +91,8 @@ AreMessages text (body ∷ bodies) =
     (gap : List ℕ) × (frame : List ℕ) × (rest : List ℕ) × IsTrue (list_all is_break gap)
     × IsFrame frame body × (text ≡ gap ++ (frame ++ rest)) × AreMessages rest bodies
 
--- The text is messages each of which means a record or nothing, and these are their records in
--- order.
+-- The text is messages each of which means a record or nothing,
+-- and these are their records in order.
 pub record HasRecords {R : Type 0} (meaning : Meaning R) (text : List ℕ) (entries : List R)
     : Type 0 where
   pub bodies : List (List ℕ)
@@ -140,8 +141,8 @@ pub record IsBad {R : Type 0} (meaning : Meaning R) (log : List ℕ) (bad : BadP
   pub fails : LacksFrame left why ⊎ HasBadBody meaning left why
   pub place : bad ≡ record { place = length entries + 1; offset = length front; reason = why }
 
--- A log is read in one way: it is good with one list of records or bad at one place, and never
--- both.
+-- A log is read in one way: it is good with one list of records
+-- or bad at one place, and never both.
 pub record IsOnlyReading {R : Type 0} (meaning : Meaning R) (log : List ℕ)
     (reading : Result (List R) BadPlace) : Type 0 where
   pub good : (entries : List R) → IsGood meaning log entries ↔ (reading ≡ Ok entries)

@@ -37,10 +37,10 @@ pub record HasLog {K R : Type 0} (has_taken : K → List R → Type 0) (meaning 
   pub reads : HasRead (has_taken feed.entries) meaning feed.framer log
   pub within : length log ≤ longest_read
 
--- A good message was taken: what was read of a log stays read, with the message, and fewer bytes
--- are left.
-pub record Goes {K R : Type 0} (has_taken : K → List R → Type 0) (meaning : Meaning R)
-    (old new : FixFeed K) : Type 0 where
+-- A good message was taken: what was read of a log stays read, with the
+-- message, and fewer bytes are left.
+pub record Goes {K R : Type 0} (has_taken : K → List R → Type 0)
+    (meaning : Meaning R) (old new : FixFeed K) : Type 0 where
   pub good : new.bad ≡ None
   pub reads : (log : List ℕ) → HasRead (has_taken old.entries) meaning old.framer log
       → HasRead (has_taken new.entries) meaning new.framer log
@@ -48,8 +48,8 @@ pub record Goes {K R : Type 0} (has_taken : K → List R → Type 0) (meaning : 
 
 -- No message was left to take, or a bad one came: the feed stands for each log that was read so
 -- far. Where none is bad, what is left is no whole message.
-pub record Ends {K R : Type 0} (has_taken : K → List R → Type 0) (meaning : Meaning R)
-    (old new : FixFeed K) : Type 0 where
+pub record Ends {K R : Type 0} (has_taken : K → List R → Type 0)
+    (meaning : Meaning R) (old new : FixFeed K) : Type 0 where
   pub stands : (log : List ℕ) → HasRead (has_taken old.entries) meaning old.framer log
       → StandsAt (has_taken new.entries) meaning new.framer new.bad log
   pub cut : new.bad ≡ None → frame_fault (next_text new.framer) ≡ Some Truncated

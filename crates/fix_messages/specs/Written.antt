@@ -83,8 +83,8 @@ orders_text orders = flat_map order_text orders
 abbrev pub trades_text : List TradeRecord → List ℕ
 trades_text trades = flat_map trade_text trades
 
--- The parts of a record are in their forms, as they are of every record that a program holds: its
--- names, and its time.
+-- The parts of a record are in their forms, as they are of every record that a
+-- program holds: its names, and its time.
 pub record IsHead (key : Key) (time : Moment) (symbol : List ℕ) : Type 0 where
   pub firm_form : IsTrue (is_name key.firm)
   pub id_form : IsTrue (is_name key.id)
@@ -117,8 +117,8 @@ pub record IsTradeInForm (trade : TradeRecord) : Type 0 where
   pub buyer : IsReportInForm (report_to side.Buy trade)
   pub seller : IsReportInForm (report_to side.Sell trade)
 
--- An order that is written as a message that means it: its parts are in their forms, and it has
--- the price of its life.
+-- An order that is written as a message that means it: its parts are in their
+-- forms, and it has the price of its life.
 pub record IsWritable (order : OrderRecord) : Type 0 where
   pub form : IsOrderInForm order
   pub priced : HasMarketPrice order

@@ -1,5 +1,5 @@
-//! What a kind of log has of its own, what the fields of a message mean, and what a body says by
-//! that.
+//! What a kind of log has of its own, what the fields of a message
+//! mean, and what a body says by that.
 ghost use Rattle.std.specs.Prelude.{◌≡◌, ◌≤◌, ◌-◌, ◌∷◌, [], IfOk, IfSome, List, OnOk, Option, Result, length};
 ghost use Rattle.std.specs.List.{slice_range};
 ghost use Rattle.audit_base.specs.Sizes.{longest_body};
@@ -118,8 +118,8 @@ fn keep_order<K: Collector<Entry = OrderRecord>>(
     entries.take(order.record())
 }
 
-/// Hands on an order whose names are in a message. Its record is made only where the collector
-/// looks at it.
+/// Hands on an order whose names are in a message. Its record is made
+/// only where the collector looks at it.
 fn hand_on_order<K: Collector<Entry = OrderRecord>>(
     entries: &mut K,
     order: &OrderText<'_>,
@@ -153,8 +153,8 @@ fn hand_on_report<K: Collector<Entry = Report>>(
     }
 }
 
-/// Hands on the order that a message means, if it means one, and gives the first test that it
-/// fails.
+/// Hands on the order that a message means, if it means one, and
+/// gives the first test that it fails.
 fn take_order<K: Collector<Entry = OrderRecord>>(
     entries: &mut K,
     meaning: Result<Option<OrderText<'_>>, MessageFault>,

@@ -1,5 +1,5 @@
-//! Feeds: what takes a FIX log piece by piece, hands on its records, and stops at the first bad
-//! message.
+//! Feeds: what takes a FIX log piece by piece, hands on its records,
+//! and stops at the first bad message.
 ghost use Rattle.std.specs.Prelude.{◌≡◌, ◌-◌, ◌<◌, ◌^◌, ℕ, List, [], All, None, Some, Ok, vec_len, IfOk, OnOk, MatchBool};
 ghost use Rattle.log_source.specs.Collectors.{HasNineBytesEach, HasPlace};
 ghost use Rattle.fix_framing.specs.Framing.{held};
@@ -19,9 +19,9 @@ use log_source::collector::Collector;
 use log_source::feed::Feed;
 use std::alloc::Global;
 
-/// What is kept of a log that comes in pieces. A piece may end anywhere. Only the message that
-/// isn't all there is kept as bytes. After a bad message further pieces are taken without being
-/// looked at.
+/// What is kept of a log that comes in pieces. A piece may end anywhere. Only the
+/// message that isn't all there is kept as bytes. After a bad message further pieces
+/// are taken without being looked at.
 #[derive(Drop)]
 pub struct FixFeed<K> {
     pub alloc: Global,

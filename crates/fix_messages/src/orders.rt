@@ -223,8 +223,8 @@ fn order_by<'m>(
     }
 }
 
-/// The order that a message means, as it is in the message, or nothing, or the first test that
-/// fails.
+/// The order that a message means, as it is in the message, or
+/// nothing, or the first test that fails.
 #[tactic(auto, unfolding(crate::specs::OrderTables::order_entry))]
 pub(crate) fn order_text<'m>(
     message: &'m Message<'_>,

@@ -1,16 +1,16 @@
-//! That each body says one thing, that each log is read in one way, and what its records hold,
-//! apart from every call: so these hold of logs of any length, and where a call would run out of
-//! memory.
+//! That each body says one thing, that each log is read in one way, and what its
+//! records hold, apart from every call: so these hold of logs of any length, and
+//! where a call would run out of memory.
 ghost use Rattle.fix_messages.specs.Laws.{BodySaysOnce, LogsAreReadOnce, OrdersAreInRange, OrdersHaveNineBytes, ReportsAreInRange, ReportsHaveNineBytes, TradesAreInRange};
 ghost use Rattle.fix_messages.specs.OrderTables.{order_entry};
 ghost use Rattle.fix_messages.specs.ReportTable.{report_entry};
 
 use trade_reports::laws::paired_trades_are_in_range;
 
-/// What is found of a body from its front is what the grammar of its fields says of the body, and
-/// nothing else is: either the body is fields, which mean a record, nothing or the first test
-/// that they fail; or the first field that cannot be read begins at one byte; or the body has no
-/// message type.
+/// What is found of a body from its front is what the grammar of its fields says of the
+/// body, and nothing else is: either the body is fields, which mean a record, nothing or
+/// the first test that they fail; or the first field that cannot be read begins at one
+/// byte; or the body has no message type.
 pub fn bodies_say_one_thing()
     ensures orders { BodySaysOnce order_entry }
     ensures reports { BodySaysOnce report_entry }
@@ -33,8 +33,8 @@ pub fn records_are_in_range()
     paired_trades_are_in_range();
 }
 
-/// Each record of a good log has at least nine bytes of it, so a log of n bytes has at most n / 9
-/// records.
+/// Each record of a good log has at least nine bytes of it, so a log of
+/// n bytes has at most n / 9 records.
 pub fn records_have_nine_bytes()
     ensures orders { OrdersHaveNineBytes }
     ensures reports { ReportsHaveNineBytes }

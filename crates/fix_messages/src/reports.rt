@@ -107,8 +107,8 @@ fn is_passed_over(message: &Message<'_>) -> bool
     !is_word(b"8", message.kind()) || is_copy(message) || is_other(message)
 }
 
-/// The report that a message means, as it is in the message, or nothing, or the first test that
-/// fails.
+/// The report that a message means, as it is in the message, or
+/// nothing, or the first test that fails.
 #[tactic(auto, unfolding(crate::specs::ReportTable::report_entry))]
 pub(crate) fn report_text<'m>(
     message: &'m Message<'_>,

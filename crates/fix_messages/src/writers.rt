@@ -39,7 +39,8 @@ const IMMEDIATE: &[u8] = b"3";
 /// Appends fields. Each value that is written is 1 to 64 bytes of those that a name may hold.
 fn write_fields(alloc: Global, fields: &[(u32, &[u8])], body: &mut Vec<u8>) -> Result<(), NoMemory>
     requires { IsTrue (are_short (map written fields.now)) }
-    ensures { OnOk result (body.new.items ≡ body.old.items ++ bytes_of (map written fields.now)) }
+    ensures { OnOk result (body.new.items
+        ≡ body.old.items ++ bytes_of (map written fields.now)) }
 {
     for (tag, value) in fields {
         write_field(alloc, *tag, value, body)?;
@@ -164,9 +165,11 @@ fn write_replace(
     terms: &Terms,
     body: &mut Vec<u8>,
 ) -> Result<(), NoMemory>
-    ensures appended { let fields = order_fields (replace_order head.now terms.now target.now) in
+    ensures appended { let fields = order_fields
+        (replace_order head.now terms.now target.now) in
         OnOk result (body.new.items ≡ body.old.items ++ bytes_of fields) }
-    ensures in_form { OnOk result (IsOrderInForm (replace_order head.now terms.now target.now)) }
+    ensures in_form { OnOk result
+        (IsOrderInForm (replace_order head.now terms.now target.now)) }
 {
     write_head(alloc, b"G", head, body)?;
     write_target(alloc, target, body)?;
@@ -295,7 +298,8 @@ pub fn write_trade(alloc: Global, trade: &TradeRecord, out: &mut Vec<u8>) -> Res
     ensures appended { OnOk result (out.new.items ≡ out.old.items ++ trade_text trade.now) }
     ensures unchanged { OnErr result (out.new.items ≡ out.old.items) }
     ensures in_form { OnOk result (IsTradeInForm trade.now) }
-    ensures again { OnOk result (report_log (trade_text trade.now) ≡ Ok (reports_of trade.now)) }
+    ensures again { OnOk result
+        (report_log (trade_text trade.now) ≡ Ok (reports_of trade.now)) }
     ensures paired { OnOk result (pairing (reports_of trade.now) ≡ Ok (trade.now ∷ [])) }
 {
     reports_are_paired_again();

@@ -34,8 +34,8 @@ pub record IsReadAs (r : Reading) (log : Which) (name : List ℕ)
   pub read : IsRead r (step_of r log name) bytes
   pub holds : says bytes
 
--- why a log was not read into records: its first bad place, a fault, its length, or that memory
--- ran out
+-- why a log was not read into records: its first bad place, a fault,
+-- its length, or that memory ran out
 abbrev pub IsUnread : {R : Type 0} → (List ℕ → Result R BadPlace) → Reading → Which → List ℕ
     → Unread → Type 0
 IsUnread meaning r log name (unread.Bad bad) =
@@ -62,8 +62,8 @@ pub record HasTrades {R : Type 0} (has_taken : List R → Type 0)
   pub has : has_taken trades
   pub says : said ≡ Ok (Ok trades)
 
--- what came of the trades of a log: a collector that has been handed exactly them, or finding 4
--- in their place
+-- what came of the trades of a log: a collector that has been handed
+-- exactly them, or finding 4 in their place
 abbrev pub HasCollected : {K R : Type 0} → (K → List R → Type 0) → Collected K
     → Result (Result (List R) Finding) BadPlace → Type 0
 HasCollected has_taken (collected.Trades collector) said =

@@ -43,8 +43,8 @@ abbrev pub paired_reports : Result (List Report) BadPlace
 paired_reports (Ok reports) = Ok (pairing reports)
 paired_reports (Err bad) = Err bad
 
--- what a trade log says: its trades, or finding 4 in their place where its reports do not pair;
--- or its first bad place
+-- what a trade log says: its trades, or finding 4 in their place where its reports
+-- do not pair; or its first bad place
 abbrev pub trade_log : Form → List ℕ → Result (Result (List TradeRecord) Finding) BadPlace
 trade_log Csv bytes = all_paired (csv.trade_log bytes)
 trade_log Fix bytes = paired_reports (fix.report_log bytes)
@@ -55,9 +55,9 @@ pub record HaveRecords (orders trades : Log) (entries : List OrderRecord)
   pub records : order_log orders.form orders.bytes ≡ Ok entries
   pub trades_are : trade_log trades.form trades.bytes ≡ Ok paired
 
--- of two logs: an order log out of its grammar is answered by its first bad place, and the trade
--- log is not looked at; else a trade log out of its grammar is by its own; else the records of
--- both are
+-- of two logs: an order log out of its grammar is answered by its first bad place,
+-- and the trade log is not looked at; else a trade log out of its grammar is by
+-- its own; else the records of both are
 abbrev pub OfLogs : (List OrderRecord → Result (List TradeRecord) Finding → Type 0)
     → (Which → BadPlace → Type 0) → Log → Log → Type 0
 OfLogs of_records of_bad orders trades =

@@ -61,7 +61,8 @@ fn after_finding<F: Shelf>(
         → DecidesTrades (reading_by trades.now F.Shelf shelf.old shelf.new)
         scope.now trades.now entries result }
     ensures judgeable { IfOk result IsJudgeable }
-    ensures within { StaysWithinAt (reading_by trades.now F.Shelf shelf.old shelf.new) Which.Trades result }
+    ensures within { StaysWithinAt (reading_by trades.now F.Shelf shelf.old shelf.new)
+        Which.Trades result }
 {
     match collect_trades::<F, Counter<TradeRecord>>(alloc, shelf, trades, Counter::new()) {
         Ok(_) => Ok(BeforeRule::Found(finding)),

@@ -9,8 +9,8 @@ use fix_messages::reading_laws as fix_laws;
 use record_verdict::existence::a_judgement_exists;
 use record_verdict::laws::one_judgement;
 
-/// Two verdicts on one question about one pair of logs are the same verdict, so that its status
-/// and its text are.
+/// Two verdicts on one question about one pair of logs are the same verdict,
+/// so that its status and its text are.
 pub fn one_verdict()
     ensures { OneVerdict }
 {
@@ -35,8 +35,8 @@ pub fn records_are_in_range()
     fix_laws::records_are_in_range();
 }
 
-/// Each record of a good order log, in either form and of any length, has at least nine bytes of
-/// it.
+/// Each record of a good order log, in either form and of any
+/// length, has at least nine bytes of it.
 pub fn order_logs_have_nine_bytes()
     ensures { OrderLogsHaveNineBytes }
 {

@@ -1,5 +1,5 @@
-//! Handing the records of a log of a shelf to a collector, piece by piece, in the form that the
-//! log is read in.
+//! Handing the records of a log of a shelf to a collector, piece by piece,
+//! in the form that the log is read in.
 ghost use Rattle.std.specs.Prelude.{◌≡◌, ◌≤◌, ◌≢◌, [], IfOk};
 ghost use Rattle.audit_base.specs.declared.terms.Which.{Which};
 ghost use Rattle.csv_logs.specs.Logs.{read_log};
@@ -140,7 +140,8 @@ pub fn collect_orders<F: Shelf, K: Collector<Entry = OrderRecord>>(
     ensures logs { KeepsLogs F.Shelf shelf.old shelf.new }
     ensures only { TouchesOnly (reading_by source.now F.Shelf shelf.old shelf.new) Which.Orders }
     ensures read { CollectsLog K.has_taken (order_log source.now.form)
-        (reading_by source.now F.Shelf shelf.old shelf.new) Which.Orders source.now.name.now result }
+        (reading_by source.now F.Shelf shelf.old shelf.new) Which.Orders
+        source.now.name.now result }
     ensures within { result ≢ Err Unread.TooLong
         → (F.slot shelf.new Which.Orders).taken ≤ source.now.limit }
     ensures few { IfOk result (HasPlace K.has_taken) }
@@ -175,7 +176,8 @@ fn collect_pairs<F: Shelf, K: Collector<Entry = TradeRecord>>(
     ensures logs { KeepsLogs F.Shelf shelf.old shelf.new }
     ensures only { TouchesOnly (reading_by source.now F.Shelf shelf.old shelf.new) Which.Trades }
     ensures read { CollectsTrades K.has_taken (λ bytes. paired_reports (fix.report_log bytes))
-        (reading_by source.now F.Shelf shelf.old shelf.new) Which.Trades source.now.name.now result }
+        (reading_by source.now F.Shelf shelf.old shelf.new) Which.Trades
+        source.now.name.now result }
     ensures within { result ≢ Err Unread.TooLong
         → (F.slot shelf.new Which.Trades).taken ≤ source.now.limit }
     ensures few { IfOk result (HasFewCollected K.has_taken) }
@@ -206,7 +208,8 @@ pub fn collect_trades<F: Shelf, K: Collector<Entry = TradeRecord>>(
     ensures logs { KeepsLogs F.Shelf shelf.old shelf.new }
     ensures only { TouchesOnly (reading_by source.now F.Shelf shelf.old shelf.new) Which.Trades }
     ensures read { CollectsTrades K.has_taken (trade_log source.now.form)
-        (reading_by source.now F.Shelf shelf.old shelf.new) Which.Trades source.now.name.now result }
+        (reading_by source.now F.Shelf shelf.old shelf.new) Which.Trades
+        source.now.name.now result }
     ensures within { result ≢ Err Unread.TooLong
         → (F.slot shelf.new Which.Trades).taken ≤ source.now.limit }
     ensures few { IfOk result (HasFewCollected K.has_taken) }

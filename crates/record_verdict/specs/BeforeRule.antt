@@ -14,8 +14,8 @@ use Rattle.record_verdict.specs.declared.before_rule.BeforeRule.TheVariants as u
 use Rattle.record_verdict.specs.declared.scopes.Scope.{Scope}
 use Rattle.record_verdict.specs.Scopes.{early_finding}
 
--- The trades are sound: these are the orders of the history, which are admitted, and the deals
--- between them.
+-- The trades are sound: these are the orders of the history, which are
+-- admitted, and the deals between them.
 pub record AreSound (scope : Scope) (entries : List OrderRecord)
     (paired : Result (List TradeRecord) Finding) (resolved : ResolvedTrades) : Type 0 where
   pub none : early_finding scope entries paired ≡ None

@@ -1,5 +1,5 @@
--- The verdict on the records of two logs: the finding of the rules, or what is reported of an
--- accepted log.
+-- The verdict on the records of two logs: the finding of the rules, or
+-- what is reported of an accepted log.
 use Rattle.std.specs.Prelude.{◌≡◌, ◌<◌, ℕ, Bool, true, false, nat_lt, List, [], Option, None, Result, length, map, filter_map, flat_map, is_some, if◌then◌else◌, MatchOption, IfSome, IsSomeAnd}
 use Rattle.std.specs.List.{range_with_len}
 use Rattle.audit_base.specs.declared.terms.Rule.{Rule}
@@ -52,7 +52,8 @@ pair_lines orders deals = let indices = range_with_len 0 (length orders) in
 -- the lines of a rule: of a call its orders, of continuous trading its pairs
 abbrev pub rule_lines : Rule → List Order → List Deal → List Line
 rule_lines the_rule orders deals =
-    if is_some (call_rule the_rule) then order_lines orders deals else pair_lines orders deals
+    if is_some (call_rule the_rule) then order_lines orders deals
+    else pair_lines orders deals
 
 -- the table of a log, where one is asked for
 abbrev pub table_lines : Rule → Bool → List Order → List Deal → List Line
@@ -103,7 +104,8 @@ IsAcceptance q orders deals (verdict.Rejected finding) = ⊥
 IsAcceptance q orders deals (verdict.Malformed log bad) = ⊥
 
 -- the verdict is this finding, or, where there is none, that the log is accepted
-abbrev pub IsOutcome : Question → List Order → List Deal → Option Finding → Verdict → Type 0
+abbrev pub IsOutcome : Question → List Order → List Deal → Option Finding
+    → Verdict → Type 0
 IsOutcome q orders deals found the_verdict =
     MatchOption found (IsAcceptance q orders deals the_verdict)
     (λ finding. the_verdict ≡ verdict.Rejected finding)
@@ -117,4 +119,5 @@ pub record IsJudged (q : Question) (entries : List OrderRecord)
   pub one : (other : Option Finding) → IsVerdict q.rule q.symbol entries trades other
       → other ≡ found
   pub outcome : let orders = order_list q.symbol entries in
-      IsOutcome q orders (deals_of orders q.symbol (paired_trades trades)) found the_verdict
+      IsOutcome q orders
+      (deals_of orders q.symbol (paired_trades trades)) found the_verdict

@@ -38,8 +38,8 @@ early_finding scope entries trades =
     ∷ pairing_finding trades
     ∷ unsound_trade orders scope.symbol (paired_trades trades) ∷ [])
 
--- what a reading needs to know of a question under a rule of a call, and of one that admits all
--- orders
+-- what a reading needs to know of a question under a rule of a
+-- call, and of one that admits all orders
 abbrev pub call_scope : List ℕ → Scope
 call_scope symbol = record { symbol = symbol; admission = admission.Resting }
 

@@ -1,5 +1,5 @@
--- The verdict on records, stage by stage: what is known of it once the stages before have no
--- finding.
+-- The verdict on records, stage by stage: what is known of it once
+-- the stages before have no finding.
 use Rattle.std.specs.Prelude.{◌≡◌, ℕ, List, [], ◌∷◌, Option, Some, Result, length, MatchOption}
 use Rattle.audit_base.specs.declared.records.OrderRecord.{OrderRecord}
 use Rattle.audit_base.specs.declared.records.TradeRecord.{TradeRecord}
@@ -35,7 +35,8 @@ pub record IsJudgedRecords (q : Question) (entries : List OrderRecord)
   pub found : Option Finding
   pub by_the_rules : IsVerdict q.rule q.symbol entries trades found
   pub outcome : let orders = order_list q.symbol entries in
-      IsOutcome q orders (deals_of orders q.symbol (paired_trades trades)) found the_verdict
+      IsOutcome q orders
+      (deals_of orders q.symbol (paired_trades trades)) found the_verdict
 
 -- The same where the history is well-formed and these are its orders.
 pub record IsJudgedHistory (q : Question) (orders : List Order)

@@ -1,5 +1,5 @@
-//! Judging logs that have been read: the stages of the verdict, each handed to the crate that
-//! decides it.
+//! Judging logs that have been read: the stages of the verdict, each
+//! handed to the crate that decides it.
 ghost use Rattle.std.specs.Prelude.{◌≡◌, ◌<◌, ◌-◌, ◌^◌, length, IfOk};
 ghost use Rattle.audit_base.specs.Trades.{AreTrades};
 ghost use Rattle.audit_base.specs.Verdicts as spec;
@@ -37,8 +37,8 @@ fn paired_in_range(trades: &Paired)
     }
 }
 
-/// What is found where the rule does not admit an order of the history: a call takes only orders
-/// that rest.
+/// What is found where the rule does not admit an order of the history:
+/// a call takes only orders that rest.
 pub fn call_finding(rule: Rule, orders: &OrderList<'_>) -> Option<Finding>
     ensures { result ≡ spec.call_finding rule orders.now }
 {

@@ -158,8 +158,8 @@ fn accept(
     }))
 }
 
-/// The verdict of a rule where the trades are sound; `count` is the number of trades of the
-/// whole log.
+/// The verdict of a rule where the trades are sound; `count` is the
+/// number of trades of the whole log.
 pub fn judge_deals(
     alloc: Global,
     question: &Question,
