@@ -72,7 +72,8 @@ pub record StandsWith {R : Type 0} (has_taken : Taken R) (names : Row)
 abbrev pub StandsFor : {K R : Type 0} → TakenBy K R → Row → Meaning R → CsvFeed K
     → List ℕ → Type 0
 StandsFor has_taken names entry feed log =
-    StandsWith (has_taken feed.entries) names entry feed.rest.items feed.offset feed.header feed.bad log
+    StandsWith (has_taken feed.entries) names entry feed.rest.items feed.offset
+    feed.header feed.bad log
 
 -- The feed stands for some log that is no longer than a log that is read may be.
 pub record IsWithinLimit {K R : Type 0} (has_taken : TakenBy K R) (names : Row)

@@ -44,4 +44,5 @@ is_full line = not (length line.text == 0)
 -- the lines of a log that are not empty: after the mark, if there is one, the log is cut into lines
 unfoldable pub full_lines : List ℕ → List Line
 full_lines log =
-    filter is_full (placed (mark_size log) (cut_lines (drop (mark_size log) log)))
+    filter is_full
+    (placed (mark_size log) (cut_lines (drop (mark_size log) log)))

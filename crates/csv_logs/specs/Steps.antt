@@ -46,7 +46,7 @@ abbrev pub line_says : {R : Type 0} → Row → Meaning R → Bool → List ℕ 
 line_says names entry true text = entry_says (line_entry entry text)
 line_says names entry false text = header_says (is_header names text)
 
--- Fields that say this were taken: a record that they mean was handed on, and the outcome is the
+-- Fields that say this were taken: a record that they mean was handed on, and the result is the
 -- first test that they fail, if any.
 abbrev pub TakesFields : {R : Type 0} → Says R → Taken R → Taken R → Outcome
     → Type 0
@@ -54,7 +54,7 @@ TakesFields (Ok new) before after outcome =
     Adds before after (option_to_list new) × (outcome ≡ Ok tt)
 TakesFields (Err why) before after outcome = Adds before after [] × (outcome ≡ Err why)
 
--- the feed has gone behind a line of `size` bytes that starts at `start`, whose outcome was this
+-- the feed has gone behind a line of `size` bytes that starts at `start`, whose result was this
 abbrev pub Moves : {R : Type 0} → Outcome → ℕ → ℕ → Taken R → ℕ → ℕ → Bool
     → Option BadPlace → Type 0
 Moves (Ok done) start size has_taken offset offset' header' bad' =
@@ -108,7 +108,7 @@ pub record Goes (old new : List ℕ → Type 0) (piece left : List ℕ) : Type 0
 
 -- The same, said of a feed before and after, where `has_taken` is its collector's meaning.
 
--- the feed has gone behind a line of `size` bytes that starts at `start`, whose outcome was this
+-- the feed has gone behind a line of `size` bytes that starts at `start`, whose result was this
 abbrev pub FeedMoves : {K R : Type 0} → TakenBy K R → Outcome → ℕ → ℕ → CsvFeed K
     → CsvFeed K → Type 0
 FeedMoves has_taken outcome start size old new =

@@ -67,7 +67,7 @@ impl<R: LogEntry, K: Collector<Entry = R>> CsvFeed<K> {
     }
 
     // Goes behind a line that is not empty and has been taken, given where it starts, how many
-    // bytes it has with its LF, and what was outcome of it.
+    // bytes it has with its LF, and what its result was.
     fn move_on(&mut self, start: u64, size: usize, outcome: Result<(), Reason>)
         requires place { IfErr outcome (λ why. HasPlace K.has_taken self.old.entries) }
         requires fits { self.old.offset + size < 2 ^ 64 }

@@ -92,7 +92,8 @@ abbrev pub source_of : Source → Source → Which → Source
 source_of orders trades Orders = orders
 source_of orders trades Trades = trades
 
--- the order log is the first that is started
+-- the log was started in its turn: the order log while the trade log was left alone, or the
+-- trade log after an order log that is in its grammar
 abbrev pub IsStarted : Reading → Source → Which → Type 0
 IsStarted r orders Orders = IsUntouched r Trades
 IsStarted r orders Trades = IsAfterGoodOrders r orders

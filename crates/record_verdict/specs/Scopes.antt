@@ -24,7 +24,7 @@ admission_of the_rule =
 abbrev pub scope_of : Question → Scope
 scope_of q = record { symbol = q.symbol; admission = admission_of q.rule }
 
--- finding 16: the least order that is not admitted
+-- finding 16: the first order that is not admitted
 abbrev pub unadmitted_order : Admission → List Order → Option Finding
 unadmitted_order admission.Resting orders = instant_order orders
 unadmitted_order admission.All orders = None
