@@ -45,7 +45,8 @@ AreFilledAhead orders traded side None = ⊤
 AreFilledAhead orders traded side (Some last) = (i : ℕ) → i < length orders
     → IsTrue (is_filled_ahead orders traded side last i)
 
--- the test tells of whichever deals the numbers are whether this is a line 3 or 4, or that of an order
+-- whichever deals the numbers are of, the test decides whether this is a line 3 or 4,
+-- or that of an order
 abbrev pub TellsLastLine : List Order → List ℕ → Side → List ℕ → Bool → Type 0
 TellsLastLine orders traded side text passes = (deals : List Deal) → IsOrderList orders
     → AreTotals orders deals traded → IsTrue passes ↔ IsLastLine orders deals side text

@@ -19,8 +19,8 @@ abbrev pub IsFairMatchingOffence : Bool → List Order → List Deal → Finding
 IsFairMatchingOffence uniform orders deals finding =
     fair_matching_offence uniform orders deals ≡ Some finding
 
--- the deals are a fair matching (of one price, where that is asked for), with what each order traded and
--- the volume
+-- the deals are a fair matching (of one price, where that is asked for), with what each order
+-- traded and the volume
 pub record IsFairMatching (uniform : Bool) (orders : List Order) (deals : List Deal)
     (known : List ℕ × ℕ) : Type 0 where
   pub matching : Matching orders deals

@@ -8,7 +8,7 @@ use Rattle.canonical_form.specs.declared.parts.Part.{Part}
 use Rattle.canonical_form.specs.declared.shares.Share.{Share}
 use Rattle.canonical_form.specs.Shares.{StandsBefore}
 
--- what stands for a part past the end of a list, and the part at an index
+-- what is given past the end of a list of parts, and the part at an index
 abbrev pub missing_part : Part
 missing_part = record { bid = 0; ask = 0; quantity = 0 }
 
@@ -54,13 +54,15 @@ next_share s p = if is_of_pair s p then record s { quantity = s.quantity + p.qua
 abbrev pub shares_before : List Share → Share → Part → List Share
 shares_before shares s p = if is_of_pair s p then shares else shares ++ s ∷ []
 
--- the shares trade with each pair what the parts do, each pair has one at most, and they stand in order
+-- the shares trade with each pair what the parts do, each pair has one at most,
+-- and they are in order
 pub record AreMerged (parts : List Part) (shares : List Share) : Type 0 where
   pub sums : (bid ask : ℕ) → sum_by (share_of_pair bid ask) shares ≡ sum_by (part_of_pair bid ask) parts
   pub some : All (λ s. 0 < s.quantity) shares
   pub ascending : AllPairs StandsBefore shares
 
--- what is known after the first parts: the finished shares, and the one that is made, which is of the last part's pair
+-- what is known after the first parts: the finished shares, and the one that is made, which is of
+-- the last part's pair
 pub record AreMade (parts : List Part) (at : ℕ) (shares : List Share) (s : Share) : Type 0 where
   pub bid : (i : ℕ) → i + 1 ≡ at → s.bid ≡ (part_at parts i).bid
   pub ask : (i : ℕ) → i + 1 ≡ at → s.ask ≡ (part_at parts i).ask

@@ -63,7 +63,8 @@ first-broken f resting incoming bid ask true true true true a = refl
 first-broken f resting incoming bid ask true true true false true = refl
 first-broken f resting incoming bid ask true true true false false = refl
 
--- of two accounts that are shown as two orders, that which a test picks is shown as the one that it picks
+-- of two accounts that are shown as two orders, that which a test picks is shown as
+-- the one that it picks
 shown-picked : (shown : ℕ → ℕ) (t : Bool) (x y : Account) (i j : ℕ) → x.shown ≡ traded_order shown i → y.shown ≡ traded_order shown j → (cond t x y).shown ≡ traded_order shown (cond t i j)
 shown-picked shown true x y i j first second = first
 shown-picked shown false x y i j first second = second
@@ -185,9 +186,9 @@ module _ (orders : List Order) (list : IsOrderList orders) (deals : List Deal) (
         finding-is k cause_here
         ∙ sym (λ i. option_map (finding_by d) (first_broken (rest i) (come i) (bid i) (ask i) (waits-here bt at' i) (a i) (keeps_limits orders d) (nat_lt (zb i) (tb i)) (nat_lt (za i) (ta i))))
 
-  -- deals of other causes have no finding, and those of this one stand among its causes
+  -- deals of other causes have no finding, and those of this one are among its causes
   module _ (start at : ℕ) (split : IsSplitAt causes n start) (clean : (i : ℕ) → start ≤ i → i < at → conservation_finding orders deals p (deal_in causes i) ≡ None) where
-    -- a deal with a finding stands at this cause or later
+    -- a deal with a finding is at this cause or later
     later-cause : (j : ℕ) → j < length deals → (conservation_finding orders deals p j ≡ None) ⊎ ((i : ℕ) × (at ≤ i) × (i < length causes) × (order_in causes i ≡ n) × (deal_in causes i ≡ j))
     later-cause j lt = elim (cases_eq (cause orders (deal_at deals j)) p) [
       | inr away ↦ inl (cond-false (cause orders (deal_at deals j) == p) _ None (ne_eqb _ _ away))

@@ -41,7 +41,7 @@ with_fills side left b = with_list side (after_fills (left_in left) (list_of sid
 abbrev pub resting_count : Books → ℕ
 resting_count b = length b.bids.resting + length b.asks.resting
 
--- each order in a book stands before the one at n in the order list
+-- each order in a book is before the one at n in the order list
 pub record HoldBelow (n : ℕ) (b : Books) : Type 0 where
   pub bids : All (λ r. r.index < n) b.bids.resting
   pub asks : All (λ r. r.index < n) b.asks.resting

@@ -21,7 +21,7 @@ abbrev pub causes_upto : List Order → List Deal → ℕ → List Cause
 causes_upto orders deals zero = []
 causes_upto orders deals (suc n) = causes_upto orders deals n ++ cause_of orders deals n ∷ []
 
--- the first stands before the second: a lesser order, or the same and a lesser deal
+-- the first is before the second: an earlier order, or the same and an earlier deal
 abbrev pub IsSooner : Cause → Cause → Type 0
 IsSooner a b = (a.order < b.order) ⊎ ((a.order ≡ b.order) × (a.deal < b.deal))
 

@@ -36,7 +36,7 @@ pub record AreEndings (orders : List Order) (endings : List Ending) : Type 0 whe
       → Contains endings (record { place = c; index = k })
   pub rising : AllPairs (λ a b. a.place ≤ b.place) endings
 
--- what stands for one past the end
+-- what is given for one past the end
 abbrev pub missing_ending : Ending
 missing_ending = record { place = 0; index = 0 }
 

@@ -6,11 +6,11 @@ use Rattle.audit_base.specs.Expected.{limits_meet}
 use Rattle.order_book.specs.declared.books.Resting.{Resting}
 use Rattle.continuous_audit.specs.declared.fills.Fill.{Fill}
 
--- an order of a side with this limit, of which so much is left, trades with one that rests
+-- an order of a side with this limit, of which this much is left, trades with one that rests
 abbrev pub trades_with : Side → ℕ → ℕ → Resting → Bool
 trades_with side limit size r = nat_lt 0 size && limits_meet side limit r.limit
 
--- what they trade: the lesser of what is left of both
+-- what they trade: the smaller of what is left of both
 abbrev pub fill_of : ℕ → Resting → Fill
 fill_of size r = record { index = r.index; quantity = min size r.left }
 

@@ -40,7 +40,7 @@ priority_flaw orders shown d over = record {
       (traded_order shown (resting orders d));
 }
 
--- an order of a side and another one meet
+-- the evidence that an order of a side and another one meet
 abbrev pub spread_by : Side → TradedOrder → TradedOrder → Evidence
 spread_by Buy own other = Spread own other
 spread_by Sell own other = Spread other own
@@ -56,7 +56,8 @@ spread_flaw orders shown n other = record {
 abbrev pub spread_after : List Order → List Deal → ℕ → ℕ → Flaw
 spread_after orders deals n = spread_flaw orders (shown_after orders deals (place_at orders n)) n
 
--- the finding is that of the flaw, whose orders are in the list; there is none where there is no flaw
+-- the finding is that of the flaw, whose orders are in the list; there is none
+-- where there is no flaw
 pub record IsFindingOf (orders : List Order) (flaw : Option Flaw) (finding : Option Finding)
     : Type 0 where
   pub inside : IfSome flaw (λ f. IsInside orders f.evidence)

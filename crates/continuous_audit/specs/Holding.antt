@@ -10,7 +10,7 @@ use Rattle.audit_base.specs.Expected.{limits_meet}
 use Rattle.order_book.specs.declared.books.Resting.{Resting}
 use Rattle.order_book.specs.Books.{IsAhead, first}
 
--- the order at i in a book, with so much left
+-- the order at i in a book, with this much left
 abbrev pub resting_with : List Order → ℕ → ℕ → Resting
 resting_with orders i n = record { index = i; limit = limit_at orders i; left = n }
 
@@ -37,7 +37,7 @@ pub record Holds (orders : List Order) (side : Side) (amount : ℕ → ℕ)
 unfoldable pub resting_left : List Order → (ℕ → ℕ → ℕ) → ℕ → ℕ → ℕ
 resting_left orders past p i = if rests orders past p i then left orders past p i else 0
 
--- with so much left of the first, which goes where this is nothing
+-- with this much left of the first, which is taken out where this is nothing
 abbrev pub with_best_left : ℕ → List Resting → List Resting
 with_best_left now [] = []
 with_best_left now (x ∷ xs) = if nat_lt 0 now then record x { left = now } ∷ xs else xs
@@ -64,7 +64,8 @@ IsApart orders past p = (b a : ℕ) → b < length orders → a < length orders
     → rests orders past p b ≡ true → rests orders past p a ≡ true
     → limit_at orders b < limit_at orders a
 
--- the order at n is active after its own record: no record up to it cancels it, and something is left
+-- the order at n is active after its own record: no record up to it cancels it,
+-- and something is left
 abbrev pub is_active : List Order → (ℕ → ℕ → ℕ) → ℕ → Bool
 is_active orders past n = uncancelled_before (order_at orders n).cancelled (suc (place_at orders n))
     && nat_lt 0 (left orders past (suc (place_at orders n)) n)

@@ -12,7 +12,7 @@ use Rattle.audit_base.specs.Expected.{pair_share, resting_limit}
 use Rattle.continuous_audit.specs.declared.fills.Fill.{Fill}
 use Rattle.continuous_audit.specs.declared.pairs.Pair.{Pair}
 
--- what stands for a pair past the end of a list, and the pair at an index
+-- what is given past the end of a list of pairs, and the pair at an index
 abbrev pub missing_pair : Pair
 missing_pair = record { bid = 0; ask = 0; quantity = 0 }
 
@@ -28,7 +28,7 @@ pair_of Sell n f = record { bid = f.index; ask = n; quantity = f.quantity }
 abbrev pub ends_of : Pair → ℕ × ℕ
 ends_of p = (p.bid, p.ask)
 
--- a pair stands before another: by the bid, and then by the ask
+-- a pair is before another: by the bid, and then by the ask
 abbrev pub PairBefore : Pair → Pair → Type 0
 PairBefore p q = (p.bid < q.bid) ⊎ ((p.bid ≡ q.bid) × (p.ask < q.ask))
 

@@ -1,4 +1,4 @@
--- An order after its own record, where so much is left of it.
+-- An order after its own record, where this much is left of it.
 use Rattle.std.specs.Prelude.{◌≡◌, ℕ, suc, Bool, ◌&&◌, nat_lt, List, All}
 use Rattle.audit_base.specs.declared.orders.Order.{Order}
 use Rattle.audit_base.specs.declared.orders.Deal.{Deal}
@@ -16,7 +16,7 @@ is_active_with o left = uncancelled_before o.cancelled (suc o.place) && nat_lt 0
 abbrev pub stays_with : Order → ℕ → Bool
 stays_with o left = is_rests o.life && is_active_with o left
 
--- so much is left of the order at n, which isn't in the books yet
+-- this much is left of the order at n, which isn't in the books yet
 pub record IsAfterOwn (orders : List Order) (deals : List Deal) (n own_left : ℕ)
     (b : Books) : Type 0 where
   pub named : All (NamesOrders orders) deals

@@ -63,7 +63,8 @@ impl Books {
         }
     }
 
-    /// Adds a later order to the book of its side. Where it is out of memory the books are as before.
+    /// Adds a later order to the book of its side. Where it is out of memory the
+    /// books are as before.
     pub fn enter(
         &mut self,
         side: Side,

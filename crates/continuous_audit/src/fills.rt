@@ -18,7 +18,8 @@ pub struct Fill {
     pub quantity: u64,
 }
 
-/// What an order of a side trades next, of which so much is left: None where its limit meets none in the book.
+/// What an order of a side trades next, of which this much is left: None where its limit
+/// meets none in the book.
 fn next_fill(book: &Book, side: Side, limit: Price, size: u64) -> Option<Fill>
     ensures fill { result ≡ next_fill side limit size book.now.resting }
     ensures some { IfSome result (λ f. 0 < f.quantity) }
@@ -41,8 +42,8 @@ fn next_fill(book: &Book, side: Side, limit: Price, size: u64) -> Option<Fill>
     }
 }
 
-/// Trades an order of a side with the best orders of the other side's book, as long as its limit meets theirs.
-/// `fills` is overwritten with what it trades; gives what is left of its size.
+/// Trades an order of a side with the best orders of the other side's book, as long as its limit
+/// meets theirs. `fills` is overwritten with what it trades; gives what is left of its size.
 pub fn take_fills(
     book: &mut Book,
     side: Side,

@@ -38,7 +38,7 @@ fn target_rests(orders: &OrderList<'_>, sheet: &Sheet, order: &ListedOrder<'_>) 
     }
 }
 
-/// What is left of a quantity of which so much is taken, and 0 where the order didn't enter.
+/// What is left of a quantity of which this much is taken, and 0 where the order didn't enter.
 fn size_left(entered: bool, quantity: Quantity, before: u128) -> u64
     ensures same { result ≡ size_left entered quantity before }
     ensures most { result ≤ 10 ^ 12 }
@@ -51,8 +51,8 @@ fn size_left(entered: bool, quantity: Quantity, before: u128) -> u64
     }
 }
 
-/// What an order brings at its own record: whether it enters, its Before, whether the records of its chain end one
-/// another, and its Size.
+/// What an order brings at its own record: whether it enters, its Before, whether the records of
+/// its chain end one another, and its Size.
 #[derive(Clone, Copy, Debug, Drop)]
 pub struct Opening {
     pub entered: bool,

@@ -1,4 +1,5 @@
--- A history record by record: what is known after some of its records, and what one record more changes.
+-- A history record by record: what is known after some of its records, and what one
+-- record more changes.
 use Rattle.std.specs.Prelude.{◌≡◌, ℕ, zero, suc, ◌&&◌, List, [], ◌∷◌, ◌++◌, Option, None, Some, is_some, is_none, option_map, option_and_then, filter_map, length, slice_get, slice_set, if◌then◌else◌}
 use Rattle.std.specs.List.{enumerate_from}
 use Rattle.audit_base.specs.Moments.{Moment, is_before}
@@ -30,7 +31,8 @@ finding_in h = least_answer (record_finding h) (length h)
 abbrev pub orders_in : List (ℕ × OrderRecord) → List Order
 orders_in h = filter_map (λ e. order_of_record h (e.0, e.1.0, e.1.1)) (enumerate_from 0 h)
 
--- what a record is seen as: its place, its side, and where it is an order its index in the order list
+-- what a record is seen as: its place, its side, and where it is an order its
+-- index in the order list
 abbrev pub seen_at : List (ℕ × OrderRecord) → ℕ → Seen
 seen_at h k = record {
   place = record_place h k;

@@ -132,8 +132,8 @@ fn life_of(entry: &OrderRecord) -> Life
     }
 }
 
-/// Adds the order of a new order, which has no target, or of a replacement. `own_end` is where a
-/// replacement ends whose target was gone before, and `number` that of its key.
+/// Adds the order of a new order, which has no target, or of a replacement. `own_end` is the own
+/// place of a replacement whose target was ended before, and `number` that of its key.
 fn push_order(
     orders: &mut Vec<StoredOrder>,
     entry: &OrderRecord,
@@ -203,8 +203,8 @@ fn seen_as(entry: &OrderRecord, place: u32, orders: u32) -> Seen
     Seen { place, side, index }
 }
 
-/// What is known after some records of a history that have no finding: the order list as they make it,
-/// what each of their keys names, and the last of them.
+/// What is known after some records of a history that have no finding: the order list as they make
+/// it, what each of their keys names, and the last of them.
 #[derive(Drop)]
 pub(crate) struct HistorySoFar {
     pub orders: Vec<StoredOrder>,
@@ -234,8 +234,8 @@ impl HistorySoFar {
         OrderList::of(&self.orders, &self.keys)
     }
 
-    /// Takes the next record of the history, at its place in the log, or tells what is wrong with it. Then
-    /// nothing is known of what is kept.
+    /// Takes the next record of the history, at its place in the log, or says what is wrong with
+    /// it. Then nothing is known of what is kept.
     pub fn take(&mut self, entry: &OrderRecord, place: u32) -> Result<Option<Flaw>, NoMemory>
         requires { vec_len self.old.orders < 2 ^ 32 }
         ensures knows { let knows = KnowsOneMore self.old self.new place entry.now in
@@ -244,7 +244,7 @@ impl HistorySoFar {
     {
         let target = target_of(&self.list(), &self.keys, entry);
         let seen = seen_as(entry, place, self.orders.len() as u32);
-        // One look-up tells what the key named and adds it.
+        // One look-up gives what the key named and adds it.
         let added = self.keys.add(key_of(entry), seen)?;
         if let Some(evidence) = evidence_of(added.earlier, self.last, entry, target) {
             return Ok(Some(Flaw { place, evidence }));

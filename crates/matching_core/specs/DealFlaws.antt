@@ -16,8 +16,9 @@ use Rattle.audit_base.specs.Orders.{order_at}
 abbrev pub is_overfilled : Order → ℕ → Bool
 is_overfilled o traded = nat_lt o.quantity traded
 
--- the first of what is wrong with a deal: 7 of the bid, or else of the ask; 8; 9, where one price is asked
--- for; 10 of the bid; and 11 of the ask. The two orders are shown with what they trade up to it
+-- the first of what is wrong with a deal: 7 of the bid, or else of the ask; 8; 9, where one
+-- price is asked for; 10 of the bid; and 11 of the ask. The two orders are shown with what
+-- they trade up to it
 abbrev pub evidence_of : Bool → List Order → Deal → Deal → ℕ → ℕ → Option Evidence
 evidence_of uniform orders d first bid_traded ask_traded =
     let bid : TradedOrder = record { index = d.bid; traded = bid_traded } in

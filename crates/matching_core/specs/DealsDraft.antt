@@ -8,7 +8,8 @@ use Rattle.audit_base.specs.Trades.{deals_of, unsound_trade}
 use Rattle.matching_core.specs.declared.deals_draft.DealsDraft.{DealsDraft}
 use Rattle.matching_core.specs.DealsSoFar.{IsDealsSoFar}
 
--- the draft of the symbol's deals between these orders has been handed exactly these records of the trade log
+-- the draft of the symbol's deals between these orders has been handed exactly these
+-- records of the trade log
 pub record IsDealsDraft {M : Type 0} (symbol : List ℕ) (orders : List Order)
     (draft : DealsDraft M) (trades : List TradeRecord) : Type 0 where
   pub named : draft.symbol ≡ symbol

@@ -20,7 +20,7 @@ use Rattle.matching_core.specs.MappedIds.{first_mapped}
 
 -- Trade ids.
 
--- the place of the first trade with an id: as the maps hold it, or as it stands among the ids that rise
+-- the place of the first trade with an id: as the maps hold it, or as it is among the ids that rise
 abbrev pub first_in : TradeIds → List ℕ → Option ℕ
 first_in ids id = option_or (first_mapped ids.mapped id) (place_among ids.rising id)
 

@@ -14,7 +14,7 @@ pub record HasLeft (r : Resting) : Type 0 where
   pub some : 0 < r.left
   pub priced : r.limit < 10 ^ 18
 
--- the first stands ahead of the second: a better limit, or the same limit and a lower index
+-- the first is ahead of the second: a better limit, or the same limit and a lower index
 abbrev pub IsAhead : Side → Resting → Resting → Type 0
 IsAhead side r s = IsTrue (better_limit side r.limit s.limit) ⊎ ((r.limit ≡ s.limit)
     × (r.index < s.index))
@@ -40,7 +40,7 @@ without_order index limit [] = []
 without_order index limit (x ∷ xs) = if is_pair index limit x then xs
     else x ∷ without_order index limit xs
 
--- with this much taken from the first, which goes where nothing is left
+-- with this much taken from the first, which is taken out where nothing is left
 abbrev pub after_take : ℕ → List Resting → List Resting
 after_take quantity [] = []
 after_take quantity (x ∷ xs) = if nat_lt quantity x.left

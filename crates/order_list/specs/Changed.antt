@@ -1,9 +1,9 @@
--- Orders of a list that stand with other terms in a list of their own.
+-- Orders of a list, with other terms, in a list of their own.
 use Rattle.std.specs.Prelude.{List, ◌∷◌, [], ◌++◌, ℕ, Option, Some}
 use Rattle.std.specs.Option.{option_or}
 use Rattle.audit_base.specs.declared.orders.Order.{Order}
 
--- the list that the orders are of, and the orders as they stand in their own list
+-- the list that the orders are of, and the orders as they are in their own list
 pub record Changed : Type 0 where
   pub source : List Order
   pub orders : List Order

@@ -34,7 +34,7 @@ abbrev pub key_of_pair : ShortPair → Key
 key_of_pair pair =
     record { firm = name_from (first_text pair.block); id = name_from (second_text pair.block) }
 
--- what stands where no key has a number
+-- what is given where no key has a number
 abbrev pub no_key : Key
 no_key = record { firm = 63 ∷ []; id = 63 ∷ [] }
 

@@ -4,7 +4,7 @@ use Rattle.audit_base.specs.declared.orders.Order.{Order}
 use Rattle.audit_base.specs.Orders.{quantity_at}
 use Rattle.unit_pairs.specs.declared.lots.Lot.{Lot}
 
--- what stands for a lot past the end of a list, and the lot at an index
+-- what is given past the end of a list of lots, and the lot at an index
 abbrev pub any_lot : Lot
 any_lot = record { order = 0; quantity = 0 }
 

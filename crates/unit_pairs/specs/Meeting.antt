@@ -12,7 +12,8 @@ pub record AreSides (bids asks : List Lot) : Type 0 where
   pub same_volume : lots_total bids ≡ lots_total asks
   pub few : length bids + length asks < 2 ^ 32
 
--- how many units come before the first that the bid lot at k and the ask lot at l could have in common
+-- how many units come before the first that the bid lot at k and the ask lot at l
+-- could have in common
 abbrev pub overlap_from : List Lot → List Lot → ℕ → ℕ → ℕ
 overlap_from bids asks k l = max (lots_before bids k) (lots_before asks l)
 
@@ -43,7 +44,7 @@ pub record ArePairs (bids asks : List Lot) (pairs : List Pair) : Type 0 where
   pub complete : (k l : ℕ) → k < length bids → l < length asks → 0 < overlap bids asks k l
       → Contains (map pair_ends pairs) ((lot_at bids k).order, (lot_at asks l).order)
 
--- a pair stands before another: by the bid, and then by the ask
+-- a pair is before another: by the bid, and then by the ask
 abbrev pub PairBefore : Pair → Pair → Type 0
 PairBefore p q = (p.bid < q.bid) ⊎ ((p.bid ≡ q.bid) × (p.ask < q.ask))
 

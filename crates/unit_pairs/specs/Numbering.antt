@@ -10,7 +10,7 @@ use Rattle.unit_pairs.specs.declared.numbering.DealPrice.{DealPrice}
 use Rattle.unit_pairs.specs.declared.numbering.DealPrice.TheVariants.{Same, AskLimit}
 use Rattle.unit_pairs.specs.Meeting.{ArePairs, PairBefore}
 
--- what stands for a pair past the end of a list, and the pair at an index
+-- what is given past the end of a list of pairs, and the pair at an index
 abbrev pub any_pair : Pair
 any_pair = record { bid = 0; ask = 0; quantity = 0 }
 

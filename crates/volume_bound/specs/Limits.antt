@@ -31,7 +31,7 @@ quantity_upto limits p = sum_by (λ l. if nat_le l.limit p then l.quantity else 
 abbrev pub quantity_from : List LimitQuantity → ℕ → ℕ
 quantity_from limits p = sum_by (λ l. if nat_le p l.limit then l.quantity else 0) limits
 
--- rising limits, whose quantities come to this together, at most 2^32 times 10^12
+-- rising limits, whose quantities are this added, at most 2^32 times 10^12
 pub record AreSummed (limits : List LimitQuantity) (quantity : ℕ) : Type 0 where
   pub rising : IsNonDecreasingBy (λ l. l.limit) limits
   pub whole : quantity ≡ quantity_of limits
