@@ -21,7 +21,8 @@ trades_on orders traded side i =
 -- the worse of the last one so far and the order at an index
 abbrev pub worse_of : List Order → Option ℕ → ℕ → ℕ
 worse_of orders None i = i
-worse_of orders (Some last) i = if better (order_at orders last) (order_at orders i) then i else last
+worse_of orders (Some last) i =
+    if better (order_at orders last) (order_at orders i) then i else last
 
 -- the last of the first n orders that trades
 abbrev pub later_of : List Order → List ℕ → Side → Option ℕ → ℕ → Option ℕ

@@ -42,7 +42,8 @@ pub record IsConforming (the_rule : VolumeRule) (orders : List Order) (deals : L
       → Only (rule_of_volume the_rule) orders i (traded deals i)
 
 -- the deals don't conform, and this is the first offence
-pub record IsBroken (the_rule : VolumeRule) (orders : List Order) (deals : List Deal) (count : ℕ)
+pub record IsBroken (the_rule : VolumeRule) (orders : List Order) (deals : List Deal)
+    (count : ℕ)
     (finding : Finding) : Type 0 where
   pub offence : IsCallOffence (call.Greatest the_rule) orders deals count finding
   pub fails : Conforms (rule_of_volume the_rule) orders deals → ⊥

@@ -17,7 +17,8 @@ part_at parts i = slice_index_or parts i missing_part
 
 -- how parts compare
 abbrev pub part_cmp : Part → Part → Ordering
-part_cmp p q = ordering_then (nat_cmp p.bid q.bid) (ordering_then (nat_cmp p.ask q.ask) (nat_cmp p.quantity q.quantity))
+part_cmp p q = ordering_then (nat_cmp p.bid q.bid)
+    (ordering_then (nat_cmp p.ask q.ask) (nat_cmp p.quantity q.quantity))
 
 -- what a part, or a share, adds to a pair
 abbrev pub part_of_pair : ℕ → ℕ → Part → ℕ
@@ -49,7 +50,8 @@ is_of_pair s p = (s.bid == p.bid) && (s.ask == p.ask)
 
 -- the share that is made after a part, and the finished ones before it
 abbrev pub next_share : Share → Part → Share
-next_share s p = if is_of_pair s p then record s { quantity = s.quantity + p.quantity } else share_of p
+next_share s p = if is_of_pair s p then record s { quantity = s.quantity + p.quantity }
+    else share_of p
 
 abbrev pub shares_before : List Share → Share → Part → List Share
 shares_before shares s p = if is_of_pair s p then shares else shares ++ s ∷ []
@@ -57,13 +59,15 @@ shares_before shares s p = if is_of_pair s p then shares else shares ++ s ∷ []
 -- the shares trade with each pair what the parts do, each pair has one at most,
 -- and they are in order
 pub record AreMerged (parts : List Part) (shares : List Share) : Type 0 where
-  pub sums : (bid ask : ℕ) → sum_by (share_of_pair bid ask) shares ≡ sum_by (part_of_pair bid ask) parts
+  pub sums : (bid ask : ℕ) → sum_by (share_of_pair bid ask) shares
+      ≡ sum_by (part_of_pair bid ask) parts
   pub some : All (λ s. 0 < s.quantity) shares
   pub ascending : AllPairs StandsBefore shares
 
 -- what is known after the first parts: the finished shares, and the one that is made, which is of
 -- the last part's pair
-pub record AreMade (parts : List Part) (at : ℕ) (shares : List Share) (s : Share) : Type 0 where
+pub record AreMade (parts : List Part) (at : ℕ) (shares : List Share)
+    (s : Share) : Type 0 where
   pub bid : (i : ℕ) → i + 1 ≡ at → s.bid ≡ (part_at parts i).bid
   pub ask : (i : ℕ) → i + 1 ≡ at → s.ask ≡ (part_at parts i).ask
   pub sums : (bid ask : ℕ) → sum_by (share_of_pair bid ask) shares + share_of_pair bid ask s

@@ -40,7 +40,8 @@ fn push_share(shares: &mut Vec<Share>, share: Share) -> Result<(), NoMemory>
 fn merge_part(shares: &mut Vec<Share>, share: Share, part: Part) -> Result<Share, NoMemory>
     requires fits { share.quantity + part.quantity < 2 ^ 128 }
     ensures next { IfOk result (λ next. next ≡ next_share share part) }
-    ensures finished { OnOk result (shares.new.items ≡ shares_before shares.old.items share part) }
+    ensures finished { OnOk result (shares.new.items
+        ≡ shares_before shares.old.items share part) }
 {
     if share.bid == part.bid && share.ask == part.ask {
         return Ok(Share {

@@ -24,7 +24,8 @@ with_list Sell xs b = record b { asks = record b.asks { resting = xs } }
 
 -- the books without an order
 abbrev pub books_without : Side → ℕ → ℕ → Books → Books
-books_without side index limit b = with_list side (without_order index limit (list_of side b)) b
+books_without side index limit b =
+    with_list side (without_order index limit (list_of side b)) b
 
 -- the books with one order more
 abbrev pub books_with : Side → Resting → Books → Books
@@ -35,7 +36,8 @@ books_with Sell r b =
 
 -- the books with what is left now of the best orders of a side
 abbrev pub with_fills : Side → List ℕ → Books → Books
-with_fills side left b = with_list side (after_fills (left_in left) (list_of side b)) b
+with_fills side left b =
+    with_list side (after_fills (left_in left) (list_of side b)) b
 
 -- how many orders rest in both books
 abbrev pub resting_count : Books → ℕ
@@ -55,7 +57,8 @@ pub record BooksHold (orders : List Order) (amount : ℕ → ℕ) (b : Books) : 
 
 -- both books hold what rests before place q
 abbrev pub HoldAt : List Order → List Deal → ℕ → Books → Type 0
-HoldAt orders deals q b = BooksHold orders (resting_left orders (traded_before orders deals) q) b
+HoldAt orders deals q b =
+    BooksHold orders (resting_left orders (traded_before orders deals) q) b
 
 -- both books hold what rests of the orders before that at n, after its deals
 abbrev pub HoldAfterDeals : List Order → List Deal → ℕ → Books → Type 0

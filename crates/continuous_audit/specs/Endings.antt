@@ -60,7 +60,8 @@ pub record AreEndedBelow (endings : List Ending) (start at upto : ℕ) : Type 0 
 
 -- the order is one of those from an index on and below another
 abbrev pub is_gone : List Ending → ℕ → ℕ → ℕ → Bool
-is_gone endings from at k = any_below (λ i. nat_le from i && (index_in endings i == k)) at
+is_gone endings from at k =
+    any_below (λ i. nat_le from i && (index_in endings i == k)) at
 
 -- nothing of these, and of others what there is
 abbrev pub amount_without : List Ending → ℕ → ℕ → (ℕ → ℕ) → ℕ → ℕ

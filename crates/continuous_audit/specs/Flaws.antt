@@ -49,7 +49,8 @@ spread_by Sell own other = Spread other own
 abbrev pub spread_flaw : List Order → (ℕ → ℕ) → ℕ → ℕ → Flaw
 spread_flaw orders shown n other = record {
   place = place_at orders n;
-  evidence = spread_by (side_at orders n) (traded_order shown n) (traded_order shown other);
+  evidence = spread_by (side_at orders n)
+      (traded_order shown n) (traded_order shown other);
 }
 
 -- the same, with what the orders have traded after the deals of the record

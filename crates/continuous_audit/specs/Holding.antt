@@ -19,7 +19,8 @@ abbrev pub resting_of : List Order → (ℕ → ℕ) → ℕ → Resting
 resting_of orders amount i = resting_with orders i (amount i)
 
 -- it is an order of the side of which something rests
-pub record IsPart (orders : List Order) (side : Side) (amount : ℕ → ℕ) (r : Resting) : Type 0 where
+pub record IsPart (orders : List Order) (side : Side) (amount : ℕ → ℕ)
+    (r : Resting) : Type 0 where
   pub inside : r.index < length orders
   pub of_side : side_at orders r.index ≡ side
   pub some : 0 < amount r.index
@@ -67,7 +68,8 @@ IsApart orders past p = (b a : ℕ) → b < length orders → a < length orders
 -- the order at n is active after its own record: no record up to it cancels it,
 -- and something is left
 abbrev pub is_active : List Order → (ℕ → ℕ → ℕ) → ℕ → Bool
-is_active orders past n = uncancelled_before (order_at orders n).cancelled (suc (place_at orders n))
+is_active orders past n =
+    uncancelled_before (order_at orders n).cancelled (suc (place_at orders n))
     && nat_lt 0 (left orders past (suc (place_at orders n)) n)
 
 -- a limit of a side meets that of the first order of a book of the other side

@@ -38,7 +38,8 @@ pub record HaveTraded (m : Market) (n : ℕ) (running : RunningTotals) : Type 0 
 -- what is left of the orders of the deals from a cause on, as far as these are added, is their size
 -- less what they have traded, and of the others what it was
 abbrev pub AreRefreshed : Market → ℕ → RunningTotals → List ℕ → List ℕ → List ℕ → Type 0
-AreRefreshed m start running sizes old new = IsRefreshed m.deals.now m.causes.now start running.at
+AreRefreshed m start running sizes old new =
+    IsRefreshed m.deals.now m.causes.now start running.at
     sizes running.traded.items old new
 
 -- the deal of the cause at an index, and its resting order
@@ -56,5 +57,6 @@ pub record IsOpposite (m : Market) (n : ℕ) (r : Resting) : Type 0 where
 -- a list of the other side shows at its first order what is left after the deals of the order at n
 abbrev pub IsFilledAgainst : Market → ℕ → List Resting → Type 0
 IsFilledAgainst m n ys = IsFilledInFront m.orders.now (other_side (side_at m.orders.now n))
-    (resting_left m.orders.now (traded_before m.orders.now m.deals.now) (place_at m.orders.now n))
+    (resting_left m.orders.now (traded_before m.orders.now m.deals.now)
+    (place_at m.orders.now n))
     (resting_left_after m.orders.now m.deals.now (place_at m.orders.now n)) ys

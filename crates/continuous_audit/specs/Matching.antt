@@ -22,7 +22,8 @@ pub record AreExpected (orders : List Order) (deals : List Deal) : Type 0 where
   pub conforms : ConformsContinuous orders deals
 
 -- fills are added to what the orders have traded, and taken from what is left of them
-pub record AreApplied (fills : List Fill) (old_traded old_left traded left : List ℕ) : Type 0 where
+pub record AreApplied (fills : List Fill)
+    (old_traded old_left traded left : List ℕ) : Type 0 where
   pub traded_count : length traded ≡ length old_traded
   pub left_count : length left ≡ length old_left
   pub traded_is : (x : ℕ) → number_in traded x ≡ number_in old_traded x + filled fills x

@@ -42,7 +42,8 @@ pair_cmp p q = ordering_then (nat_cmp p.bid q.bid)
     (ordering_then (nat_cmp p.ask q.ask) (nat_cmp p.quantity q.quantity))
 
 -- a pair of two of the first n orders, with its share under these deals
-pub record IsSharedPair (orders : List Order) (deals : List Deal) (n : ℕ) (p : Pair) : Type 0 where
+pub record IsSharedPair (orders : List Order) (deals : List Deal) (n : ℕ)
+    (p : Pair) : Type 0 where
   pub bid_inside : p.bid < n
   pub ask_inside : p.ask < n
   pub is : p.quantity ≡ pair_share orders (traded_before orders deals) p.bid p.ask
@@ -74,6 +75,8 @@ deal_of orders number p = record {
 }
 
 -- one deal for each pair, numbered from 1
-pub record AreNumbered (orders : List Order) (pairs : List Pair) (deals : List Deal) : Type 0 where
+pub record AreNumbered (orders : List Order) (pairs : List Pair)
+    (deals : List Deal) : Type 0 where
   pub count : length deals ≡ length pairs
-  pub each : EachIndex pairs (λ k. deal_at deals k ≡ deal_of orders (k + 1) (pair_at pairs k))
+  pub each : EachIndex pairs (λ k. deal_at deals k
+      ≡ deal_of orders (k + 1) (pair_at pairs k))

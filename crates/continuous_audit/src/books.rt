@@ -149,8 +149,10 @@ impl Standing {
         requires list { IsOrderList orders.now }
         requires order { order < length orders.now }
         requires endings { AreEndings orders.now endings.now }
-        requires dropped { AreDropped endings.now self.old.start (place_at orders.now order) }
-        ensures dropped { AreDropped endings.now self.new.start (suc (place_at orders.now order)) }
+        requires dropped { AreDropped endings.now self.old.start
+            (place_at orders.now order) }
+        ensures dropped { AreDropped endings.now self.new.start
+            (suc (place_at orders.now order)) }
         ensures holds { (deals : List ADeal) → All (NamesOrders orders.now) deals
             → HoldAfterDeals orders.now deals order self.old.books
             → HoldWithoutOwn orders.now deals order self.new.books }
@@ -165,7 +167,8 @@ impl Standing {
         requires list { IsOrderList orders.now }
         requires order { order < length orders.now }
         requires endings { AreEndings orders.now endings.now }
-        requires dropped { AreDropped endings.now self.old.start (suc (place_at orders.now order)) }
+        requires dropped { AreDropped endings.now self.old.start
+            (suc (place_at orders.now order)) }
         ensures dropped { AreDropped endings.now self.new.start
             (ready_place orders.now (suc order)) }
         ensures holds { (deals : List ADeal) → All (NamesOrders orders.now) deals

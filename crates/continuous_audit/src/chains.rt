@@ -34,7 +34,8 @@ pub fn chain_before(orders: &OrderList<'_>, traded: &[u128], sheet: &Sheet, orde
     requires order { order < length orders.now }
     requires traded { AreSmall orders.now traded.now }
     requires sheet { IsOpenSheet orders.now order sheet.now }
-    ensures before { (deals : List ADeal) → IsOpening orders.now deals order traded.now sheet.now
+    ensures before { (deals : List ADeal)
+        → IsOpening orders.now deals order traded.now sheet.now
         → result ≡ before_of orders.now deals order }
     ensures bounded { result ≤ order * 2 ^ 72 }
 {

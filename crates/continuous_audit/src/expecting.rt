@@ -44,7 +44,8 @@ fn match_records(
     requires list { IsOrderList orders.now }
     requires regular { Regular orders.now }
     requires endings { AreEndings orders.now endings.now }
-    requires dropped { AreDropped endings.now so_far.old.standing.start (ready_place orders.now 0) }
+    requires dropped { AreDropped endings.now so_far.old.standing.start
+        (ready_place orders.now 0) }
     requires counted { IsCounted orders.now 0 0 so_far.old }
     requires matched { MatchedBefore orders.now 0 (ready_place orders.now 0) so_far.old }
     ensures counted { OnOk result (IsCounted orders.now (length orders.now) 0 so_far.new) }

@@ -53,7 +53,8 @@ pub fn take_fills(
 ) -> Result<u64, NoMemory>
     ensures fills { OnOk result (fills.new.items ≡ fills_of side limit size book.old.resting) }
     ensures book { OnOk result
-        (book.new ≡ record book.old { resting = rest_of side limit size book.old.resting }) }
+        (book.new
+            ≡ record book.old { resting = rest_of side limit size book.old.resting }) }
     ensures left { IfOk result (λ left. left + total_filled fills.new.items ≡ size) }
 {
     fills.clear();

@@ -28,7 +28,8 @@ pub fn check_deals(
 ) -> Option<Flaw>
     requires market { IsMarket market.now }
     requires order { order < length market.now.orders.now }
-    requires known { IsKnown market.now.orders.now market.now.deals.now order entered sheet.now }
+    requires known { IsKnown market.now.orders.now market.now.deals.now
+        order entered sheet.now }
     requires traded { HaveTraded market.now order running.old }
     ensures traded { result ≡ None → HaveTraded market.now (suc order) running.new }
     ensures from { result ≡ None → running.old.at ≤ running.new.at }

@@ -78,7 +78,8 @@ impl History {
         ensures well_formed { OnOk result (WellFormed symbol.now entries.now) }
         ensures orders { IfOk result (λ history. history ≡ order_list symbol.now entries.now) }
         ensures market { AreRecordsMarketPriced entries.now → IfOk result AreMarketPriced }
-        ensures found { IfFound result (λ f. history_finding symbol.now entries.now ≡ Some f) }
+        ensures found { IfFound result
+            (λ f. history_finding symbol.now entries.now ≡ Some f) }
 
         // The other way round: the history alone decides, unless memory runs out.
         ensures exact { IsExact symbol.now entries.now result }

@@ -72,7 +72,8 @@ fn end(orders: &mut Vec<StoredOrder>, target: usize, place: u32)
     requires { target < vec_len orders.old }
     ensures items { (keys : AKeys) → orders_of keys orders.new.items
         ≡ draft.ended_among (orders_of keys orders.old.items) (Some target) place }
-    ensures numbered { (keys : AKeys) → AreNumbered keys orders.old.items → AreNumbered keys orders.new.items }
+    ensures numbered { (keys : AKeys) → AreNumbered keys orders.old.items
+        → AreNumbered keys orders.new.items }
     ensures len { vec_len orders.new ≡ vec_len orders.old }
 {
     let order = &mut orders[target];
@@ -84,7 +85,8 @@ fn end_target(orders: &mut Vec<StoredOrder>, target: Option<usize>, place: u32)
     requires { ForSome target (λ t. t < vec_len orders.old) }
     ensures items { (keys : AKeys) → orders_of keys orders.new.items
         ≡ draft.ended_among (orders_of keys orders.old.items) target place }
-    ensures numbered { (keys : AKeys) → AreNumbered keys orders.old.items → AreNumbered keys orders.new.items }
+    ensures numbered { (keys : AKeys) → AreNumbered keys orders.old.items
+        → AreNumbered keys orders.new.items }
     ensures len { vec_len orders.new ≡ vec_len orders.old }
 {
     if let Some(target) = target {
@@ -112,10 +114,13 @@ fn own_end(orders: &OrderList<'_>, target: Option<usize>, place: u32) -> Option<
 /// One more order.
 fn push(orders: &mut Vec<StoredOrder>, parts: &OrderParts) -> Result<(), NoMemory>
     requires { IfSome parts.now.target (λ t. t < 4294967295) }
-    ensures items { (keys : AKeys) → let order = order_with (key_in keys parts.now.number) parts.now in
-        OnOk result (orders_of keys orders.new.items ≡ orders_of keys orders.old.items ++ order ∷ []) }
+    ensures items { (keys : AKeys) →
+        let order = order_with (key_in keys parts.now.number) parts.now in
+        OnOk result (orders_of keys orders.new.items
+            ≡ orders_of keys orders.old.items ++ order ∷ []) }
     ensures numbered { (keys : AKeys) → IsNumbered keys parts.now.number
-        → AreNumbered keys orders.old.items → OnOk result (AreNumbered keys orders.new.items) }
+        → AreNumbered keys orders.old.items
+        → OnOk result (AreNumbered keys orders.new.items) }
 {
     orders.push(StoredOrder::of(parts))?;
     Ok(())
@@ -149,7 +154,8 @@ fn push_order(
         OnOk result (orders_of keys orders.new.items
         ≡ draft.pushed (orders_of keys orders.old.items) order) }
     ensures numbered { (keys : AKeys) → IsNumbered keys number
-        → AreNumbered keys orders.old.items → OnOk result (AreNumbered keys orders.new.items) }
+        → AreNumbered keys orders.old.items
+        → OnOk result (AreNumbered keys orders.new.items) }
 {
     match entry {
         OrderRecord::Cancel { .. } => Ok(()),

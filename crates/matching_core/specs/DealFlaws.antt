@@ -32,9 +32,11 @@ evidence_of uniform orders d first bid_traded ask_traded =
 
 -- the finding at a deal, by what is wrong with it
 abbrev pub finding_at_deal : List Order → Deal → Evidence → Finding
-finding_at_deal orders d evidence = finding_of orders (record { place = d.place; evidence = evidence })
+finding_at_deal orders d evidence =
+    finding_of orders (record { place = d.place; evidence = evidence })
 
 -- what the orders trade, with a deal of this quantity between these two
 abbrev pub added : List ℕ → ℕ → ℕ → ℕ → List ℕ
 added traded bid ask quantity =
-    slice_set (slice_set traded bid (slice_index traded bid + quantity)) ask (slice_index traded ask + quantity)
+    slice_set (slice_set traded bid (slice_index traded bid + quantity))
+    ask (slice_index traded ask + quantity)

@@ -28,7 +28,8 @@ with_order side r (x ∷ xs) = if better_limit side r.limit x.limit then r ∷ x
 -- the book with an order more
 abbrev pub with_added : BookSide → ℕ → ℕ → ℕ → BookSide
 with_added b index limit left =
-    record b { resting = with_order b.side (record { index = index; limit = limit; left = left }) b.resting }
+    record b { resting = with_order b.side
+        (record { index = index; limit = limit; left = left }) b.resting }
 
 -- the order has this index and this limit
 abbrev pub is_pair : ℕ → ℕ → Resting → Bool

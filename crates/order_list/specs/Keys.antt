@@ -19,11 +19,13 @@ seen_in keys key =
 -- one key more: it names this, and every other key names what it did
 abbrev pub AddsKey : Keys → Keys → Key → Seen → Type 0
 AddsKey old new key seen =
-    (other : Key) → seen_in new other ≡ (if same_key key other then Some seen else seen_in old other)
+    (other : Key) → seen_in new other
+    ≡ (if same_key key other then Some seen else seen_in old other)
 
 -- the index of what is seen, if it is an order of the side
 abbrev pub index_on : Side → Seen → Option ℕ
-index_on side seen = option_and_then (λ own. if same_side own side then seen.index else None) seen.side
+index_on side seen =
+    option_and_then (λ own. if same_side own side then seen.index else None) seen.side
 
 -- a text as a name; where it is none, `?`
 abbrev pub name_from : List ℕ → List ℕ
@@ -65,4 +67,5 @@ pub record HasNumber (keys : Keys) (key : Key) (number : KeyNumber) : Type 0 whe
 -- the key has the number now, and each number that a key had is still that of the key
 pub record AddsNumber (old new : Keys) (key : Key) (added : KeyNumber) : Type 0 where
   pub has : HasNumber new key added
-  pub keeps : (number : KeyNumber) → IsNumbered old number → HasNumber new (key_in old number) number
+  pub keeps : (number : KeyNumber) → IsNumbered old number
+      → HasNumber new (key_in old number) number

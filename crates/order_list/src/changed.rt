@@ -52,7 +52,8 @@ impl<'a> ChangedOrders<'a> {
         requires inside { index < length self.old.source }
         requires small { IfSome terms.target (λ t. t < 4294967295) }
         ensures { let o = with_terms terms.quantity terms.cancelled terms.target
-            (order_at self.old.source index) in OnOk result (self.new ≡ with_more o self.old) }
+            (order_at self.old.source index) in
+            OnOk result (self.new ≡ with_more o self.old) }
     {
         let source = self.source;
         self.orders.push(source[index].with_terms(terms))?;

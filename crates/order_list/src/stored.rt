@@ -112,7 +112,8 @@ impl StoredOrder {
 
     /// Ends the order at a place, unless an earlier record did.
     pub fn end(&mut self, place: u32)
-        ensures order { (key : AKey) → order_by key self.new ≡ ended place (order_by key self.old) }
+        ensures order { (key : AKey) → order_by key self.new
+            ≡ ended place (order_by key self.old) }
         ensures number { number_of self.new ≡ number_of self.old }
     {
         if !self.is_ended {

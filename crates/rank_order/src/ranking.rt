@@ -74,8 +74,10 @@ struct BothRanks {
 
 /// The ranks of both sides, in one pass over the orders.
 fn ranks_of_both(alloc: Global, orders: &OrderList<'_>) -> Result<BothRanks, NoMemory>
-    ensures bids { IfOk result (λ both. AreRanks orders.now Buy (length orders.now) both.bids.items) }
-    ensures asks { IfOk result (λ both. AreRanks orders.now Sell (length orders.now) both.asks.items) }
+    ensures bids { IfOk result (λ both.
+        AreRanks orders.now Buy (length orders.now) both.bids.items) }
+    ensures asks { IfOk result (λ both.
+        AreRanks orders.now Sell (length orders.now) both.asks.items) }
 {
     let mut bids = Vec::with_capacity(alloc, orders.len())?;
     let mut asks = Vec::with_capacity(alloc, orders.len())?;

@@ -27,7 +27,8 @@ ranks_before orders ranks n = sum_by (quantity_at orders) (take n ranks)
 abbrev pub lot_of : List Order → List ℕ → ℕ → ℕ → Lot
 lot_of orders ranks volume k = record {
   order = slice_index ranks k;
-  quantity = min (quantity_at orders (slice_index ranks k)) (volume - ranks_before orders ranks k);
+  quantity = min (quantity_at orders (slice_index ranks k))
+      (volume - ranks_before orders ranks k);
 }
 
 -- what the quantity of a lot may be: 1 to 10^12

@@ -42,7 +42,8 @@ deal_of orders price number p = record {
 pub record AreNumbered (orders : List Order) (price : DealPrice) (pairs : List Pair)
     (deals : List Deal) : Type 0 where
   pub count : length deals ≡ length pairs
-  pub each : EachIndex pairs (λ k. deal_at deals k ≡ deal_of orders price (k + 1) (pair_at pairs k))
+  pub each : EachIndex pairs (λ k. deal_at deals k
+      ≡ deal_of orders price (k + 1) (pair_at pairs k))
 
 -- the deals of two lists of lots: those of their pairs in order of the bid, and then of the ask
 pub record AreLotDeals (orders : List Order) (price : DealPrice) (bids asks : List Lot)
