@@ -115,7 +115,8 @@ Agrees the_rule symbol orders deals bytes =
     (number : ℕ) → number ≤ 5 + length orders
     → LinePasses the_rule symbol orders deals bytes number
 
--- the same of one of the five rules, which has to be one that asks for the greatest volume
+-- the certificate agrees under one of the five rules, which has to be one that asks for
+-- the greatest volume
 abbrev pub AgreesUnder : Rule → List ℕ → List Order → List Deal → List ℕ → Type 0
 AgreesUnder the_rule symbol orders deals bytes =
     IsSomeAnd (volume_rule the_rule) (λ r. Agrees r symbol orders deals bytes)
@@ -174,7 +175,8 @@ pub record IsCertificate (the_rule : VolumeRule) (symbol : List ℕ) (orders : L
   pub last_ask : IsLastOf orders deals Sell ask
   pub text_is : text ≡ certificate_text the_rule symbol orders deals price bid ask
 
--- the same of one of the five rules, which has to be one that asks for the greatest volume
+-- the certificate under one of the five rules, which has to be one that asks for
+-- the greatest volume
 abbrev pub IsCertificateUnder : Rule → List ℕ → List Order → List Deal → List ℕ → Type 0
 IsCertificateUnder the_rule symbol orders deals text =
     IsSomeAnd (volume_rule the_rule) (λ r. IsCertificate r symbol orders deals text)

@@ -40,7 +40,7 @@ is_filled_ahead orders traded side last i =
     not (stands_on side (order_at orders i) && better (order_at orders i) (order_at orders last))
     || (slice_index traded i == quantity_at orders i)
 
--- each is, if there is a last
+-- each order is fully traded that is better than the last, if there is a last
 abbrev pub AreFilledAhead : List Order → List ℕ → Side → Option ℕ → Type 0
 AreFilledAhead orders traded side None = ⊤
 AreFilledAhead orders traded side (Some last) = (i : ℕ) → i < length orders

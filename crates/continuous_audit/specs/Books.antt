@@ -12,7 +12,7 @@ use Rattle.continuous_audit.specs.declared.books.Books.{Books}
 use Rattle.continuous_audit.specs.declared.books.Standing.{Standing}
 use Rattle.continuous_audit.specs.Holding.{Holds, after_fills, left_in, resting_left, resting_left_after}
 
--- the list of a side
+-- the list of the book of a side
 abbrev pub list_of : Side → Books → List Resting
 list_of Buy b = b.bids.resting
 list_of Sell b = b.asks.resting
@@ -73,7 +73,7 @@ without_own orders deals n k = if k == n then 0
 abbrev pub HoldWithoutOwn : List Order → List Deal → ℕ → Books → Type 0
 HoldWithoutOwn orders deals n b = BooksHold orders (without_own orders deals n) b
 
--- both books hold what rests after its record
+-- both books hold what rests after the record of the order at n
 abbrev pub HoldAfter : List Order → List Deal → ℕ → Books → Type 0
 HoldAfter orders deals n b = HoldAt orders deals (suc (place_at orders n)) b
 
@@ -83,7 +83,7 @@ ready_place orders zero = place_at orders 0
 ready_place orders (suc n) = if nat_lt (suc n) (length orders) then place_at orders (suc n)
     else suc (place_at orders n)
 
--- both books hold what rests when it comes
+-- both books hold what rests when the order at n comes
 abbrev pub HoldNext : List Order → List Deal → ℕ → Books → Type 0
 HoldNext orders deals n b = HoldAt orders deals (ready_place orders n) b
 

@@ -36,8 +36,8 @@ incoming_account bid ask known = if nat_lt bid.place ask.place then known.ask el
 abbrev pub is_over : Account → Bool
 is_over account = nat_lt account.size account.traded
 
--- the first rule that a deal breaks: 7 its resting order rests, and its incoming one entered; 8 its
--- price is within the limits; 10 and 11 neither order trades more than its Size
+-- the first property that a deal does not keep: 7 its resting order rests, and its incoming one
+-- entered; 8 its price is within the limits; 10 and 11 neither order trades more than its Size
 abbrev pub deal_evidence : Deal → Order → Order → Coming → Accounts → Option Evidence
 deal_evidence d bid ask coming known = first_of
     (only_if (not (resting_waits bid ask coming.place known))
@@ -60,7 +60,7 @@ account_of sheet i traded = record {
 abbrev pub enters : Order → Bool → Bool
 enters o target_rests = not (is_own_place o.cancelled o.place) && target_rests
 
--- the same test of an order of a list
+-- the order at t of a list rests before p, with what a list says is left of it
 abbrev pub waits_in : List Order → List ℕ → ℕ → ℕ → Bool
 waits_in orders left p t = waits (order_at orders t) p (slice_index_or left t 0)
 

@@ -14,18 +14,18 @@ trades_with side limit size r = nat_lt 0 size && limits_meet side limit r.limit
 abbrev pub fill_of : ℕ → Resting → Fill
 fill_of size r = record { index = r.index; quantity = min size r.left }
 
--- what it trades next
+-- what an order trades next with the best of the orders that rest
 abbrev pub next_fill : Side → ℕ → ℕ → List Resting → Option Fill
 next_fill side limit size [] = None
 next_fill side limit size (x ∷ xs) = only_if (trades_with side limit size x) (fill_of size x)
 
--- all that it trades, the best orders first
+-- all that an order trades, the best orders first
 abbrev pub fills_of : Side → ℕ → ℕ → List Resting → List Fill
 fills_of side limit size [] = []
 fills_of side limit size (x ∷ xs) = if trades_with side limit size x
     then fill_of size x ∷ fills_of side limit (size - x.left) xs else []
 
--- the orders that rest afterwards
+-- the orders that rest after these fills
 abbrev pub rest_of : Side → ℕ → ℕ → List Resting → List Resting
 rest_of side limit size [] = []
 rest_of side limit size (x ∷ xs) = if trades_with side limit size x

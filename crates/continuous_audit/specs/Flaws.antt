@@ -22,7 +22,7 @@ abbrev pub shown_in : Numbers → ℕ → ℕ
 shown_in numbers x = number_in numbers.running.traded.items x
     + number_in numbers.sheet.before.items x
 
--- both are there for the order, and their sum fits
+-- the two numbers are there for the order, and their sum fits 128 bits
 pub record HasShown (numbers : Numbers) (x : ℕ) : Type 0 where
   pub traded_inside : x < length numbers.running.traded.items
   pub before_inside : x < length numbers.sheet.before.items
@@ -32,7 +32,7 @@ pub record HasShown (numbers : Numbers) (x : ℕ) : Type 0 where
 abbrev pub traded_order : (ℕ → ℕ) → ℕ → TradedOrder
 traded_order shown x = record { index = x; traded = shown x }
 
--- a deal passes over the order at an index
+-- the flaw of a deal that passes over the order at an index
 abbrev pub priority_flaw : List Order → (ℕ → ℕ) → Deal → ℕ → Flaw
 priority_flaw orders shown d over = record {
   place = d.place;
@@ -45,7 +45,7 @@ abbrev pub spread_by : Side → TradedOrder → TradedOrder → Evidence
 spread_by Buy own other = Spread own other
 spread_by Sell own other = Spread other own
 
--- the order at n meets another one at its own record
+-- the flaw of the order at n, which meets another one at its own record
 abbrev pub spread_flaw : List Order → (ℕ → ℕ) → ℕ → ℕ → Flaw
 spread_flaw orders shown n other = record {
   place = place_at orders n;
@@ -53,7 +53,7 @@ spread_flaw orders shown n other = record {
       (traded_order shown n) (traded_order shown other);
 }
 
--- the same, with what the orders have traded after the deals of the record
+-- the flaw of the spread, with what the orders have traded after the deals of the record
 abbrev pub spread_after : List Order → List Deal → ℕ → ℕ → Flaw
 spread_after orders deals n = spread_flaw orders (shown_after orders deals (place_at orders n)) n
 

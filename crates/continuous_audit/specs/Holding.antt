@@ -14,11 +14,11 @@ use Rattle.order_book.specs.Books.{IsAhead, first}
 abbrev pub resting_with : List Order → ℕ → ℕ → Resting
 resting_with orders i n = record { index = i; limit = limit_at orders i; left = n }
 
--- the same, with what rests of each order
+-- the order at i in a book, by what rests of each order
 abbrev pub resting_of : List Order → (ℕ → ℕ) → ℕ → Resting
 resting_of orders amount i = resting_with orders i (amount i)
 
--- it is an order of the side of which something rests
+-- an order in a book is one of the side of which something rests
 pub record IsPart (orders : List Order) (side : Side) (amount : ℕ → ℕ)
     (r : Resting) : Type 0 where
   pub inside : r.index < length orders

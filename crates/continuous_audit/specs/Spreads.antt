@@ -8,11 +8,11 @@ use Rattle.audit_base.specs.Deals.{NamesOrders}
 use Rattle.continuous_audit.specs.declared.books.Books.{Books}
 use Rattle.continuous_audit.specs.Books.{HoldWithoutOwn}
 
--- it is active
+-- an order is active after its own record, where this much is left of it
 abbrev pub is_active_with : Order → ℕ → Bool
 is_active_with o left = uncancelled_before o.cancelled (suc o.place) && nat_lt 0 left
 
--- it rests
+-- an order rests after its own record, where this much is left of it
 abbrev pub stays_with : Order → ℕ → Bool
 stays_with o left = is_rests o.life && is_active_with o left
 

@@ -94,8 +94,8 @@ fn incoming_account(bid: &ListedOrder<'_>, ask: &ListedOrder<'_>, known: Account
     }
 }
 
-/// What is wrong with a deal by itself, from what is known of its orders: the first
-/// rule that it breaks.
+/// What is wrong with a deal by itself, from what is known of its orders: the first property
+/// that it does not keep.
 pub fn deal_evidence(
     deal: &Deal,
     bid: &ListedOrder<'_>,

@@ -80,7 +80,7 @@ fn fill_order(
         ≡ fills_of own.now.side own.now.limit size (list_of (other_side own.now.side) books.old)) }
     ensures books { OnOk result (books.new ≡ with_list (other_side own.now.side)
         (rest_of own.now.side own.now.limit size
-            (list_of (other_side own.now.side) books.old))
+        (list_of (other_side own.now.side) books.old))
         books.old) }
     ensures left { IfOk result (λ left. left + total_filled fills.new.items ≡ size) }
 {

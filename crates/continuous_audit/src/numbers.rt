@@ -50,8 +50,8 @@ impl Numbers {
         }
     }
 
-    /// Adds what the deals of the order at `order` trade and leave, up to the first
-    /// that breaks a rule.
+    /// Adds what the deals of the order at `order` trade and leave, up to the
+    /// first that has a flaw.
     pub fn deal_order(&mut self, market: &Market<'_>, order: usize) -> Option<Flaw>
         requires market { IsMarket market.now }
         requires order { order < length market.now.orders.now }

@@ -14,7 +14,7 @@ use audit_base::numbers::Quantity;
 use order_list::listed::ListedOrder;
 use order_list::lists::OrderList;
 
-/// Whether an order is placed, where its target rests if it has one.
+/// Whether an order enters: it is placed, and its target rests if it has one.
 fn enters(order: &ListedOrder<'_>, target_rests: bool) -> bool
     ensures { result ≡ enters order.now target_rests }
 {

@@ -18,7 +18,7 @@ pub struct RunningTotals {
     pub at: usize,
 }
 
-/// Adds what the deals of the order at `order` trade, up to the first that breaks a rule.
+/// Adds what the deals of the order at `order` trade, up to the first that has a flaw.
 pub fn check_deals(
     market: &Market<'_>,
     sheet: &Sheet,

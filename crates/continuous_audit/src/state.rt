@@ -34,8 +34,7 @@ impl State {
         })
     }
 
-    /// What the deals of the order at `order` do to the numbers and the books, or how they
-    /// break a rule first.
+    /// What the deals of the order at `order` do to the numbers and the books, or their first flaw.
     fn trade(&mut self, market: &Market<'_>, order: usize) -> Option<Flaw>
         requires market { IsMarket market.now }
         requires order { order < length market.now.orders.now }
@@ -49,7 +48,7 @@ impl State {
         pass_deals(market, order, &self.numbers, &mut self.standing.books)
     }
 
-    /// The record of the order at `order`: how it breaks a rule if it does, and else what is known
+    /// The record of the order at `order`: its first flaw, if it has one, and else what is known
     /// before the next order.
     fn audit_record(&mut self, market: &Market<'_>, order: usize) -> Result<Option<Flaw>, NoMemory>
         requires market { IsMarket market.now }
@@ -73,7 +72,7 @@ impl State {
         Ok(None)
     }
 
-    /// Looks at the records of the orders, up to the first that breaks a rule: the one flaw that
+    /// Looks at the records of the orders, up to the first that has a flaw: the one flaw that
     /// is made a finding.
     pub fn first_offence(&mut self, market: &Market<'_>) -> Result<Option<Finding>, NoMemory>
         requires market { IsMarket market.now }

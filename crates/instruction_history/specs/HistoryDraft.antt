@@ -23,18 +23,18 @@ abbrev pub ForHanded : {S : Type 0} → List ℕ → HistoryDraft S → (List Or
 ForHanded symbol draft P =
     (entries : List OrderRecord) → IsHistoryDraft symbol draft entries → P entries
 
--- these are the orders of those records
+-- these are the orders of the records that the draft has been handed
 abbrev pub AreOrdersOf : {S : Type 0} → List ℕ → HistoryDraft S → List Order → Type 0
 AreOrdersOf symbol draft orders =
     ForHanded symbol draft (λ entries. orders ≡ order_list symbol entries)
 
--- where those records have market prices, so have these orders
+-- where the records that the draft has been handed have market prices, so have these orders
 abbrev pub KeepsMarketPrices : {S : Type 0} → List ℕ → HistoryDraft S → List Order → Type 0
 KeepsMarketPrices symbol draft orders =
     ForHanded symbol draft
     (λ entries. AreRecordsMarketPriced entries → AreMarketPriced orders)
 
--- this is the first finding of those records
+-- this is the first finding of the records that the draft has been handed
 abbrev pub IsFindingOf : {S : Type 0} → List ℕ → HistoryDraft S → Finding → Type 0
 IsFindingOf symbol draft finding =
     ForHanded symbol draft (λ entries. history_finding symbol entries ≡ Some finding)

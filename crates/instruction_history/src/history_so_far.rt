@@ -117,7 +117,7 @@ fn push(orders: &mut Vec<StoredOrder>, parts: &OrderParts) -> Result<(), NoMemor
     ensures items { (keys : AKeys) →
         let order = order_with (key_in keys parts.now.number) parts.now in
         OnOk result (orders_of keys orders.new.items
-            ≡ orders_of keys orders.old.items ++ order ∷ []) }
+        ≡ orders_of keys orders.old.items ++ order ∷ []) }
     ensures numbered { (keys : AKeys) → IsNumbered keys parts.now.number
         → AreNumbered keys orders.old.items
         → OnOk result (AreNumbered keys orders.new.items) }

@@ -41,7 +41,7 @@ unknown_in orders e =
 
 -- What is known after some trades of a symbol.
 
--- the first finding of such a list
+-- the first finding of the trades of a list
 abbrev pub finding_in : List Order → List (ℕ × TradeRecord) → Option Finding
 finding_in orders listed =
     least_answer (λ k. option_or (duplicate_trade listed k) (unknown_order orders listed k))

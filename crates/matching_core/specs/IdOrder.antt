@@ -6,7 +6,7 @@ use Rattle.std.specs.Cmp.Lexicographic.{slice_cmp}
 use Rattle.std.specs.declared.cmp.Ordering.{Ordering}
 use Rattle.audit_base.specs.Orders.{same_name}
 
--- which of two ids comes first: the shorter, and of two as long the one of the smaller bytes
+-- which of two ids comes first: the shorter, and of two of one length the one of the smaller bytes
 abbrev pub compare_ids : List ℕ → List ℕ → Ordering
 compare_ids a b = ordering_then (nat_cmp (length a) (length b)) (slice_cmp nat_cmp a b)
 

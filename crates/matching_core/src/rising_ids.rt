@@ -31,7 +31,8 @@ fn part(bytes: &[u8], start: usize, size: usize) -> &[u8]
     &bytes[start..start + size]
 }
 
-/// Which of two ids comes first: the shorter, and of two as long the one of the smaller bytes.
+/// Which of two ids comes first: the shorter, and of two of one length the one of
+/// the smaller bytes.
 fn compare_ids(a: &[u8], b: &[u8]) -> Ordering
     ensures { result ≡ compare_ids a.now b.now }
 {

@@ -100,7 +100,7 @@ impl Book {
         }
     }
 
-    /// Takes this quantity from the best order, which goes where nothing is left of it.
+    /// Takes this quantity from the best order, which is taken out where nothing is left of it.
     pub fn take(&mut self, quantity: u64)
         requires some { 0 < quantity }
         requires within { IfSome (first self.old.resting) (λ r. quantity ≤ r.left) }

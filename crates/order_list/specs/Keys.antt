@@ -54,12 +54,12 @@ abbrev pub key_in : Keys → KeyNumber → Key
 key_in keys number = if number.is_short then short_key (slice_get keys.short.entries number.index)
     else long_key (slice_get keys.long.entries number.index)
 
--- a key has the number
+-- some key has the number
 abbrev pub IsNumbered : Keys → KeyNumber → Type 0
 IsNumbered keys number = number.index
     < (if number.is_short then length keys.short.entries else length keys.long.entries)
 
--- the key has the number
+-- this key has the number
 pub record HasNumber (keys : Keys) (key : Key) (number : KeyNumber) : Type 0 where
   pub inside : IsNumbered keys number
   pub is : key_in keys number ≡ key

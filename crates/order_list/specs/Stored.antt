@@ -23,7 +23,7 @@ abbrev pub ended_at : Bool → ℕ → Option ℕ
 ended_at true place = Some place
 ended_at false place = None
 
--- its target: 2^32 - 1 is none
+-- the target that a number means: 2^32 - 1 is none
 abbrev pub target_from : ℕ → Option ℕ
 target_from target = if nat_lt target 4294967295 then Some target else None
 

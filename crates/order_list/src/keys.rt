@@ -131,8 +131,8 @@ impl Keys {
         }
     }
 
-    /// What the key of these names names, if a record has it. A key is a copy of both names, which
-    /// only a long one needs.
+    /// What the key of this firm and this id names, if a record has it. A key is a copy of both
+    /// names, which only a long one needs.
     pub fn find(&self, firm: &Name, id: &Name) -> Option<Seen>
         ensures { result ≡ seen_in self.now (record { firm = firm.now; id = id.now }) }
     {

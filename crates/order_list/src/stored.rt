@@ -48,7 +48,7 @@ pub struct OrderParts {
     pub target: Option<usize>,
 }
 
-/// What of an order may be another in a list of its own.
+/// The terms of an order that may be others in a list of its own.
 #[derive(Clone, Copy, Debug)]
 pub struct Terms {
     pub quantity: Quantity,

@@ -15,7 +15,7 @@ lot_at lots k = slice_index_or lots k any_lot
 abbrev pub lots_before : List Lot → ℕ → ℕ
 lots_before lots n = sum_by (λ l. l.quantity) (take n lots)
 
--- the quantity of all of them
+-- the quantity of all lots
 abbrev pub lots_total : List Lot → ℕ
 lots_total lots = sum_by (λ l. l.quantity) lots
 
@@ -36,7 +36,7 @@ pub record IsLot (l : Lot) : Type 0 where
   pub some : 0 < l.quantity
   pub most : l.quantity ≤ 10 ^ 12
 
--- each lot is of such a quantity, and no two are of one order
+-- each lot has a quantity that a lot may have, and no two are of one order
 pub record AreLots (lots : List Lot) : Type 0 where
   pub each : All IsLot lots
   pub apart : AllPairs (λ l m. l.order ≢ m.order) lots

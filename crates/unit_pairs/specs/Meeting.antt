@@ -38,7 +38,7 @@ pub record IsPair (bids asks : List Lot) (p : Pair) : Type 0 where
   pub most : p.quantity ≤ 10 ^ 12
   pub is : p.quantity ≡ overlap bids asks bid_lot ask_lot
 
--- each pair is such a one, and each two lots that have units in common are a pair
+-- each pair is of two lots that have units in common, and each two such lots are a pair
 pub record ArePairs (bids asks : List Lot) (pairs : List Pair) : Type 0 where
   pub each : All (IsPair bids asks) pairs
   pub complete : (k l : ℕ) → k < length bids → l < length asks → 0 < overlap bids asks k l

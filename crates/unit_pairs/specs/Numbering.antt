@@ -17,7 +17,7 @@ any_pair = record { bid = 0; ask = 0; quantity = 0 }
 abbrev pub pair_at : List Pair → ℕ → Pair
 pair_at pairs k = slice_index_or pairs k any_pair
 
--- what an ask trades at
+-- the price at which an ask trades
 abbrev pub price_of : List Order → DealPrice → ℕ → ℕ
 price_of orders (Same price) ask = price
 price_of orders AskLimit ask = limit_at orders ask

@@ -11,11 +11,12 @@ use Rattle.volume_bound.specs.declared.limits.LimitQuantity.{LimitQuantity}
 abbrev pub limit_quantity_of : Order → LimitQuantity
 limit_quantity_of o = record { limit = o.limit; quantity = o.quantity }
 
--- those of the orders of a side that no record cancels, in the order of the list
+-- the limits and the quantities of the orders of a side that no record cancels, in
+-- the order of the list
 abbrev pub limits_on : Side → List Order → List LimitQuantity
 limits_on side orders = map limit_quantity_of (filter (stands_on side) orders)
 
--- the quantities, added
+-- the quantities of the limits, added
 abbrev pub quantity_of : List LimitQuantity → ℕ
 quantity_of limits = sum_by (λ l. l.quantity) limits
 
