@@ -55,7 +55,8 @@ spread_flaw orders shown n other = record {
 
 -- the flaw of the spread, with what the orders have traded after the deals of the record
 abbrev pub spread_after : List Order → List Deal → ℕ → ℕ → Flaw
-spread_after orders deals n = spread_flaw orders (shown_after orders deals (place_at orders n)) n
+spread_after orders deals n =
+    spread_flaw orders (shown_after orders deals (place_at orders n)) n
 
 -- the finding is that of the flaw, whose orders are in the list; there is none
 -- where there is no flaw
