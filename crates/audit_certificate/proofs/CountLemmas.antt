@@ -1,4 +1,4 @@
--- What the deals come to, one deal after another.
+-- What the deals add up to, one deal after another.
 use Rattle.std.proofs.Common.{◌≡◌, ◌∙◌, sym, ap, subst, ℕ, ◌+◌, ◌*◌, ◌^◌, ◌<◌, ◌≤◌, List, length, take, get_or, arith, All}
 use Rattle.std.specs.Prelude.{slice_set}
 use Rattle.std.proofs.lemmas.List.{length-set, get_or-set_other, take_all}
@@ -7,7 +7,8 @@ use Rattle.audit_base.specs.declared.orders.Deal.{Deal}
 use Rattle.audit_base.specs.Deals.{traded, volume, deal_at, missing_deal, AreTotals, NamesOrders, IsDeal}
 use Rattle.audit_base.proofs.TotalsLemmas.{AreTotalsSoFar, apart, totals-more}
 
--- one deal further in the words of the code: the deal that it reads, and the numbers after each of the two additions
+-- one deal further in the words of the code: the deal that it reads, and the numbers after each
+-- of the two additions
 module _ (orders : List Order) (deals : List Deal) (k : ℕ) (lt : k < length deals) (named : All (NamesOrders orders) deals) (d : Deal) (d_is : d ≡ deal_at deals k) (so_far : List ℕ) (total quantity : ℕ) (is : AreTotalsSoFar orders deals k so_far total) (same : quantity ≡ d.quantity) (range : IsDeal d) where
   named_here : NamesOrders orders d
   named_here = subst (NamesOrders orders) (sym d_is) (named k missing_deal lt)

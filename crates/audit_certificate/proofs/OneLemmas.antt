@@ -20,7 +20,7 @@ use Rattle.audit_certificate.specs.OneAnswer.{AgreedRuleIsOne, CertificateIsOne,
 use Rattle.audit_certificate.specs.Texts.{bound_text, head_text, last_text}
 use Rattle.audit_certificate.proofs.VerifyLemmas.{one-rule}
 
--- the last order of a side that trades stands at one place
+-- the last order of a side that trades is at one place
 module _ (orders : List Order) (deals : List Deal) (side : Side) where
   one-last : (a b : Option ℕ) → IsLastOf orders deals side a → IsLastOf orders deals side b → option_map (place_at orders) a ≡ option_map (place_at orders) b
   one-last None None x y = refl

@@ -1,5 +1,5 @@
--- When a certificate agrees with an order list and deals: what each of its lines has to meet. An order
--- takes part where no record cancels it.
+-- When a certificate agrees with an order list and deals: what each of its lines has to meet. An
+-- order takes part where no record cancels it.
 use Rattle.std.specs.Prelude.{◌≡◌, ◌≤◌, ◌<◌, ◌+◌, ◌^◌, ℕ, zero, suc, List, [], ◌∷◌, ◌++◌, Option, None, Some, All, IsSomeAnd, ⊤, length, option_map}
 use Rattle.std.specs.List.{flat_map, range_with_len}
 use Rattle.audit_base.specs.declared.terms.Rule.{Rule}
@@ -36,8 +36,8 @@ pub record IsHeadLine (the_rule : VolumeRule) (symbol : List ℕ) (orders : List
 
 -- Line 2.
 
--- a price shows that no volume is greater: under `maximum` the demand there and the asks below it are
--- together this volume, under `uniform` neither of the two is above it
+-- a price shows that no volume is greater: under `maximum` the demand there and the asks below it
+-- are together this volume, under `uniform` neither of the two is above it
 abbrev pub ShowsBound : VolumeRule → List Order → ℕ → ℕ → Type 0
 ShowsBound of_volume.Maximum orders reached price =
     demand orders price + supply_below orders price ≡ reached
@@ -54,7 +54,8 @@ pub record IsBoundLine (the_rule : VolumeRule) (orders : List Order) (reached : 
 
 -- Lines 3 and 4.
 
--- the order is the last of its side that trades: each better one is fully traded, each worse trades 0
+-- the order is the last of its side that trades: each better one is fully traded,
+-- each worse trades 0
 pub record IsLastTrading (orders : List Order) (deals : List Deal) (side : Side)
     (last : ℕ) : Type 0 where
   pub stands : Stands orders side last
@@ -84,7 +85,8 @@ pub record IsOrderLine (orders : List Order) (deals : List Deal) (index : ℕ)
   pub within : traded deals index ≤ quantity_at orders index
   pub text_is : text ≡ order_text (place_at orders index) (traded deals index)
 
--- behind the first four lines there is the line of each order, and behind them no byte
+-- two tests in one: at the index of an order the text begins with the line of this order, and at
+-- the index behind the last order there is no byte
 pub record IsOrderAt (orders : List Order) (deals : List Deal) (index : ℕ)
     (rest : List ℕ) : Type 0 where
   pub line : index < length orders → BeginsWith (IsOrderLine orders deals index) rest
@@ -113,7 +115,8 @@ Agrees the_rule symbol orders deals bytes =
     (number : ℕ) → number ≤ 5 + length orders
     → LinePasses the_rule symbol orders deals bytes number
 
--- the same of one of the five rules, which has to be one that asks for the greatest volume
+-- the certificate agrees under one of the five rules, which has to be one that asks for
+-- the greatest volume
 abbrev pub AgreesUnder : Rule → List ℕ → List Order → List Deal → List ℕ → Type 0
 AgreesUnder the_rule symbol orders deals bytes =
     IsSomeAnd (volume_rule the_rule) (λ r. Agrees r symbol orders deals bytes)
@@ -128,8 +131,8 @@ abbrev pub LinesPassBefore : VolumeRule → List ℕ → List Order → List Dea
 LinesPassBefore the_rule symbol orders deals bytes number =
     (before : ℕ) → before < number → LinePasses the_rule symbol orders deals bytes before
 
--- the first line that is missing, not ended, too many, or fails its test: those before it pass under
--- some rule, and under each rule under which they do this one does not
+-- the first line that is missing, not ended, too many, or fails its test: those before it pass
+-- under some rule, and under each rule under which they do this one does not
 pub record IsFirstRefused (symbol : List ℕ) (orders : List Order) (deals : List Deal)
     (bytes : List ℕ) (number : ℕ) : Type 0 where
   pub some : VolumeRule
@@ -172,7 +175,8 @@ pub record IsCertificate (the_rule : VolumeRule) (symbol : List ℕ) (orders : L
   pub last_ask : IsLastOf orders deals Sell ask
   pub text_is : text ≡ certificate_text the_rule symbol orders deals price bid ask
 
--- the same of one of the five rules, which has to be one that asks for the greatest volume
+-- the certificate under one of the five rules, which has to be one that asks for
+-- the greatest volume
 abbrev pub IsCertificateUnder : Rule → List ℕ → List Order → List Deal → List ℕ → Type 0
 IsCertificateUnder the_rule symbol orders deals text =
     IsSomeAnd (volume_rule the_rule) (λ r. IsCertificate r symbol orders deals text)

@@ -30,7 +30,8 @@ price_of text = price_or_above (price_form text)
 
 -- the price behind the six bytes `bound,`
 abbrev pub named_price : List ℕ → ℕ
-named_price line = if nat_lt (length line) 6 then 10 ^ 18 else price_of (before_comma (drop 6 line))
+named_price line =
+    if nat_lt (length line) 6 then 10 ^ 18 else price_of (before_comma (drop 6 line))
 
 -- one unit above the limit of a bid that takes part and trades less than its quantity; else 0
 abbrev pub above_if_short : Order → ℕ → ℕ

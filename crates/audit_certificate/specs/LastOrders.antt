@@ -21,7 +21,8 @@ trades_on orders traded side i =
 -- the worse of the last one so far and the order at an index
 abbrev pub worse_of : List Order → Option ℕ → ℕ → ℕ
 worse_of orders None i = i
-worse_of orders (Some last) i = if better (order_at orders last) (order_at orders i) then i else last
+worse_of orders (Some last) i =
+    if better (order_at orders last) (order_at orders i) then i else last
 
 -- the last of the first n orders that trades
 abbrev pub later_of : List Order → List ℕ → Side → Option ℕ → ℕ → Option ℕ
@@ -39,13 +40,14 @@ is_filled_ahead orders traded side last i =
     not (stands_on side (order_at orders i) && better (order_at orders i) (order_at orders last))
     || (slice_index traded i == quantity_at orders i)
 
--- each is, if there is a last
+-- each order is fully traded that is better than the last, if there is a last
 abbrev pub AreFilledAhead : List Order → List ℕ → Side → Option ℕ → Type 0
 AreFilledAhead orders traded side None = ⊤
 AreFilledAhead orders traded side (Some last) = (i : ℕ) → i < length orders
     → IsTrue (is_filled_ahead orders traded side last i)
 
--- the test tells of whichever deals the numbers are whether this is a line 3 or 4, or that of an order
+-- whichever deals the numbers are of, the test decides whether this is a line 3 or 4,
+-- or that of an order
 abbrev pub TellsLastLine : List Order → List ℕ → Side → List ℕ → Bool → Type 0
 TellsLastLine orders traded side text passes = (deals : List Deal) → IsOrderList orders
     → AreTotals orders deals traded → IsTrue passes ↔ IsLastLine orders deals side text

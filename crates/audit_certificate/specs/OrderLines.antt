@@ -12,12 +12,14 @@ use Rattle.audit_certificate.specs.Agreement.{IsOrderLine, IsOrderAt}
 unfoldable pub lines_upto : List Order → List ℕ → ℕ → List ℕ
 lines_upto orders traded zero = []
 lines_upto orders traded (suc n) =
-    lines_upto orders traded n ++ order_text (place_at orders n) (slice_index traded n) ++ 10 ∷ []
+    lines_upto orders traded n
+    ++ order_text (place_at orders n) (slice_index traded n) ++ 10 ∷ []
 
 -- all order lines pass, and nothing is behind them
 abbrev pub AllOrderLines : List Order → List ℕ → List ℕ → Type 0
 AllOrderLines orders traded bytes = (deals : List Deal) → AreTotals orders deals traded
-    → (index : ℕ) → index ≤ length orders → IsOrderAt orders deals index (behind_lines index bytes)
+    → (index : ℕ) → index ≤ length orders
+    → IsOrderAt orders deals index (behind_lines index bytes)
 
 -- the first order line that is refused, or the one too many, by its number in the certificate
 pub record IsRefusedAt (orders : List Order) (deals : List Deal) (bytes : List ℕ)
@@ -42,6 +44,8 @@ pub record IsBehindOrder (orders : List Order) (traded : List ℕ) (index : ℕ)
   pub shorter : length behind + 1 ≤ length rest
 
 abbrev pub TellsBehind : List Order → List ℕ → ℕ → List ℕ → Option (List ℕ) → Type 0
-TellsBehind orders traded index rest (Some behind) = IsBehindOrder orders traded index rest behind
-TellsBehind orders traded index rest None = (deals : List Deal) → AreTotals orders deals traded
+TellsBehind orders traded index rest (Some behind) =
+    IsBehindOrder orders traded index rest behind
+TellsBehind orders traded index rest None = (deals : List Deal)
+    → AreTotals orders deals traded
     → BeginsWith (IsOrderLine orders deals index) rest → ⊥

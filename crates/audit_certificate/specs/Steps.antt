@@ -16,7 +16,7 @@ pub record IsBehind (Test : List ℕ → Type 0) (bytes rest : List ℕ) : Type 
   pub rest_is : rest ≡ behind_line bytes
   pub shorter : length rest ≤ length bytes
 
--- line 1 passes under this rule, or under none
+-- line 1 passes under this rule, or is refused under each
 abbrev pub IsBehindHead : List ℕ → List Order → List Deal → List ℕ → VolumeRule → List ℕ → Type 0
 IsBehindHead symbol orders deals bytes the_rule rest =
     IsBehind (IsHeadLine the_rule symbol orders deals) bytes rest
@@ -27,7 +27,7 @@ pub record IsRefusedHead (symbol : List ℕ) (orders : List Order) (deals : List
   pub fails : (the_rule : VolumeRule)
       → BeginsWith (IsHeadLine the_rule symbol orders deals) bytes → ⊥
 
--- line 2 passes, or not
+-- line 2 passes, or is refused
 abbrev pub IsBehindBound : VolumeRule → List Order → ℕ → List ℕ → List ℕ → Type 0
 IsBehindBound the_rule orders reached bytes rest =
     IsBehind (IsBoundLine the_rule orders reached) bytes rest

@@ -15,7 +15,7 @@ use std::alloc::Global;
 use volume_bound::direct::{demand_at, supply_below};
 use volume_bound::extremes::least_cut;
 
-/// One more than the greatest price. The bound may stand here, since nobody bids as much.
+/// One more than the greatest price. The bound may be this price, since nobody bids as much.
 const ABOVE_ALL_PRICES: u64 = 1_000_000_000_000_000_000;
 
 /// Whether the price shows that no volume is greater than this one.
@@ -38,7 +38,7 @@ fn comma_in(text: &[u8]) -> Option<usize>
     text.iter().position(|byte| *byte == b',')
 }
 
-/// What stands before the first comma.
+/// What is before the first comma.
 fn before_comma(text: &[u8]) -> &[u8]
     ensures { result.now ≡ bound.before_comma text.now }
 {
@@ -86,8 +86,8 @@ fn is_bound_text(
     Ok(text.as_slice() == line)
 }
 
-/// Whether the line is a line 2 of this volume with a price that shows it. `text` is a buffer that each
-/// call uses anew.
+/// Whether the line is a line 2 of this volume with a price that shows it. `text` is a buffer that
+/// each call uses anew.
 pub fn is_bound_line(
     alloc: Global,
     rule: VolumeRule,
@@ -133,9 +133,9 @@ fn above_short_bids(orders: &OrderList<'_>, traded: &[u128]) -> u64
     price
 }
 
-/// The least price that passes line 2, where the deals that trade this conform. Under `maximum` it is that of
-/// the least cut. Under `uniform` it is one unit above the best bid that is not fully traded: up to its
-/// limit the demand is above the volume. Err only out of memory.
+/// The least price that passes line 2, where the deals that trade this conform. Under `maximum` it
+/// is that of the least cut. Under `uniform` it is one unit above the best bid that is not fully
+/// traded: up to its limit the demand is above the volume. Err only out of memory.
 pub fn least_price(
     alloc: Global,
     rule: VolumeRule,

@@ -16,7 +16,8 @@ use order_list::listed::is_within;
 use order_list::lists::OrderList;
 use std::alloc::Global;
 
-/// Whether a deal is between a bid and an ask that no record cancels, at a price within both limits.
+/// Whether a deal is between a bid and an ask that no record cancels, at a price
+/// within both limits.
 fn keeps(orders: &OrderList<'_>, deal: &Deal) -> bool
     requires bid { deal.now.bid < length orders.now }
     requires ask { deal.now.ask < length orders.now }
@@ -52,7 +53,8 @@ fn have_one_price(deals: &[Deal]) -> bool
     }
 }
 
-/// Whether the line is that of the rule and the symbol. `text` is a buffer that each call uses anew.
+/// Whether the line is that of the rule and the symbol. `text` is a buffer that
+/// each call uses anew.
 fn names_rule(
     rule: VolumeRule,
     symbol: &Name,

@@ -73,8 +73,8 @@ pub fn last_trading(orders: &OrderList<'_>, traded: &[u128], side: Side) -> Opti
     last
 }
 
-/// Whether the order at this index is fully traded, if it takes part on the side and is better than the
-/// last.
+/// Whether the order at this index is fully traded, if it takes part on the side and is
+/// better than the last.
 fn is_filled_ahead(
     orders: &OrderList<'_>,
     traded: &[u128],

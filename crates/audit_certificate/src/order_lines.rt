@@ -73,8 +73,8 @@ fn behind_order<'a>(
     }
 }
 
-/// The lines of the orders, from the number 5 on, and nothing behind them. Err(No) has the first line
-/// that is missing, not ended, too many, or fails its test.
+/// The lines of the orders, from the number 5 on, and nothing behind them. Err(No) has the first
+/// line that is missing, not ended, too many, or fails its test.
 pub fn check_order_lines(
     alloc: Global,
     orders: &OrderList<'_>,

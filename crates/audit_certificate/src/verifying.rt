@@ -1,5 +1,5 @@
-//! The verification of a certificate, line by line. Each step takes what is left of the text and gives
-//! what is behind the line that passed.
+//! The verification of a certificate, line by line. Each step takes what is left of the text and
+//! gives what is behind the line that passed.
 ghost use Rattle.std.specs.Prelude.{◌≡◌, ◌<◌, ◌≤◌, ◌^◌, IfOk, IsTrue, length};
 ghost use Rattle.audit_base.specs.Deals.{IsDealList};
 ghost use Rattle.audit_base.specs.Orders.{IsOrderList};
@@ -131,11 +131,11 @@ fn check_lines(
     Ok(rule)
 }
 
-/// Whether the text is a certificate of these orders and deals: Ok exactly with the rule under which it
-/// agrees, and No exactly with the number of the first line that is missing, not ended, one too many,
-/// or fails its test, out of memory aside. Where it agrees, the deals conform to that rule. The text has
-/// at most 67,108,864 bytes. It is read once, and orders and deals are gone over a fixed number of
-/// times; nothing is sorted and no matching is made.
+/// Whether the text is a certificate of these orders and deals: Ok exactly with the rule under
+/// which it agrees, and No exactly with the number of the first line that is missing, not ended,
+/// one too many, or fails its test, out of memory aside. Where it agrees, the deals conform to that
+/// rule. The text has at most 67,108,864 bytes. It is read once, and orders and deals are looked at
+/// a fixed number of times; nothing is sorted and no matching is made.
 pub fn verify(
     alloc: Global,
     symbol: &Name,

@@ -29,7 +29,7 @@ use Rattle.call_auction.specs.Audits.{IsGreatestOf, IsBroken, IsAudited}
 use Rattle.call_auction.specs.Dues.{with_due}
 use Rattle.call_auction.specs.Outcomes.{short_of, IsShortOf, IsVolumeFinding, IsOutcome}
 
--- what is told of the best short orders is what the finding of the volume shows
+-- what is said of the best short orders is what the finding of the volume shows
 module _ (orders : List Order) (known : List ℕ × ℕ) (count most : ℕ) where
   pub volume-finding : (traded : List ℕ) (v : ℕ) (bid ask : Option DueOrder) (finding : Finding) → traded ≡ known.0 → v ≡ known.1
       → IsShortOf orders traded most Buy bid → IsShortOf orders traded most Sell ask
@@ -57,7 +57,7 @@ short-due orders deals totals side most v i are same e =
     ap (option_map (with_due orders totals most)) e
     ∙ (λ j. Some (record { order = record { index = i; traded = are.each i s.inside j }; due = due_by_rank orders (s.of_side j) (same j) i }))
 
--- what is told of the volume of a fair matching is the answer of the audit
+-- what is said of the volume of a fair matching is the answer of the audit
 pub audited : (r : VolumeRule) (orders : List Order) (deals : List Deal) (count : ℕ) (most : Cut) (known : List ℕ × ℕ) (result : Outcome) → IsOrderList orders → All (NamesOrders orders) deals → AreDeals deals
     → IsGreatestOf r orders most → IsFairMatching (asks_one_price r) orders deals known → IsOutcome orders known count most result → IsAudited r orders deals count result
 audited r orders deals count most known (outcome.Broken finding) list named ranges g f (lt, is) =

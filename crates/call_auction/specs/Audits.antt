@@ -15,8 +15,8 @@ use Rattle.matching_core.specs.declared.outcomes.Reached.{Reached}
 use Rattle.matching_core.specs.declared.outcomes.Outcome.{Outcome}
 use Rattle.matching_core.specs.declared.outcomes.Outcome.TheVariants as outcome
 
--- a greatest volume of the rule with its bound: some conforming list of deals has this volume, and the price
--- is the least that shows it
+-- a greatest volume of the rule with its bound: some conforming list of deals has this volume, and
+-- the price is the least that shows it
 pub record IsGreatestOf (the_rule : VolumeRule) (orders : List Order) (most : Cut) : Type 0 where
   pub some : List Deal
   pub ranges : AreDeals some
@@ -30,8 +30,8 @@ pub record IsBoundOf (the_rule : VolumeRule) (orders : List Order) (reached : �
   pub volume_is : bound.volume ≡ reached
   pub shows : IsBound the_rule orders reached bound.price
 
--- the deals conform, with what each order traded (in every conforming list of deals the same), the volume
--- and the bound
+-- the deals conform, with what each order traded (in every conforming list of deals the same), the
+-- volume and the bound
 pub record IsConforming (the_rule : VolumeRule) (orders : List Order) (deals : List Deal)
     (reached : Reached) : Type 0 where
   pub conforms : Conforms (rule_of_volume the_rule) orders deals
@@ -42,13 +42,14 @@ pub record IsConforming (the_rule : VolumeRule) (orders : List Order) (deals : L
       → Only (rule_of_volume the_rule) orders i (traded deals i)
 
 -- the deals don't conform, and this is the first offence
-pub record IsBroken (the_rule : VolumeRule) (orders : List Order) (deals : List Deal) (count : ℕ)
+pub record IsBroken (the_rule : VolumeRule) (orders : List Order) (deals : List Deal)
+    (count : ℕ)
     (finding : Finding) : Type 0 where
   pub offence : IsCallOffence (call.Greatest the_rule) orders deals count finding
   pub fails : Conforms (rule_of_volume the_rule) orders deals → ⊥
 
--- what an audit answers: that the deals conform, or their first offence. `count` is the number of trades of
--- the whole log
+-- what an audit answers: that the deals conform, or their first offence. `count` is the number of
+-- trades of the whole log
 abbrev pub IsAudited : VolumeRule → List Order → List Deal → ℕ → Outcome → Type 0
 IsAudited the_rule orders deals count (outcome.Conforms reached) =
     IsConforming the_rule orders deals reached

@@ -27,8 +27,8 @@ IsShortOf orders traded most side short =
     (deals : List Deal) → AreTotals orders deals traded
     → short ≡ short_of orders deals traded most side
 
--- whichever deals the totals are of: the finding of a volume below the greatest, behind the last trade,
--- with the best short order of each side
+-- whichever deals the totals are of: the finding of a volume below the greatest, behind the last
+-- trade, with the best short order of each side
 abbrev pub IsVolumeFinding : List Order → List ℕ × ℕ → ℕ → ℕ → Finding → Type 0
 IsVolumeFinding orders totals count most finding =
     let traded = totals.0 in let volumes : Short = record { reached = totals.1; greatest = most } in

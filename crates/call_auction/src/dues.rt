@@ -45,7 +45,7 @@ fn ahead_of(orders: &OrderList<'_>, index: usize) -> u128
 }
 
 /// What the order at this index trades where the volume fills the orders of its side by rank: the
-/// lesser of its quantity and what the better ones leave of the volume.
+/// smaller of its quantity and what the better ones leave of the volume.
 pub(crate) fn due_of(orders: &OrderList<'_>, index: usize, volume: u128) -> u128
     requires few { length orders.now < 2 ^ 32 }
     requires inside { index < length orders.now }

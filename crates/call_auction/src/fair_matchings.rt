@@ -14,10 +14,10 @@ use matching_core::totals::Totals;
 use order_list::lists::OrderList;
 use std::alloc::Global;
 
-/// The totals of deals that are a fair matching (under `uniform` one of one price); else the first of the
-/// findings 7 to 13: those that no matching has, and after them the least deal whose bid or ask is
-/// outranked by an order that is not fully traded. Ok exactly where the deals are such a matching and
-/// Found exactly where they are not, out of memory aside.
+/// The totals of deals that are a fair matching (under `uniform` one of one price); else the first
+/// of the findings 7 to 13: those that no matching has, and after them the least deal whose bid or
+/// ask is outranked by an order that is not fully traded. Ok exactly where the deals are such a
+/// matching and Found exactly where they are not, out of memory aside.
 pub fn fair_matching(
     alloc: Global,
     orders: &OrderList<'_>,

@@ -8,7 +8,7 @@ use Rattle.canonical_form.specs.declared.parts.Part.{Part}
 use Rattle.canonical_form.specs.declared.shares.Share.{Share}
 use Rattle.canonical_form.specs.Shares.{StandsBefore}
 
--- what stands for a part past the end of a list, and the part at an index
+-- what is given past the end of a list of parts, and the part at an index
 abbrev pub missing_part : Part
 missing_part = record { bid = 0; ask = 0; quantity = 0 }
 
@@ -17,7 +17,8 @@ part_at parts i = slice_index_or parts i missing_part
 
 -- how parts compare
 abbrev pub part_cmp : Part → Part → Ordering
-part_cmp p q = ordering_then (nat_cmp p.bid q.bid) (ordering_then (nat_cmp p.ask q.ask) (nat_cmp p.quantity q.quantity))
+part_cmp p q = ordering_then (nat_cmp p.bid q.bid)
+    (ordering_then (nat_cmp p.ask q.ask) (nat_cmp p.quantity q.quantity))
 
 -- what a part, or a share, adds to a pair
 abbrev pub part_of_pair : ℕ → ℕ → Part → ℕ
@@ -49,19 +50,24 @@ is_of_pair s p = (s.bid == p.bid) && (s.ask == p.ask)
 
 -- the share that is made after a part, and the finished ones before it
 abbrev pub next_share : Share → Part → Share
-next_share s p = if is_of_pair s p then record s { quantity = s.quantity + p.quantity } else share_of p
+next_share s p = if is_of_pair s p then record s { quantity = s.quantity + p.quantity }
+    else share_of p
 
 abbrev pub shares_before : List Share → Share → Part → List Share
 shares_before shares s p = if is_of_pair s p then shares else shares ++ s ∷ []
 
--- the shares trade with each pair what the parts do, each pair has one at most, and they stand in order
+-- the shares trade with each pair what the parts do, each pair has one at most,
+-- and they are in order
 pub record AreMerged (parts : List Part) (shares : List Share) : Type 0 where
-  pub sums : (bid ask : ℕ) → sum_by (share_of_pair bid ask) shares ≡ sum_by (part_of_pair bid ask) parts
+  pub sums : (bid ask : ℕ) → sum_by (share_of_pair bid ask) shares
+      ≡ sum_by (part_of_pair bid ask) parts
   pub some : All (λ s. 0 < s.quantity) shares
   pub ascending : AllPairs StandsBefore shares
 
--- what is known after the first parts: the finished shares, and the one that is made, which is of the last part's pair
-pub record AreMade (parts : List Part) (at : ℕ) (shares : List Share) (s : Share) : Type 0 where
+-- what is known after the first parts: the finished shares, and the one that is made, which is of
+-- the last part's pair
+pub record AreMade (parts : List Part) (at : ℕ) (shares : List Share)
+    (s : Share) : Type 0 where
   pub bid : (i : ℕ) → i + 1 ≡ at → s.bid ≡ (part_at parts i).bid
   pub ask : (i : ℕ) → i + 1 ≡ at → s.ask ≡ (part_at parts i).ask
   pub sums : (bid ask : ℕ) → sum_by (share_of_pair bid ask) shares + share_of_pair bid ask s

@@ -1,10 +1,10 @@
--- The one list of shares that a list of deals comes to.
+-- The one list of shares of a list of deals.
 use Rattle.std.specs.Prelude.{◌≡◌, ◌<◌, ◌⊎◌, ℕ, List, All, AllPairs, Contains}
 use Rattle.audit_base.specs.declared.orders.Deal.{Deal}
 use Rattle.audit_base.specs.Deals.{pair}
 use Rattle.canonical_form.specs.declared.shares.Share.{Share}
 
--- the first stands before the second: its bid is lower, or the bids are the same and its ask is lower
+-- the first is before the second: its bid is lower, or the bids are the same and its ask is lower
 abbrev pub StandsBefore : Share → Share → Type 0
 StandsBefore s t = (s.bid < t.bid) ⊎ ((s.bid ≡ t.bid) × (s.ask < t.ask))
 

@@ -35,12 +35,13 @@ fn push_share(shares: &mut Vec<Share>, share: Share) -> Result<(), NoMemory>
     Ok(())
 }
 
-/// The share that is made after a part: the one so far, if the part is of its pair, or else the next one. The one
-/// so far is then put behind the finished ones.
+/// The share that is made after a part: the one so far, if the part is of its pair, or else the
+/// next one. The one so far is then put behind the finished ones.
 fn merge_part(shares: &mut Vec<Share>, share: Share, part: Part) -> Result<Share, NoMemory>
     requires fits { share.quantity + part.quantity < 2 ^ 128 }
     ensures next { IfOk result (λ next. next ≡ next_share share part) }
-    ensures finished { OnOk result (shares.new.items ≡ shares_before shares.old.items share part) }
+    ensures finished { OnOk result (shares.new.items
+        ≡ shares_before shares.old.items share part) }
 {
     if share.bid == part.bid && share.ask == part.ask {
         return Ok(Share {
@@ -71,8 +72,9 @@ fn merge_parts(alloc: Global, parts: &[Part]) -> Result<Vec<Share>, NoMemory>
     Ok(shares)
 }
 
-/// What each pair of a bid and an ask trades in the deals: one share for each pair that trades, in order of the bid,
-/// then of the ask. Two lists of deals that trade the same with each pair give the same shares.
+/// What each pair of a bid and an ask trades in the deals: one share for each pair that trades,
+/// in order of the bid, then of the ask. Two lists of deals that trade the same with each pair
+/// give the same shares.
 pub fn canonical(alloc: Global, deals: &[Deal]) -> Result<Vec<Share>, NoMemory>
     requires few { length deals.now < 2 ^ 32 }
     ensures { IfOk result (λ shares. AreShares deals.now shares.items) }

@@ -59,7 +59,8 @@ module _ (orders : List Order) (list : IsOrderList orders) (deals : List Deal) (
   abbrev s : Side
   s = side_at orders n
 
-  -- 1. The deals of the record: the book of the other side is settled, and no deal passes its first order over.
+  -- 1. The deals of the record: the book of the other side is settled, and no deal passes
+  -- its first order over.
   pub after-deals : (b : Books) → BooksHold orders (resting_left orders past p) b → (ys : List Resting) → IsFilledInFront orders (other_side s) (resting_left orders past p) (resting_left_after orders deals p) ys
       → ((h : Resting) (zs : List Resting) → ys ≡ h ∷ zs → (j : ℕ) → IsOfCause orders list deals named n n_inside j → better (order_at orders h.index) (order_at orders (resting orders (deal_at deals j))) ≡ false)
       → BooksHold orders (resting_left_after orders deals p) (with_list (other_side s) ys b)

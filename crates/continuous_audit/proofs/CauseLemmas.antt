@@ -1,4 +1,4 @@
--- What the first of the sorted causes come to.
+-- What the first of the sorted causes add up to.
 use Rattle.std.proofs.Common.{◌≡◌, ◌≢◌, ◌<◌, ◌≤◌, ◌+◌, ℕ, zero, suc, List, [], ◌∷◌, ◌++◌, length, Bool, true, false, cond, refl, sym, ap, ◌∙◌, arith, inl, inr, subst, All, AllPairs, get_or, take, sum_by, eqb, is_lt, IsPermutation, IsSorted, add-one}
 use Rattle.std.specs.Prelude.{nat_lt, nat_le, ◌==◌, ◌&&◌, ◌||◌, Contains}
 use Rattle.std.specs.Cmp.{IsStrictWeakOrder}
@@ -170,7 +170,8 @@ module _ (orders : List Order) (list : IsOrderList orders) (deals : List Deal) (
       let d = get_or deals k e in nested (nat_lt (place_at orders (incoming orders d)) p) (names x d) d.quantity ∙ ap (λ (q : ℕ). cond (names x d && nat_lt q p) d.quantity 0) (incoming-cause orders d)) in
       sym one ∙ two ∙ three ∙ four ∙ five
 
-  -- up to the cause at an index, of the order at n: what is traded before its place, and in its deals up to this one
+  -- up to the cause at an index, of the order at n: what is traded before its place, and in its
+  -- deals up to this one
   module _ (at : ℕ) (e : Cause) (lt : at < length causes) where
     abbrev here : Cause
     here = get_or causes at e

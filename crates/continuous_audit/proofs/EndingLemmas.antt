@@ -114,7 +114,8 @@ module _ (orders : List Order) where
         | inl lt ↦ let t : is_lt (ending_cmp b a) ≡ true = grind (arith, nat_tests) in absurd (both_ways _ h t)
       ]
 
-  -- from the first that is ended at p or later, up to the first that is ended at q or later: what no record below q ends
+  -- from the first that is ended at p or later, up to the first that is ended at q or later: what
+  -- no record below q ends
   module _ (endings : List Ending) (are : AreEndings orders endings) (from at p q : ℕ) (amount : ℕ → ℕ) where
     later : (i j : ℕ) → i ≤ j → j < length endings → place_in endings i ≤ place_in endings j
     later i j le below = elim (cases_eq i j) [

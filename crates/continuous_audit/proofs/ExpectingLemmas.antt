@@ -1,4 +1,5 @@
--- Before the first order nothing has traded; after the last the pairs in order are the Expected trades.
+-- Before the first order nothing has traded; after the last the pairs in order are
+-- the Expected trades.
 use Rattle.std.proofs.Common.{◌≡◌, ◌<◌, ◌+◌, ◌^◌, ℕ, List, length, map, get_or, refl, sym, ap, ◌∙◌, arith, subst, All, AllPairs, IsPermutation, IsSorted}
 use Rattle.std.specs.Prelude.{Contains}
 use Rattle.std.proofs.lemmas.List.{get_or_default, get_or-map, length-map}

@@ -1,4 +1,5 @@
--- A settled book holds what is left after the record, unless a deal passes its best order over; and this order shows which.
+-- A settled book holds what is left after the record, unless a deal passes its best order over; and
+-- this order shows which.
 use Rattle.std.proofs.Common.{◌≡◌, ◌≢◌, ◌<◌, ◌≤◌, ◌-◌, ◌⊎◌, ℕ, suc, List, [], ◌∷◌, length, true, false, cond, Some, refl, sym, ap, ◌∙◌, arith, inl, inr, subst}
 use Rattle.std.specs.Prelude.{nat_lt, ◌==◌, ◌&&◌, Contains}
 use Rattle.std.proofs.lemmas.Bool.{cases_Bool, cases_eq, cases_lt, both_ways, lt-ltb, le-ltb, ltb-true, eq-eqb, ne_eqb, cond-true, cond-false, and_parts, and_from, or_left, or_right, false_from_ne_true}
@@ -82,7 +83,7 @@ module _ (orders : List Order) (side : Side) where
             }
       ]
 
--- Standing ahead in a book is being better.
+-- An order that is ahead in a book is better.
 
 ahead-outranks : (side : Side) (o p : Order) → (better_limit side o.limit p.limit ≡ true) ⊎ ((o.limit ≡ p.limit) × (o.place < p.place)) → outranks side o p ≡ true
 ahead-outranks side o p (inl h) = or_left _ _ h
@@ -127,7 +128,8 @@ module _ (orders : List Order) (list : IsOrderList orders) (side : Side) where
     pub others-worse : (k : ℕ) → k < length orders → side_at orders k ≡ side → 0 < after k → k ≢ h.index → Better orders h.index k
     others-worse k inside of some ne = later-ahead k inside of (elim (s.either k) [ inl e ↦ omega arith | inr e ↦ let l = is k in omega arith ]) ne
 
-    -- where no order that traded is worse than the first, the book holds what is left after the record
+    -- where no order that traded is worse than the first, the book holds what is
+    -- left after the record
     pub after_fills-clear : ((k : ℕ) → k < length orders → side_at orders k ≡ side → after k < before k → Better orders h.index k → ⊥) → Holds orders side after (h ∷ ys)
     after_fills-clear clear = hold-same orders side s.amount after (h ∷ ys) (λ k inside of. elim (s.either k) [
       | inl e ↦ sym e
@@ -148,7 +150,8 @@ module _ (orders : List Order) (list : IsOrderList orders) (side : Side) where
         | inl some ↦ let lt = (s.holds.each k inside of some).1 in absurd (omega arith)
       ]) s.holds
 
--- The words of the rule: what rests before place p, and what is left of it after the deals of cause p.
+-- The words of the rule: what rests before place p, and what is left of it after
+-- the deals of cause p.
 
 module _ (orders : List Order) (list : IsOrderList orders) (deals : List Deal) (p : ℕ) where
   abbrev past : ℕ → ℕ → ℕ

@@ -13,7 +13,7 @@ use Rattle.order_book.specs.declared.books.Resting.{Resting}
 use Rattle.order_book.specs.Books.{IsAhead, with_order, is_pair, without_order, after_take}
 use Rattle.continuous_audit.specs.Holding.{Holds, IsPart, resting_of, resting_with}
 
--- no order stands ahead of one with its own index and limit
+-- no order is ahead of one with its own index and limit
 not-ahead : (side : Side) (r s : Resting) → r.index ≡ s.index → r.limit ≡ s.limit → IsAhead side r s → ⊥
 not-ahead Buy r s e f (inl h) = let lt = ltb-true s.limit r.limit h in omega arith
 not-ahead Sell r s e f (inl h) = let lt = ltb-true r.limit s.limit h in omega arith
@@ -167,7 +167,7 @@ module _ (orders : List Order) (side : Side) where
       | inr f ↦ rw f (All-cons P x (with_order side r xs) (All-head P x xs h) (entered-all P r xs p (All-tail P x xs h)))
     ]
 
-    -- a later order whose limit isn't better stands behind
+    -- a later order whose limit isn't better is behind
     stands-behind : (s : Side) (r x : Resting) → x.index < r.index → better_limit s r.limit x.limit ≡ false → IsAhead s x r
     stands-behind Buy r x lt f = let le = ltb-false x.limit r.limit f in elim (cases_lt r.limit x.limit) [ inl less ↦ inl (lt-ltb r.limit x.limit less) | inr more ↦ inr (omega arith, lt) ]
     stands-behind Sell r x lt f = let le = ltb-false r.limit x.limit f in elim (cases_lt x.limit r.limit) [ inl less ↦ inl (lt-ltb x.limit r.limit less) | inr more ↦ inr (omega arith, lt) ]

@@ -47,7 +47,7 @@ own-side Buy e = absurd (cc)
 own-side Sell e = absurd (cc)
 
 module _ (orders : List Order) (list : IsOrderList orders) where
-  -- the orders of a chain stand ahead and are of the side
+  -- the orders of a chain are earlier in the list, and of the side
   abbrev IsAheadOf : ℕ → ℕ → Type 0
   IsAheadOf x u = (u < x) × (side_at orders u ≡ side_at orders x)
 
@@ -81,7 +81,8 @@ module _ (orders : List Order) (list : IsOrderList orders) where
     abbrev past : ℕ → ℕ → ℕ
     past = traded_before orders deals
 
-    -- an order that the record of the one at t ends, or an earlier one, isn't named by a deal of a later cause
+    -- an order that the record of the one at t ends, or an earlier one, isn't named by a
+    -- deal of a later cause
     no-deal : (q t u : ℕ) → t < length orders → IsAheadOf t u → ends_by (order_at orders u).cancelled (place_at orders t) ≡ true → ((i : ℕ) → i < q → ConformsAt orders deals i)
         → (k : ℕ) (e : Deal) → k < length deals → names u (get_or deals k e) ≡ true → place_at orders t ≤ cause orders (get_or deals k e) → cause orders (get_or deals k e) < q → ⊥
     no-deal q t u inside ahead ended conforms k e lt named_here from below =

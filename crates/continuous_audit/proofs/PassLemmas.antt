@@ -28,7 +28,7 @@ module _ (orders : List Order) (list : IsOrderList orders) (deals : List Deal) (
   abbrev p : ℕ
   p = place_at orders n
 
-  -- where a deal of this cause stands
+  -- where a deal of this cause is
   pub located : (j : ℕ) → j < length deals → cause orders (deal_at deals j) ≡ p → (i : ℕ) × (start ≤ i) × (i < end) × (deal_in causes i ≡ j)
   located j lt here =
       let has = are.each j lt in

@@ -66,7 +66,8 @@ module _ (orders : List Order) (list : IsOrderList orders) (deals : List Deal) (
   named-at : (j : ℕ) → j < length deals → NamesOrders orders (deal_at deals j)
   named-at j lt = named j missing_deal lt
 
-  -- its incoming order is that of the record, and its resting order is an earlier one of the other side
+  -- its incoming order is that of the record, and its resting order is an earlier
+  -- one of the other side
   pub record Ends (d : Deal) (r : ℕ) : Type 0 where
     pub incoming_is : incoming orders d ≡ n
     pub resting_is : resting orders d ≡ r

@@ -49,7 +49,7 @@ waits-is orders past p r left earlier e =
     let now : nat_lt (place_at orders r) p ≡ true = lt-ltb _ _ earlier in
     rw (e, now) (wait-bools (is_rests (order_at orders r).life) (uncancelled_before (order_at orders r).cancelled p) (size orders past r) (past p r))
 
--- the first rule that is broken, and its finding
+-- the first property that a deal does not keep, and its finding
 abbrev first_broken : TradedOrder → TradedOrder → TradedOrder → TradedOrder → Bool → Bool → Bool → Bool → Bool → Option Evidence
 first_broken resting incoming bid ask r e w b a = first_of (only_if (not r) (Inactive resting) ∷ only_if (not e) (Inactive incoming) ∷ only_if (not w) (Limit bid ask) ∷ only_if b (Quantity Buy bid) ∷ only_if a (Quantity Sell ask) ∷ [])
 
@@ -63,12 +63,13 @@ first-broken f resting incoming bid ask true true true true a = refl
 first-broken f resting incoming bid ask true true true false true = refl
 first-broken f resting incoming bid ask true true true false false = refl
 
--- of two accounts that are shown as two orders, that which a test picks is shown as the one that it picks
+-- of two accounts that are shown as two orders, that which a test picks is shown as
+-- the one that it picks
 shown-picked : (shown : ℕ → ℕ) (t : Bool) (x y : Account) (i j : ℕ) → x.shown ≡ traded_order shown i → y.shown ≡ traded_order shown j → (cond t x y).shown ≡ traded_order shown (cond t i j)
 shown-picked shown true x y i j first second = first
 shown-picked shown false x y i j first second = second
 
--- the orders of the first rule that is broken are in the list
+-- the orders are in the list that the first property shows which a deal does not keep
 broken-inside : (orders : List Order) (resting incoming bid ask : TradedOrder) (r e w b a : Bool) → resting.index < length orders → incoming.index < length orders → bid.index < length orders → ask.index < length orders
     → IfSome (first_broken resting incoming bid ask r e w b a) (IsInside orders)
 broken-inside orders resting incoming bid ask false e w b a rest come buys sells = rest
@@ -99,7 +100,7 @@ module _ (orders : List Order) (list : IsOrderList orders) (deals : List Deal) (
   abbrev pub finding_by : Deal → Evidence → Finding
   finding_by d e = finding_of orders (record { place = d.place; evidence = e })
 
-  -- the finding at a deal of this cause, by the first rule that it breaks
+  -- the finding at a deal of this cause, by the first property that it does not keep
   finding-is : (k : ℕ) → cause orders (deal_at deals k) ≡ p → conservation_finding orders deals p k
       ≡ option_map (finding_by (deal_at deals k)) (first_broken (traded_order (shown_upto orders deals p k) (resting orders (deal_at deals k))) (traded_order (shown_upto orders deals p k) (incoming orders (deal_at deals k)))
       (traded_order (shown_upto orders deals p k) (deal_at deals k).bid) (traded_order (shown_upto orders deals p k) (deal_at deals k).ask)
@@ -185,9 +186,9 @@ module _ (orders : List Order) (list : IsOrderList orders) (deals : List Deal) (
         finding-is k cause_here
         ∙ sym (λ i. option_map (finding_by d) (first_broken (rest i) (come i) (bid i) (ask i) (waits-here bt at' i) (a i) (keeps_limits orders d) (nat_lt (zb i) (tb i)) (nat_lt (za i) (ta i))))
 
-  -- deals of other causes have no finding, and those of this one stand among its causes
+  -- deals of other causes have no finding, and those of this one are among its causes
   module _ (start at : ℕ) (split : IsSplitAt causes n start) (clean : (i : ℕ) → start ≤ i → i < at → conservation_finding orders deals p (deal_in causes i) ≡ None) where
-    -- a deal with a finding stands at this cause or later
+    -- a deal with a finding is at this cause or later
     later-cause : (j : ℕ) → j < length deals → (conservation_finding orders deals p j ≡ None) ⊎ ((i : ℕ) × (at ≤ i) × (i < length causes) × (order_in causes i ≡ n) × (deal_in causes i ≡ j))
     later-cause j lt = elim (cases_eq (cause orders (deal_at deals j)) p) [
       | inr away ↦ inl (cond-false (cause orders (deal_at deals j) == p) _ None (ne_eqb _ _ away))

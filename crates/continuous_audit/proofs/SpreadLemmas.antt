@@ -49,7 +49,7 @@ pub meets-twice : (side : Side) (a b : ℕ) → limits_meet (other_side side) b 
 meets-twice Buy a b m = m
 meets-twice Sell a b m = m
 
--- an active order stands at the place or before it
+-- an active order is at the place or before it
 pub active-place : (orders : List Order) (deals : List Deal) (i x : ℕ) → active orders (traded_before orders deals) i x ≡ true → place_at orders x ≤ i
 unfolding active
 active-place orders deals i x t = elim (or_cases (rests orders (traded_before orders deals) (suc i) x) ((place_at orders x == i) && uncancelled_before (order_at orders x).cancelled (suc i) && nat_lt 0 (left orders (traded_before orders deals) (suc i) x)) t) [

@@ -1,4 +1,5 @@
--- What the code reads of the order of a record: whether it meets the best of the other side, and whether it rests.
+-- What the code reads of the order of a record: whether it meets the best of the other side,
+-- and whether it rests.
 use Rattle.std.proofs.Common.{◌≡◌, ◌<◌, ℕ, suc, List, [], ◌∷◌, length, Bool, true, false, cond, Option, Some, None, refl, sym, ap, ◌∙◌, arith, inl, inr, subst, All}
 use Rattle.std.specs.Prelude.{nat_lt, ◌==◌, ◌&&◌}
 use Rattle.std.proofs.lemmas.Bool.{cases_Bool, and_parts, and_right, ltb-true, ne_eqb, cond-true, cond-false}

@@ -30,7 +30,7 @@ count-with : (t : Side) (zs : List Resting) (b : Books) → resting_count (with_
 count-with Buy zs b = omega arith
 count-with Sell zs b = omega arith
 
--- the trade of the order at n: what it comes to, from what was known before
+-- the trade of the order at n: what is known after it, from what was known before
 pub record IsTraded (orders : List Order) (n q rest b : ℕ) (fills : List Fill) (old new : TradesSoFar) : Type 0 where
   pub mid_traded : List ℕ
   pub mid_left : List ℕ

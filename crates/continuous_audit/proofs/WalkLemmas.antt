@@ -140,7 +140,8 @@ module _ (orders : List Order) (side : Side) (t : Side) (limit : ℕ) where
         ]
   ]
 
--- What is filled of each order is its share: the lesser of what rests of it, and what the better ones leave of the size.
+-- What is filled of each order is its share: the smaller of what rests of it, and what the better
+-- ones leave of the size.
 
 module _ (orders : List Order) (list : IsOrderList orders) (n : ℕ) where
   abbrev s : Side
@@ -152,7 +153,7 @@ module _ (orders : List Order) (list : IsOrderList orders) (n : ℕ) where
   abbrev t : Side
   t = other_side s
 
-  -- what the order at n finds of one of which so much rests, and of those that are better
+  -- what the order at n finds of one of which this much rests, and of those that are better
   abbrev pub found_of : (ℕ → ℕ) → ℕ → ℕ
   found_of amount k = cond (meets (order_at orders n) (order_at orders k)) (amount k) 0
 
@@ -167,7 +168,7 @@ module _ (orders : List Order) (list : IsOrderList orders) (n : ℕ) where
   meets-side : (k : ℕ) → meets (order_at orders n) (order_at orders k) ≡ true → side_at orders k ≡ t
   meets-side k m = same_side-is t (side_at orders k) (and_parts (same_side t (side_at orders k)) _ m).0
 
-  -- in the list, each but the first stands behind it
+  -- in the list, each but the first is behind it
   behind-first : (amount : ℕ → ℕ) (x : Resting) (xs : List Resting) → Holds orders t amount (x ∷ xs) → (k : ℕ) → k < length orders → side_at orders k ≡ t → 0 < amount k → k ≢ x.index
       → better (order_at orders x.index) (order_at orders k) ≡ true
   behind-first amount x xs holds k inside of some ne =

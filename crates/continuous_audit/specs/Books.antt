@@ -12,7 +12,7 @@ use Rattle.continuous_audit.specs.declared.books.Books.{Books}
 use Rattle.continuous_audit.specs.declared.books.Standing.{Standing}
 use Rattle.continuous_audit.specs.Holding.{Holds, after_fills, left_in, resting_left, resting_left_after}
 
--- the list of a side
+-- the list of the book of a side
 abbrev pub list_of : Side → Books → List Resting
 list_of Buy b = b.bids.resting
 list_of Sell b = b.asks.resting
@@ -24,7 +24,8 @@ with_list Sell xs b = record b { asks = record b.asks { resting = xs } }
 
 -- the books without an order
 abbrev pub books_without : Side → ℕ → ℕ → Books → Books
-books_without side index limit b = with_list side (without_order index limit (list_of side b)) b
+books_without side index limit b =
+    with_list side (without_order index limit (list_of side b)) b
 
 -- the books with one order more
 abbrev pub books_with : Side → Resting → Books → Books
@@ -35,13 +36,14 @@ books_with Sell r b =
 
 -- the books with what is left now of the best orders of a side
 abbrev pub with_fills : Side → List ℕ → Books → Books
-with_fills side left b = with_list side (after_fills (left_in left) (list_of side b)) b
+with_fills side left b =
+    with_list side (after_fills (left_in left) (list_of side b)) b
 
 -- how many orders rest in both books
 abbrev pub resting_count : Books → ℕ
 resting_count b = length b.bids.resting + length b.asks.resting
 
--- each order in a book stands before the one at n in the order list
+-- each order in a book is before the one at n in the order list
 pub record HoldBelow (n : ℕ) (b : Books) : Type 0 where
   pub bids : All (λ r. r.index < n) b.bids.resting
   pub asks : All (λ r. r.index < n) b.asks.resting
@@ -55,7 +57,8 @@ pub record BooksHold (orders : List Order) (amount : ℕ → ℕ) (b : Books) : 
 
 -- both books hold what rests before place q
 abbrev pub HoldAt : List Order → List Deal → ℕ → Books → Type 0
-HoldAt orders deals q b = BooksHold orders (resting_left orders (traded_before orders deals) q) b
+HoldAt orders deals q b =
+    BooksHold orders (resting_left orders (traded_before orders deals) q) b
 
 -- both books hold what rests of the orders before that at n, after its deals
 abbrev pub HoldAfterDeals : List Order → List Deal → ℕ → Books → Type 0
@@ -70,7 +73,7 @@ without_own orders deals n k = if k == n then 0
 abbrev pub HoldWithoutOwn : List Order → List Deal → ℕ → Books → Type 0
 HoldWithoutOwn orders deals n b = BooksHold orders (without_own orders deals n) b
 
--- both books hold what rests after its record
+-- both books hold what rests after the record of the order at n
 abbrev pub HoldAfter : List Order → List Deal → ℕ → Books → Type 0
 HoldAfter orders deals n b = HoldAt orders deals (suc (place_at orders n)) b
 
@@ -80,7 +83,7 @@ ready_place orders zero = place_at orders 0
 ready_place orders (suc n) = if nat_lt (suc n) (length orders) then place_at orders (suc n)
     else suc (place_at orders n)
 
--- both books hold what rests when it comes
+-- both books hold what rests when the order at n comes
 abbrev pub HoldNext : List Order → List Deal → ℕ → Books → Type 0
 HoldNext orders deals n b = HoldAt orders deals (ready_place orders n) b
 

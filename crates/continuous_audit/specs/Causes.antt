@@ -16,16 +16,16 @@ cause_cmp a b = ordering_then (nat_cmp a.order b.order) (nat_cmp a.deal b.deal)
 abbrev pub cause_of : List Order → List Deal → ℕ → Cause
 cause_of orders deals k = record { order = incoming orders (deal_at deals k); deal = k }
 
--- those of the first n deals, in log order
+-- the causes of the first n deals, in log order
 abbrev pub causes_upto : List Order → List Deal → ℕ → List Cause
 causes_upto orders deals zero = []
 causes_upto orders deals (suc n) = causes_upto orders deals n ++ cause_of orders deals n ∷ []
 
--- the first stands before the second: a lesser order, or the same and a lesser deal
+-- the first is before the second: an earlier order, or the same and an earlier deal
 abbrev pub IsSooner : Cause → Cause → Type 0
 IsSooner a b = (a.order < b.order) ⊎ ((a.order ≡ b.order) × (a.deal < b.deal))
 
--- each deal once, with its incoming order, sooner ones first
+-- each deal once, with its incoming order, those of earlier orders first
 pub record AreCauses (orders : List Order) (deals : List Deal) (causes : List Cause) : Type 0 where
   pub only : All (λ c. (c.deal < length deals) × (c ≡ cause_of orders deals c.deal)) causes
   pub each : (k : ℕ) → k < length deals → Contains causes (cause_of orders deals k)

@@ -1,4 +1,4 @@
--- What is kept of the chains of orders, so that none is gone along anew.
+-- What is kept of the chains of orders, so that none is followed anew.
 use Rattle.std.specs.Prelude.{◌≡◌, ◌<◌, ◌≤◌, ◌*◌, ◌^◌, ℕ, Bool, true, false, nat_le, List, Option, None, Some, All, length, slice_index_or}
 use Rattle.audit_base.specs.declared.orders.Order.{Order}
 use Rattle.audit_base.specs.declared.orders.Deal.{Deal}

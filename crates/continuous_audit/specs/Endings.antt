@@ -15,28 +15,28 @@ ending_at i (Some place) = record { place = place; index = i } ∷ []
 abbrev pub endings_of : ℕ → Order → List Ending
 endings_of i o = ending_at i o.cancelled
 
--- those of the first n orders
+-- the endings of the first n orders
 abbrev pub endings_upto : List Order → ℕ → List Ending
 endings_upto orders zero = []
 endings_upto orders (suc n) = endings_upto orders n ++ endings_of n (order_at orders n)
 
--- how they compare
+-- how endings compare
 abbrev pub ending_cmp : Ending → Ending → Ordering
 ending_cmp a b = ordering_then (nat_cmp a.place b.place) (nat_cmp a.index b.index)
 
--- a record ends the order there
+-- a record at this place ends the order at this index
 pub record IsEnding (orders : List Order) (e : Ending) : Type 0 where
   pub inside : e.index < length orders
   pub is : (order_at orders e.index).cancelled ≡ Some e.place
 
--- all of them, by the places of the records
+-- all endings of the orders, by the places of the records
 pub record AreEndings (orders : List Order) (endings : List Ending) : Type 0 where
   pub only : All (IsEnding orders) endings
   pub each : (k c : ℕ) → k < length orders → (order_at orders k).cancelled ≡ Some c
       → Contains endings (record { place = c; index = k })
   pub rising : AllPairs (λ a b. a.place ≤ b.place) endings
 
--- what stands for one past the end
+-- what is given for an ending past the end, and the place and the index of the ending at i
 abbrev pub missing_ending : Ending
 missing_ending = record { place = 0; index = 0 }
 
@@ -60,7 +60,8 @@ pub record AreEndedBelow (endings : List Ending) (start at upto : ℕ) : Type 0 
 
 -- the order is one of those from an index on and below another
 abbrev pub is_gone : List Ending → ℕ → ℕ → ℕ → Bool
-is_gone endings from at k = any_below (λ i. nat_le from i && (index_in endings i == k)) at
+is_gone endings from at k =
+    any_below (λ i. nat_le from i && (index_in endings i == k)) at
 
 -- nothing of these, and of others what there is
 abbrev pub amount_without : List Ending → ℕ → ℕ → (ℕ → ℕ) → ℕ → ℕ

@@ -22,7 +22,7 @@ abbrev pub shown_in : Numbers → ℕ → ℕ
 shown_in numbers x = number_in numbers.running.traded.items x
     + number_in numbers.sheet.before.items x
 
--- both are there for the order, and their sum fits
+-- the two numbers are there for the order, and their sum fits 128 bits
 pub record HasShown (numbers : Numbers) (x : ℕ) : Type 0 where
   pub traded_inside : x < length numbers.running.traded.items
   pub before_inside : x < length numbers.sheet.before.items
@@ -32,7 +32,7 @@ pub record HasShown (numbers : Numbers) (x : ℕ) : Type 0 where
 abbrev pub traded_order : (ℕ → ℕ) → ℕ → TradedOrder
 traded_order shown x = record { index = x; traded = shown x }
 
--- a deal passes over the order at an index
+-- the flaw of a deal that passes over the order at an index
 abbrev pub priority_flaw : List Order → (ℕ → ℕ) → Deal → ℕ → Flaw
 priority_flaw orders shown d over = record {
   place = d.place;
@@ -40,23 +40,26 @@ priority_flaw orders shown d over = record {
       (traded_order shown (resting orders d));
 }
 
--- an order of a side and another one meet
+-- the evidence that an order of a side and another one meet
 abbrev pub spread_by : Side → TradedOrder → TradedOrder → Evidence
 spread_by Buy own other = Spread own other
 spread_by Sell own other = Spread other own
 
--- the order at n meets another one at its own record
+-- the flaw of the order at n, which meets another one at its own record
 abbrev pub spread_flaw : List Order → (ℕ → ℕ) → ℕ → ℕ → Flaw
 spread_flaw orders shown n other = record {
   place = place_at orders n;
-  evidence = spread_by (side_at orders n) (traded_order shown n) (traded_order shown other);
+  evidence = spread_by (side_at orders n)
+      (traded_order shown n) (traded_order shown other);
 }
 
--- the same, with what the orders have traded after the deals of the record
+-- the flaw of the spread, with what the orders have traded after the deals of the record
 abbrev pub spread_after : List Order → List Deal → ℕ → ℕ → Flaw
-spread_after orders deals n = spread_flaw orders (shown_after orders deals (place_at orders n)) n
+spread_after orders deals n =
+    spread_flaw orders (shown_after orders deals (place_at orders n)) n
 
--- the finding is that of the flaw, whose orders are in the list; there is none where there is no flaw
+-- the finding is that of the flaw, whose orders are in the list; there is none
+-- where there is no flaw
 pub record IsFindingOf (orders : List Order) (flaw : Option Flaw) (finding : Option Finding)
     : Type 0 where
   pub inside : IfSome flaw (λ f. IsInside orders f.evidence)

@@ -10,16 +10,17 @@ use Rattle.audit_base.specs.Expected.{limits_meet}
 use Rattle.order_book.specs.declared.books.Resting.{Resting}
 use Rattle.order_book.specs.Books.{IsAhead, first}
 
--- the order at i in a book, with so much left
+-- the order at i in a book, with this much left
 abbrev pub resting_with : List Order → ℕ → ℕ → Resting
 resting_with orders i n = record { index = i; limit = limit_at orders i; left = n }
 
--- the same, with what rests of each order
+-- the order at i in a book, by what rests of each order
 abbrev pub resting_of : List Order → (ℕ → ℕ) → ℕ → Resting
 resting_of orders amount i = resting_with orders i (amount i)
 
--- it is an order of the side of which something rests
-pub record IsPart (orders : List Order) (side : Side) (amount : ℕ → ℕ) (r : Resting) : Type 0 where
+-- an order in a book is one of the side of which something rests
+pub record IsPart (orders : List Order) (side : Side) (amount : ℕ → ℕ)
+    (r : Resting) : Type 0 where
   pub inside : r.index < length orders
   pub of_side : side_at orders r.index ≡ side
   pub some : 0 < amount r.index
@@ -37,7 +38,7 @@ pub record Holds (orders : List Order) (side : Side) (amount : ℕ → ℕ)
 unfoldable pub resting_left : List Order → (ℕ → ℕ → ℕ) → ℕ → ℕ → ℕ
 resting_left orders past p i = if rests orders past p i then left orders past p i else 0
 
--- with so much left of the first, which goes where this is nothing
+-- with this much left of the first, which is taken out where this is nothing
 abbrev pub with_best_left : ℕ → List Resting → List Resting
 with_best_left now [] = []
 with_best_left now (x ∷ xs) = if nat_lt 0 now then record x { left = now } ∷ xs else xs
@@ -64,9 +65,11 @@ IsApart orders past p = (b a : ℕ) → b < length orders → a < length orders
     → rests orders past p b ≡ true → rests orders past p a ≡ true
     → limit_at orders b < limit_at orders a
 
--- the order at n is active after its own record: no record up to it cancels it, and something is left
+-- the order at n is active after its own record: no record up to it cancels it,
+-- and something is left
 abbrev pub is_active : List Order → (ℕ → ℕ → ℕ) → ℕ → Bool
-is_active orders past n = uncancelled_before (order_at orders n).cancelled (suc (place_at orders n))
+is_active orders past n =
+    uncancelled_before (order_at orders n).cancelled (suc (place_at orders n))
     && nat_lt 0 (left orders past (suc (place_at orders n)) n)
 
 -- a limit of a side meets that of the first order of a book of the other side

@@ -13,7 +13,8 @@ use Rattle.continuous_audit.specs.Holding.{IsFilledInFront, resting_left, restin
 use Rattle.continuous_audit.specs.Records.{ConformsBelow, conservation_at}
 use Rattle.continuous_audit.specs.Scans.{AreRunningTotals, IsRefreshed, IsSplitAt, deal_in}
 
--- the deals are over the order list, and each deal and each order that is ended belongs to its record
+-- the deals are over the order list, and each deal and each order that is ended
+-- belongs to its record
 pub record IsMarket (m : Market) : Type 0 where
   pub list : IsOrderList m.orders.now
   pub deal_list : IsDealList m.orders.now m.deals.now
@@ -34,10 +35,11 @@ pub record HaveTraded (m : Market) (n : ℕ) (running : RunningTotals) : Type 0 
       running.traded.items
   pub split : IsSplitAt m.causes.now n running.at
 
--- what is left of the orders of the deals from a cause on, as far as these are added, is their size less
--- what they have traded, and of the others what it was
+-- what is left of the orders of the deals from a cause on, as far as these are added, is their size
+-- less what they have traded, and of the others what it was
 abbrev pub AreRefreshed : Market → ℕ → RunningTotals → List ℕ → List ℕ → List ℕ → Type 0
-AreRefreshed m start running sizes old new = IsRefreshed m.deals.now m.causes.now start running.at
+AreRefreshed m start running sizes old new =
+    IsRefreshed m.deals.now m.causes.now start running.at
     sizes running.traded.items old new
 
 -- the deal of the cause at an index, and its resting order
@@ -47,7 +49,7 @@ caused_at m i = deal_at m.deals.now (deal_in m.causes.now i)
 abbrev pub resting_at : Market → ℕ → ℕ
 resting_at m i = resting m.orders.now (caused_at m i)
 
--- an order that stands before the one at n in the order list, and is of the other side
+-- an order that is before the one at n in the order list, and is of the other side
 pub record IsOpposite (m : Market) (n : ℕ) (r : Resting) : Type 0 where
   pub earlier : r.index < n
   pub of_side : side_at m.orders.now r.index ≡ other_side (side_at m.orders.now n)
@@ -55,5 +57,6 @@ pub record IsOpposite (m : Market) (n : ℕ) (r : Resting) : Type 0 where
 -- a list of the other side shows at its first order what is left after the deals of the order at n
 abbrev pub IsFilledAgainst : Market → ℕ → List Resting → Type 0
 IsFilledAgainst m n ys = IsFilledInFront m.orders.now (other_side (side_at m.orders.now n))
-    (resting_left m.orders.now (traded_before m.orders.now m.deals.now) (place_at m.orders.now n))
+    (resting_left m.orders.now (traded_before m.orders.now m.deals.now)
+    (place_at m.orders.now n))
     (resting_left_after m.orders.now m.deals.now (place_at m.orders.now n)) ys

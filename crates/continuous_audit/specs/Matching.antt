@@ -22,14 +22,15 @@ pub record AreExpected (orders : List Order) (deals : List Deal) : Type 0 where
   pub conforms : ConformsContinuous orders deals
 
 -- fills are added to what the orders have traded, and taken from what is left of them
-pub record AreApplied (fills : List Fill) (old_traded old_left traded left : List ℕ) : Type 0 where
+pub record AreApplied (fills : List Fill)
+    (old_traded old_left traded left : List ℕ) : Type 0 where
   pub traded_count : length traded ≡ length old_traded
   pub left_count : length left ≡ length old_left
   pub traded_is : (x : ℕ) → number_in traded x ≡ number_in old_traded x + filled fills x
   pub left_is : (x : ℕ) → number_in left x ≡ number_in old_left x - filled fills x
 
--- whatever the deals are: of the first n orders each that has traded less than it might has a pair, or
--- it rests, or it is the one that waits to
+-- whatever the deals are: there is a number for each order, what was traded is not too great, and
+-- the pairs, the orders in the books and the one that waits to enter are together at most n
 pub record IsCounted (orders : List Order) (n waiting : ℕ) (t : TradesSoFar) : Type 0 where
   pub traded_count : length t.traded.items ≡ length orders
   pub sheet : IsOpenSheet orders n t.sheet
@@ -58,7 +59,7 @@ MatchedAfter orders n t = (deals : List Deal) → AreExpected orders deals
     → IsMatched orders deals (suc n) (suc (place_at orders n))
     (resting_left_after orders deals (place_at orders n)) t
 
--- before the first of so many orders
+-- before the first of this many orders
 pub record AreAtFirst (count : ℕ) (t : TradesSoFar) : Type 0 where
   pub traded : t.traded.items ≡ replicate count 0
   pub sheet : IsBlank count t.sheet

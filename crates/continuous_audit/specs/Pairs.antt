@@ -12,7 +12,7 @@ use Rattle.audit_base.specs.Expected.{pair_share, resting_limit}
 use Rattle.continuous_audit.specs.declared.fills.Fill.{Fill}
 use Rattle.continuous_audit.specs.declared.pairs.Pair.{Pair}
 
--- what stands for a pair past the end of a list, and the pair at an index
+-- what is given past the end of a list of pairs, and the pair at an index
 abbrev pub missing_pair : Pair
 missing_pair = record { bid = 0; ask = 0; quantity = 0 }
 
@@ -28,7 +28,7 @@ pair_of Sell n f = record { bid = f.index; ask = n; quantity = f.quantity }
 abbrev pub ends_of : Pair → ℕ × ℕ
 ends_of p = (p.bid, p.ask)
 
--- a pair stands before another: by the bid, and then by the ask
+-- a pair is before another: by the bid, and then by the ask
 abbrev pub PairBefore : Pair → Pair → Type 0
 PairBefore p q = (p.bid < q.bid) ⊎ ((p.bid ≡ q.bid) × (p.ask < q.ask))
 
@@ -42,7 +42,8 @@ pair_cmp p q = ordering_then (nat_cmp p.bid q.bid)
     (ordering_then (nat_cmp p.ask q.ask) (nat_cmp p.quantity q.quantity))
 
 -- a pair of two of the first n orders, with its share under these deals
-pub record IsSharedPair (orders : List Order) (deals : List Deal) (n : ℕ) (p : Pair) : Type 0 where
+pub record IsSharedPair (orders : List Order) (deals : List Deal) (n : ℕ)
+    (p : Pair) : Type 0 where
   pub bid_inside : p.bid < n
   pub ask_inside : p.ask < n
   pub is : p.quantity ≡ pair_share orders (traded_before orders deals) p.bid p.ask
@@ -74,6 +75,8 @@ deal_of orders number p = record {
 }
 
 -- one deal for each pair, numbered from 1
-pub record AreNumbered (orders : List Order) (pairs : List Pair) (deals : List Deal) : Type 0 where
+pub record AreNumbered (orders : List Order) (pairs : List Pair)
+    (deals : List Deal) : Type 0 where
   pub count : length deals ≡ length pairs
-  pub each : EachIndex pairs (λ k. deal_at deals k ≡ deal_of orders (k + 1) (pair_at pairs k))
+  pub each : EachIndex pairs (λ k. deal_at deals k
+      ≡ deal_of orders (k + 1) (pair_at pairs k))

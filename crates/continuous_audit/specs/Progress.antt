@@ -57,7 +57,7 @@ IsReadyFor m n state = IsReady m n (place_at m.orders.now n) state
 abbrev pub IsReadyNext : Market → ℕ → State → Type 0
 IsReadyNext m n state = IsReady m n (ready_place m.orders.now n) state
 
--- before the first order of so many
+-- before the first of this many orders
 pub record AreAtStart (count : ℕ) (numbers : Numbers) : Type 0 where
   pub sheet : IsBlank count numbers.sheet
   pub traded : numbers.running.traded.items ≡ replicate count 0

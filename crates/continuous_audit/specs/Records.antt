@@ -42,8 +42,8 @@ pub record AreLeft (orders : List Order) (deals : List Deal) (m q : ℕ)
   pub count : length left ≡ length orders
   pub is : (x : ℕ) → x < m → number_in left x ≡ left_before orders deals q x
 
--- before the deals of the order at n: whether it entered, Before and Size of each order up to it, and what
--- is left of the earlier ones
+-- before the deals of the order at n: whether it entered, Before and Size of each order up to it,
+-- and what is left of the earlier ones
 pub record IsKnown (orders : List Order) (deals : List Deal) (n : ℕ) (entered : Bool)
     (sheet : Sheet) : Type 0 where
   pub arrived : entered ≡ entered_of orders deals n

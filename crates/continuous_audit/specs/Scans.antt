@@ -1,4 +1,4 @@
--- What the first deals come to, and where the deals of an order begin.
+-- What the first deals add up to, and where the deals of an order begin.
 use Rattle.std.specs.Prelude.{◌≡◌, ◌<◌, ◌≤◌, ◌-◌, ◌*◌, ◌^◌, ◌⊎◌, ℕ, suc, false, List, Option, None, Some, length, slice_index_or}
 use Rattle.audit_base.specs.declared.orders.Order.{Order}
 use Rattle.audit_base.specs.declared.orders.Deal.{Deal}
@@ -10,7 +10,7 @@ use Rattle.continuous_audit.specs.Causes.{running_total}
 abbrev pub number_in : List ℕ → ℕ → ℕ
 number_in numbers i = slice_index_or numbers i 0
 
--- what stands for a cause past the end, and the order of the cause at an index
+-- what is given for a cause past the end, and the order of the cause at an index
 abbrev pub missing_cause : Cause
 missing_cause = record { order = 0; deal = 0 }
 
@@ -44,7 +44,8 @@ pub record HasDeals (deals : List Deal) (causes : List Cause) (count : ℕ) : Ty
   pub bid : (i : ℕ) → i < length causes → (deal_at deals (deal_in causes i)).bid < count
   pub ask : (i : ℕ) → i < length causes → (deal_at deals (deal_in causes i)).ask < count
 
--- what is left of the orders of these deals is their size less what they have traded, and of the others what it was
+-- what is left of the orders of these deals is their size less what they have traded, and of the
+-- others what it was
 pub record IsRefreshed (deals : List Deal) (causes : List Cause) (start at : ℕ)
     (sizes traded old new : List ℕ) : Type 0 where
   pub count : length new ≡ length old

@@ -7,7 +7,7 @@ use Rattle.continuous_audit.specs.declared.opening.Opening.{Opening}
 use Rattle.continuous_audit.specs.declared.sheet.Sheet.{Sheet}
 use Rattle.continuous_audit.specs.Chains.{IsClosed}
 
--- nothing is known yet of any of so many orders
+-- nothing is known yet of any of this many orders
 pub record IsBlank (count : ℕ) (sheet : Sheet) : Type 0 where
   pub before : sheet.before.items ≡ replicate count 0
   pub closed : sheet.closed.items ≡ replicate count false
@@ -21,7 +21,8 @@ pub record IsOpened (orders : List Order) (deals : List Deal) (n : ℕ)
   pub before_is : opening.before ≡ before_of orders deals n
   pub size_is : opening.size ≡ size_of orders deals n
 
--- whatever the deals are, its Before and its Size are not too great, and a flag that is set tells of its chain
+-- whatever the deals are, its Before and its Size are not too great, and where its flag is set
+-- its chain is ended
 pub record FitsOrder (orders : List Order) (n : ℕ) (opening : Opening) : Type 0 where
   pub bounded : opening.before ≤ n * 2 ^ 72
   pub closed : opening.closed ≡ true → IsClosed orders n

@@ -1,4 +1,4 @@
--- An order after its own record, where so much is left of it.
+-- An order after its own record, where this much is left of it.
 use Rattle.std.specs.Prelude.{◌≡◌, ℕ, suc, Bool, ◌&&◌, nat_lt, List, All}
 use Rattle.audit_base.specs.declared.orders.Order.{Order}
 use Rattle.audit_base.specs.declared.orders.Deal.{Deal}
@@ -8,15 +8,15 @@ use Rattle.audit_base.specs.Deals.{NamesOrders}
 use Rattle.continuous_audit.specs.declared.books.Books.{Books}
 use Rattle.continuous_audit.specs.Books.{HoldWithoutOwn}
 
--- it is active
+-- an order is active after its own record, where this much is left of it
 abbrev pub is_active_with : Order → ℕ → Bool
 is_active_with o left = uncancelled_before o.cancelled (suc o.place) && nat_lt 0 left
 
--- it rests
+-- an order rests after its own record, where this much is left of it
 abbrev pub stays_with : Order → ℕ → Bool
 stays_with o left = is_rests o.life && is_active_with o left
 
--- so much is left of the order at n, which isn't in the books yet
+-- this much is left of the order at n, which isn't in the books yet
 pub record IsAfterOwn (orders : List Order) (deals : List Deal) (n own_left : ℕ)
     (b : Books) : Type 0 where
   pub named : All (NamesOrders orders) deals

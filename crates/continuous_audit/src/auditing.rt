@@ -17,9 +17,9 @@ use matching_core::totals::{Totals, volume_of};
 use order_list::lists::OrderList;
 use std::alloc::Global;
 
-/// The audit of the rule of continuous trading. Conforms exactly where it holds, unless it is out of memory: with
-/// what each order traded, and the volume. Else Broken has the first offence: an order that is inactive, a limit, a
-/// quantity, a priority or the spread.
+/// The audit of the rule of continuous trading. Conforms exactly where it holds, unless it is out
+/// of memory: with what each order traded, and the volume. Else Broken has the first offence: an
+/// order that is inactive, a limit, a quantity, a priority or the spread.
 pub fn audit_continuous(
     alloc: Global,
     orders: &OrderList<'_>,

@@ -63,7 +63,8 @@ impl Books {
         }
     }
 
-    /// Adds a later order to the book of its side. Where it is out of memory the books are as before.
+    /// Adds a later order to the book of its side. Where it is out of memory the
+    /// books are as before.
     pub fn enter(
         &mut self,
         side: Side,
@@ -148,8 +149,10 @@ impl Standing {
         requires list { IsOrderList orders.now }
         requires order { order < length orders.now }
         requires endings { AreEndings orders.now endings.now }
-        requires dropped { AreDropped endings.now self.old.start (place_at orders.now order) }
-        ensures dropped { AreDropped endings.now self.new.start (suc (place_at orders.now order)) }
+        requires dropped { AreDropped endings.now self.old.start
+            (place_at orders.now order) }
+        ensures dropped { AreDropped endings.now self.new.start
+            (suc (place_at orders.now order)) }
         ensures holds { (deals : List ADeal) → All (NamesOrders orders.now) deals
             → HoldAfterDeals orders.now deals order self.old.books
             → HoldWithoutOwn orders.now deals order self.new.books }
@@ -164,7 +167,8 @@ impl Standing {
         requires list { IsOrderList orders.now }
         requires order { order < length orders.now }
         requires endings { AreEndings orders.now endings.now }
-        requires dropped { AreDropped endings.now self.old.start (suc (place_at orders.now order)) }
+        requires dropped { AreDropped endings.now self.old.start
+            (suc (place_at orders.now order)) }
         ensures dropped { AreDropped endings.now self.new.start
             (ready_place orders.now (suc order)) }
         ensures holds { (deals : List ADeal) → All (NamesOrders orders.now) deals

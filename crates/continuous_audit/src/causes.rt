@@ -1,4 +1,4 @@
-//! The deals by their incoming orders, and those of one order as they stand in the log.
+//! The deals by their incoming orders, and those of one order in the order of the log.
 ghost use Rattle.std.specs.Prelude.{◌≡◌, ◌<◌, ◌^◌, All, IfOk, length};
 ghost use Rattle.audit_base.specs.Orders.{order_at, place_at};
 ghost use Rattle.audit_base.specs.Deals.{NamesOrders, IsDealList};
@@ -66,7 +66,7 @@ fn collect_causes(
     Ok(causes)
 }
 
-/// The deals by their incoming orders, and those of one order as they stand in the log.
+/// The deals by their incoming orders, and those of one order in the order of the log.
 pub fn sort_causes(
     alloc: Global,
     orders: &OrderList<'_>,

@@ -9,7 +9,8 @@ ghost use Rattle.continuous_audit.specs.Scans.{AreSmall, number_in};
 use super::sheet::Sheet;
 use order_list::lists::OrderList;
 
-/// What the orders of the chain of an order have traded: its target, the target's target, and so on.
+/// What the orders of the chain of an order have traded: its target, the target's
+/// target, and so on.
 fn chain_total(orders: &OrderList<'_>, traded: &[u128], order: usize) -> u128
     requires list { IsOrderList orders.now }
     requires order { order < length orders.now }
@@ -26,14 +27,15 @@ fn chain_total(orders: &OrderList<'_>, traded: &[u128], order: usize) -> u128
     total
 }
 
-/// Before of an order: what its chain has traded. Where the records of its target's chain end one another, as in
-/// every history, this is what the target has traded, and the target's own Before.
+/// Before of an order: what its chain has traded. Where the records of its target's chain end one
+/// another, as in every history, this is what the target has traded, and the target's own Before.
 pub fn chain_before(orders: &OrderList<'_>, traded: &[u128], sheet: &Sheet, order: usize) -> u128
     requires list { IsOrderList orders.now }
     requires order { order < length orders.now }
     requires traded { AreSmall orders.now traded.now }
     requires sheet { IsOpenSheet orders.now order sheet.now }
-    ensures before { (deals : List ADeal) → IsOpening orders.now deals order traded.now sheet.now
+    ensures before { (deals : List ADeal)
+        → IsOpening orders.now deals order traded.now sheet.now
         → result ≡ before_of orders.now deals order }
     ensures bounded { result ≤ order * 2 ^ 72 }
 {

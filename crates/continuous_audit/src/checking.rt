@@ -1,4 +1,5 @@
-//! Whether the deals of one record keep their limits, and no order trades that isn't there or more than its size.
+//! Whether the deals of one record keep their limits, and no order trades that isn't there or
+//! more than its size.
 ghost use Rattle.std.specs.Prelude.{◌≡◌};
 ghost use Rattle.continuous_audit.specs.DealFindings as by_deal;
 
@@ -17,7 +18,7 @@ fn is_uncancelled(cancelled: Option<u32>, place: u32) -> bool
     }
 }
 
-/// Whether an earlier order with so much left rests before a place.
+/// Whether an earlier order with this much left rests before a place.
 pub fn waits(order: &ListedOrder<'_>, place: u32, left: u64) -> bool
     ensures { result ≡ by_deal.waits order.now place left }
 {
@@ -93,7 +94,8 @@ fn incoming_account(bid: &ListedOrder<'_>, ask: &ListedOrder<'_>, known: Account
     }
 }
 
-/// What is wrong with a deal by itself, from what is known of its orders: the first rule that it breaks.
+/// What is wrong with a deal by itself, from what is known of its orders: the first property
+/// that it does not keep.
 pub fn deal_evidence(
     deal: &Deal,
     bid: &ListedOrder<'_>,

@@ -20,7 +20,7 @@ use matching_core::totals::zeros;
 use order_list::lists::OrderList;
 use std::alloc::Global;
 
-/// Nothing has traded before the first of so many orders.
+/// Nothing has traded before the first of this many orders.
 fn no_trades(alloc: Global, count: usize) -> Result<TradesSoFar, NoMemory>
     ensures { IfOk result (AreAtFirst count) }
 {
@@ -44,7 +44,8 @@ fn match_records(
     requires list { IsOrderList orders.now }
     requires regular { Regular orders.now }
     requires endings { AreEndings orders.now endings.now }
-    requires dropped { AreDropped endings.now so_far.old.standing.start (ready_place orders.now 0) }
+    requires dropped { AreDropped endings.now so_far.old.standing.start
+        (ready_place orders.now 0) }
     requires counted { IsCounted orders.now 0 0 so_far.old }
     requires matched { MatchedBefore orders.now 0 (ready_place orders.now 0) so_far.old }
     ensures counted { OnOk result (IsCounted orders.now (length orders.now) 0 so_far.new) }
@@ -57,10 +58,11 @@ fn match_records(
     Ok(())
 }
 
-/// The Expected trades of continuous trading over a regular order list, as deals with the places 1, 2 and so on: at
-/// its own record each order trades with the best orders that rest on the other side, as long as their limits meet,
-/// at their limits. One deal for each bid and ask that trade, in order of the bid's place, then of the ask's. They
-/// conform to the rule. In n log n steps for n orders. Err only out of memory.
+/// The Expected trades of continuous trading over a regular order list, as deals with the places 1,
+/// 2 and so on: at its own record each order trades with the best orders that rest on the other
+/// side, as long as their limits meet, at their limits. One deal for each bid and ask that trade,
+/// in order of the bid's place, then of the ask's. They conform to the rule. In n log n steps for n
+/// orders. Err only out of memory.
 pub fn continuous_matching(alloc: Global, orders: &OrderList<'_>) -> Result<Vec<Deal>, NoMemory>
     requires order_list { IsOrderList orders.now }
     requires regular { Regular orders.now }

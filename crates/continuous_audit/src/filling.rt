@@ -5,7 +5,7 @@ ghost use Rattle.continuous_audit.specs.Holding.{after_fills, with_best_left, le
 
 use order_book::books::Book;
 
-/// Leaves so much of the best order, which goes where nothing is left.
+/// Leaves this much of the best order, which is taken out where nothing is left.
 fn leave_of_best(book: &mut Book, left: u64, now: u64)
     requires best { IfSome (first book.old.resting) (λ r. r.left ≡ left) }
     requires some { 0 < left }
@@ -17,7 +17,8 @@ fn leave_of_best(book: &mut Book, left: u64, now: u64)
     }
 }
 
-/// Takes from the book what its best orders have traded, up to the first of which something is left.
+/// Takes from the book what its best orders have traded, up to the first of which
+/// something is left.
 pub fn fill_best(book: &mut Book, left: &[u64])
     requires within { All (IsWithin left.now) book.old.resting }
     ensures { book.new ≡ record book.old {

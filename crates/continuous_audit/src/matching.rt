@@ -1,4 +1,4 @@
-//! One record of an order: what it trades under the rule, and what stands after it.
+//! One record of an order: what it trades under the rule, and what is known after it.
 ghost use Rattle.std.specs.Prelude.{◌≡◌, ◌<◌, ◌≤◌, ◌+◌, ◌-◌, ◌*◌, ◌^◌, ◌∷◌, [], ℕ, suc, min, All, IfOk, OnOk, length, slice_set, vec_len};
 ghost use Rattle.audit_base.specs.Orders.{IsOrderList, limit_at, other_side, place_at, side_at};
 ghost use Rattle.audit_base.specs.Histories.{Regular};
@@ -22,8 +22,8 @@ use matching_core::totals::left_of;
 use order_list::listed::ListedOrder;
 use order_list::lists::OrderList;
 
-/// What the Expected trades so far come to: what is known of the orders, by their indices, the books, and the pairs
-/// that have traded.
+/// What the Expected trades leave so far: what is known of the orders, by their indices, the books,
+/// and the pairs that have traded.
 #[derive(Drop)]
 pub struct TradesSoFar {
     pub traded: Vec<u128>,
@@ -68,8 +68,8 @@ fn apply_fills(fills: &[Fill], traded: &mut Vec<u128>, left: &mut Vec<u64>)
     }
 }
 
-/// Trades an order with the best orders of the other side's book. `fills` is overwritten with what it trades; gives
-/// what is left of its size.
+/// Trades an order with the best orders of the other side's book. `fills` is overwritten with what
+/// it trades; gives what is left of its size.
 fn fill_order(
     own: &ListedOrder<'_>,
     size: u64,
@@ -79,7 +79,8 @@ fn fill_order(
     ensures fills { OnOk result (fills.new.items
         ≡ fills_of own.now.side own.now.limit size (list_of (other_side own.now.side) books.old)) }
     ensures books { OnOk result (books.new ≡ with_list (other_side own.now.side)
-        (rest_of own.now.side own.now.limit size (list_of (other_side own.now.side) books.old))
+        (rest_of own.now.side own.now.limit size
+        (list_of (other_side own.now.side) books.old))
         books.old) }
     ensures left { IfOk result (λ left. left + total_filled fills.new.items ≡ size) }
 {

@@ -1,4 +1,4 @@
-//! What the deals of the records so far come to.
+//! What the orders have traded and have left after the deals of the records so far.
 ghost use Rattle.std.specs.Prelude.{◌≡◌, ◌<◌, ◌-◌, None, IfOk, length, slice_set, vec_len};
 ghost use Rattle.continuous_audit.specs.Flaws.{HasShown, IsFindingOf, shown_in, traded_order};
 ghost use Rattle.continuous_audit.specs.Markets.{ConformsBefore, IsMarket};
@@ -25,7 +25,7 @@ pub struct Numbers {
 }
 
 impl Numbers {
-    /// The numbers before the first of so many orders.
+    /// The numbers before the first of this many orders.
     pub fn new(alloc: Global, count: usize) -> Result<Numbers, NoMemory>
         ensures { IfOk result (AreAtStart count) }
     {
@@ -50,7 +50,8 @@ impl Numbers {
         }
     }
 
-    /// Adds what the deals of the order at `order` trade and leave, up to the first that breaks a rule.
+    /// Adds what the deals of the order at `order` trade and leave, up to the
+    /// first that has a flaw.
     pub fn deal_order(&mut self, market: &Market<'_>, order: usize) -> Option<Flaw>
         requires market { IsMarket market.now }
         requires order { order < length market.now.orders.now }

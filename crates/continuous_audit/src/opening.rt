@@ -14,7 +14,7 @@ use audit_base::numbers::Quantity;
 use order_list::listed::ListedOrder;
 use order_list::lists::OrderList;
 
-/// Whether an order is placed, where its target rests if it has one.
+/// Whether an order enters: it is placed, and its target rests if it has one.
 fn enters(order: &ListedOrder<'_>, target_rests: bool) -> bool
     ensures { result ≡ enters order.now target_rests }
 {
@@ -38,7 +38,7 @@ fn target_rests(orders: &OrderList<'_>, sheet: &Sheet, order: &ListedOrder<'_>) 
     }
 }
 
-/// What is left of a quantity of which so much is taken, and 0 where the order didn't enter.
+/// What is left of a quantity of which this much is taken, and 0 where the order didn't enter.
 fn size_left(entered: bool, quantity: Quantity, before: u128) -> u64
     ensures same { result ≡ size_left entered quantity before }
     ensures most { result ≤ 10 ^ 12 }
@@ -51,8 +51,8 @@ fn size_left(entered: bool, quantity: Quantity, before: u128) -> u64
     }
 }
 
-/// What an order brings at its own record: whether it enters, its Before, whether the records of its chain end one
-/// another, and its Size.
+/// What an order brings at its own record: whether it enters, its Before, whether the records of
+/// its chain end one another, and its Size.
 #[derive(Clone, Copy, Debug, Drop)]
 pub struct Opening {
     pub entered: bool,

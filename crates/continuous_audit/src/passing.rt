@@ -1,4 +1,5 @@
-//! What the deals of a record take from the book of the other side, and whether one passes over a better order.
+//! What the deals of a record take from the book of the other side, and whether one passes
+//! over a better order.
 ghost use Rattle.std.specs.Prelude.{◌≡◌, ◌<◌, List, None, Some, length};
 ghost use Rattle.audit_base.specs.Orders.{order_at, place_at, side_at};
 ghost use Rattle.audit_base.specs.Priority.{better};
@@ -81,8 +82,8 @@ fn check_priority(
     None
 }
 
-/// Takes what the deals of the order at `order` took from the book of the other side, and gives the first of them
-/// that passes over a better order.
+/// Takes what the deals of the order at `order` took from the book of the other side, and gives the
+/// first of them that passes over a better order.
 pub fn pass_deals(
     market: &Market<'_>,
     order: usize,

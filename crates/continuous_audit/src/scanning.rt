@@ -18,7 +18,7 @@ pub struct RunningTotals {
     pub at: usize,
 }
 
-/// Adds what the deals of the order at `order` trade, up to the first that breaks a rule.
+/// Adds what the deals of the order at `order` trade, up to the first that has a flaw.
 pub fn check_deals(
     market: &Market<'_>,
     sheet: &Sheet,
@@ -28,7 +28,8 @@ pub fn check_deals(
 ) -> Option<Flaw>
     requires market { IsMarket market.now }
     requires order { order < length market.now.orders.now }
-    requires known { IsKnown market.now.orders.now market.now.deals.now order entered sheet.now }
+    requires known { IsKnown market.now.orders.now market.now.deals.now
+        order entered sheet.now }
     requires traded { HaveTraded market.now order running.old }
     ensures traded { result ≡ None → HaveTraded market.now (suc order) running.new }
     ensures from { result ≡ None → running.old.at ≤ running.new.at }

@@ -23,7 +23,7 @@ pub struct Sheet {
 }
 
 impl Sheet {
-    /// The sheet of so many orders, of which none has come.
+    /// The sheet of this many orders, of which none has come.
     pub fn new(alloc: Global, count: usize) -> Result<Sheet, NoMemory>
         ensures { IfOk result (IsBlank count) }
     {
@@ -47,7 +47,7 @@ impl Sheet {
         self.sizes[order] = opening.size;
     }
 
-    /// What is known of an order that has traded so much.
+    /// What is known of an order that has traded this much.
     pub fn account(&self, order: usize, traded: u128) -> Account
         requires before { order < vec_len self.now.before }
         requires size { order < vec_len self.now.sizes }

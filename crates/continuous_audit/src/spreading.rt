@@ -20,7 +20,7 @@ use audit_base::terms::Side;
 use order_list::listed::ListedOrder;
 use order_list::lists::OrderList;
 
-/// Whether an order is active after its own record, where so much is left of it.
+/// Whether an order is active after its own record, where this much is left of it.
 fn is_active(order: &ListedOrder<'_>, left: u64) -> bool
     ensures { result ≡ is_active_with order.now left }
 {
@@ -48,7 +48,8 @@ pub fn limits_meet(side: Side, limit: Price, other: Price) -> bool
     }
 }
 
-/// Whether an order is active after its own record, where so much is left of it, and meets a limit of the other side.
+/// Whether an order is active after its own record, where this much is left of it, and meets a
+/// limit of the other side.
 fn meets(order: &ListedOrder<'_>, left: u64, other: Price) -> bool
     ensures { result ≡ is_active_with order.now left && limits_meet order.now.side
         order.now.limit other }
@@ -56,7 +57,8 @@ fn meets(order: &ListedOrder<'_>, left: u64, other: Price) -> bool
     is_active(order, left) && limits_meet(order.side(), order.limit(), other)
 }
 
-/// The best order of the other side, by its index, if the order of a record is active after it and meets that one.
+/// The best order of the other side, by its index, if the order of a record is active after it
+/// and meets that one.
 pub fn spread_of(orders: &OrderList<'_>, order: usize, left: u64, books: &Books) -> Option<usize>
     requires list { IsOrderList orders.now }
     requires order { order < length orders.now }

@@ -71,7 +71,8 @@ module _ (orders : List Order) (deals : List Deal) (side : Side) where
       let found = best-exists orders (is_short orders deals side) j lt ((and_parts (is_short orders deals side j) _ over).0) in
       some-none _ found.0 none found.1))
 
-  -- else an order is passed over exactly where the best short order is better: Better is a strict total order on the side
+  -- else an order is passed over exactly where the best short order is better: Better is a strict
+  -- total order on the side
   best-passes : IsOrderList orders → (b : ℕ) → best_short orders deals side ≡ Some b → (i : ℕ) → is_outranked_by_short orders deals side i ≡ better (order_at orders b) (order_at orders i)
   unfolding is_outranked_by_short
   best-passes list b e i = elim (cases_Bool (better (order_at orders b) (order_at orders i))) [

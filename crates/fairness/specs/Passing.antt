@@ -30,7 +30,7 @@ outranked_at orders traded side (Some short) d =
     only_if (better (order_at orders short) (order_at orders own))
     (record { place = d.place; evidence = evidence })
 
--- this of the bids, or else of the asks
+-- what is wrong with a deal by the best short bid, or else by the best short ask
 abbrev pub unfair_at : List Order → List ℕ → Option ℕ → Option ℕ → Deal → Option Flaw
 unfair_at orders traded bid ask d =
     option_or (outranked_at orders traded Buy bid d) (outranked_at orders traded Sell ask d)

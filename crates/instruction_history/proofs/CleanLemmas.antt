@@ -1,4 +1,5 @@
--- What holds of a history without a finding: keys are distinct, and each record that names a target has one.
+-- What holds of a history without a finding: keys are distinct, and each record that
+-- names a target has one.
 use Rattle.std.proofs.Common.{◌≡◌, ◌<◌, ℕ, Bool, true, false, Option, None, Some, length, refl, sym, ap, ◌∙◌, arith, inl, inr}
 use Rattle.std.specs.Prelude.{is_some, is_none, option_map, ◌&&◌}
 use Rattle.std.proofs.lemmas.Bool.{cases_order, and_parts}

@@ -1,4 +1,4 @@
--- The order of a record, and where it stands in the order list.
+-- The order of a record, and where it is in the order list.
 use Rattle.std.proofs.Common.{◌≡◌, ◌<◌, ℕ, true, Option, None, Some, List, length, get_or, take, refl, sym, ap, ◌∙◌, arith, zero-add}
 use Rattle.std.specs.Prelude.{is_some, option_map, filter_map, slice_get}
 use Rattle.std.specs.List.{enumerate_from}
@@ -61,7 +61,7 @@ length-orders_in h =
     let whole : take (length h) (numbered h) ≡ numbered h = take_all (length h) (numbered h) (omega arith) in
     ap (λ (zs : List (ℕ × (ℕ × OrderRecord))). length (filter_map (order_in h) zs)) (sym whole) ∙ order_index-kept h (length h)
 
--- where the order of a record stands
+-- where the order of a record is
 pub record IsAt (h : Records) (k : ℕ) (o : Order) : Type 0 where
   pub made : IsMade h k (record_place h k) (record_at h k) o
   pub at : order_at (orders_in h) (order_index h k) ≡ o

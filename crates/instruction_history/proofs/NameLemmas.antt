@@ -1,4 +1,5 @@
--- Each key names its order: when a record ends an order of the list and places one more, and so in every history.
+-- Each key names its order: when a record ends an order of the list and places one more, and
+-- so in every history.
 use Rattle.std.proofs.Common.{◌≡◌, ◌<◌, ℕ, Bool, true, false, Option, None, Some, List, [], ◌∷◌, ◌++◌, length, set, refl, sym, ap, ◌∙◌, arith, subst, inl, inr, length-set, get_or-set_same, get_or-set_other}
 use Rattle.std.specs.Prelude.{is_some, option_map, option_and_then, if◌then◌else◌}
 use Rattle.std.specs.Option.{option_or}

@@ -1,4 +1,5 @@
--- The target, the finding and what is seen of one record more, by what is known of the records before it.
+-- The target, the finding and what is seen of one record more, by what is known of the
+-- records before it.
 use Rattle.std.proofs.Common.{◌≡◌, ◌<◌, ℕ, zero, suc, Bool, true, false, cond, Option, None, Some, [], ◌∷◌, ◌++◌, length, get_or, refl, sym, ap, ◌∙◌, arith, inl, inr}
 use Rattle.std.specs.Prelude.{is_some, is_none, option_map, option_and_then, ◌&&◌, if◌then◌else◌}
 use Rattle.std.proofs.lemmas.Bool.{cases_Bool}

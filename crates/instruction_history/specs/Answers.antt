@@ -16,7 +16,8 @@ answer_of (Some finding) orders = Err (Found finding)
 -- the history alone decides what is answered, unless memory runs out
 abbrev pub IsExact : List ℕ → List OrderRecord → Result (List Order) HistoryFault → Type 0
 IsExact symbol entries result =
-    (result ≡ answer_of (history_finding symbol entries) (order_list symbol entries)) ⊎ (result ≡ Err Memory)
+    (result ≡ answer_of (history_finding symbol entries) (order_list symbol entries))
+    ⊎ (result ≡ Err Memory)
 
 -- a fact of the finding that is answered, if one is
 abbrev pub IfFound : {A : Type 0} → Result A HistoryFault → (Finding → Type 0) → Type 0

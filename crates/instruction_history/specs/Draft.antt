@@ -1,4 +1,5 @@
--- A history record by record: what is known after some of its records, and what one record more changes.
+-- A history record by record: what is known after some of its records, and what one
+-- record more changes.
 use Rattle.std.specs.Prelude.{◌≡◌, ℕ, zero, suc, ◌&&◌, List, [], ◌∷◌, ◌++◌, Option, None, Some, is_some, is_none, option_map, option_and_then, filter_map, length, slice_get, slice_set, if◌then◌else◌}
 use Rattle.std.specs.List.{enumerate_from}
 use Rattle.audit_base.specs.Moments.{Moment, is_before}
@@ -30,7 +31,8 @@ finding_in h = least_answer (record_finding h) (length h)
 abbrev pub orders_in : List (ℕ × OrderRecord) → List Order
 orders_in h = filter_map (λ e. order_of_record h (e.0, e.1.0, e.1.1)) (enumerate_from 0 h)
 
--- what a record is seen as: its place, its side, and where it is an order its index in the order list
+-- what a record is seen as: its place, its side, and where it is an order its
+-- index in the order list
 abbrev pub seen_at : List (ℕ × OrderRecord) → ℕ → Seen
 seen_at h k = record {
   place = record_place h k;
@@ -67,39 +69,46 @@ IsKnown h d (Some finding) = finding_in h ≡ Some finding
 -- whatever history was known, it is known with one record more, at its place
 abbrev pub KnowsOneMore : HistorySoFar → HistorySoFar → ℕ → OrderRecord → Option Finding → Type 0
 KnowsOneMore old new place entry finding =
-    (h : List (ℕ × OrderRecord)) → IsHistorySoFar h old → IsKnown (h ++ (place, entry) ∷ []) new finding
+    (h : List (ℕ × OrderRecord)) → IsHistorySoFar h old
+    → IsKnown (h ++ (place, entry) ∷ []) new finding
 
 -- a record at a place, if it is one of the symbol
 abbrev pub entry_of : List ℕ → ℕ → OrderRecord → List (ℕ × OrderRecord)
-entry_of symbol place entry = if same_name (symbol_of entry) symbol then (place, entry) ∷ [] else []
+entry_of symbol place entry =
+    if same_name (symbol_of entry) symbol then (place, entry) ∷ [] else []
 
 -- One record more: what becomes of an order list and its keys.
 
 -- an index, if the order there may be the target of the record
 abbrev pub fitting : List Order → OrderRecord → ℕ → Option ℕ
 fitting orders entry index =
-    option_and_then (λ o. only_if (fits_side (side_of entry) (Some o.side)) index) (slice_get orders index)
+    option_and_then (λ o. only_if (fits_side (side_of entry) (Some o.side)) index)
+    (slice_get orders index)
 
 -- the index of what a key names, if it may be the target of the record
 abbrev pub seen_target : List Order → OrderRecord → Option Seen → Option ℕ
-seen_target orders entry seen = option_and_then (λ s. option_and_then (fitting orders entry) s.index) seen
+seen_target orders entry seen =
+    option_and_then (λ s. option_and_then (fitting orders entry) s.index) seen
 
 -- the index of the target of the record, by what its target's key names
 abbrev pub target_among : List Order → (Key → Option Seen) → OrderRecord → Option ℕ
-target_among orders seen entry = option_and_then (λ key. seen_target orders entry (seen key)) (target_key entry)
+target_among orders seen entry =
+    option_and_then (λ key. seen_target orders entry (seen key)) (target_key entry)
 
 -- 1, 2 and 3 of a record, as what is wrong with it
 abbrev pub duplicate_of : Option Seen → Option Evidence
 duplicate_of earlier = option_map (λ s. DuplicateId s.place) earlier
 
 abbrev pub back_of : Option Last → Moment → Option Evidence
-back_of last time = option_and_then (λ l. only_if (is_before time l.time) (TimeBack l.place)) last
+back_of last time =
+    option_and_then (λ l. only_if (is_before time l.time) (TimeBack l.place)) last
 
 abbrev pub unknown_of : Option Key → Option ℕ → Option Evidence
 unknown_of named target = only_if (is_some named && is_none target) UnknownTarget
 
 -- the first of these, by what the record's key named, the record before and the record's target
-abbrev pub evidence_of : Option Seen → Option Last → OrderRecord → Option ℕ → Option Evidence
+abbrev pub evidence_of : Option Seen → Option Last → OrderRecord
+    → Option ℕ → Option Evidence
 evidence_of earlier last entry target =
     first_of (duplicate_of earlier ∷ back_of last (time_of entry)
     ∷ unknown_of (target_key entry) target ∷ [])
@@ -156,7 +165,8 @@ pushed orders (Some o) = orders ++ o ∷ []
 -- the orders after a record at a place: its target is ended, and its own order comes last
 abbrev pub orders_after : List Order → OrderRecord → Option ℕ → ℕ → List Order
 orders_after orders entry target place =
-    pushed (ended_among orders target place) (order_made orders entry target place)
+    pushed (ended_among orders target place)
+    (order_made orders entry target place)
 
 -- what a record is remembered as, where this many orders came before it
 abbrev pub seen_as : OrderRecord → ℕ → ℕ → Seen
@@ -167,8 +177,10 @@ seen_as entry place orders = record {
 }
 
 -- what is kept after a record that has no finding, where its key was added before
-pub record AddsRecord (old new : HistorySoFar) (place : ℕ) (entry : OrderRecord) (target : Option ℕ) : Type 0 where
+pub record AddsRecord (old new : HistorySoFar) (place : ℕ) (entry : OrderRecord)
+    (target : Option ℕ) : Type 0 where
   pub orders : kept_orders new ≡ orders_after (kept_orders old) entry target place
-  pub numbered : AreNumbered old.keys old.orders.items → AreNumbered new.keys new.orders.items
+  pub numbered : AreNumbered old.keys old.orders.items
+      → AreNumbered new.keys new.orders.items
   pub keys : new.keys ≡ old.keys
   pub last : new.last ≡ Some (record { place = place; time = time_of entry })

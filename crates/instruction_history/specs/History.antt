@@ -8,7 +8,8 @@ use Rattle.audit_base.specs.Orders.{with_key, on_side_with_key, IsOrderList, Are
 use Rattle.order_list.specs.declared.keys.Keys.{Keys}
 use Rattle.order_list.specs.Keys.{index_on, seen_in}
 
--- the orders are a regular order list with keys of their own, and each key of an order names it with its side
+-- the orders are a regular order list with keys of their own, and each key of an order
+-- names it with its side
 pub record IsHistory (orders : List Order) (keys : Keys) : Type 0 where
   pub order_list : IsOrderList orders
   pub regular : Regular orders

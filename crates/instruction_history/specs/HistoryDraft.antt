@@ -18,24 +18,29 @@ pub record IsHistoryDraft {S : Type 0} (symbol : List ℕ) (draft : HistoryDraft
   pub alone : NamesNoOrder draft.flaw
 
 -- a fact of whatever records the draft has been handed
-abbrev pub ForHanded : {S : Type 0} → List ℕ → HistoryDraft S → (List OrderRecord → Type 0) → Type 0
-ForHanded symbol draft P = (entries : List OrderRecord) → IsHistoryDraft symbol draft entries → P entries
+abbrev pub ForHanded : {S : Type 0} → List ℕ → HistoryDraft S → (List OrderRecord → Type 0)
+    → Type 0
+ForHanded symbol draft P =
+    (entries : List OrderRecord) → IsHistoryDraft symbol draft entries → P entries
 
--- these are the orders of those records
+-- these are the orders of the records that the draft has been handed
 abbrev pub AreOrdersOf : {S : Type 0} → List ℕ → HistoryDraft S → List Order → Type 0
-AreOrdersOf symbol draft orders = ForHanded symbol draft (λ entries. orders ≡ order_list symbol entries)
+AreOrdersOf symbol draft orders =
+    ForHanded symbol draft (λ entries. orders ≡ order_list symbol entries)
 
--- where those records have market prices, so have these orders
+-- where the records that the draft has been handed have market prices, so have these orders
 abbrev pub KeepsMarketPrices : {S : Type 0} → List ℕ → HistoryDraft S → List Order → Type 0
 KeepsMarketPrices symbol draft orders =
-    ForHanded symbol draft (λ entries. AreRecordsMarketPriced entries → AreMarketPriced orders)
+    ForHanded symbol draft
+    (λ entries. AreRecordsMarketPriced entries → AreMarketPriced orders)
 
--- this is the first finding of those records
+-- this is the first finding of the records that the draft has been handed
 abbrev pub IsFindingOf : {S : Type 0} → List ℕ → HistoryDraft S → Finding → Type 0
 IsFindingOf symbol draft finding =
     ForHanded symbol draft (λ entries. history_finding symbol entries ≡ Some finding)
 
 -- the draft has been handed one record more
-abbrev pub TakesRecord : {S : Type 0} → List ℕ → HistoryDraft S → HistoryDraft S → OrderRecord → Type 0
+abbrev pub TakesRecord : {S : Type 0} → List ℕ → HistoryDraft S → HistoryDraft S → OrderRecord
+    → Type 0
 TakesRecord symbol old new entry =
     ForHanded symbol old (λ entries. IsHistoryDraft symbol new (entries ++ entry ∷ []))

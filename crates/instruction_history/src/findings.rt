@@ -25,7 +25,7 @@ fn duplicate_id(earlier: Option<Seen>) -> Option<Evidence>
     Some(Evidence::DuplicateId(seen.place))
 }
 
-/// Finding 2: the time is lesser than that of the record before it.
+/// Finding 2: the time is earlier than that of the record before it.
 fn time_back(last: Option<Last>, time: Stamp) -> Option<Evidence>
     ensures { result ≡ draft.back_of last time }
 {
@@ -48,8 +48,8 @@ fn unknown_target(entry: &OrderRecord, target: Option<usize>) -> Option<Evidence
     }
 }
 
-/// What is wrong with the record, if anything is: the first of the three. `earlier` is what its key named
-/// before it.
+/// What is wrong with the record, if anything is: the first of the three. `earlier` is what its
+/// key named before it.
 pub(crate) fn evidence_of(
     earlier: Option<Seen>,
     last: Option<Last>,

@@ -17,8 +17,8 @@ use order_list::stored::StoredOrder;
 use std::alloc::Global;
 use std::marker::{Brand, Model};
 
-/// The order list of a well-formed history: its new orders and replacements, in log order. Contracts
-/// see that list. An order is found by its key.
+/// The order list of a well-formed history: its new orders and replacements, in log order.
+/// Contracts see that list. An order is found by its key.
 #[derive(Drop)]
 pub struct History {
     orders: Vec<StoredOrder>,
@@ -66,7 +66,7 @@ impl History {
     ghost use Rattle.instruction_history.specs.History.{IsHistory};
     ghost use Rattle.order_list.specs.Stored.{orders_of};
 
-    /// The history of the symbol in an order log of fewer than 2^32 records, which stand at the places
+    /// The history of the symbol in an order log of fewer than 2^32 records, which have the places
     /// 1, 2 and so on. Ok exactly where the history is well-formed and Found exactly where it has a
     /// finding of number 1, 2 or 3, out of memory aside.
     pub fn build(
@@ -78,7 +78,8 @@ impl History {
         ensures well_formed { OnOk result (WellFormed symbol.now entries.now) }
         ensures orders { IfOk result (λ history. history ≡ order_list symbol.now entries.now) }
         ensures market { AreRecordsMarketPriced entries.now → IfOk result AreMarketPriced }
-        ensures found { IfFound result (λ f. history_finding symbol.now entries.now ≡ Some f) }
+        ensures found { IfFound result
+            (λ f. history_finding symbol.now entries.now ≡ Some f) }
 
         // The other way round: the history alone decides, unless memory runs out.
         ensures exact { IsExact symbol.now entries.now result }
@@ -86,8 +87,8 @@ impl History {
         history_of::<Brand>(alloc, entries, symbol)
     }
 
-    /// The order list: the new orders and the replacements, in log order. It is regular, and no two of
-    /// its orders have one key. Takes no memory.
+    /// The order list: the new orders and the replacements, in log order. It is regular, and no two
+    /// of its orders have one key. Takes no memory.
     pub fn orders(&self) -> OrderList<'_>
         ensures same { result ≡ self.now }
         ensures order_list { IsOrderList result }
@@ -98,8 +99,8 @@ impl History {
         OrderList::of(&self.orders, &self.keys)
     }
 
-    /// The index in the order list of the order with the key, which no other order has; None exactly
-    /// where none has it. Takes no memory.
+    /// The index in the order list of the order with the key, which no other order has; None
+    /// exactly where none has it. Takes no memory.
     pub fn find(&self, key: &Key) -> Option<usize>
         ensures index { result ≡ with_key self.now key.now }
         ensures keys { HaveOwnKeys self.now }
@@ -108,8 +109,8 @@ impl History {
         Some(index as usize)
     }
 
-    /// The index in the order list of the order of the side with the key; None exactly where none of that
-    /// side has it. Takes no memory.
+    /// The index in the order list of the order of the side with the key; None exactly where none
+    /// of that side has it. Takes no memory.
     pub fn find_on_side(&self, side: Side, key: &Key) -> Option<usize>
         ensures { result ≡ on_side_with_key self.now side key.now }
     {

@@ -72,7 +72,8 @@ fn end(orders: &mut Vec<StoredOrder>, target: usize, place: u32)
     requires { target < vec_len orders.old }
     ensures items { (keys : AKeys) → orders_of keys orders.new.items
         ≡ draft.ended_among (orders_of keys orders.old.items) (Some target) place }
-    ensures numbered { (keys : AKeys) → AreNumbered keys orders.old.items → AreNumbered keys orders.new.items }
+    ensures numbered { (keys : AKeys) → AreNumbered keys orders.old.items
+        → AreNumbered keys orders.new.items }
     ensures len { vec_len orders.new ≡ vec_len orders.old }
 {
     let order = &mut orders[target];
@@ -84,7 +85,8 @@ fn end_target(orders: &mut Vec<StoredOrder>, target: Option<usize>, place: u32)
     requires { ForSome target (λ t. t < vec_len orders.old) }
     ensures items { (keys : AKeys) → orders_of keys orders.new.items
         ≡ draft.ended_among (orders_of keys orders.old.items) target place }
-    ensures numbered { (keys : AKeys) → AreNumbered keys orders.old.items → AreNumbered keys orders.new.items }
+    ensures numbered { (keys : AKeys) → AreNumbered keys orders.old.items
+        → AreNumbered keys orders.new.items }
     ensures len { vec_len orders.new ≡ vec_len orders.old }
 {
     if let Some(target) = target {
@@ -112,10 +114,13 @@ fn own_end(orders: &OrderList<'_>, target: Option<usize>, place: u32) -> Option<
 /// One more order.
 fn push(orders: &mut Vec<StoredOrder>, parts: &OrderParts) -> Result<(), NoMemory>
     requires { IfSome parts.now.target (λ t. t < 4294967295) }
-    ensures items { (keys : AKeys) → let order = order_with (key_in keys parts.now.number) parts.now in
-        OnOk result (orders_of keys orders.new.items ≡ orders_of keys orders.old.items ++ order ∷ []) }
+    ensures items { (keys : AKeys) →
+        let order = order_with (key_in keys parts.now.number) parts.now in
+        OnOk result (orders_of keys orders.new.items
+        ≡ orders_of keys orders.old.items ++ order ∷ []) }
     ensures numbered { (keys : AKeys) → IsNumbered keys parts.now.number
-        → AreNumbered keys orders.old.items → OnOk result (AreNumbered keys orders.new.items) }
+        → AreNumbered keys orders.old.items
+        → OnOk result (AreNumbered keys orders.new.items) }
 {
     orders.push(StoredOrder::of(parts))?;
     Ok(())
@@ -132,8 +137,8 @@ fn life_of(entry: &OrderRecord) -> Life
     }
 }
 
-/// Adds the order of a new order, which has no target, or of a replacement. `own_end` is where a
-/// replacement ends whose target was gone before, and `number` that of its key.
+/// Adds the order of a new order, which has no target, or of a replacement. `own_end` is the own
+/// place of a replacement whose target was ended before, and `number` that of its key.
 fn push_order(
     orders: &mut Vec<StoredOrder>,
     entry: &OrderRecord,
@@ -149,7 +154,8 @@ fn push_order(
         OnOk result (orders_of keys orders.new.items
         ≡ draft.pushed (orders_of keys orders.old.items) order) }
     ensures numbered { (keys : AKeys) → IsNumbered keys number
-        → AreNumbered keys orders.old.items → OnOk result (AreNumbered keys orders.new.items) }
+        → AreNumbered keys orders.old.items
+        → OnOk result (AreNumbered keys orders.new.items) }
 {
     match entry {
         OrderRecord::Cancel { .. } => Ok(()),
@@ -203,8 +209,8 @@ fn seen_as(entry: &OrderRecord, place: u32, orders: u32) -> Seen
     Seen { place, side, index }
 }
 
-/// What is known after some records of a history that have no finding: the order list as they make it,
-/// what each of their keys names, and the last of them.
+/// What is known after some records of a history that have no finding: the order list as they make
+/// it, what each of their keys names, and the last of them.
 #[derive(Drop)]
 pub(crate) struct HistorySoFar {
     pub orders: Vec<StoredOrder>,
@@ -234,8 +240,8 @@ impl HistorySoFar {
         OrderList::of(&self.orders, &self.keys)
     }
 
-    /// Takes the next record of the history, at its place in the log, or tells what is wrong with it. Then
-    /// nothing is known of what is kept.
+    /// Takes the next record of the history, at its place in the log, or says what is wrong with
+    /// it. Then nothing is known of what is kept.
     pub fn take(&mut self, entry: &OrderRecord, place: u32) -> Result<Option<Flaw>, NoMemory>
         requires { vec_len self.old.orders < 2 ^ 32 }
         ensures knows { let knows = KnowsOneMore self.old self.new place entry.now in
@@ -244,7 +250,7 @@ impl HistorySoFar {
     {
         let target = target_of(&self.list(), &self.keys, entry);
         let seen = seen_as(entry, place, self.orders.len() as u32);
-        // One look-up tells what the key named and adds it.
+        // One look-up gives what the key named and adds it.
         let added = self.keys.add(key_of(entry), seen)?;
         if let Some(evidence) = evidence_of(added.earlier, self.last, entry, target) {
             return Ok(Some(Flaw { place, evidence }));

@@ -1,4 +1,4 @@
--- What is known when the first deals have been gone over, and one deal further.
+-- What is known when the first deals have been read, and one deal further.
 use Rattle.std.proofs.Common.{◌≡◌, ◌∙◌, ap, refl, ℕ, Bool, true, false, ◌+◌, ◌^◌, ◌<◌, ◌≤◌, List, [], ◌∷◌, length, take, get_or, Option, None, add-one, arith}
 use Rattle.std.specs.Prelude.{All, ◌==◌, ◌&&◌, not, option_map}
 use Rattle.audit_base.specs.declared.orders.Order.{Order}
@@ -17,7 +17,7 @@ use Rattle.audit_base.proofs.TotalsLemmas.{AreTotalsSoFar, bid-more, ask-more, a
 use Rattle.std.specs.Bool.{OnTrue}
 use Rattle.matching_core.specs.DealFlaws.{is_overfilled, evidence_of, finding_at_deal, added}
 
--- the first k deals have been gone over, with no finding at any
+-- the first k deals have been read, with no finding at any
 pub record IsGoneOver (uniform : Bool) (orders : List Order) (deals : List Deal) (k : ℕ) (so_far : List ℕ) (total : ℕ) : Type 0 where
   pub totals : AreTotalsSoFar orders deals k so_far total
   pub clean : least_answer (matching_finding uniform orders deals) k ≡ None

@@ -20,14 +20,16 @@ use Rattle.matching_core.specs.MappedIds.{first_mapped}
 
 -- Trade ids.
 
--- the place of the first trade with an id: as the maps hold it, or as it stands among the ids that rise
+-- the place of the first trade with an id: as the maps hold it, or as it is among the ids that rise
 abbrev pub first_in : TradeIds → List ℕ → Option ℕ
-first_in ids id = option_or (first_mapped ids.mapped id) (place_among ids.rising id)
+first_in ids id =
+    option_or (first_mapped ids.mapped id) (place_among ids.rising id)
 
 -- one id more: it has this place, and every other id has what it had
 abbrev pub AddsId : TradeIds → TradeIds → List ℕ → ℕ → Type 0
 AddsId old new id place =
-    (other : List ℕ) → first_in new other ≡ (if same_name id other then Some place else first_in old other)
+    (other : List ℕ) → first_in new other
+    ≡ (if same_name id other then Some place else first_in old other)
 
 -- 6 of a trade with its place
 abbrev pub unknown_in : List Order → ℕ × TradeRecord → Option Finding
@@ -39,25 +41,29 @@ unknown_in orders e =
 
 -- What is known after some trades of a symbol.
 
--- the first finding of such a list
+-- the first finding of the trades of a list
 abbrev pub finding_in : List Order → List (ℕ × TradeRecord) → Option Finding
 finding_in orders listed =
-    least_answer (λ k. option_or (duplicate_trade listed k) (unknown_order orders listed k)) (length listed)
+    least_answer (λ k. option_or (duplicate_trade listed k) (unknown_order orders listed k))
+    (length listed)
 
 -- the place of the first trade of the list with an id
 abbrev pub first_with : List (ℕ × TradeRecord) → List ℕ → Option ℕ
 first_with listed id =
-    option_map (trade_place listed) (least_with (λ j. same_name (trade_at listed j).trade id) (length listed))
+    option_map (trade_place listed)
+    (least_with (λ j. same_name (trade_at listed j).trade id) (length listed))
 
 -- what is kept of trades without a finding: their deals and their ids
-pub record IsResolved (orders : List Order) (listed : List (ℕ × TradeRecord)) (kept : SoundDeals) : Type 0 where
+pub record IsResolved (orders : List Order) (listed : List (ℕ × TradeRecord))
+    (kept : SoundDeals) : Type 0 where
   pub clean : finding_in orders listed ≡ None
   pub deals : kept.deals.items ≡ map (deal_of orders) listed
   pub numbers : AreDeals kept.deals.items
   pub ids : (id : List ℕ) → first_in kept.ids id ≡ first_with listed id
 
 -- what is kept is that of these trades, or the finding is their first one
-abbrev pub IsKnown : List Order → List (ℕ × TradeRecord) → SoundDeals → Option Finding → Type 0
+abbrev pub IsKnown : List Order → List (ℕ × TradeRecord) → SoundDeals
+    → Option Finding → Type 0
 IsKnown orders listed kept None = IsResolved orders listed kept
 IsKnown orders listed kept (Some finding) = finding_in orders listed ≡ Some finding
 
@@ -65,24 +71,28 @@ IsKnown orders listed kept (Some finding) = finding_in orders listed ≡ Some fi
 pub record IsDealsSoFar {M : Type 0} (orders : List Order) (symbol : List ℕ)
     (so_far : DealsSoFar M) (trades : List TradeRecord) : Type 0 where
   pub count : so_far.count ≡ length trades
-  pub known : IsKnown orders (trades_of symbol trades) so_far.sound (found_by so_far.flaw)
+  pub known : IsKnown orders (trades_of symbol trades) so_far.sound
+      (found_by so_far.flaw)
   pub alone : NamesNoOrder so_far.flaw
 
 -- whatever records of the trade log were known, they are known with one more
-abbrev pub TakesTrade : {M : Type 0} → List Order → List ℕ → DealsSoFar M → DealsSoFar M → TradeRecord → Type 0
+abbrev pub TakesTrade : {M : Type 0} → List Order → List ℕ → DealsSoFar M → DealsSoFar M
+    → TradeRecord → Type 0
 TakesTrade orders symbol old new trade =
     (trades : List TradeRecord) → IsDealsSoFar orders symbol old trades
     → IsDealsSoFar orders symbol new (trades ++ trade ∷ [])
 
 -- whatever trades were resolved, one more is known, at its place
-abbrev pub KnowsOneMore : List Order → SoundDeals → SoundDeals → ℕ → TradeRecord → Option Finding → Type 0
+abbrev pub KnowsOneMore : List Order → SoundDeals → SoundDeals → ℕ → TradeRecord
+    → Option Finding → Type 0
 KnowsOneMore orders old new place trade finding =
     (listed : List (ℕ × TradeRecord)) → IsResolved orders listed old
     → IsKnown orders (listed ++ (place, trade) ∷ []) new finding
 
 -- a trade at a place, if it is one of the symbol
 abbrev pub entry_of : List ℕ → ℕ → TradeRecord → List (ℕ × TradeRecord)
-entry_of symbol place trade = if same_name trade.symbol symbol then (place, trade) ∷ [] else []
+entry_of symbol place trade =
+    if same_name trade.symbol symbol then (place, trade) ∷ [] else []
 
 -- what is kept after a trade without a finding, where its id was added before
 pub record AddsDeal (old new : SoundDeals) (deal : Deal) : Type 0 where

@@ -22,7 +22,8 @@ pub fn add_deal(traded: &mut Vec<u128>, bid: usize, ask: usize, quantity: u128) 
     requires apart { bid ≢ ask }
     requires bid_fits { slice_index traded.old.items bid + quantity < 2 ^ 128 }
     requires ask_fits { slice_index traded.old.items ask + quantity < 2 ^ 128 }
-    ensures added { traded.new.items ≡ at.added traded.old.items bid ask quantity }
+    ensures added { traded.new.items
+        ≡ at.added traded.old.items bid ask quantity }
     ensures bid { result.0 ≡ slice_index traded.old.items bid + quantity }
     ensures ask { result.1 ≡ slice_index traded.old.items ask + quantity }
 {

@@ -16,7 +16,8 @@ fn is_overfilled(order: &ListedOrder<'_>, traded: u128) -> bool
     u128::from(order.quantity().value()) < traded
 }
 
-/// What is wrong with a deal, if anything is, by the first deal and by what its two orders trade up to it.
+/// What is wrong with a deal, if anything is, by the first deal and by what its two
+/// orders trade up to it.
 pub(crate) fn evidence_of(
     uniform: bool,
     orders: &OrderList<'_>,

@@ -1,9 +1,10 @@
-//! The draft of deals: what is handed the records of a trade log one after another, and keeps what the
-//! deals of its symbol need of them.
+//! The draft of deals: what is handed the records of a trade log one after another, and keeps what
+//! the deals of its symbol need of them.
 //!
-//! A draft counts every record, since places are counted over all symbols. A record of another symbol is
-//! only counted, and after the first finding so is every record. No room is reserved, since only the end
-//! of the log tells how many deals there are: the deals and the ids grow with them, by doubling.
+//! A draft counts every record, since places are counted over all symbols. A record of another
+//! symbol is only counted, and after the first finding so is every record. No room is reserved,
+//! since only the end of the log says how many deals there are: the deals and the ids grow with
+//! them, by doubling.
 ghost use Rattle.std.specs.Prelude.{◌≡◌, ◌<◌, ◌-◌, ◌^◌, [], None, length};
 ghost use Rattle.audit_base.specs.Deals.{IsDealList, AreDeals};
 ghost use Rattle.instruction_history.specs.Flaws.{found_by, NamesNoOrder};
@@ -23,8 +24,8 @@ use log_source::collector::Collector;
 use seeded_hash::seed::HashSeed;
 use std::alloc::Global;
 
-/// What is known of the trades of a symbol after some records of a trade log: their deals, or their first
-/// finding.
+/// What is known of the trades of a symbol after some records of a trade log: their deals, or
+/// their first finding.
 #[derive(Drop)]
 pub struct DealsDraft<M> {
     symbol: Name,
@@ -32,7 +33,7 @@ pub struct DealsDraft<M> {
     so_far: DealsSoFar<M>,
 }
 
-/// What the trades of a log come to, between the orders of a history.
+/// The deals of the trades of a log, between the orders of a history, or their first finding.
 #[derive(Drop)]
 pub struct ResolvedTrades {
     pub history: History,
@@ -55,7 +56,8 @@ fn finding_of(flaw: Option<Flaw>) -> Option<Finding>
 }
 
 impl<M: AuditedHistory> DealsDraft<M> {
-    /// A draft that has been handed no records, and finds ids by hashes of this seed. Takes no memory.
+    /// A draft that has been handed no records, and finds ids by hashes of this
+    /// seed. Takes no memory.
     pub fn new(alloc: Global, seed: HashSeed, symbol: Name, history: History) -> DealsDraft<M>
         requires symbol { symbol ≡ M.symbol }
         requires orders { history ≡ M.orders }

@@ -1,7 +1,7 @@
 //! Trade ids in any order, and the place of each.
 //!
-//! An id of at most 30 bytes is short: it is kept as the pair of itself and an empty text, in one block.
-//! Only a longer id is kept as it is.
+//! An id of at most 30 bytes is short: it is kept as the pair of itself and an empty text, in one
+//! block. Only a longer id is kept as it is.
 ghost use Rattle.std.specs.Prelude.{◌≡◌, ℕ, List, None, Some, IfOk, OnOk, OnErr, if◌then◌else◌};
 ghost use Rattle.audit_base.specs.Orders.{same_name};
 ghost use Rattle.matching_core.specs.MappedIds.{first_mapped};
@@ -33,8 +33,8 @@ impl MappedIds {
         }
     }
 
-    /// One more id, and the place that it had before. Where it had one, it has the new one now. Only a long
-    /// id is copied.
+    /// One more id, and the place that it had before. Where it had one, it has the new one now.
+    /// Only a long id is copied.
     pub fn add(&mut self, id: &Name, place: u32) -> Result<Option<u32>, NoMemory>
         ensures earlier { IfOk result (λ earlier. earlier ≡ first_mapped self.old id.now) }
         ensures adds { OnOk result ((other : List ℕ) → first_mapped self.new other

@@ -56,11 +56,11 @@ fn resolve_all<M: AuditedHistory>(
     }
 }
 
-/// The deals of the symbol's trades, in log order, where they are sound: each trade id of the symbol
-/// stands once, and each trade names the key of a bid and the key of an ask of the history. Trades
-/// stand at the places 1, 2 and so on of their log; those of other symbols are passed over. Ok exactly
-/// where the trades are sound and Found exactly where one has a finding of number 5 or 6, out of memory
-/// aside. One pass over the trades.
+/// The deals of the symbol's trades, in log order, where they are sound: each trade id of the
+/// symbol comes once, and each trade names the key of a bid and the key of an ask of the history.
+/// Trades have the places 1, 2 and so on of their log; those of other symbols are passed over. Ok
+/// exactly where the trades are sound and Found exactly where one has a finding of number 5 or 6,
+/// out of memory aside. One pass over the trades.
 pub fn resolve(
     alloc: Global,
     history: &History,

@@ -1,7 +1,7 @@
 //! Trade ids that rise: each is greater than those before it, so none of them came before.
 //!
-//! Most exchanges number their trades upward. Such ids need no map: their bytes lie in one row, as they came,
-//! and one that is asked for is found by halving.
+//! Most exchanges number their trades upward. Such ids need no map: their bytes lie in one row, as
+//! they came, and one that is asked for is found by halving.
 ghost use Rattle.std.specs.Prelude.{◌≡◌, ◌∷◌, ◌++◌, [], true, drop, take, IfOk, OnOk, OnErr};
 ghost use Rattle.matching_core.specs.IdOrder.{compare_ids, is_above, place_among};
 ghost use Rattle.matching_core.specs.RisingIds.{text_of, entries_of, AreInside};
@@ -31,7 +31,8 @@ fn part(bytes: &[u8], start: usize, size: usize) -> &[u8]
     &bytes[start..start + size]
 }
 
-/// Which of two ids comes first: the shorter, and of two as long the one of the lesser bytes.
+/// Which of two ids comes first: the shorter, and of two of one length the one of
+/// the smaller bytes.
 fn compare_ids(a: &[u8], b: &[u8]) -> Ordering
     ensures { result ≡ compare_ids a.now b.now }
 {
@@ -85,8 +86,8 @@ fn append(
     Ok(())
 }
 
-/// Trade ids, each greater than those before it, with the places of their trades. Contracts see the list of
-/// the pairs.
+/// Trade ids, each greater than those before it, with the places of their trades. Contracts see the
+/// list of the pairs.
 #[derive(Drop)]
 pub(crate) struct RisingIds {
     bytes: Vec<u8>,

@@ -16,7 +16,8 @@ use instruction_history::history::History;
 use seeded_hash::seed::HashSeed;
 use std::alloc::Global;
 
-/// The deal of a trade, or finding 6: there is no bid of its buy key, or else no ask of its sell key.
+/// The deal of a trade, or finding 6: there is no bid of its buy key, or else no
+/// ask of its sell key.
 fn deal_of(history: &History, trade: &TradeRecord, place: u32) -> Result<Deal, Evidence>
     ensures deal { IfOk result (λ deal. deal ≡ deal_of history.now (place, trade.now)) }
     ensures known { OnOk result (so_far.unknown_in history.now (place, trade.now) ≡ None) }
@@ -60,8 +61,8 @@ impl SoundDeals {
         }
     }
 
-    /// Takes the next trade of the symbol, at its place in the log, or tells why it is not sound. Then
-    /// nothing is known of what is kept.
+    /// Takes the next trade of the symbol, at its place in the log, or says why it is not sound.
+    /// Then nothing is known of what is kept.
     pub fn take(
         &mut self,
         history: &History,
@@ -72,7 +73,7 @@ impl SoundDeals {
             IfOk result (λ flaw. knows (found_by flaw)) }
         ensures alone { IfOk result NamesNoOrder }
     {
-        // One look-up tells which trade had the id and adds it.
+        // One look-up gives which trade had the id and adds it.
         if let Some(first) = self.ids.add(&trade.trade, place)? {
             let evidence = Evidence::DuplicateTrade(first);
             return Ok(Some(Flaw { place, evidence }));

@@ -1,7 +1,7 @@
 //! The ids of the trades so far, and where each of them came first.
 //!
-//! Ids that rise are kept in a row without a map; an id that is not greater than all of these is looked up
-//! among them, and kept in a map.
+//! Ids that rise are kept in a row without a map; an id that is not greater than all of these is
+//! looked up among them, and kept in a map.
 ghost use Rattle.std.specs.Prelude.{◌≡◌, ℕ, List, true, None};
 ghost use Rattle.matching_core.specs.IdOrder.{is_above};
 ghost use Rattle.matching_core.specs.MappedIds.{first_mapped};

@@ -25,10 +25,10 @@ fn greatest_of(alloc: Global, orders: &OrderList<'_>) -> Result<Cut, NoMemory>
     least_cut(alloc, orders)
 }
 
-/// The audit of the rule `maximum` over the deals of a log of `count` trades. Conforms exactly where
-/// they are a fair matching and no matching has a greater volume, out of memory aside: with what each
-/// order traded, the only quantities that conform, the volume, and the least price whose cut is the
-/// volume. Else Broken has the first offence, of the properties 7, 8 and 10 to 14.
+/// The audit of the rule `maximum` over the deals of a log of `count` trades. Conforms exactly
+/// where they are a fair matching and no matching has a greater volume, out of memory aside: with
+/// what each order traded, the only quantities that conform, the volume, and the least price whose
+/// cut is the volume. Else Broken has the first offence, of the properties 7, 8 and 10 to 14.
 pub fn audit_maximum(
     alloc: Global,
     orders: &OrderList<'_>,

@@ -1,4 +1,4 @@
--- What the calls of the ordered map make of the entries of a book, and of the list that they stand for.
+-- What the calls of the ordered map make of the entries of a book, and of the list of their orders.
 use Rattle.std.proofs.Common.{◌≡◌, ◌<◌, ◌≤◌, ◌-◌, ◌^◌, ℕ, List, [], ◌∷◌, length, Bool, true, false, cond, Option, Some, None, refl, sym, ap, ◌∙◌, arith, inl, inr, subst, All, AllPairs, slice_get}
 use Rattle.std.specs.Prelude.{nat_lt, is_some, IsSome, IfSome}
 use Rattle.std.specs.Ordering.{is_eq}
@@ -48,7 +48,7 @@ module _ (side : Side) where
   abbrev Es : Type 0
   Es = List (Rank × Resting)
 
-  -- the entries of a list in rank order stand for a list in rank order
+  -- entries whose ranks rise have their orders in rank order
   values-ranked : (es : Es) → All (IsEntry side) es → IsStrictlySortedBy rank_cmp (keys_of es) → AllPairs (IsAhead side) (values_of es)
   values-ranked [] each up = λ i j d lt below. absurd (omega arith)
   values-ranked (e ∷ es) each up =

@@ -8,12 +8,12 @@ use Rattle.rank_order.specs.declared.ranks.Rank.{Rank}
 use Rattle.rank_order.specs.Ranks.{rank_cmp, rank_of}
 use Rattle.order_book.specs.Books.{HasLeft}
 
--- an order stands under its rank
+-- an order is kept under its rank
 pub record IsEntry (side : Side) (e : Rank × Resting) : Type 0 where
   pub key : e.0 ≡ rank_of side e.1.index e.1.limit
   pub held : HasLeft e.1
 
--- each order stands under its rank, and the ranks rise strictly
+-- each order is kept under its rank, and the ranks rise strictly
 pub record AreEntries (side : Side) (entries : List (Rank × Resting)) : Type 0 where
   pub each : All (IsEntry side) entries
   pub rising : IsStrictlySortedBy rank_cmp (keys_of entries)

@@ -62,8 +62,8 @@ impl Book {
         }
     }
 
-    /// Adds an order that is later than all that rest, behind those whose limit is not worse. Where it
-    /// is out of memory the book is as before.
+    /// Adds an order that is later than all that rest, behind those whose limit is not worse. Where
+    /// it is out of memory the book is as before.
     pub fn add(&mut self, index: usize, limit: Price, left: u64) -> Result<(), NoMemory>
         requires some { 0 < left }
         requires latest { All (λ r. r.index < index) self.old.resting }
@@ -100,7 +100,7 @@ impl Book {
         }
     }
 
-    /// Takes this quantity from the best order, which goes where nothing is left of it.
+    /// Takes this quantity from the best order, which is taken out where nothing is left of it.
     pub fn take(&mut self, quantity: u64)
         requires some { 0 < quantity }
         requires within { IfSome (first self.old.resting) (λ r. quantity ≤ r.left) }

@@ -1,4 +1,4 @@
-//! Orders of an order list that stand with other terms in a list of their own, as those of a phase do.
+//! Orders of an order list, with other terms, in a list of their own, as the orders of a phase are.
 ghost use Rattle.std.specs.Prelude.{◌≡◌, ◌<◌, [], IfOk, IfSome, OnOk, length};
 ghost use Rattle.audit_base.specs.Orders.{order_at};
 ghost use Rattle.order_list.specs.Changed.{with_more, with_terms};
@@ -32,7 +32,7 @@ impl<'a> Model for ChangedOrders<'a> {
 }
 
 impl<'a> ChangedOrders<'a> {
-    /// No orders so far, with room for so many.
+    /// No orders so far, with room for this many.
     pub fn new(
         alloc: Global,
         source: &OrderList<'a>,
@@ -52,7 +52,8 @@ impl<'a> ChangedOrders<'a> {
         requires inside { index < length self.old.source }
         requires small { IfSome terms.target (λ t. t < 4294967295) }
         ensures { let o = with_terms terms.quantity terms.cancelled terms.target
-            (order_at self.old.source index) in OnOk result (self.new ≡ with_more o self.old) }
+            (order_at self.old.source index) in
+            OnOk result (self.new ≡ with_more o self.old) }
     {
         let source = self.source;
         self.orders.push(source[index].with_terms(terms))?;

@@ -1,4 +1,4 @@
-//! An order of an order list, where it stands.
+//! One order of an order list, as audits read it.
 ghost use Rattle.std.specs.Prelude.{◌≡◌, ◌<◌, IfSome};
 ghost use Rattle.audit_base.specs.Deals.{is_within};
 ghost use Rattle.audit_base.specs.Orders as spec;
@@ -15,7 +15,7 @@ use audit_base::stamps::Stamp;
 use audit_base::terms::{Life, Side};
 use std::marker::Model;
 
-/// An order of an order list, where it stands. Contracts see the order.
+/// One order of an order list, read from what the list keeps. Contracts see the order.
 #[derive(Drop)]
 pub struct ListedOrder<'a> {
     stored: &'a StoredOrder,
@@ -33,7 +33,7 @@ impl<'a> Model for ListedOrder<'a> {
 }
 
 impl<'a> ListedOrder<'a> {
-    /// The order that stands there.
+    /// The order of what is stored, with the keys of the list.
     #[inline(always)]
     pub(crate) fn of(stored: &'a StoredOrder, keys: &'a Keys) -> ListedOrder<'a>
         ensures { result ≡ order_of keys.now stored.now }
@@ -41,7 +41,7 @@ impl<'a> ListedOrder<'a> {
         ListedOrder { stored, keys }
     }
 
-    /// The name of its record.
+    /// The key of its record: firm and id.
     pub fn key(&self) -> Key
         ensures { result ≡ self.now.key }
     {

@@ -27,7 +27,7 @@ impl<'a> Model for OrderList<'a> {
 }
 
 impl<'a> OrderList<'a> {
-    /// The list of these orders, whose keys stand in the table.
+    /// The list of these orders, whose keys are in the table.
     pub fn of(stored: &'a [StoredOrder], keys: &'a Keys) -> OrderList<'a>
         ensures same { result ≡ orders_of keys.now stored.now }
         ensures len { length result ≡ length stored.now }

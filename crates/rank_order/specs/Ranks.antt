@@ -8,7 +8,8 @@ use Rattle.audit_base.specs.declared.orders.Order.{Order}
 use Rattle.audit_base.specs.Orders.{order_at, limit_at, stands_on, Stands}
 use Rattle.rank_order.specs.declared.ranks.Rank.{Rank}
 
--- what a limit weighs, the less the better: of a bid what it is below 10^18, of an ask the limit itself
+-- what a limit weighs, the less the better: of a bid what it is below 10^18, of an
+-- ask the limit itself
 abbrev pub weight_of : Side → ℕ → ℕ
 weight_of Buy limit = 10 ^ 18 - limit
 weight_of Sell limit = limit
@@ -25,7 +26,7 @@ rank_cmp a b = ordering_then (nat_cmp a.weight b.weight) (nat_cmp a.index b.inde
 abbrev pub order_rank : ℕ → Order → Rank
 order_rank i o = rank_of o.side i o.limit
 
--- its rank alone where it stands on the side, else no rank
+-- its rank alone where it is of the side and no record cancels it, else no rank
 abbrev pub rank_if : Side → ℕ → Order → List Rank
 rank_if side i o = if stands_on side o then order_rank i o ∷ [] else []
 

@@ -1,4 +1,5 @@
--- The best of the orders so far is kept from one to the next, and at their end it is the best short order.
+-- The best of the orders so far is kept from one to the next, and at their end it is
+-- the best short order.
 use Rattle.std.proofs.Common.{◌≡◌, ◌<◌, ◌≤◌, ℕ, suc, List, length, Bool, true, false, Option, None, Some, sym, ap, ◌∙◌, subst, arith, inl, inr}
 use Rattle.std.specs.Prelude.{◌&&◌, nat_lt, slice_index, IfSome}
 use Rattle.std.proofs.lemmas.Bool.{cases_Bool, cases_eq, and_parts, both_ways}
@@ -68,7 +69,7 @@ module _ (orders : List Order) (test : ℕ → Bool) where
     | inr f ↦ rw f (same-held n i is (λ u b. both_ways _ f u))
   ]
 
--- what is short on a side stands there
+-- what is short on a side is of it, and no record cancels it
 pub short-stands : (orders : List Order) (traded : List ℕ) (side : Side) (i : ℕ) → i < length orders → is_short_on orders traded side i ≡ true → Stands orders side i
 short-stands orders traded side i lt t =
     test-stands orders side i lt ((and_parts (stands_on side (order_at orders i)) (nat_lt (slice_index traded i) (quantity_at orders i)) t).0)
@@ -91,7 +92,7 @@ found-best orders list side test stands None none = elim (cases_Option (best ord
 found-best orders list side test stands (Some i) is =
     sym (is-best orders list test side (λ k lt t. (stands k lt t).of_side) i (record { inside = is.below; passes = is.passes; none_better = is.none_better }))
 
--- where the numbers are what deals come to, the same orders are short
+-- where the numbers are the totals of deals, the same orders are short
 module _ (orders : List Order) (numbers : List ℕ) (deals : List Deal) (totals : AreTotals orders deals numbers) (side : Side) where
   short-same : (i : ℕ) → i < length orders → is_short_on orders numbers side i ≡ is_short orders deals side i
   short-same i lt = ap (λ (n : ℕ). stands_on side (order_at orders i) && nat_lt n (quantity_at orders i)) (totals.each i lt)

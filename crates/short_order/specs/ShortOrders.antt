@@ -1,5 +1,5 @@
--- Which orders are short, that is not fully traded (LeavesQty > 0), by numbers for what each order of
--- a list trades, by its index.
+-- Which orders are short, that is not fully traded (LeavesQty > 0), by numbers for what each order
+-- of a list trades, by its index.
 use Rattle.std.specs.Prelude.{◌≡◌, ℕ, Bool, ◌&&◌, nat_lt, List, Option, slice_index}
 use Rattle.audit_base.specs.declared.terms.Side.{Side}
 use Rattle.audit_base.specs.declared.orders.Order.{Order}

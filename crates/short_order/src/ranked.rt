@@ -28,10 +28,10 @@ fn first_short(orders: &OrderList<'_>, ranked: &[usize], traded: &[u128]) -> Opt
     None
 }
 
-/// The first member of `ranked` that is short: what it has traded is below its quantity. None exactly
-/// where none is short. `ranked` holds indices of orders, and `traded` what each order has traded, by its
-/// index. Where `ranked` is the rank of a side by price-time priority and `traded` is what deals come to,
-/// this is the best short order of the side. Takes no memory.
+/// The first member of `ranked` that is short: what it has traded is below its quantity. None
+/// exactly where none is short. `ranked` holds indices of orders, and `traded` what each order has
+/// traded, by its index. Where `ranked` is the rank of a side by price-time priority and `traded`
+/// has the totals of deals, this is the best short order of the side. Takes no memory.
 pub fn best_short(orders: &OrderList<'_>, ranked: &[usize], traded: &[u128]) -> Option<usize>
     requires inside { All (λ i. i < length orders.now) ranked.now }
     requires count { length traded.now ≡ length orders.now }

@@ -1,4 +1,5 @@
-//! The best order of a side that is short, where the side has no rank at hand: one pass over the orders.
+//! The best order of a side that is short, where the side has no rank at hand: one
+//! pass over the orders.
 ghost use Rattle.std.specs.Prelude.{◌≡◌, ◌<◌, IfSome, length};
 ghost use Rattle.audit_base.specs.Orders.{side_at, IsOrderList, Stands};
 ghost use Rattle.audit_base.specs.Priority.{best};
@@ -9,8 +10,8 @@ use audit_base::terms::Side;
 use order_list::lists::OrderList;
 use rank_order::comparing::better;
 
-/// Whether the order at this index is of the side, no record cancels it, and it has traded less than its
-/// quantity.
+/// Whether the order at this index is of the side, no record cancels it, and it has traded less
+/// than its quantity.
 fn is_short_on(orders: &OrderList<'_>, traded: &[u128], side: Side, index: usize) -> bool
     requires inside { index < length orders.now }
     requires count { length traded.now ≡ length orders.now }
@@ -60,9 +61,9 @@ fn next_best(
     }
 }
 
-/// The best order of a side (price-time priority) that is short: no record cancels it, and what it has
-/// traded is below its quantity. None exactly where none is short. `traded` is what each order has traded,
-/// by its index. One pass over the orders. Takes no memory.
+/// The best order of a side (price-time priority) that is short: no record cancels it, and what it
+/// has traded is below its quantity. None exactly where none is short. `traded` is what each order
+/// has traded, by its index. One pass over the orders. Takes no memory.
 pub fn best_short_on(orders: &OrderList<'_>, traded: &[u128], side: Side) -> Option<usize>
     requires order_list { IsOrderList orders.now }
     requires count { length traded.now ≡ length orders.now }

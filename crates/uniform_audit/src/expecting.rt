@@ -29,9 +29,9 @@ fn price_of(orders: &OrderList<'_>, most: Cut) -> Price
     }
 }
 
-/// The Expected trades of `uniform`: unit j of the bids meets unit j of the asks, both in rank order, up
-/// to the greatest volume of a matching of one price, at the rule's bound. They conform to the rule. In
-/// n log n steps for n orders. Err only out of memory.
+/// The Expected trades of `uniform`: unit j of the bids meets unit j of the asks, both in rank
+/// order, up to the greatest volume of a matching of one price, at the rule's bound. They conform
+/// to the rule. In n log n steps for n orders. Err only out of memory.
 pub fn expected_uniform(alloc: Global, orders: &OrderList<'_>) -> Result<Vec<Deal>, NoMemory>
     requires { IsOrderList orders.now }
     ensures expected { IfOk result (λ deals. IsExpectedUniform orders.now deals.items) }

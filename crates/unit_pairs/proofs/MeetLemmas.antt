@@ -12,7 +12,7 @@ use Rattle.unit_pairs.specs.declared.meeting.Progress.{Progress}
 use Rattle.unit_pairs.specs.Lots.{any_lot, lot_at, lots_before, lots_total, AreLots}
 use Rattle.unit_pairs.specs.Meeting.{overlap_from, overlap, pair_ends, IsPair, ArePairs, PairsDiffer, units_met, IsProgress}
 
--- Lots and what stands before them.
+-- Lots and the quantity before them.
 
 pub before-more : (lots : List Lot) (k : ℕ) → k < length lots → lots_before lots (k + 1) ≡ lots_before lots k + (lot_at lots k).quantity
 before-more lots k lt = sum_by_more (λ (l : Lot). l.quantity) lots k any_lot lt

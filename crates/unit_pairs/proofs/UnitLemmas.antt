@@ -1,4 +1,4 @@
--- Which units the orders of a side have, and that lots stand in the order of these.
+-- Which units the orders of a side have, and that lots are in the order of these.
 use Rattle.std.proofs.Common.{◌≡◌, ◌≤◌, ◌<◌, ◌+◌, ◌-◌, ℕ, zero, suc, List, [], ◌∷◌, length, get_or, reverse, refl, sym, ap, ◌∙◌, arith, inl, inr, cond, sum_by, subst, add-one, Bool, true, false}
 use Rattle.std.specs.Prelude.{min, ◌&&◌, is_none}
 use Rattle.std.proofs.lemmas.Bool.{cases_lt}
@@ -20,7 +20,8 @@ use Rattle.unit_pairs.specs.Lots.{any_lot, lot_at, lots_before, lots_total, rank
 use Rattle.unit_pairs.proofs.LotLemmas.{filled-before}
 use Rattle.unit_pairs.proofs.MeetLemmas.{before-more, before-all}
 
--- the lot of the order at i has the units of its side after `from i`, up to `to i`; each order that has any is there
+-- the lot of the order at i has the units of its side after `from i`, up to `to i`; each order
+-- that has any is there
 pub record Follow (orders : List Order) (side : Side) (from to : ℕ → ℕ) (lots : List Lot) : Type 0 where
   pub stands : (k : ℕ) → k < length lots → Stands orders side (lot_at lots k).order
   pub starts : (k : ℕ) → k < length lots → lots_before lots k ≡ from (lot_at lots k).order
@@ -188,7 +189,7 @@ ones-below : (n : ℕ) → sum_below (λ i. 1) n ≡ n
 ones-below zero = refl
 ones-below (suc n) = omega (arith, ones-below n)
 
--- 1 for an order that stands on the side
+-- 1 for an order of the side that no record cancels
 abbrev on_side : List Order → Side → ℕ → ℕ
 on_side orders side i = cond (stands_on side (order_at orders i)) 1 0
 

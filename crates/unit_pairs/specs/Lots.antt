@@ -4,7 +4,7 @@ use Rattle.audit_base.specs.declared.orders.Order.{Order}
 use Rattle.audit_base.specs.Orders.{quantity_at}
 use Rattle.unit_pairs.specs.declared.lots.Lot.{Lot}
 
--- what stands for a lot past the end of a list, and the lot at an index
+-- what is given past the end of a list of lots, and the lot at an index
 abbrev pub any_lot : Lot
 any_lot = record { order = 0; quantity = 0 }
 
@@ -15,7 +15,7 @@ lot_at lots k = slice_index_or lots k any_lot
 abbrev pub lots_before : List Lot → ℕ → ℕ
 lots_before lots n = sum_by (λ l. l.quantity) (take n lots)
 
--- the quantity of all of them
+-- the quantity of all lots
 abbrev pub lots_total : List Lot → ℕ
 lots_total lots = sum_by (λ l. l.quantity) lots
 
@@ -27,7 +27,8 @@ ranks_before orders ranks n = sum_by (quantity_at orders) (take n ranks)
 abbrev pub lot_of : List Order → List ℕ → ℕ → ℕ → Lot
 lot_of orders ranks volume k = record {
   order = slice_index ranks k;
-  quantity = min (quantity_at orders (slice_index ranks k)) (volume - ranks_before orders ranks k);
+  quantity = min (quantity_at orders (slice_index ranks k))
+      (volume - ranks_before orders ranks k);
 }
 
 -- what the quantity of a lot may be: 1 to 10^12
@@ -35,7 +36,7 @@ pub record IsLot (l : Lot) : Type 0 where
   pub some : 0 < l.quantity
   pub most : l.quantity ≤ 10 ^ 12
 
--- each lot is of such a quantity, and no two are of one order
+-- each lot has a quantity that a lot may have, and no two are of one order
 pub record AreLots (lots : List Lot) : Type 0 where
   pub each : All IsLot lots
   pub apart : AllPairs (λ l m. l.order ≢ m.order) lots

@@ -12,7 +12,8 @@ pub record AreSides (bids asks : List Lot) : Type 0 where
   pub same_volume : lots_total bids ≡ lots_total asks
   pub few : length bids + length asks < 2 ^ 32
 
--- how many units come before the first that the bid lot at k and the ask lot at l could have in common
+-- how many units come before the first that the bid lot at k and the ask lot at l
+-- could have in common
 abbrev pub overlap_from : List Lot → List Lot → ℕ → ℕ → ℕ
 overlap_from bids asks k l = max (lots_before bids k) (lots_before asks l)
 
@@ -37,13 +38,13 @@ pub record IsPair (bids asks : List Lot) (p : Pair) : Type 0 where
   pub most : p.quantity ≤ 10 ^ 12
   pub is : p.quantity ≡ overlap bids asks bid_lot ask_lot
 
--- each pair is such a one, and each two lots that have units in common are a pair
+-- each pair is of two lots that have units in common, and each two such lots are a pair
 pub record ArePairs (bids asks : List Lot) (pairs : List Pair) : Type 0 where
   pub each : All (IsPair bids asks) pairs
   pub complete : (k l : ℕ) → k < length bids → l < length asks → 0 < overlap bids asks k l
       → Contains (map pair_ends pairs) ((lot_at bids k).order, (lot_at asks l).order)
 
--- a pair stands before another: by the bid, and then by the ask
+-- a pair is before another: by the bid, and then by the ask
 abbrev pub PairBefore : Pair → Pair → Type 0
 PairBefore p q = (p.bid < q.bid) ⊎ ((p.bid ≡ q.bid) × (p.ask < q.ask))
 

@@ -10,14 +10,14 @@ use Rattle.unit_pairs.specs.declared.numbering.DealPrice.{DealPrice}
 use Rattle.unit_pairs.specs.declared.numbering.DealPrice.TheVariants.{Same, AskLimit}
 use Rattle.unit_pairs.specs.Meeting.{ArePairs, PairBefore}
 
--- what stands for a pair past the end of a list, and the pair at an index
+-- what is given past the end of a list of pairs, and the pair at an index
 abbrev pub any_pair : Pair
 any_pair = record { bid = 0; ask = 0; quantity = 0 }
 
 abbrev pub pair_at : List Pair → ℕ → Pair
 pair_at pairs k = slice_index_or pairs k any_pair
 
--- what an ask trades at
+-- the price at which an ask trades
 abbrev pub price_of : List Order → DealPrice → ℕ → ℕ
 price_of orders (Same price) ask = price
 price_of orders AskLimit ask = limit_at orders ask
@@ -42,7 +42,8 @@ deal_of orders price number p = record {
 pub record AreNumbered (orders : List Order) (price : DealPrice) (pairs : List Pair)
     (deals : List Deal) : Type 0 where
   pub count : length deals ≡ length pairs
-  pub each : EachIndex pairs (λ k. deal_at deals k ≡ deal_of orders price (k + 1) (pair_at pairs k))
+  pub each : EachIndex pairs (λ k. deal_at deals k
+      ≡ deal_of orders price (k + 1) (pair_at pairs k))
 
 -- the deals of two lists of lots: those of their pairs in order of the bid, and then of the ask
 pub record AreLotDeals (orders : List Order) (price : DealPrice) (bids asks : List Lot)

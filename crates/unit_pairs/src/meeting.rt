@@ -1,5 +1,6 @@
-//! Unit by unit, the lots of the bids meet those of the asks: one pass along both lists, in which the
-//! trade is the lesser of what is left of both lots, and each lot that is used up gives way to the next.
+//! Unit by unit, the lots of the bids meet those of the asks: one pass along both lists, in
+//! which the trade is the smaller of what is left of both lots, and each lot that is used up
+//! gives way to the next.
 ghost use Rattle.std.specs.Prelude.{◌≡◌, ◌<◌, ◌≤◌, ◌+◌, ◌-◌, ◌^◌, OnOk, IfOk, AllPairs, length};
 ghost use Rattle.unit_pairs.specs.Lots.{AreLots, lot_at};
 ghost use Rattle.unit_pairs.specs.Meeting.{ArePairs, AreSides, IsProgress, PairBefore, PairsDiffer, units_met};
@@ -57,7 +58,8 @@ fn progress_after(lots: &[Lot], progress: Progress, quantity: u64) -> Progress
     }
 }
 
-/// The pairs of two lots that have units in common, where unit n of the bids meets unit n of the asks.
+/// The pairs of two lots that have units in common, where unit n of the bids meets
+/// unit n of the asks.
 fn meet(alloc: Global, bids: &[Lot], asks: &[Lot]) -> Result<Vec<Pair>, NoMemory>
     requires { AreSides bids.now asks.now }
     ensures pairs { IfOk result (λ pairs. ArePairs bids.now asks.now pairs.items) }
@@ -81,8 +83,8 @@ fn meet(alloc: Global, bids: &[Lot], asks: &[Lot]) -> Result<Vec<Pair>, NoMemory
     Ok(pairs)
 }
 
-/// The pairs of two lots that have units in common, where unit n of the bids meets unit n of the asks, in
-/// order of the bid's index and then of the ask's. Err only out of memory.
+/// The pairs of two lots that have units in common, where unit n of the bids meets unit n of the
+/// asks, in order of the bid's index and then of the ask's. Err only out of memory.
 pub fn pairs_in_order(alloc: Global, bids: &[Lot], asks: &[Lot]) -> Result<Vec<Pair>, NoMemory>
     requires { AreSides bids.now asks.now }
     ensures pairs { IfOk result (λ pairs. ArePairs bids.now asks.now pairs.items) }

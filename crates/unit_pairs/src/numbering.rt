@@ -9,7 +9,7 @@ use audit_base::orders::Deal;
 use order_list::lists::OrderList;
 use std::alloc::Global;
 
-/// What the deals of a call are made at.
+/// At which price the deals of a call are made.
 #[derive(Clone, Copy, Debug, PartialEq, Eq)]
 pub enum DealPrice {
     /// All at this price.

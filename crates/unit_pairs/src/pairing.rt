@@ -35,10 +35,10 @@ fn deals_of(
     number_pairs(alloc, orders, &pairs, price)
 }
 
-/// The Expected trades under `uniform` where this volume trades at this price: unit j of the bids meets
-/// unit j of the asks, for each j from 1 to the volume. `sides` are the orders that no record cancels,
-/// best first. One deal for each bid and ask that have such units, in order of the bid's index and then
-/// of the ask's, numbered from 1. Err only out of memory.
+/// The Expected trades under `uniform` where this volume trades at this price: unit j of the bids
+/// meets unit j of the asks, for each j from 1 to the volume. `sides` are the orders that no record
+/// cancels, best first. One deal for each bid and ask that have such units, in order of the bid's
+/// index and then of the ask's, numbered from 1. Err only out of memory.
 pub fn uniform_pairs(
     alloc: Global,
     orders: &OrderList<'_>,
@@ -57,10 +57,10 @@ pub fn uniform_pairs(
     deals_of(alloc, orders, lots, &DealPrice::Same(price))
 }
 
-/// The Expected trades under `maximum` where this volume trades: unit volume + 1 - j of the bids meets
-/// unit j of the asks at the ask's limit, for each j from 1 to the volume. `sides` are the orders that
-/// no record cancels, best first. One deal for each bid and ask that have such units, in order of the
-/// bid's index and then of the ask's, numbered from 1. Err only out of memory.
+/// The Expected trades under `maximum` where this volume trades: unit volume + 1 - j of the bids
+/// meets unit j of the asks at the ask's limit, for each j from 1 to the volume. `sides` are the
+/// orders that no record cancels, best first. One deal for each bid and ask that have such units,
+/// in order of the bid's index and then of the ask's, numbered from 1. Err only out of memory.
 pub fn maximum_pairs(
     alloc: Global,
     orders: &OrderList<'_>,

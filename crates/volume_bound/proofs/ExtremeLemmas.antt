@@ -1,4 +1,5 @@
--- The extremes over all prices are reached among the candidates: 0, and a price for each limit of one side.
+-- The extremes over all prices are reached among the candidates: 0, and a price for each
+-- limit of one side.
 use Rattle.std.proofs.Common.{◌≡◌, ◌≤◌, ◌<◌, ◌+◌, ◌^◌, ◌∙◌, ◌⊎◌, sym, subst, ℕ, Bool, true, false, cond, List, [], ◌∷◌, length, take, get_or, refl, inl, inr, eq-eqb, arith, All}
 use Rattle.std.specs.Prelude.{◌&&◌, ◌||◌, ◌==◌, nat_lt, nat_le}
 use Rattle.std.proofs.lemmas.Bool.{cases_lt, cases_eq, le-ltb, ne_eqb, leb-true, lt-ltb, ltb-true, le-leb}

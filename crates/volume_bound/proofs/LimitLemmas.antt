@@ -1,4 +1,5 @@
--- Sums of quantities by limit: sorted limits are split at a price, and those of a side have the sums of its orders.
+-- Sums of quantities by limit: sorted limits are split at a price, and those of a side have the
+-- sums of its orders.
 use Rattle.std.proofs.Common.{◌≡◌, ◌≤◌, ◌<◌, ◌+◌, ◌*◌, ◌^◌, ◌∙◌, ℕ, Bool, true, false, cond, List, [], ◌∷◌, length, take, drop, get_or, refl, arith, sum_by}
 use Rattle.std.specs.Prelude.{◌&&◌, nat_lt, nat_le, map}
 use Rattle.std.specs.List.{filter}

@@ -14,9 +14,10 @@ counts (Upto p) limit = nat_le limit p
 
 -- the quantities of the limits that count, added
 abbrev pub quantity_by : Edge → List LimitQuantity → ℕ
-quantity_by edge limits = sum_by (λ l. if counts edge l.limit then l.quantity else 0) limits
+quantity_by edge limits =
+    sum_by (λ l. if counts edge l.limit then l.quantity else 0) limits
 
--- so many of the first limits, with their quantities added
+-- as many of the first limits as are counted, with their quantities added
 pub record IsAdded (limits : List LimitQuantity) (added : Added) : Type 0 where
   pub inside : added.count ≤ length limits
   pub whole : added.sum ≡ quantity_of (take added.count limits)

@@ -34,7 +34,7 @@ fn add(limits: &mut Vec<LimitQuantity>, order: &ListedOrder<'_>, side: Side) -> 
 }
 
 impl ActiveOrders {
-    /// Those of these orders. Memory is asked for once a side, before the first order.
+    /// Those of these orders. Memory is asked for once for each side, before the first order.
     pub fn of(alloc: Global, orders: &OrderList<'_>) -> Result<ActiveOrders, NoMemory>
         ensures bids { let bids = limits_on the_side.Buy orders.now in
             IfOk result (λ active. active.bids.items ≡ bids) }

@@ -1,9 +1,10 @@
 //! The least cut and the greatest executable volume, over all prices from 0 to 10^18.
 //!
-//! The cut falls only where a bid drops out, which is one unit above its limit; so the least cut, and
-//! the least price that reaches it, stand among 0 and each bid limit plus 1. The executable volume at a
-//! price, the lesser of demand and supply, rises only where an ask comes in, which is at its limit; so
-//! the greatest, and the least price that reaches it, stand among 0 and each ask limit.
+//! The cut falls only where a bid drops out, which is one unit above its limit; so the least cut,
+//! and the least price that reaches it, are found among 0 and each bid limit plus 1. The
+//! executable volume at a price, the smaller of demand and supply, rises only where an ask comes
+//! in, which is at its limit; so the greatest, and the least price that reaches it, are found
+//! among 0 and each ask limit.
 ghost use Rattle.std.specs.Prelude.{◌≡◌, ◌≤◌, ◌<◌, ◌^◌, List, IfOk, OnOk, length};
 ghost use Rattle.audit_base.specs.Bounds.{IsLeastCut, IsBestUniform};
 ghost use Rattle.audit_base.specs.Orders.{AreOrders};
@@ -18,7 +19,7 @@ use audit_base::orders::Cut;
 use order_list::lists::OrderList;
 use std::alloc::Global;
 
-/// The one with the lesser volume, and of equal volumes the one with the lesser price.
+/// The one with the smaller volume, and of equal volumes the one with the lower price.
 fn lesser(best: Cut, other: Cut) -> Cut
     ensures { result ≡ extreme.lesser best other }
 {
@@ -29,7 +30,7 @@ fn lesser(best: Cut, other: Cut) -> Cut
     }
 }
 
-/// The one with the greater volume, and of equal volumes the one with the lesser price.
+/// The one with the greater volume, and of equal volumes the one with the lower price.
 fn greater(best: Cut, other: Cut) -> Cut
     ensures { result ≡ extreme.greater best other }
 {
@@ -40,7 +41,8 @@ fn greater(best: Cut, other: Cut) -> Cut
     }
 }
 
-/// The cut at a price, given what was counted last: limits that follow each other are mostly the same.
+/// The cut at a price, given what was counted last: limits that follow each other
+/// are mostly the same.
 fn cut_after(sums: &Sums, last: Counted, price: u64) -> Counted
     requires counted { IsCounted sums.now last }
     requires volume { last.cut.volume ≡ cut_of sums.now last.cut.price }
@@ -68,8 +70,8 @@ fn executable_after(sums: &Sums, last: Counted, price: u64) -> Counted
     }
 }
 
-/// The least cut of the orders that have these sums, over all prices from 0 to 10^18, and the least price
-/// that reaches it.
+/// The least cut of the orders that have these sums, over all prices from 0 to 10^18, and the least
+/// price that reaches it.
 pub fn least_cut_of(sums: &Sums) -> Cut
     ensures least { ForOrdersOf sums.now (λ orders. IsLeastCut orders result) }
     ensures in_range { result.price ≤ 10 ^ 18 }
@@ -83,8 +85,8 @@ pub fn least_cut_of(sums: &Sums) -> Cut
     best
 }
 
-/// The greatest executable volume of these orders, over the same prices, and the least price that reaches
-/// it.
+/// The greatest executable volume of these orders, over the same prices, and the least
+/// price that reaches it.
 pub fn best_uniform_of(sums: &Sums) -> Cut
     ensures best { ForOrdersOf sums.now (λ orders. IsBestUniform orders result) }
     ensures in_range { result.price ≤ 10 ^ 18 }
@@ -98,8 +100,8 @@ pub fn best_uniform_of(sums: &Sums) -> Cut
     best
 }
 
-/// The least cut over all prices from 0 to 10^18, and the least price that reaches it. Err only out of
-/// memory.
+/// The least cut over all prices from 0 to 10^18, and the least price that reaches it. Err
+/// only out of memory.
 pub fn least_cut(alloc: Global, orders: &OrderList<'_>) -> Result<Cut, NoMemory>
     requires few { length orders.now < 2 ^ 32 }
     ensures least { IfOk result (IsLeastCut orders.now) }
@@ -110,8 +112,8 @@ pub fn least_cut(alloc: Global, orders: &OrderList<'_>) -> Result<Cut, NoMemory>
     Ok(least_cut_of(&sums))
 }
 
-/// The greatest executable volume over these prices, and the least price that reaches it. Err only out of
-/// memory.
+/// The greatest executable volume over these prices, and the least price that reaches it. Err
+/// only out of memory.
 pub fn best_uniform(alloc: Global, orders: &OrderList<'_>) -> Result<Cut, NoMemory>
     requires few { length orders.now < 2 ^ 32 }
     ensures best { IfOk result (IsBestUniform orders.now) }

@@ -66,8 +66,8 @@ impl SortedLimits {
         &self.limits
     }
 
-    /// The limits that count, from those that were added last on: few steps where these count too and
-    /// few follow.
+    /// The limits that count, from those that were added last on: few steps where these count
+    /// too and few follow.
     pub(crate) fn add(&self, edge: Edge, added: Added) -> Added
         requires { IsAdded self.now added }
         ensures added { IsAdded self.now result }
@@ -79,7 +79,7 @@ impl SortedLimits {
         add_from(&self.limits, edge, start)
     }
 
-    /// What the limits from a price on come to, where those below it are added.
+    /// The quantity of the limits from a price on, where those below it are added.
     pub(crate) fn rest_of(&self, price: u64, below: Added) -> u128
         requires { below.sum ≡ quantity_below self.now price }
         ensures same { result ≡ quantity_from self.now price }

@@ -1,4 +1,5 @@
-//! Both sides by limit: demand and supply at any price, and cuts and executable volumes at rising prices.
+//! Both sides by limit: demand and supply at any price, and cuts and executable
+//! volumes at rising prices.
 ghost use Rattle.std.specs.Prelude.{◌≡◌, ◌<◌, ◌^◌, List, IfOk, OnOk, length};
 ghost use Rattle.audit_base.specs.Bounds.{demand, supply, supply_below};
 ghost use Rattle.audit_base.specs.Orders.{AreOrders};
@@ -15,8 +16,8 @@ use order_list::lists::OrderList;
 use std::alloc::Global;
 use std::marker::Model;
 
-/// The bids and the asks that no record cancels, each side by rising limit. Contracts see the limits and the
-/// quantities of both sides.
+/// The bids and the asks that no record cancels, each side by rising limit. Contracts see the
+/// limits and the quantities of both sides.
 #[derive(Debug, Drop)]
 pub struct Sums {
     bids: SortedLimits,
@@ -31,8 +32,8 @@ impl Model for Sums {
     ghost view = { λ s. record { bids = s.bids; asks = s.asks } };
 }
 
-/// A price with the volume that is counted there, and what is added of each side, from which the next price
-/// is counted.
+/// A price with the volume that is counted there, and what is added of each side, from which the
+/// next price is counted.
 #[derive(Clone, Copy, Debug)]
 pub struct Counted {
     pub cut: Cut,
@@ -53,8 +54,8 @@ impl Counted {
 }
 
 impl Sums {
-    /// The sides of these orders: each is sorted once, in n log n steps for n orders. Err only out of
-    /// memory.
+    /// The sides of these orders: each is sorted once, in n log n steps for n orders. Err
+    /// only out of memory.
     pub fn build(alloc: Global, orders: &OrderList<'_>) -> Result<Sums, NoMemory>
         requires few { length orders.now < 2 ^ 32 }
         ensures stands { IfOk result (λ sums. HaveSumsOf orders.now sums) }
@@ -104,8 +105,8 @@ impl Sums {
         }
     }
 
-    /// The executable volume at the price: the lesser of demand and supply. Along rising prices each limit is
-    /// added once.
+    /// The executable volume at the price: the smaller of demand and supply. Along rising prices
+    /// each limit is added once.
     pub(crate) fn executable_after(&self, last: Counted, price: u64) -> Counted
         requires { IsCounted self.now last }
         ensures same { result.cut
