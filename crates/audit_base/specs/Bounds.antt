@@ -36,7 +36,7 @@ supply_below orders p = sum_by (offered_below p) orders
 abbrev pub cut : List Order → ℕ → ℕ
 cut orders p = demand orders p + supply_below orders p
 
--- executable volume: the lesser of demand and supply, which is what can trade at this one price
+-- executable volume: the smaller of demand and supply, which is what can trade at this one price
 abbrev pub executable_volume : List Order → ℕ → ℕ
 executable_volume orders p = min (demand orders p) (supply orders p)
 

@@ -19,7 +19,7 @@ use Rattle.audit_base.specs.Shows.{found, at_deal, show_order, show_found, prior
 
 -- First part: the least deal of cause i that fails 7, 8, 10 or 11, with the first of these.
 
--- what an order trades in deals of lesser causes, and in those of cause i up to the deal at k
+-- what an order trades in deals of earlier causes, and in those of cause i up to the deal at k
 abbrev pub traded_upto : List Order → List Deal → ℕ → ℕ → ℕ → ℕ
 traded_upto orders deals i k x =
     traded_before orders deals i x + traded_at orders (take (k + 1) deals) i x

@@ -30,7 +30,7 @@ pair deals bid ask = sum_by (λ d. if (d.bid == bid) && (d.ask == ask) then d.qu
 abbrev pub volume : List Deal → ℕ
 volume deals = sum_by (λ d. d.quantity) deals
 
--- what stands for a deal past the end of a list, and the deal at an index
+-- what is read past the end of a list of deals, and the deal at an index
 abbrev pub missing_deal : Deal
 missing_deal = record { place = 0; bid = 0; ask = 0; quantity = 0; price = 0 }
 

@@ -77,7 +77,7 @@ available_ahead orders past n r =
     sum_below (λ k. if better (order_at orders k) (order_at orders r)
     then available orders past n k else 0) (length orders)
 
--- what the two trade: the lesser of what n finds of r, and what the better ones leave of the Size of
+-- what the two trade: the smaller of what n finds of r, and what the better ones leave of the Size of
 -- n
 abbrev pub share : List Order → (ℕ → ℕ → ℕ) → ℕ → ℕ → ℕ
 share orders past n r =
@@ -97,7 +97,7 @@ resting_limit orders bid ask =
     then limit_at orders bid else limit_at orders ask
 
 -- `continuous`: each pair trades its share under these same deals, of which a share takes those of
--- lesser causes alone, at the limit of the resting order
+-- earlier causes alone, at the limit of the resting order
 abbrev pub IsExpectedContinuous : List Order → List Deal → Type 0
 IsExpectedContinuous orders deals = deals ≡
     pair_deals orders (pair_share orders (traded_before orders deals)) (resting_limit orders)

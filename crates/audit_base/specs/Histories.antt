@@ -77,7 +77,7 @@ fits_side (Some side) (Some target) = same_side side target
 abbrev pub history : List ℕ → List OrderRecord → List (ℕ × OrderRecord)
 history symbol entries = filter (λ e. same_name (symbol_of e.1) symbol) (enumerate_from 1 entries)
 
--- what stands for a record past the end
+-- what is read past the end of a history
 abbrev pub missing_entry : ℕ × OrderRecord
 missing_entry = (0, Cancel missing_order.key missing_order.time [] [])
 
@@ -109,7 +109,7 @@ duplicate_id records k =
     option_map (λ j. found property.DuplicateId which.Orders (record_place records k)
     (show_place which.Orders (record_place records j)) None) (earlier_with_key records k)
 
--- 2: the time is lesser than that of the history's record before it
+-- 2: the time is earlier than that of the history's record before it
 abbrev pub time_back : List (ℕ × OrderRecord) → ℕ → Option Finding
 time_back records zero = None
 time_back records (suc j) =

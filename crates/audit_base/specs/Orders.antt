@@ -35,7 +35,7 @@ is_rests Rests = true
 is_rests Immediate = false
 is_rests Market = false
 
--- what stands for an order past the end of a list: it has quantity 0 and waits for nobody
+-- what is read past the end of an order list: an order of quantity 0 that does not rest
 abbrev pub missing_order : Order
 missing_order = record {
   place = 0;

@@ -49,7 +49,7 @@ asks_for_greatest the_rule = is_some (volume_rule the_rule)
 abbrev pub has_table : Rule → Bool
 has_table the_rule = asks_for_greatest the_rule || is_none (call_rule the_rule)
 
--- a rule that asks for the greatest volume asks for one price too
+-- whether a rule that asks for the greatest volume asks for one price too
 abbrev pub asks_one_price : VolumeRule → Bool
 asks_one_price of_volume.Uniform = true
 asks_one_price of_volume.Maximum = false

@@ -1,4 +1,4 @@
--- Units of quantity in rank order, by which the Expected trades of a call are told.
+-- Units of quantity in rank order, by which the Expected trades of a call are defined.
 use Rattle.std.specs.Prelude.{ℕ, ◌+◌, ◌-◌, min, Bool, ◌&&◌, nat_lt, nat_le, List, sum_by, if◌then◌else◌}
 use Rattle.audit_base.specs.declared.terms.Side.{Side}
 use Rattle.audit_base.specs.declared.terms.Side.TheVariants.{Buy, Sell}

@@ -134,7 +134,7 @@ impl Evidence {
         }
     }
 
-    /// The log that its record stands in.
+    /// The log that its record is in.
     fn log(self) -> Which
         ensures { result ≡ spec.log_of self }
     {

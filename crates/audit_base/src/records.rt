@@ -53,7 +53,7 @@ impl OrderRecord {
         }
     }
 
-    /// When the exchange accepted it.
+    /// The time that its firm wrote in it (TransactTime, tag 60).
     pub fn time(&self) -> Stamp
         ensures { result ≡ history.time_of self.now }
     {

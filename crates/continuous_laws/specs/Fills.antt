@@ -24,6 +24,6 @@ pub record IsFill (count : ℕ) (better : ℕ → ℕ → Bool) (left : ℕ → 
 abbrev pub ahead : ℕ → (ℕ → ℕ → Bool) → (ℕ → ℕ) → ℕ → ℕ
 ahead count better left i = sum_below (λ j. if better j i then left j else 0) count
 
--- the share of the one at i: the lesser of what is left of it, and what the better ones leave of the size
+-- the share of the one at i: the smaller of what is left of it, and what the better ones leave of the size
 abbrev pub share : ℕ → (ℕ → ℕ → Bool) → (ℕ → ℕ) → ℕ → ℕ → ℕ
 share count better left size i = min (left i) (size - ahead count better left i)

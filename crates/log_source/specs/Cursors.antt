@@ -1,4 +1,4 @@
--- Logs in memory, and where a slot stands in one of them: what the private functions of the shelf in
+-- Logs in memory, and where a slot is in one of them: what the private functions of the shelf in
 -- memory say.
 use Rattle.std.specs.Prelude.{◌≡◌, ℕ, ◌<◌, Bool, true, List, [], drop, reverse, find, length, min, Option, Some, slice_get, if◌then◌else◌, string_bytes}
 use Rattle.std.specs.Option.{option_map, option_map_or}

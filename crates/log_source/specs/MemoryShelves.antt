@@ -12,12 +12,12 @@ use Rattle.log_source.specs.declared.memory_shelf.MemoryShelf.{MemoryShelf}
 abbrev pub memory_log : MemoryShelf → List ℕ → Option (List ℕ)
 memory_log shelf name = newest shelf.logs.items name
 
--- what stands in a slot
+-- the state of each slot
 abbrev pub memory_slot : MemoryShelf → Which → Slot
 memory_slot shelf Orders = cursor_state shelf.logs.items shelf.orders
 memory_slot shelf Trades = cursor_state shelf.logs.items shelf.trades
 
--- it tells what it holds
+-- what it holds is known
 abbrev pub memory_tells : MemoryShelf → Bool
 memory_tells shelf = true
 

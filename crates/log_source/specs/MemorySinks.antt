@@ -9,7 +9,7 @@ abbrev pub sure_room : List ℕ → ℕ → ℕ
 sure_room [] room = room
 sure_room (_ ∷ _) room = 0
 
--- what the sink stands at: it tells all that was written
+-- the state of the sink: all that was written is known
 abbrev pub memory_state : MemorySink → SinkState
 memory_state sink =
     record { wrote = Some (sink.bytes.items); faults = sink.faults; sure = sure_room sink.fails.items sink.room }

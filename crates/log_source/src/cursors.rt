@@ -1,4 +1,4 @@
-//! Logs in memory, and where a slot stands in one of them.
+//! Logs in memory, and where a slot is in one of them.
 ghost use Rattle.std.specs.Prelude.{◌≡◌, ◌<◌, ◌≤◌, true, length, drop, Some, None, IfSome, IfNone, IfOk, IfErr, is_err, is_none, ◌||◌};
 ghost use Rattle.log_source.specs.Calls.{faults_after};
 ghost use Rattle.log_source.specs.Sources.{Starts, Reads};
@@ -14,7 +14,7 @@ pub(crate) struct Log {
     pub(crate) bytes: Vec<u8>,
 }
 
-/// Where a slot stands: in which log, and after how many of its bytes.
+/// Where a slot is: in which log, and after how many of its bytes.
 #[derive(Clone, Copy)]
 pub(crate) struct Cursor {
     pub(crate) started: bool,

@@ -24,7 +24,7 @@ abbrev pub short_pair_of : List ℕ → List ℕ → Option ShortPair
 short_pair_of first second =
     if is_short first second then Some (record { block = short_block first second }) else None
 
--- the texts of a block that is one of two texts: so many bytes as its first two say, and no more than it has
+-- the texts of a block that is one of two texts: as many bytes as its first two say, and no more than it has
 abbrev pub first_text : List ℕ → List ℕ
 first_text block = take (min (slice_index block 0) 30) (drop 2 block)
 

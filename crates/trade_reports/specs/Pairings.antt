@@ -1,5 +1,5 @@
 -- How the reports of a trade log are paired into trades, and finding 4. The reports of one trade id (tag 527), in log
--- order, are taken two by two. Lists of reports named `all` and `before` stand the latest first, so that the place of a report is one more
+-- order, are taken two by two. Lists of reports named `all` and `before` have the latest first, so that the place of a report is one more
 -- than the number of those before it.
 use Rattle.std.specs.Prelude.{◌≡◌, ℕ, Bool, false, not, ◌&&◌, ◌+◌, ◌==◌, Option, Some, None, Result, Ok, Err, MatchResult, List, [], ◌∷◌, ◌++◌, length, map, option_map, reverse, if◌then◌else◌}
 use Rattle.std.specs.List.{find}
@@ -125,7 +125,7 @@ pairing_of_all all = trades_unless (first_lone all) (trades_of (pairs all))
 unfoldable pub pairing : List Report → Result (List TradeRecord) Finding
 pairing reports = pairing_of_all (reverse reports)
 
--- what a trade log that has been read comes to: its trades, or the finding that its reports don't pair
+-- what a trade log that has been read gives: its trades, or the finding that its reports don't pair
 abbrev pub pairing_of : Paired → Result (List TradeRecord) Finding
 pairing_of (Trades trades) = Ok trades
 pairing_of (Alone finding) = Err finding

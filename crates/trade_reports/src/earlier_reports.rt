@@ -71,7 +71,7 @@ impl EarlierReports {
     }
 }
 
-/// The report with the lesser place.
+/// The report with the smaller place.
 pub(crate) fn earlier(least: Option<PlacedReport>, first: PlacedReport) -> PlacedReport
     ensures { result ≡ earlier least first }
 {

@@ -47,7 +47,7 @@ impl TradeList {
     }
 }
 
-/// What a trade log that has been read comes to.
+/// What a trade log that has been read gives.
 #[derive(Debug, Drop)]
 pub enum Paired {
     /// Each report has its partner, as each record of a CSV log is a trade.
@@ -74,8 +74,8 @@ fn pair_by<K: Collector<Entry = TradeRecord>>(
 }
 
 /// The trades of fewer than 2^32 - 1 reports, in the order of their second reports. The reports of one
-/// trade id, in log order, are taken two by two, over all symbols. `Alone` comes exactly where finding 4
-/// stands: at the least second report that does not agree with its first, which is shown; where there is
+/// trade id, in log order, are taken two by two, over all symbols. `Alone` comes exactly where there is finding 4:
+/// at the least second report that does not agree with its first, which is shown; where there is
 /// none, at the least first report that has no second. There are no more trades than reports.
 pub fn pair_reports(alloc: Global, reports: &[Report]) -> Result<Paired, NoMemory>
     requires { length reports.now < 2 ^ 32 - 1 }

@@ -68,7 +68,7 @@ fn take_pair<K: Collector<Entry = TradeRecord>>(
 }
 
 // Takes a report whose id is not that of the report that came last, where earlier ones may wait. Room for an
-// earlier one is made ready where this is called, so it stands apart.
+// earlier one is made ready where this is called, so it is a function of its own.
 fn take_with_earlier<K: Collector<Entry = TradeRecord>>(
     firsts: &mut FirstReports,
     trades: &mut K,
@@ -111,7 +111,7 @@ fn take_other<K: Collector<Entry = TradeRecord>>(
 }
 
 // Takes one more report. Mostly the report that came last is the first one of its trade, and is looked at
-// where it stands.
+// where it is kept.
 fn take_report<K: Collector<Entry = TradeRecord>>(
     firsts: &mut FirstReports,
     trades: &mut K,
