@@ -50,13 +50,15 @@ unfoldable pub call_off_limit : List Order → List Deal → ℕ → Option Find
 call_off_limit orders deals k =
     let d = deal_at deals k in let so_far = traded (take (k + 1) deals) in
     only_if (not (keeps_limits orders d))
-    (at_deal property.Limit d (show_order orders so_far d.bid) (show_order orders so_far d.ask))
+    (at_deal property.Limit d (show_order orders so_far d.bid)
+    (show_order orders so_far d.ask))
 
 -- 9: one price is asked for, and the price is not that of the first deal
 unfoldable pub other_price : Bool → List Deal → ℕ → Option Finding
 other_price uniform deals k = let d = deal_at deals k in
     only_if (uniform && not (d.price == (deal_at deals 0).price))
-    (at_deal property.UniformPrice d (show_place which.Trades (deal_at deals 0).place) None)
+    (at_deal property.UniformPrice d
+    (show_place which.Trades (deal_at deals 0).place) None)
 
 -- 10 and 11: up to the deal at k the order at i, which it names, trades more than its quantity
 abbrev pub overfilled : Property → List Order → List Deal → ℕ → ℕ → Option Finding
@@ -66,17 +68,20 @@ overfilled property orders deals k i = let so_far = traded (take (k + 1) deals) 
 
 -- 10, of the deal's bid
 unfoldable pub bid_overfilled : List Order → List Deal → ℕ → Option Finding
-bid_overfilled orders deals k = overfilled property.BuyQuantity orders deals k (deal_at deals k).bid
+bid_overfilled orders deals k =
+    overfilled property.BuyQuantity orders deals k (deal_at deals k).bid
 
 -- 11, of the deal's ask
 unfoldable pub ask_overfilled : List Order → List Deal → ℕ → Option Finding
-ask_overfilled orders deals k = overfilled property.SellQuantity orders deals k (deal_at deals k).ask
+ask_overfilled orders deals k =
+    overfilled property.SellQuantity orders deals k (deal_at deals k).ask
 
 -- the first of these at the deal at k
 abbrev pub matching_finding : Bool → List Order → List Deal → ℕ → Option Finding
 matching_finding uniform orders deals k =
     first_of (call_inactive orders deals k ∷ call_off_limit orders deals k
-    ∷ other_price uniform deals k ∷ bid_overfilled orders deals k ∷ ask_overfilled orders deals k
+    ∷ other_price uniform deals k ∷ bid_overfilled orders deals k
+    ∷ ask_overfilled orders deals k
     ∷ [])
 
 -- the offence of the first part, if there is one
@@ -124,7 +129,8 @@ ask_passed_over orders deals k =
 -- the offence of the second part, if there is one
 abbrev pub fair_offence : List Order → List Deal → Option Finding
 fair_offence orders deals =
-    least_answer (λ k. option_or (bid_passed_over orders deals k) (ask_passed_over orders deals k))
+    least_answer (λ k. option_or (bid_passed_over orders deals k)
+    (ask_passed_over orders deals k))
     (length deals)
 
 -- Third part: the volume isn't the greatest that the rule allows.

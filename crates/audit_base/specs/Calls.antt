@@ -24,7 +24,8 @@ pub record Matching (orders : List Order) (deals : List Deal) : Type 0 where
 
 -- Fair: an order that is better than one that trades is fully traded
 pub record Fair (orders : List Order) (deals : List Deal) : Type 0 where
-  pub fills : (side : Side) (i j : ℕ) → Stands orders side i → Stands orders side j
+  pub fills : (side : Side) (i j : ℕ) → Stands orders side i
+      → Stands orders side j
       → Better orders i j → 0 < traded deals j → traded deals i ≡ quantity_at orders i
 
 -- OnePrice: there is a price that every deal has. A list with no deals has one price

@@ -16,10 +16,12 @@ cause orders d = max (place_at orders d.bid) (place_at orders d.ask)
 
 -- the order whose record is the cause, and the one that rested before it
 abbrev pub incoming : List Order → Deal → ℕ
-incoming orders d = if nat_lt (place_at orders d.bid) (place_at orders d.ask) then d.ask else d.bid
+incoming orders d =
+    if nat_lt (place_at orders d.bid) (place_at orders d.ask) then d.ask else d.bid
 
 abbrev pub resting : List Order → Deal → ℕ
-resting orders d = if nat_lt (place_at orders d.bid) (place_at orders d.ask) then d.bid else d.ask
+resting orders d =
+    if nat_lt (place_at orders d.bid) (place_at orders d.ask) then d.bid else d.ask
 
 -- what an order trades in deals of causes below a place
 unfoldable pub traded_before : List Order → List Deal → ℕ → ℕ → ℕ
@@ -58,7 +60,8 @@ before orders past i = sum_by (past (place_at orders i)) (chain orders i)
 
 -- Size, where it is known whether the order entered: its quantity less Before, or 0
 abbrev pub size_if : Bool → List Order → (ℕ → ℕ → ℕ) → ℕ → ℕ
-size_if entered orders past i = if entered then quantity_at orders i - before orders past i else 0
+size_if entered orders past i =
+    if entered then quantity_at orders i - before orders past i else 0
 
 -- Rests before p, where it is known whether the order entered: its life is Rests, its place is below
 -- p, no record below p cancels it, and it has not traded its whole Size
@@ -70,7 +73,8 @@ rests_if entered orders past p i =
 
 -- the order was placed: it isn't cancelled at its own place
 abbrev pub was_placed : List Order → ℕ → Bool
-was_placed orders i = not (is_own_place (order_at orders i).cancelled (place_at orders i))
+was_placed orders i =
+    not (is_own_place (order_at orders i).cancelled (place_at orders i))
 
 -- whether an order with this target entered, in at most n steps back
 abbrev pub entered_within : ℕ → List Order → (ℕ → ℕ → ℕ) → ℕ → Option ℕ → Bool
@@ -95,7 +99,8 @@ left orders past p i = size orders past i - past p i
 
 -- Rests before p
 unfoldable pub rests : List Order → (ℕ → ℕ → ℕ) → ℕ → ℕ → Bool
-rests orders past p i = rests_if (entered orders past i) orders past p i
+rests orders past p i =
+    rests_if (entered orders past i) orders past p i
 
 -- Active after the record at p: the order rests then, or it is the order at p itself, no record up to
 -- p cancels it, and something is left

@@ -47,7 +47,8 @@ pub record IsExpectedUniform (orders : List Order) (deals : List Deal) : Type 0 
 -- `maximum`: with the greatest volume, the pairs of units at the ask's limit
 abbrev pub maximum_deals : List Order → ℕ → List Deal
 maximum_deals orders v =
-    pair_deals orders (of_standing orders (maximum_units orders v)) (λ bid ask. limit_at orders ask)
+    pair_deals orders (of_standing orders (maximum_units orders v))
+    (λ bid ask. limit_at orders ask)
 
 -- they are the Expected trades
 pub record IsExpectedMaximum (orders : List Order) (deals : List Deal) : Type 0 where
@@ -68,7 +69,8 @@ meets o r = same_side (other_side o.side) r.side && limits_meet o.side o.limit r
 -- before the record of n
 unfoldable pub available : List Order → (ℕ → ℕ → ℕ) → ℕ → ℕ → ℕ
 available orders past n r =
-    if meets (order_at orders n) (order_at orders r) && rests orders past (place_at orders n) r
+    if meets (order_at orders n) (order_at orders r)
+    && rests orders past (place_at orders n) r
     then left orders past (place_at orders n) r else 0
 
 -- what it finds of all orders that are better than the one at r
@@ -81,7 +83,8 @@ available_ahead orders past n r =
 -- n
 abbrev pub share : List Order → (ℕ → ℕ → ℕ) → ℕ → ℕ → ℕ
 share orders past n r =
-    min (available orders past n r) (size orders past n - available_ahead orders past n r)
+    min (available orders past n r)
+    (size orders past n - available_ahead orders past n r)
 
 -- the same of a bid and an ask, of which the later is the incoming one
 unfoldable pub pair_share : List Order → (ℕ → ℕ → ℕ) → ℕ → ℕ → ℕ

@@ -28,7 +28,8 @@ found property log place first second = record {
 
 -- such a finding at a trade, by its deal
 abbrev pub at_deal : Property → Deal → Option Shown → Option Shown → Finding
-at_deal property d first second = found property which.Trades d.place first second
+at_deal property d first second =
+    found property which.Trades d.place first second
 
 -- an order with a traded number
 abbrev pub with_traded : Order → ℕ → OrderLine

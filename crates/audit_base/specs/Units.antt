@@ -14,7 +14,8 @@ quantity_ahead side o p = if stands_on side o && outranks side o p then o.quanti
 
 -- the quantity of all orders of the side that are better than the one at i
 abbrev pub ahead : List Order → Side → ℕ → ℕ
-ahead orders side i = sum_by (λ o. quantity_ahead side o (order_at orders i)) orders
+ahead orders side i =
+    sum_by (λ o. quantity_ahead side o (order_at orders i)) orders
 
 -- of v units, what the better orders of the side leave for the one at i, up to its quantity
 abbrev pub due_by_rank : List Order → Side → ℕ → ℕ → ℕ
@@ -24,7 +25,8 @@ due_by_rank orders side v i = min (quantity_at orders i) (v - ahead orders side 
 -- at least j
 abbrev pub has_unit : List Order → Side → ℕ → ℕ → Bool
 has_unit orders side i j =
-    nat_lt (ahead orders side i) j && nat_le j (ahead orders side i + quantity_at orders i)
+    nat_lt (ahead orders side i) j
+    && nat_le j (ahead orders side i + quantity_at orders i)
 
 -- how many units of a bid and an ask meet under `uniform`, where v units trade: unit j of the bids meets
 -- unit j of the asks

@@ -16,7 +16,8 @@ use Rattle.audit_base.specs.ContinuousOffences.{IsContinuousOffence}
 
 -- finding 16 is looked for under the four rules of a call
 abbrev pub call_finding : Rule → List Order → Option Finding
-call_finding the_rule orders = option_and_then (λ call. instant_order orders) (call_rule the_rule)
+call_finding the_rule orders =
+    option_and_then (λ call. instant_order orders) (call_rule the_rule)
 
 -- finding 4: a trade log that has been read is its trades, or this finding where its reports don't
 -- pair
@@ -33,7 +34,8 @@ paired_trades (Err finding) = []
 abbrev pub log_finding : Rule → List ℕ → List OrderRecord → Result (List TradeRecord) Finding
     → Option Finding
 log_finding the_rule symbol entries trades =
-    first_of (history_finding symbol entries ∷ call_finding the_rule (order_list symbol entries)
+    first_of (history_finding symbol entries
+    ∷ call_finding the_rule (order_list symbol entries)
     ∷ pairing_finding trades
     ∷ unsound_trade (order_list symbol entries) symbol (paired_trades trades) ∷ [])
 

@@ -53,7 +53,7 @@ impl OrderRecord {
         }
     }
 
-    /// The time that its firm wrote in it (TransactTime, tag 60).
+    /// The time that the record has: in a FIX log TransactTime (tag 60), which the firm writes.
     pub fn time(&self) -> Stamp
         ensures { result ≡ history.time_of self.now }
     {

@@ -21,7 +21,8 @@ LeastCutExists = (orders : List Order) → (c : Cut) × IsLeastCut orders c
 
 -- each order list has a greatest executable volume over all prices
 abbrev pub GreatestExecutableVolumeExists : Type 0
-GreatestExecutableVolumeExists = (orders : List Order) → (c : Cut) × IsBestUniform orders c
+GreatestExecutableVolumeExists =
+    (orders : List Order) → (c : Cut) × IsBestUniform orders c
 
 -- under each rule of a call some list of deals conforms
 abbrev pub ConformingListExists : Type 0

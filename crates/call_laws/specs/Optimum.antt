@@ -30,7 +30,8 @@ abbrev pub UniformTradesAreExpected : Type 0
 UniformTradesAreExpected = (orders : List Order) (c : Cut)
     → IsOrderList orders → AreOrders orders → IsBestUniform orders c
     → IsExpectedUniform orders (uniform_deals orders c.volume c.price)
-    × IsGreatestUniformVolume orders c.volume × IsBound of_volume.Uniform orders c.volume c.price
+    × IsGreatestUniformVolume orders c.volume
+    × IsBound of_volume.Uniform orders c.volume c.price
 
 -- the pairs of units conform to `maximum` and reach the least cut
 abbrev pub MaximumReachesLeastCut : Type 0
@@ -50,7 +51,8 @@ MaximumTradesAreExpected = (orders : List Order) (c : Cut)
 
 -- under `uniform` both sides have units enough for the greatest volume, and its bound is below 10^18
 abbrev pub UniformUnitsSuffice : Type 0
-UniformUnitsSuffice = (orders : List Order) (c : Cut) → AreOrders orders → IsBestUniform orders c
+UniformUnitsSuffice =
+    (orders : List Order) (c : Cut) → AreOrders orders → IsBestUniform orders c
     → (c.volume ≤ demand orders 0) × (c.volume ≤ supply orders (10 ^ 18)) × (c.price < 10 ^ 18)
 
 -- under `maximum` both sides have units enough for the least cut

@@ -13,7 +13,8 @@ is_named name log = bytes_eq (string_bytes log.name) name
 
 -- the bytes of the last log of this name, which is the newest
 abbrev pub newest : List Log → List ℕ → Option (List ℕ)
-newest logs name = option_map (λ log. log.bytes.items) (find (is_named name) (reverse logs))
+newest logs name =
+    option_map (λ log. log.bytes.items) (find (is_named name) (reverse logs))
 
 -- the bytes of the log at an index
 abbrev pub bytes_at : List Log → ℕ → List ℕ
@@ -31,7 +32,8 @@ cursor_state logs cursor = record {
 
 -- how many bytes a read gives at a cursor: at most a piece, what is left, and the room of the buffer
 abbrev pub cursor_read_size : List Log → Cursor → ℕ → ℕ → ℕ
-cursor_read_size logs cursor piece room = min piece (min (length (drop cursor.at (bytes_at logs cursor.log))) room)
+cursor_read_size logs cursor piece room =
+    min piece (min (length (drop cursor.at (bytes_at logs cursor.log))) room)
 
 -- a cursor whose log is started is in a log that is there
 abbrev pub IsCursorInside : List Log → Cursor → Type 0

@@ -51,7 +51,8 @@ fails_to_start shelf name = fails_next shelf || is_none (memory_log shelf name)
 
 -- how many bytes the next read into a buffer of this length gives: at most a piece, and what is left
 abbrev pub read_size : MemoryShelf → Which → ℕ → ℕ
-read_size shelf which room = min (piece_size shelf) (min (option_map_or length (memory_slot shelf which).left 0) room)
+read_size shelf which room =
+    min (piece_size shelf) (min (option_map_or length (memory_slot shelf which).left 0) room)
 
 -- every name has the bytes that it had
 abbrev pub KeepsLogs : MemoryShelf → MemoryShelf → Type 0
@@ -68,7 +69,8 @@ pub record KeepsRules (old new : MemoryShelf) : Type 0 where
 
 -- where the call was to fail, it is counted as a fault of this slot
 abbrev pub CountsFault : MemoryShelf → MemoryShelf → Which → Type 0
-CountsFault old new which = memory_faults new which ≡ faults_after (fails_next old) (memory_faults old which)
+CountsFault old new which =
+    memory_faults new which ≡ faults_after (fails_next old) (memory_faults old which)
 
 -- one more call was made
 pub record CountsCall (old new : MemoryShelf) : Type 0 where

@@ -9,7 +9,8 @@ use Rattle.log_source.specs.declared.shelf.Shelf as shelf
 -- the bytes are the front of the log that the shelf has under the name, where its logs are known and it has one
 abbrev pub IsFront : {F : Type 0} → shelf.Ghosts F → Which → List ℕ → F → List ℕ → Type 0
 IsFront shelves which name shelf bytes =
-    shelves.tells shelf ≡ true → IfSome (shelves.log_of shelf which name) (λ log. StartsWith log bytes)
+    shelves.tells shelf ≡ true
+    → IfSome (shelves.log_of shelf which name) (λ log. StartsWith log bytes)
 
 -- The feed stands for the bytes that were taken, no more than the limit, which are the whole log where
 -- the logs of the shelf are known.

@@ -37,7 +37,8 @@ pub record AppendsPart (old new : Option (List ℕ)) (bytes : List ℕ) : Type 0
   pub part : Appends old new (take count bytes)
 
 -- What writing all the bytes does: at `Ok` they are written, and at a failure a front of them, not all.
-pub record Puts {T : Type 0} (old new : SinkState) (result : Result T Failed) (bytes : List ℕ) : Type 0 where
+pub record Puts {T : Type 0} (old new : SinkState) (result : Result T Failed) (bytes : List ℕ)
+    : Type 0 where
   pub stays : Stays old new
   pub whole : OnOk result (Appends old.wrote new.wrote bytes)
   pub part : OnErr result (AppendsPart old.wrote new.wrote bytes)

@@ -53,7 +53,8 @@ pub record Starts {T : Type 0} (tells : Bool) (log : Option (List ℕ)) (old new
   pub later : old.faults ≤ new.faults
   pub started : new.started ≡ is_ok result
   pub known : OnOk result (tells ≡ true → IsSome log × (new.left ≡ log))
-  pub cause : IsErrOf result start.Failed → Rose old.faults new.faults ⊎ ((tells ≡ true) × (log ≡ None))
+  pub cause : IsErrOf result start.Failed → Rose old.faults new.faults
+      ⊎ ((tells ≡ true) × (log ≡ None))
 
 -- What a read into `buf` does to its slot: at `Ok n` the first n bytes of what was left are at the
 -- front of `buf`, and n is 0 only where nothing is left. After a failure left and taken stay. A read is no

@@ -5,4 +5,5 @@ use Rattle.log_source.specs.declared.std_sink.StdSink.{StdSink}
 
 -- the state of the sink: what its writer holds, and its faults; no write is sure
 abbrev pub std_state : {W : Type 0} → (W → Option (List ℕ)) → StdSink W → SinkState
-std_state contents sink = record { wrote = contents sink.writer; faults = sink.faults; sure = 0 }
+std_state contents sink =
+    record { wrote = contents sink.writer; faults = sink.faults; sure = 0 }

@@ -28,7 +28,8 @@ abbrev pub waiting : List ℕ → List Report → Option PlacedReport
 waiting id [] = None
 waiting id (report ∷ before) =
     if same_name id report.trade
-    then first_unless (record { place = length before + 1; report = report }) (waiting id before)
+    then first_unless (record { place = length before + 1; report = report })
+    (waiting id before)
     else waiting id before
 
 -- the first and the second report of a pair
@@ -44,12 +45,15 @@ pair_with second (Some first) = record { first = first; second = second } ∷ []
 abbrev pub pairs : List Report → List Pair
 pairs [] = []
 pairs (report ∷ before) =
-    pairs before ++ pair_with (record { place = length before + 1; report = report }) (waiting report.trade before)
+    pairs before
+    ++ pair_with (record { place = length before + 1; report = report })
+    (waiting report.trade before)
 
 -- two reports agree: one is of the buy side and the other of the sell side, and quantity, price and symbol are equal
 abbrev pub agree : Report → Report → Bool
 agree first second =
-    not (same_side first.side second.side) && first.quantity == second.quantity && first.price == second.price
+    not (same_side first.side second.side) && first.quantity == second.quantity
+    && first.price == second.price
     && same_name first.symbol second.symbol
 
 abbrev pub disagrees : Pair → Bool
@@ -82,7 +86,8 @@ trades_of listed = map (λ pair. trade_of pair.first.report pair.second.report) 
 -- the reports with their places, in log order
 abbrev pub placed : List Report → List PlacedReport
 placed [] = []
-placed (report ∷ before) = placed before ++ record { place = length before + 1; report = report } ∷ []
+placed (report ∷ before) =
+    placed before ++ record { place = length before + 1; report = report } ∷ []
 
 abbrev pub is_at : ℕ → Option PlacedReport → Bool
 is_at place None = false
@@ -90,7 +95,9 @@ is_at place (Some first) = first.place == place
 
 -- the least report that is first and has no second
 abbrev pub least_waiting : List Report → Option PlacedReport
-least_waiting all = find (λ report. is_at report.place (waiting report.report.trade all)) (placed all)
+least_waiting all =
+    find (λ report. is_at report.place (waiting report.report.trade all))
+    (placed all)
 
 -- a pair that disagrees: the second report, with the first one shown
 abbrev pub disagreement_of : Pair → LoneReport
@@ -98,7 +105,8 @@ disagreement_of pair = record { place = pair.second.place; first = Some pair.fir
 
 -- the least disagreement
 abbrev pub first_disagreement : List Report → Option LoneReport
-first_disagreement all = option_map disagreement_of (find disagrees (pairs all))
+first_disagreement all =
+    option_map disagreement_of (find disagrees (pairs all))
 
 -- a report that is first and has no second
 abbrev pub without_second : PlacedReport → LoneReport
@@ -107,19 +115,23 @@ without_second report = record { place = report.place; first = None }
 -- the first report that no other agrees with: the least second report that disagrees with its first, and where there
 -- is none the least first report that has no second
 abbrev pub first_lone : List Report → Option LoneReport
-first_lone all = option_or (first_disagreement all) (option_map without_second (least_waiting all))
+first_lone all =
+    option_or (first_disagreement all)
+    (option_map without_second (least_waiting all))
 
 -- finding 4 at a report
 abbrev pub lone_finding : LoneReport → Finding
 lone_finding lone = finding_of [] (record { place = lone.place; evidence = Unpaired lone.first })
 
 -- the trades, or finding 4 in their place
-abbrev pub trades_unless : Option LoneReport → List TradeRecord → Result (List TradeRecord) Finding
+abbrev pub trades_unless : Option LoneReport → List TradeRecord
+    → Result (List TradeRecord) Finding
 trades_unless None trades = Ok trades
 trades_unless (Some lone) trades = Err (lone_finding lone)
 
 abbrev pub pairing_of_all : List Report → Result (List TradeRecord) Finding
-pairing_of_all all = trades_unless (first_lone all) (trades_of (pairs all))
+pairing_of_all all =
+    trades_unless (first_lone all) (trades_of (pairs all))
 
 -- The trades of these reports, in the order of their second reports, or finding 4 in their place.
 unfoldable pub pairing : List Report → Result (List TradeRecord) Finding
@@ -131,13 +143,16 @@ pairing_of (Trades trades) = Ok trades
 pairing_of (Alone finding) = Err finding
 
 -- some trades were handed on, and they are all that the reports pair into
-pub record HasTrades (has_taken : List TradeRecord → Type 0) (trades : Result (List TradeRecord) Finding) : Type 0 where
+pub record HasTrades (has_taken : List TradeRecord → Type 0)
+    (trades : Result (List TradeRecord) Finding) : Type 0 where
   pub entries : List TradeRecord
   pub has : has_taken entries
   pub paired : trades ≡ Ok entries
 
 -- what reports pair into is answered: a collector that was handed their trades, or finding 4
-abbrev pub IsPairedAs : {K : Type 0} → (K → List TradeRecord → Type 0) → Result (List TradeRecord) Finding
+abbrev pub IsPairedAs : {K : Type 0} → (K → List TradeRecord → Type 0)
+    → Result (List TradeRecord) Finding
     → Result K Finding → Type 0
 IsPairedAs has_taken paired result =
-    MatchResult result (λ trades. HasTrades (has_taken trades) paired) (λ finding. paired ≡ Err finding)
+    MatchResult result (λ trades. HasTrades (has_taken trades) paired)
+    (λ finding. paired ≡ Err finding)
