@@ -50,8 +50,8 @@ pub record IsBestUniform (orders : List Order) (c : Cut) : Type 0 where
   pub reached : IsLeast (λ q. (q ≤ 10 ^ 18) × (executable_volume orders q ≡ c.volume)) c.price
   pub greatest : (q : ℕ) → q ≤ 10 ^ 18 → executable_volume orders q ≤ c.volume
 
--- Bound: the least price from 0 to 10^18 at which the cut (under `uniform`, the executable volume)
--- is the volume
+-- Bound: the least price from 0 to 10^18 at which the cut (under `uniform`,
+-- the executable volume) is the volume
 abbrev pub IsBound : VolumeRule → List Order → ℕ → ℕ → Type 0
 IsBound of_volume.Maximum orders volume p =
     IsLeast (λ q. (q ≤ 10 ^ 18) × (cut orders q ≡ volume)) p

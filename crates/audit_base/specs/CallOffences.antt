@@ -23,8 +23,8 @@ use Rattle.audit_base.specs.Rules.{Only}
 use Rattle.audit_base.specs.RuleKinds.{greatest_of, rule_of_volume, asks_one_price}
 use Rattle.audit_base.specs.Shows.{at_deal, with_traded, show_order, show_found, show_place}
 
--- First part: the least deal up to which the deals aren't a matching (or, under `uniform`, haven't
--- one price).
+-- First part: the least deal up to which the deals aren't a matching (or,
+-- under `uniform`, haven't one price).
 
 -- some record cancels the order
 abbrev pub is_cancelled : List Order → ℕ → Bool
@@ -91,8 +91,8 @@ matching_offence uniform orders deals =
 
 -- Second part: the least deal whose bid or ask is outranked by a short order.
 
--- short, that is not fully traded (LeavesQty, FIX tag 151, above 0): no record cancels the order, and its
--- Traded in the whole log is below its quantity
+-- short, that is not fully traded (LeavesQty, FIX tag 151, above 0): no record cancels the order,
+-- and its Traded in the whole log is below its quantity
 abbrev pub is_short : List Order → List Deal → Side → ℕ → Bool
 is_short orders deals side i =
     stands_on side (order_at orders i) && nat_lt (traded deals i) (quantity_at orders i)
@@ -107,8 +107,8 @@ is_outranked_by_short orders deals side i =
     any_below (λ j. is_short orders deals side j && better (order_at orders j) (order_at orders i))
     (length orders)
 
--- 12 and 13: the order at i, which the deal at k names, is outranked by a short order of its side. The
--- best of these is shown, and the order, with what they trade in the whole log
+-- 12 and 13: the order at i, which the deal at k names, is outranked by a short order of its side.
+-- The best of these is shown, and the order, with what they trade in the whole log
 abbrev pub outranked : Property → Side → List Order → List Deal → ℕ → ℕ → Option Finding
 outranked property side orders deals k i =
     only_if (is_outranked_by_short orders deals side i)
@@ -173,8 +173,8 @@ early_offence call.Fair orders deals =
 early_offence (call.Greatest the_rule) orders deals =
     option_or (matching_offence (asks_one_price the_rule) orders deals) (fair_offence orders deals)
 
--- First offence (call): the first of the three parts, the third of which only a rule that asks for the
--- greatest volume has
+-- First offence (call): the first of the three parts, the third of which only a rule that asks
+-- for the greatest volume has
 abbrev pub IsCallOffence : CallRule → List Order → List Deal → ℕ → Finding → Type 0
 IsCallOffence the_rule orders deals count finding =
     MatchOption (early_offence the_rule orders deals)

@@ -66,8 +66,8 @@ conservation_finding orders deals i k = if cause orders (deal_at deals k) == i
 -- Second part: the least deal of cause i whose resting order is outranked by an order that rests
 -- before i and has something left after i.
 
--- the number shown with an order in the second and the third part: what it trades in causes up to i,
--- and Before added
+-- the number shown with an order in the second and the third part:
+-- what it trades in causes up to i, and Before added
 abbrev pub shown_after : List Order → List Deal → ℕ → ℕ → ℕ
 shown_after orders deals i x = traded_after orders deals i x + before_of orders deals x
 
@@ -116,7 +116,8 @@ finding_at_place orders deals i =
     ∷ least_answer (priority_finding orders deals i) (length deals)
     ∷ spread_finding orders deals i ∷ [])
 
--- First offence (continuous): at the least place at which the rule fails, the first of the three parts
+-- First offence (continuous): at the least place at which the rule fails,
+-- the first of the three parts
 pub record IsContinuousOffence (orders : List Order) (deals : List Deal) (finding : Finding)
     : Type 0 where
   pub place : ℕ

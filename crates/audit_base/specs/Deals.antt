@@ -48,8 +48,8 @@ pub record NamesOrders (orders : List Order) (d : Deal) : Type 0 where
   pub buys : side_at orders d.bid ≡ Buy
   pub sells : side_at orders d.ask ≡ Sell
 
--- a list of deals over an order list: each names a bid and an ask, places rise strictly, and there are
--- fewer than 2^32
+-- a list of deals over an order list: each names a bid and an ask, places rise strictly,
+-- and there are fewer than 2^32
 pub record IsDealList (orders : List Order) (deals : List Deal) : Type 0 where
   pub named : All (NamesOrders orders) deals
   pub rising : AllPairs (λ d e. d.place < e.place) deals

@@ -65,8 +65,8 @@ limits_meet Sell a b = nat_le a b
 abbrev pub meets : Order → Order → Bool
 meets o r = same_side (other_side o.side) r.side && limits_meet o.side o.limit r.limit
 
--- what the order at n finds of the one at r: its Left, where it is of the other side, meets n and rests
--- before the record of n
+-- what the order at n finds of the one at r: its Left, where it is of the other side,
+-- meets n and rests before the record of n
 unfoldable pub available : List Order → (ℕ → ℕ → ℕ) → ℕ → ℕ → ℕ
 available orders past n r =
     if meets (order_at orders n) (order_at orders r)
@@ -79,8 +79,8 @@ available_ahead orders past n r =
     sum_below (λ k. if better (order_at orders k) (order_at orders r)
     then available orders past n k else 0) (length orders)
 
--- what the two trade: the smaller of what n finds of r, and what the better ones leave of the Size of
--- n
+-- what the two trade: the smaller of what n finds of r, and what the better
+-- ones leave of the Size of n
 abbrev pub share : List Order → (ℕ → ℕ → ℕ) → ℕ → ℕ → ℕ
 share orders past n r =
     min (available orders past n r)
@@ -113,8 +113,8 @@ IsExpected rule.Continuous orders deals = IsExpectedContinuous orders deals
 IsExpected rule.Matching orders deals = ⊥
 IsExpected rule.Fair orders deals = ⊥
 
--- the trade record of a deal: the id is T and its number from 1, the time that of the later of its two
--- orders
+-- the trade record of a deal: the id is T and its number from 1,
+-- the time that of the later of its two orders
 abbrev pub trade_of_deal : List Order → List ℕ → ℕ → Deal → TradeRecord
 trade_of_deal orders symbol number d = record {
   trade = 84 ∷ decimal number;

@@ -72,8 +72,8 @@ fits_side None target = true
 fits_side (Some side) None = false
 fits_side (Some side) (Some target) = same_side side target
 
--- The history of a symbol: its order records, each with its place in the log, from 1 over all
--- symbols.
+-- The history of a symbol: its order records, each with its place
+-- in the log, from 1 over all symbols.
 
 abbrev pub history : List ℕ → List OrderRecord → List (ℕ × OrderRecord)
 history symbol entries = filter (λ e. same_name (symbol_of e.1) symbol) (enumerate_from 1 entries)
@@ -123,7 +123,8 @@ time_back records (suc j) =
     (found property.TimeBack which.Orders (record_place records (suc j))
     (show_place which.Orders (record_place records j)) None)
 
--- 3: a cancel's target is no earlier order of its firm, or a replacement's none of its firm and side
+-- 3: a cancel's target is no earlier order of its firm, or a replacement's
+-- none of its firm and side
 abbrev pub unknown_target : List (ℕ × OrderRecord) → ℕ → Option Finding
 unknown_target records k =
     only_if (is_some (target_key (record_at records k)) && is_none (target_of records k))
@@ -167,8 +168,8 @@ placed_within (suc n) records k (Some t) =
 abbrev pub is_placed : List (ℕ × OrderRecord) → ℕ → Bool
 is_placed records k = placed_within (suc k) records k (replaced_at records k)
 
--- `cancelled`: of a replacement that isn't placed its own place, of every other order the least place
--- of a record that ends it
+-- `cancelled`: of a replacement that isn't placed its own place, of every other order the least
+-- place of a record that ends it
 abbrev pub cancelled_of : List (ℕ × OrderRecord) → ℕ → Option ℕ
 cancelled_of records k = if is_placed records k
     then option_map (record_place records)

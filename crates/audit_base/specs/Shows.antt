@@ -14,8 +14,8 @@ use Rattle.audit_base.specs.declared.findings.Shown.{Shown}
 use Rattle.audit_base.specs.declared.findings.Shown.TheVariants as shown
 use Rattle.audit_base.specs.Orders.{order_at}
 
--- a finding without volumes: a property, the place of the offending record in its log, and what shows
--- it
+-- a finding without volumes: a property, the place of the offending record
+-- in its log, and what shows it
 abbrev pub found : Property → Which → ℕ → Option Shown → Option Shown → Finding
 found property log place first second = record {
   property = property;

@@ -7,8 +7,8 @@ use Rattle.audit_base.specs.Sums.{count_upto}
 use Rattle.audit_base.specs.Orders.{order_at, quantity_at, stands_on}
 use Rattle.audit_base.specs.Priority.{outranks}
 
--- the quantity of the order o, if no record cancels it and it is of the side and better than the order
--- p
+-- the quantity of the order o, if no record cancels it and it is of the side
+-- and better than the order p
 abbrev pub quantity_ahead : Side → Order → Order → ℕ
 quantity_ahead side o p = if stands_on side o && outranks side o p then o.quantity else 0
 
@@ -21,15 +21,15 @@ ahead orders side i =
 abbrev pub due_by_rank : List Order → Side → ℕ → ℕ → ℕ
 due_by_rank orders side v i = min (quantity_at orders i) (v - ahead orders side i)
 
--- unit j of a side belongs to the order at i: all better orders have together less than j, and with it
--- at least j
+-- unit j of a side belongs to the order at i: all better orders have together less than
+-- j, and with it at least j
 abbrev pub has_unit : List Order → Side → ℕ → ℕ → Bool
 has_unit orders side i j =
     nat_lt (ahead orders side i) j
     && nat_le j (ahead orders side i + quantity_at orders i)
 
--- how many units of a bid and an ask meet under `uniform`, where v units trade: unit j of the bids meets
--- unit j of the asks
+-- how many units of a bid and an ask meet under `uniform`, where v units trade:
+-- unit j of the bids meets unit j of the asks
 abbrev pub uniform_units : List Order → ℕ → ℕ → ℕ → ℕ
 uniform_units orders v bid ask =
     count_upto (λ j. has_unit orders Buy bid j && has_unit orders Sell ask j) v

@@ -1,5 +1,5 @@
--- The lines of reports. A line is its parts joined by commas, and ends with LF. Names hold no comma and no
--- quote, so nothing is quoted. The codes of `,` and LF are 44 and 10.
+-- The lines of reports. A line is its parts joined by commas, and ends with LF.
+-- Names hold no comma and no quote, so nothing is quoted. The codes of `,` and LF are 44 and 10.
 use Rattle.std.specs.Prelude.{ℕ, List, [], ◌∷◌, ◌++◌, codes, decimal}
 use Rattle.std.specs.List.{join_with_byte}
 use Rattle.audit_base.specs.Numbers.{price_text}

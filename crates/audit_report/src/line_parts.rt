@@ -1,5 +1,5 @@
-//! Lines and their parts. A line is its parts joined by commas, and ends with LF. Lines are appended
-//! to one vector, and no part is made apart.
+//! Lines and their parts. A line is its parts joined by commas, and ends with LF.
+//! Lines are appended to one vector, and no part is made apart.
 ghost use Rattle.std.specs.Prelude.{◌≡◌, ◌++◌, ◌∷◌, [], OnOk, map, decimal};
 ghost use Rattle.std.specs.List.{join_with_byte};
 ghost use Rattle.audit_report.specs.Lines.{line_text};

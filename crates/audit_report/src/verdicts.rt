@@ -31,7 +31,8 @@ pub struct Accepted {
 pub enum Verdict {
     /// The log conforms to the rule.
     Accepted(Accepted),
-    /// It does not conform, and this is the one finding: of a log, or the first offence under the rule.
+    /// It does not conform, and this is the one finding: of a log,
+    /// or the first offence under the rule.
     Rejected(Finding),
     /// A log is not in its grammar, and this is its first bad place.
     Malformed { log: Which, bad: BadPlace },

@@ -24,8 +24,8 @@ UniformOptimum = (orders : List Order) (c : Cut)
     × (volume (uniform_deals orders c.volume c.price) ≡ c.volume)
     × AreDeals (uniform_deals orders c.volume c.price)
 
--- so these pairs are the Expected trades, this volume is the greatest of a matching of one price, and
--- the price its bound
+-- so these pairs are the Expected trades, this volume is the greatest of a matching of one
+-- price, and the price its bound
 abbrev pub UniformTradesAreExpected : Type 0
 UniformTradesAreExpected = (orders : List Order) (c : Cut)
     → IsOrderList orders → AreOrders orders → IsBestUniform orders c
@@ -41,15 +41,16 @@ MaximumReachesLeastCut = (orders : List Order) (c : Cut)
     × (volume (maximum_deals orders c.volume) ≡ c.volume)
     × AreDeals (maximum_deals orders c.volume)
 
--- so these pairs are the Expected trades, this volume is the greatest of a matching, and the price its
--- bound
+-- so these pairs are the Expected trades, this volume is the greatest
+-- of a matching, and the price its bound
 abbrev pub MaximumTradesAreExpected : Type 0
 MaximumTradesAreExpected = (orders : List Order) (c : Cut)
     → IsOrderList orders → AreOrders orders → IsLeastCut orders c
     → IsExpectedMaximum orders (maximum_deals orders c.volume)
     × IsGreatestVolume orders c.volume × IsBound of_volume.Maximum orders c.volume c.price
 
--- under `uniform` both sides have units enough for the greatest volume, and its bound is below 10^18
+-- under `uniform` both sides have units enough for the greatest volume,
+-- and its bound is below 10^18
 abbrev pub UniformUnitsSuffice : Type 0
 UniformUnitsSuffice =
     (orders : List Order) (c : Cut) → AreOrders orders → IsBestUniform orders c

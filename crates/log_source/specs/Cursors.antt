@@ -1,5 +1,5 @@
--- Logs in memory, and where a slot is in one of them: what the private functions of the shelf in
--- memory say.
+-- Logs in memory, and where a slot is in one of them: what the private functions
+-- of the shelf in memory say.
 use Rattle.std.specs.Prelude.{◌≡◌, ℕ, ◌<◌, Bool, true, List, [], drop, reverse, find, length, min, Option, Some, slice_get, if◌then◌else◌, string_bytes}
 use Rattle.std.specs.Option.{option_map, option_map_or}
 use Rattle.std.specs.Str.{bytes_eq}
@@ -30,7 +30,8 @@ cursor_state logs cursor = record {
   faults = cursor.faults;
 }
 
--- how many bytes a read gives at a cursor: at most a piece, what is left, and the room of the buffer
+-- how many bytes a read gives at a cursor: at most a piece, what is left,
+-- and the room of the buffer
 abbrev pub cursor_read_size : List Log → Cursor → ℕ → ℕ → ℕ
 cursor_read_size logs cursor piece room =
     min piece (min (length (drop cursor.at (bytes_at logs cursor.log))) room)

@@ -49,7 +49,8 @@ fails_next shelf = is_listed (count_after (calls_made shelf)) (failing_calls she
 abbrev pub fails_to_start : MemoryShelf → List ℕ → Bool
 fails_to_start shelf name = fails_next shelf || is_none (memory_log shelf name)
 
--- how many bytes the next read into a buffer of this length gives: at most a piece, and what is left
+-- how many bytes the next read into a buffer of this length gives:
+-- at most a piece, and what is left
 abbrev pub read_size : MemoryShelf → Which → ℕ → ℕ
 read_size shelf which room =
     min (piece_size shelf) (min (option_map_or length (memory_slot shelf which).left 0) room)

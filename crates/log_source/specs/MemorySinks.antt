@@ -43,7 +43,8 @@ write_fails sink =
     is_listed (count_after sink.calls) sink.fails.items
     || nat_le sink.room (length_of sink)
 
--- how many bytes of a piece of this length the next write takes: at most `most`, and the room that is left
+-- how many bytes of a piece of this length the next write takes: at most `most`,
+-- and the room that is left
 abbrev pub write_size : MemorySink → ℕ → ℕ
 write_size sink size = min sink.most (min size (sink.room - length_of sink))
 

@@ -6,7 +6,8 @@ use Rattle.log_source.specs.Sources.{Slot}
 use Rattle.log_source.specs.declared.quiet_shelf.QuietSlot.{QuietSlot}
 use Rattle.log_source.specs.declared.quiet_shelf.QuietShelf.{QuietShelf}
 
--- the state of one slot: of a started log the bytes past those given are left, and no fault is ever counted
+-- the state of one slot: of a started log the bytes past those given are left,
+-- and no fault is ever counted
 abbrev pub quiet_state : QuietSlot → Slot
 quiet_state slot = record {
   started = slot.started;

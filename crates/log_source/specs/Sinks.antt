@@ -11,19 +11,21 @@ pub record SinkState : Type 0 where
   pub faults : ℕ
   pub sure : ℕ
 
--- What every call keeps of a sink: whether its bytes are known, and how many it takes for sure. Its faults never fall.
+-- What every call keeps of a sink: whether its bytes are known, and how many it takes
+-- for sure. Its faults never fall.
 pub record Stays (old new : SinkState) : Type 0 where
   pub tells : is_some new.wrote ≡ is_some old.wrote
   pub sure : new.sure ≡ old.sure
   pub later : old.faults ≤ new.faults
 
--- a call failed: the faults rose, and where the bytes written are known, they are as many as the sink takes for sure
+-- a call failed: the faults rose, and where the bytes written are known,
+-- they are as many as the sink takes for sure
 pub record MayFail (old new : SinkState) : Type 0 where
   pub rose : Rose old.faults new.faults
   pub reached : IfSome new.wrote (λ bytes. new.sure ≤ length bytes)
 
--- What a write does: at `Ok n` the first n bytes of the piece, at least one, are written, and at a
--- failure none.
+-- What a write does: at `Ok n` the first n bytes of the piece, at least one,
+-- are written, and at a failure none.
 pub record Writes (old new : SinkState) (result : Result ℕ Failed) (piece : List ℕ) : Type 0 where
   pub stays : Stays old new
   pub bound : IfOk result (λ n. (1 ≤ n) × (n ≤ length piece))
@@ -36,7 +38,8 @@ pub record AppendsPart (old new : Option (List ℕ)) (bytes : List ℕ) : Type 0
   pub short : count < length bytes
   pub part : Appends old new (take count bytes)
 
--- What writing all the bytes does: at `Ok` they are written, and at a failure a front of them, not all.
+-- What writing all the bytes does: at `Ok` they are written, and at a failure
+-- a front of them, not all.
 pub record Puts {T : Type 0} (old new : SinkState) (result : Result T Failed) (bytes : List ℕ)
     : Type 0 where
   pub stays : Stays old new

@@ -19,9 +19,9 @@ abbrev pub other_of : Which → Which
 other_of Orders = Trades
 other_of Trades = Orders
 
--- The state of one slot of a shelf: whether a log is started, the bytes still to come where they are
--- known, how many bytes reads have given since the start, how many starts were made, and how many faults
--- were counted.
+-- The state of one slot of a shelf: whether a log is started, the bytes still to come where
+-- they are known, how many bytes reads have given since the start, how many starts were made,
+-- and how many faults were counted.
 pub record Slot : Type 0 where
   pub started : Bool
   pub left : Option (List ℕ)
@@ -56,9 +56,9 @@ pub record Starts {T : Type 0} (tells : Bool) (log : Option (List ℕ)) (old new
   pub cause : IsErrOf result start.Failed → Rose old.faults new.faults
       ⊎ ((tells ≡ true) × (log ≡ None))
 
--- What a read into `buf` does to its slot: at `Ok n` the first n bytes of what was left are at the
--- front of `buf`, and n is 0 only where nothing is left. After a failure left and taken stay. A read is no
--- start.
+-- What a read into `buf` does to its slot: at `Ok n` the first n bytes of what
+-- was left are at the front of `buf`, and n is 0 only where nothing is left.
+-- After a failure left and taken stay. A read is no start.
 pub record Reads (old new : Slot) (result : Result ℕ Failed) (buf : List ℕ) : Type 0 where
   pub bound : ReadsAtMost result buf
   pub bytes : ReadConsumes old.left new.left result buf

@@ -26,9 +26,9 @@ abbrev pub IsWhole : {F : Type 0} → shelf.Ghosts F → Which → List ℕ → 
 IsWhole shelves which name shelf bytes =
     shelves.tells shelf ≡ true → shelves.log_of shelf which name ≡ Some bytes
 
--- What taking a whole log does to its slot. It is started once. After `Ok` the log was read to its end. It is too long
--- exactly where more bytes were taken than the limit. `Fault` comes only where the slot's faults rose, or
--- where the logs of the shelf are known and it has none of this name.
+-- What taking a whole log does to its slot. It is started once. After `Ok` the log was read to its
+-- end. It is too long exactly where more bytes were taken than the limit. `Fault` comes only where
+-- the slot's faults rose, or where the logs of the shelf are known and it has none of this name.
 pub record Takes {F T : Type 0} (shelves : shelf.Ghosts F) (which : Which) (name : List ℕ)
     (limit : ℕ) (old new : F) (result : Result T TakeFault) : Type 0 where
   pub once : (shelves.slot new which).starts ≡ count_after (shelves.slot old which).starts

@@ -8,7 +8,8 @@ use std::{fs, io};
 
 /// Files that are opened by their paths.
 ///
-/// Where its files are known (`tells`), so are the bytes under each path, or that no file is there, and they never change.
+/// Where its files are known (`tells`), so are the bytes under each path,
+/// or that no file is there, and they never change.
 pub trait FileSystem {
     /// An open file, which is closed where it is dropped. Its reads give what `Read` says.
     type File: Read + Drop;

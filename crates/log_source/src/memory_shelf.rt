@@ -12,8 +12,8 @@ use audit_base::terms::Which;
 use std::alloc::Global;
 
 /// A shelf over logs in memory, each under its name. Starts and reads are counted together from 1;
-/// a call whose number is listed fails and is counted as a fault of its slot. A start of a name that is
-/// not there always fails, and no other call does.
+/// a call whose number is listed fails and is counted as a fault of its slot.
+/// A start of a name that is not there always fails, and no other call does.
 #[derive(Drop)]
 pub struct MemoryShelf {
     // A log is never changed, so that a slot that reads it keeps what is left: a name's newer bytes

@@ -23,8 +23,9 @@ pub enum StartFault {
 
 /// Two logs that are read piece by piece, one in each slot.
 ///
-/// Where the logs of a shelf are known (`tells`), so are the bytes under each of its names, and they never change. Each
-/// slot counts its starts and its faults, which never fall, and no call on one slot touches the other.
+/// Where the logs of a shelf are known (`tells`), so are the bytes under each of its names,
+/// and they never change. Each slot counts its starts and its faults, which never fall,
+/// and no call on one slot touches the other.
 pub trait Shelf {
     // Whether the bytes of its logs are known.
     ghost tells: { Self → Bool };

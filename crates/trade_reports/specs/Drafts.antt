@@ -39,8 +39,8 @@ abbrev pub first_in : FirstReports → List ℕ → Option PlacedReport
 first_in reports id =
     latest_or (latest_of reports) id (held_in reports.earlier id)
 
--- Of some reports, the latest first: which wait for a second one, the least disagreement, and where there is none
--- that their trades were handed on.
+-- Of some reports, the latest first: which wait for a second one, the least disagreement,
+-- and where there is none that their trades were handed on.
 pub record IsKnown {K : Type 0} (has_taken : K → List TradeRecord → Type 0)
     (firsts : FirstReports)
     (lone : Option LoneReport) (trades : K) (all : List Report)

@@ -1,6 +1,6 @@
--- How the reports of a trade log are paired into trades, and finding 4. The reports of one trade id (tag 527), in log
--- order, are taken two by two. Lists of reports named `all` and `before` have the latest first, so that the place of a report is one more
--- than the number of those before it.
+-- How the reports of a trade log are paired into trades, and finding 4. The reports of one trade
+-- id (tag 527), in log order, are taken two by two. Lists of reports named `all` and `before` have
+-- the latest first, so that the place of a report is one more than the number of those before it.
 use Rattle.std.specs.Prelude.{◌≡◌, ℕ, Bool, false, not, ◌&&◌, ◌+◌, ◌==◌, Option, Some, None, Result, Ok, Err, MatchResult, List, [], ◌∷◌, ◌++◌, length, map, option_map, reverse, if◌then◌else◌}
 use Rattle.std.specs.List.{find}
 use Rattle.std.specs.Option.{option_or}
@@ -23,7 +23,8 @@ abbrev pub first_unless : PlacedReport → Option PlacedReport → Option Placed
 first_unless report None = Some report
 first_unless report (Some first) = None
 
--- the report that waits for a second one with this id: the latest report with the id, unless one was waiting for that
+-- the report that waits for a second one with this id: the latest report with the id,
+-- unless one was waiting for that
 abbrev pub waiting : List ℕ → List Report → Option PlacedReport
 waiting id [] = None
 waiting id (report ∷ before) =
@@ -49,7 +50,8 @@ pairs (report ∷ before) =
     ++ pair_with (record { place = length before + 1; report = report })
     (waiting report.trade before)
 
--- two reports agree: one is of the buy side and the other of the sell side, and quantity, price and symbol are equal
+-- two reports agree: one is of the buy side and the other of the sell side, and quantity,
+-- price and symbol are equal
 abbrev pub agree : Report → Report → Bool
 agree first second =
     not (same_side first.side second.side) && first.quantity == second.quantity
@@ -112,8 +114,8 @@ first_disagreement all =
 abbrev pub without_second : PlacedReport → LoneReport
 without_second report = record { place = report.place; first = None }
 
--- the first report that no other agrees with: the least second report that disagrees with its first, and where there
--- is none the least first report that has no second
+-- the first report that no other agrees with: the least second report that disagrees
+-- with its first, and where there is none the least first report that has no second
 abbrev pub first_lone : List Report → Option LoneReport
 first_lone all =
     option_or (first_disagreement all)

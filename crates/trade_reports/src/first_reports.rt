@@ -1,5 +1,5 @@
-//! The reports that wait for a second one. The second report of a trade mostly comes right behind the
-//! first, so the report that came last waits outside the map of the earlier ones.
+//! The reports that wait for a second one. The second report of a trade mostly comes right behind
+//! the first, so the report that came last waits outside the map of the earlier ones.
 ghost use Rattle.std.specs.Prelude.{◌≡◌, None, true};
 ghost use Rattle.std.specs.Option.{ForSome};
 ghost use Rattle.std.specs.HashMap.{get};
@@ -71,7 +71,8 @@ impl FirstReports {
         self.earlier.is_empty()
     }
 
-    /// Takes out the report with the id, if one waits, where the report that came last has another id.
+    /// Takes out the report with the id, if one waits, where the report
+    /// that came last has another id.
     pub fn take_earlier(&mut self, id: &Name) -> Option<PlacedReport>
         requires { is_latest (latest_of self.old) id.now ≡ false }
         ensures first { result ≡ first_in self.old id.now }
