@@ -1,8 +1,8 @@
 -- The words of continuous trading, in which each order meets at its own record those that rest.
 --
 -- The words take `past`: past p o is what the order at o has traded in deals whose cause
--- is below the place p. `left` and `rests` look at the moment before the record at p;
--- `active` looks at the moment after it, which is that before p + 1.
+-- is below the place p. What is left and what rests are said of the moment before the record
+-- at p; what is active is said of the moment after it, which is that before p + 1.
 -- The second part says the same words of a list of deals.
 use Rattle.std.specs.Prelude.{ℕ, zero, suc, ◌-◌, max, Bool, true, false, ◌==◌, ◌&&◌, ◌||◌, not, nat_lt, nat_le, List, [], ◌∷◌, Option, None, Some, sum_by, if◌then◌else◌}
 use Rattle.audit_base.specs.declared.orders.Order.{Order}

@@ -56,7 +56,8 @@ pub fn append_joined(
 
 /// Appends the parts, each with a comma before it.
 pub fn append_rest(alloc: Global, parts: &[Part<'_>], out: &mut Vec<u8>) -> Result<(), NoMemory>
-    ensures { OnOk result (out.new.items ≡ out.old.items ++ rest_text (map part_text parts.now)) }
+    ensures { OnOk result
+        (out.new.items ≡ out.old.items ++ rest_text (map part_text parts.now)) }
 {
     for part in parts {
         append_after_comma(alloc, part, out)?;

@@ -28,7 +28,8 @@ pub trait Collector: Drop {
     /// nothing is known of it afterwards.
     fn take(&mut self, entry: Self::Entry) -> Result<(), NoMemory>
         requires { HasPlace has_taken self.old }
-        ensures { OnOk result (Adds (has_taken self.old) (has_taken self.new) (entry ∷ [])) };
+        ensures { OnOk result
+            (Adds (has_taken self.old) (has_taken self.new) (entry ∷ [])) };
 
     /// Whether it looks at the records of the symbol.
     fn wants(&self, symbol: &[u8]) -> bool

@@ -70,7 +70,8 @@ impl Sink for MemorySink {
 
     fn write(&mut self, piece: &[u8]) -> Result<usize, Failed>
         requires { 0 < length piece.now }
-        ensures written { Writes (memory_state self.old) (memory_state self.new) result piece.now }
+        ensures written { Writes (memory_state self.old) (memory_state self.new)
+            result piece.now }
         ensures counted { CountsWrite self.old self.new }
         ensures failing { is_err result ≡ write_fails self.old }
         ensures count { IfOk result (λ n. n ≡ write_size self.old (length piece.now)) }

@@ -58,7 +58,8 @@ impl FirstReports {
     /// The report that came last waits no longer.
     pub fn forget_latest(&mut self)
         ensures { (id q : List ℕ) → is_latest (latest_of self.old) id ≡ true
-            → first_in self.new q ≡ (if same_name id q then None else first_in self.old q) }
+            → first_in self.new q
+            ≡ (if same_name id q then None else first_in self.old q) }
     {
         self.waits = false;
     }
@@ -76,8 +77,8 @@ impl FirstReports {
     pub fn take_earlier(&mut self, id: &Name) -> Option<PlacedReport>
         requires { is_latest (latest_of self.old) id.now ≡ false }
         ensures first { result ≡ first_in self.old id.now }
-        ensures others { (q : List ℕ) → first_in self.new q ≡ (if same_name id.now q then None
-            else first_in self.old q) }
+        ensures others { (q : List ℕ) → first_in self.new q
+            ≡ (if same_name id.now q then None else first_in self.old q) }
     {
         self.earlier.take(id)
     }
@@ -85,7 +86,8 @@ impl FirstReports {
     // Moves the report that came last to the earlier ones.
     fn put_by(&mut self) -> Result<(), NoMemory>
         ensures nothing { self.new.waits ≡ false }
-        ensures same { OnOk result ((q : List ℕ) → first_in self.new q ≡ first_in self.old q) }
+        ensures same { OnOk result
+            ((q : List ℕ) → first_in self.new q ≡ first_in self.old q) }
     {
         if !self.waits {
             return Ok(());
