@@ -140,9 +140,9 @@ abbrev pub IsGreatestUnder : VolumeRule → List Order → ℕ → Type 0
 IsGreatestUnder of_volume.Uniform orders v = IsGreatestUniformVolume orders v
 IsGreatestUnder of_volume.Maximum orders v = IsGreatestVolume orders v
 
--- 14: the volume is below the greatest. Its place is one more than the number of trades of
--- the whole log, and shows the best short bid and the best short ask, with what they trade in the
--- whole log and their dues
+-- 14: the volume is below the greatest. The place of the finding is one more than the number of
+-- trades of the whole log. It shows the best short bid and the best short ask, with what they
+-- trade in the whole log and their dues
 pub record IsVolumeOffence (the_rule : VolumeRule) (orders : List Order) (deals : List Deal)
     (count : ℕ) (finding : Finding) : Type 0 where
   pub most : ℕ

@@ -60,7 +60,7 @@ pub fn market_price(side: Side) -> Price
     }
 }
 
-/// A number of shares, from 1 to 1,000,000,000,000.
+/// A whole number of what is traded, from 1 to 1,000,000,000,000.
 #[derive(Clone, Copy, Debug, PartialEq, Eq, Hash, PartialOrd, Ord)]
 pub struct Quantity {
     value: u64,

@@ -8,11 +8,10 @@ use super::digits::{
 };
 use std::marker::Model;
 
-/// A point in time. `second` orders stamps and is no count of seconds:
-/// it is `((((year * 12 + month - 1) * 31 + day - 1) * 24 + hour) * 60 + minute)
-/// * 61 + second`, below 326,764,800,000. `nano` is the fraction, below 1,000,000,000.
-/// `is_before` orders stamps by `second`, then by `nano`, and each has exactly one canonical
-/// text (FIX 4.4, UTCTimestamp).
+/// A point in time. `second` orders stamps and is no count of seconds: it is
+/// `((((year * 12 + month - 1) * 31 + day - 1) * 24 + hour) * 60 + minute) * 61 + second`,
+/// below 326,764,800,000. `nano` is the fraction, below 1,000,000,000. `is_before` orders stamps
+/// by `second`, then by `nano`, and each has exactly one canonical text (FIX 4.4, UTCTimestamp).
 #[derive(Clone, Copy, Debug, PartialEq, Eq, Hash)]
 pub struct Stamp {
     pub second: u64,

@@ -2,9 +2,9 @@
 //! and the Expected trades, which reach them.
 ghost use Rattle.call_laws.specs.Optimum.{OnePriceIsBounded, UniformOptimum, UniformTradesAreExpected, MaximumReachesLeastCut, MaximumTradesAreExpected, UniformUnitsSuffice, MaximumUnitsSuffice};
 
-/// No matching of one price has a volume above the executable volume at that price (the
-/// smaller of demand and supply there); and where this is greatest over all prices,
-/// the pairs of units reach it: they are a fair matching of one price, and no matching of one price
+/// No matching of one price has a volume above the executable volume at that price
+/// (the smaller of demand and supply there); and where this is greatest over all prices, the pairs
+/// of units reach it: they are a fair matching of one price, and no matching of one price
 /// has a greater volume. Their quantities are from 1 to 10^12, their prices below 10^18.
 pub fn uniform_optimum()
     ensures bounded { OnePriceIsBounded }

@@ -19,7 +19,7 @@ pub record Stays (old new : SinkState) : Type 0 where
   pub later : old.faults ≤ new.faults
 
 -- a call failed: the faults rose, and where the bytes written are known,
--- they are as many as the sink takes for sure
+-- they are at least as many as the sink takes for sure
 pub record MayFail (old new : SinkState) : Type 0 where
   pub rose : Rose old.faults new.faults
   pub reached : IfSome new.wrote (λ bytes. new.sure ≤ length bytes)
