@@ -13,17 +13,19 @@ pub record AuditorEnds (S : Type 0) : Type 0 where
   pub sink : SinkState
 
 -- the answer is that of the top call to what words ask for
-abbrev pub AuditorAnswers : {S : Type 0} → Shelf S → List (List ℕ) → AuditorEnds S → AuditorEnds S
-    → Status → Type 0
+abbrev pub AuditorAnswers : {S : Type 0} → Shelf S → List (List ℕ)
+    → AuditorEnds S → AuditorEnds S → Status → Type 0
 AuditorAnswers shelf words old new status =
     IsRun shelf (request_of words) old.shelf new.shelf old.sink new.sink status
 
--- a shelf that has the file under each path, with nothing started, and a sink that holds what the output holds
+-- a shelf that has the file under each path, with nothing started, and a sink that holds what
+-- the output holds
 abbrev pub IsFreshAuditor : {S : Type 0} → Shelf S → Bool → (List ℕ → Option (List ℕ))
     → Option (List ℕ) → AuditorEnds S → Type 0
 IsFreshAuditor shelf told file_at held ends =
     IsFreshOver shelf told file_at ends.shelf × (ends.sink ≡ fresh_sink held)
 
--- such a shelf and such a sink over files and an output of which nothing is known, as those of the runtime
+-- such a shelf and such a sink over files and an output of which nothing is known, as those of
+-- the runtime
 abbrev pub IsUnknownAuditor : {S : Type 0} → Shelf S → AuditorEnds S → Type 0
 IsUnknownAuditor shelf = IsFreshAuditor shelf false (λ path. None) None

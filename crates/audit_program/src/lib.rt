@@ -1,6 +1,7 @@
-//! What the program `auditor` does with what its machine gives it: the arguments, files, standard output and a
-//! random seed are handed to `run_seeded`, and the number of the status is what the process ends with. Where it is
-//! above 1, one line on standard error says why (`run_notes`).
+//! What the program `auditor` does with what its machine gives it: the arguments, files,
+//! standard output and a random seed are handed to `run_seeded`, and the number of the status
+//! is what the process ends with. Where it is above 1, one line on standard error says why
+//! (`run_notes`).
 #![tactic(auto)]
 
 ghost use Rattle.std.specs.Prelude.{◌≡◌};
@@ -45,7 +46,8 @@ fn answer_words<R: CommandLine + AllocGlobal + RandomSource, F: Shelf, K: Sink>(
     }
 }
 
-/// What a run leaves: its status, the files that it read and the output that it wrote, with what was noted of both.
+/// What a run leaves: its status, the files that it read and the output that it wrote, with
+/// what was noted of both.
 #[derive(Drop)]
 struct Ran<S: FileSystem, W> {
     status: Status,
@@ -71,7 +73,7 @@ fn run_over<R: CommandLine + AllocGlobal + RandomSource, S: FileSystem + Drop, W
     Ran { status, shelf, out }
 }
 
-/// Tells on standard error why a run ended above 1.
+/// Says on standard error why a run ended above 1.
 fn tell<F: Shelf>(rt: &HostRuntime, status: Status, shelf: &NotedShelf<F>, last: &[u8]) {
     match status {
         Status::Usage => {
@@ -105,17 +107,18 @@ fn answer(rt: HostRuntime) -> Status
     status
 }
 
-/// What a process ends with whose status this is: its number.
+/// The exit code of a status: its number.
 fn exit_code(status: Status) -> ExitCode
     ensures { exit_status result ≡ status_number status }
 {
     ExitCode::from(status.number())
 }
 
-/// Does what the program does, and gives what its process ends with.
+/// Runs the program, and gives the exit code of its process.
 pub fn run_auditor(rt: HostRuntime) -> ExitCode
     ensures { let shelf = ⟦<NotedShelf<FileShelf<HostRuntime>> as Shelf>⟧ in
-        EndsAsAnswer (AuditorAnswers shelf) status.Memory status_number (IsUnknownAuditor shelf) result }
+        EndsAsAnswer (AuditorAnswers shelf) status.Memory status_number
+        (IsUnknownAuditor shelf) result }
 {
     exit_code(answer(rt))
 }

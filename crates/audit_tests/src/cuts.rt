@@ -153,8 +153,8 @@ const DAY_ORDER_CUTS: CutLogs = CutLogs {
     ],
 };
 
-/// Without trades the call leaves too much, with the first alone the continuous phase does; the price of the
-/// second is cut to nothing and to `1`, which is below the limit of the ask.
+/// Without trades the call leaves too much, with the first alone the continuous phase does; the
+/// price of the second is cut to nothing and to `1`, which is below the limit of the ask.
 const DAY_TRADE_CUTS: CutLogs = CutLogs {
     words: CALL_FIRST,
     orders: &DAY_ORDERS,

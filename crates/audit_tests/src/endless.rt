@@ -4,7 +4,8 @@ use log_source::endless_shelf::EndlessShelf;
 use std::alloc::Global;
 use std::test::Fail;
 
-/// Checks that this command answers over a source without end of each of these bytes that the log is too long.
+/// Checks that this command answers over a source without end of each of these bytes that the
+/// log is too long.
 fn check_endless(alloc: Global, words: &str, report: &str) -> Result<(), RowFault> {
     for byte in [b'\n', b'8', 0] {
         let answered = answer_of(alloc, words, &mut EndlessShelf::new(byte))?;

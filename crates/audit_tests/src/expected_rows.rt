@@ -142,7 +142,8 @@ const ACCEPTED: [AcceptedRow; 4] = [
     ),
 ];
 
-/// Checks that an audit accepts the trades that are expected of its order log, of which there are some.
+/// Checks that an audit accepts the trades that are expected of its order log, of which there
+/// are some.
 fn check_accepted(alloc: Global, row: &AcceptedRow) -> Result<(), RowFault> {
     let (expect, audit, orders) = *row;
     let mut shelf = QuietShelf::new(log_of(alloc, orders)?, Vec::new(alloc), 65_536);

@@ -8,8 +8,8 @@ use std::test::Fail;
 /// The bytes of the longest log.
 const LONGEST: usize = 67_108_864;
 
-/// The words of a command, the byte that its logs are made of, the status and the text over logs of the
-/// longest size, and the text over logs of a byte more.
+/// The words of a command, the byte that its logs are made of, the status and the text over
+/// logs of the longest size, and the text over logs of a byte more.
 type LongRow = (&'static str, u8, u8, &'static str, &'static str);
 
 /// A FIX log of line ends is one without messages.
@@ -51,8 +51,8 @@ const EMPTY_LOGS: [LongRow; 5] = [
     ),
 ];
 
-/// A CSV log of line ends has no header up to its end, and one of digits begins with another line, as a FIX
-/// log of digits does.
+/// A CSV log of line ends has no header up to its end, and one of digits begins with another
+/// line, as a FIX log of digits does.
 const MALFORMED_LOGS: [LongRow; 3] = [
     (
         "audit matching Z orders trades",
@@ -77,7 +77,7 @@ const MALFORMED_LOGS: [LongRow; 3] = [
     ),
 ];
 
-/// A shelf both of whose logs are this byte so many times.
+/// A shelf both of whose logs are this byte this many times.
 fn long_shelf(alloc: Global, byte: u8, size: usize) -> Result<QuietShelf, NoMemory> {
     let orders = vec![in alloc; byte; size]?;
     let trades = vec![in alloc; byte; size]?;

@@ -15,7 +15,7 @@ N,B,s1,20240102-09:00:00,Z,S,100,9,
 const ONE_TRADE: &str = "T1,20240102-09:00:01,Z,A,b1,B,s1,100,9.5
 ";
 
-/// Words, and the status and the text that they come to.
+/// Words, and the status and the text that they are answered by.
 const RUNS: [(&str, u8, &str); 3] = [
     (
         "audit matching Z orders trades",

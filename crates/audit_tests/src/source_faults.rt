@@ -233,8 +233,9 @@ const CERTIFICATES: [SourceRow; 2] = [
     },
 ];
 
-/// Days of two phases: one conforms, one does not, one has a finding of the history, after which the trade log
-/// is still read, and one has an order log that is malformed, after which it is not.
+/// Days of two phases: one conforms, one does not, one has a finding of the history, after
+/// which the trade log is still read, and one has an order log that is malformed, after which
+/// it is not.
 const DAYS: [SourceRow; 4] = [
     SourceRow {
         row: Row {

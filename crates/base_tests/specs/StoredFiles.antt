@@ -11,4 +11,5 @@ has_path path file = bytes_eq file.path.now path
 
 -- the bytes of the first file of this path
 abbrev pub bytes_at : StoredFiles → List ℕ → Option (List ℕ)
-bytes_at stored path = option_map (λ file. file.bytes.now) (find (has_path path) stored.files.now)
+bytes_at stored path =
+    option_map (λ file. file.bytes.now) (find (has_path path) stored.files.now)

@@ -1,5 +1,5 @@
-//! What is read from bodies, in which `|` stands for SOH: `35:3-4` is a field with tag 35 whose
-//! value stands from byte 3 up to byte 4.
+//! What is read from bodies, in which `|` is SOH: `35:3-4` is a field with tag 35 whose
+//! value is at byte 3, and ends before byte 4.
 use audit_base::sizes::LONGEST_BODY;
 use fix_fields::field::{Field, FieldFault};
 use fix_fields::split::{fields, read_fields};
@@ -88,7 +88,7 @@ const FAULTS: [(&str, &str); 23] = [
     ("35=D|5 8=x|", "field 5"),
     ("35=D|58|49=x|", "field 5"),
     ("35=D|58", "field 5"),
-    // The value has a byte, and SOH stands behind it.
+    // The value has a byte, and SOH is behind it.
     ("35=D|58=a=b|", "35:3-4 58:8-11"),
     ("35=D|58=|", "field 5"),
     ("35=D|58=", "field 5"),

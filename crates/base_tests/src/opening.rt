@@ -23,8 +23,9 @@ const FILES: [StoredFile<'static>; 2] = [
     },
 ];
 
-// Takes the log under a path in a slot of a shelf over these files. Of every file system that tells, it is the
-// whole file under that path: the prover shows it from the clauses of the shelf and of `take_log`.
+// Takes the log under a path in a slot of a shelf over these files. Of every file system whose
+// files are known, it is the whole file under that path: the prover shows it from the clauses
+// of the shelf and of `take_log`.
 fn take_file<S: FileSystem + Drop>(
     alloc: Global,
     files: S,

@@ -1,4 +1,4 @@
-//! Files in memory that tell what they hold, for the shelf over files.
+//! Files in memory whose bytes are known, for the shelf over files.
 ghost use Rattle.std.specs.Prelude.{◌≡◌, true, find};
 ghost use Rattle.std.specs.Option.{option_copied};
 ghost use Rattle.base_tests.specs.StoredFiles.{bytes_at, has_path};

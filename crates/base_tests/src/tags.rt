@@ -1,4 +1,4 @@
-//! Where tags stand among the fields of a body, and a body that is written.
+//! Where tags are among the fields of a body, and a body that is written.
 use audit_base::sizes::LONGEST_BODY;
 use fix_fields::field::{Field, Found, Placed};
 use fix_fields::find::find_field;

@@ -96,7 +96,7 @@ fn a_log_is_taken_whole_at_every_piece(rt: HostRuntime) -> Result<(), Fail> {
     Ok(())
 }
 
-// A feed that counts, and says of what it stands for only how long it is.
+// A feed that counts, and says of what it has read only how long it is.
 #[derive(Drop)]
 struct ByteCount {
     bytes: usize,

@@ -1,4 +1,5 @@
-//! Names, numbers, prices, times and words: what their texts are read as, and what is written of them.
+//! Names, numbers, prices, times and words: what their texts are read as, and what is written
+//! of them.
 use audit_base::findings::Property;
 use audit_base::names::read_name;
 use audit_base::numbers::{market_price, read_price, read_quantity};

@@ -34,7 +34,7 @@ fn hand<M: AuditedHistory>(
     draft.take(trade)
 }
 
-/// How many trades a draft of the symbol counts when it has been handed these, and what they come to.
+/// How many trades a draft of the symbol counts when it has been handed these, and what they give.
 fn drafted<M: AuditedHistory, R: AllocGlobal + Abort>(
     rt: &R,
     symbol: Name,
@@ -90,7 +90,8 @@ const ROWS: [Row; 5] = [
     ),
 ];
 
-/// Whether these are the places of the deals, and this is the property and the place of the finding.
+/// Whether these are the places of the deals, and this is the property and the place of the
+/// finding.
 fn come_to(resolved: &ResolvedTrades, places: &[u32], finding: Option<(Property, u32)>) -> bool {
     match &resolved.finding {
         None => finding.is_none() && resolved.deals.iter().map(|deal| &deal.place).eq(places),

@@ -33,8 +33,8 @@ fn history<R: AllocGlobal + Abort>(rt: &R, lines: &[&str]) -> History {
     history_of(rt, &shapes)
 }
 
-/// What the orders are, their lines, and the price and the volume of their least cut and of their greatest
-/// executable volume.
+/// What the orders are, their lines, and the price and the volume of their least cut and of
+/// their greatest executable volume.
 type Row = (
     &'static str,
     &'static [&'static str],

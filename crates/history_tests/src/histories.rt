@@ -1,5 +1,5 @@
-//! Histories by name, with the orders or the finding that they have. A record is written as kind (New,
-//! Cancel, Replace), firm, id, target, second, symbol and side (Buy, Sell).
+//! Histories by name, with the orders or the finding that they have. A record is written as
+//! kind (New, Cancel, Replace), firm, id, target, second, symbol and side (Buy, Sell).
 use crate::names::{key, name};
 use audit_base::findings::{Property, Shown};
 use audit_base::numbers::{Price, Quantity};

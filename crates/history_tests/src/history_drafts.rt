@@ -33,7 +33,7 @@ fn hand<S: AuditedSymbol>(
     draft.take(entry)
 }
 
-/// How many records a draft of the symbol counts when it has been handed these, and what they come to.
+/// How many records a draft of the symbol counts when it has been handed these, and what they give.
 fn drafted<S: AuditedSymbol, R: AllocGlobal + Abort>(
     rt: &R,
     symbol: Name,

@@ -1,5 +1,5 @@
-//! Deals between one bid of 100 at 12 and one ask of 80 at 8, with their totals or the finding that they
-//! have. A deal is written as its quantity and its price.
+//! Deals between one bid of 100 at 12 and one ask of 80 at 8, with their totals or the finding
+//! that they have. A deal is written as its quantity and its price.
 use crate::names::{key, name};
 use audit_base::findings::{Finding, Property, Shown};
 use audit_base::numbers::{Price, Quantity};
@@ -48,7 +48,7 @@ fn history<R: AllocGlobal + Abort>(rt: &R) -> History {
     history
 }
 
-/// What two deals come to.
+/// The totals of two deals, or their finding.
 fn checked<R: AllocGlobal + Abort>(
     rt: &R,
     history: &History,

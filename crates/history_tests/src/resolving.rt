@@ -1,5 +1,5 @@
-//! Trades by name, with the deals or the finding that they have. An order is written as firm, id and side
-//! (B, S), a trade as id, buyer's firm and id, seller's firm and id, and symbol.
+//! Trades by name, with the deals or the finding that they have. An order is written as firm,
+//! id and side (B, S), a trade as id, buyer's firm and id, seller's firm and id, and symbol.
 use crate::names::{key, name};
 use audit_base::findings::{Property, Shown};
 use audit_base::numbers::{Price, Quantity};
@@ -64,7 +64,7 @@ pub(crate) fn history<R: AllocGlobal + Abort>(rt: &R) -> History {
     history
 }
 
-/// What the trades of Z come to.
+/// The deals of the trades of Z, or their finding.
 fn resolved<R: AllocGlobal + Abort>(rt: &R, lines: &[&str]) -> Result<Vec<Deal>, CheckFault> {
     let mut trades = Vec::new(rt.alloc());
     for line in lines {
@@ -93,7 +93,8 @@ fn each_trade_becomes_a_deal_between_its_bid_and_its_ask(rt: HostRuntime) {
     }
 }
 
-/// What a finding shows: an earlier trade by its place, or the side, firm and id of an order that is not there.
+/// What a finding shows: an earlier trade by its place, or the side, firm and id of an order
+/// that is not there.
 #[derive(Clone, Copy)]
 enum Shows {
     Trade(u32),

@@ -167,7 +167,7 @@ fn one_file_is_both_logs(rt: HostRuntime) -> Result<(), Fail> {
     Ok(())
 }
 
-/// What the reports of a log come to: the number of trades, or the place of finding 4 and the first
+/// What the reports of a log give: the number of trades, or the place of finding 4 and the first
 /// report that it shows.
 fn paired(rt: &impl Abort, alloc: Global, log: &[u8]) -> Result<usize, (u32, u32)> {
     assert!(rt; log.len() <= 1000);
@@ -189,7 +189,7 @@ fn shown_place(finding: &Finding) -> u32 {
     }
 }
 
-/// Trade logs, and what their reports come to.
+/// Trade logs, and what their reports give.
 const REPORT_LOGS: [(&[u8], Result<usize, (u32, u32)>); 11] = [
     // R1 and R2, in both orders.
     (
@@ -225,7 +225,7 @@ const REPORT_LOGS: [(&[u8], Result<usize, (u32, u32)>); 11] = [
         b"8=FIX.4.4\x019=78\x0135=8\x0149=X\x0156=A\x0111=1\x01150=F\x01527=T1\x0155=Z\x0154=1\x0132=100\x0131=9.5\x0160=20240102-09:00:02\x0110=101\x018=FIX.4.4\x019=78\x0135=8\x0149=X\x0156=A\x0111=1\x01150=F\x01527=T2\x0155=Z\x0154=1\x0132=100\x0131=9.5\x0160=20240102-09:00:02\x0110=102\x018=FIX.4.4\x019=78\x0135=8\x0149=X\x0156=B\x0111=2\x01150=F\x01527=T1\x0155=Z\x0154=2\x0132=100\x0131=9.5\x0160=20240102-09:00:02\x0110=104\x018=FIX.4.4\x019=78\x0135=8\x0149=X\x0156=B\x0111=2\x01150=F\x01527=T2\x0155=Z\x0154=2\x0132=100\x0131=9.5\x0160=20240102-09:00:02\x0110=105\x01",
         Ok(2),
     ),
-    // A disagreement comes before a report alone, wherever it stands.
+    // A disagreement comes before a report alone, wherever it is.
     (
         b"8=FIX.4.4\x019=78\x0135=8\x0149=X\x0156=A\x0111=1\x01150=F\x01527=T2\x0155=Z\x0154=1\x0132=100\x0131=9.5\x0160=20240102-09:00:02\x0110=102\x018=FIX.4.4\x019=78\x0135=8\x0149=X\x0156=A\x0111=1\x01150=F\x01527=T1\x0155=Z\x0154=1\x0132=100\x0131=9.5\x0160=20240102-09:00:02\x0110=101\x018=FIX.4.4\x019=76\x0135=8\x0149=X\x0156=B\x0111=2\x01150=F\x01527=T1\x0155=Z\x0154=2\x0132=100\x0131=9\x0160=20240102-09:00:02\x0110=003\x01",
         Err((3, 2)),
@@ -239,7 +239,7 @@ const REPORT_LOGS: [(&[u8], Result<usize, (u32, u32)>); 11] = [
         b"8=FIX.4.4\x019=78\x0135=8\x0149=X\x0156=A\x0111=1\x01150=F\x01527=T1\x0155=Z\x0154=1\x0132=100\x0131=9.5\x0160=20240102-09:00:02\x0110=101\x018=FIX.4.4\x019=78\x0135=8\x0149=X\x0156=B\x0111=2\x01150=F\x01527=T1\x0155=Y\x0154=2\x0132=100\x0131=9.5\x0160=20240102-09:00:02\x0110=103\x01",
         Err((2, 1)),
     ),
-    // Of reports alone the least is named.
+    // Of reports alone the earliest is named.
     (
         b"8=FIX.4.4\x019=78\x0135=8\x0149=X\x0156=A\x0111=1\x01150=F\x01527=T1\x0155=Z\x0154=1\x0132=100\x0131=9.5\x0160=20240102-09:00:02\x0110=101\x018=FIX.4.4\x019=78\x0135=8\x0149=X\x0156=A\x0111=1\x01150=F\x01527=T2\x0155=Z\x0154=1\x0132=100\x0131=9.5\x0160=20240102-09:00:02\x0110=102\x018=FIX.4.4\x019=78\x0135=8\x0149=X\x0156=B\x0111=2\x01150=F\x01527=T1\x0155=Z\x0154=2\x0132=100\x0131=9.5\x0160=20240102-09:00:02\x0110=104\x018=FIX.4.4\x019=78\x0135=8\x0149=X\x0156=B\x0111=2\x01150=F\x01527=T3\x0155=Z\x0154=2\x0132=100\x0131=9.5\x0160=20240102-09:00:02\x0110=106\x01",
         Err((2, 0)),

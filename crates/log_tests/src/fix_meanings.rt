@@ -1,4 +1,4 @@
-//! What messages mean, in texts in which `|` stands for SOH.
+//! What messages mean, in texts in which `|` is SOH.
 use audit_base::records::OrderRecord;
 use fix_fields::split::fields;
 use fix_messages::meanings::{MessageFault, OrderMeaning, Report, ReportMeaning};

@@ -106,7 +106,7 @@ fn the_certificate_of_a_staircase(rt: HostRuntime) {
     assert_eq!(rt; text.as_slice(), wanted.as_slice());
 }
 
-/// The number of a line, what stands in its place, and the number of the line that is refused.
+/// The number of a line, what is in its place, and the number of the line that is refused.
 const WRONG: [(usize, &str, u32); 14] = [
     (1, "certificate,maximum,Z", 2),
     (1, "certificate,fair,Z", 1),

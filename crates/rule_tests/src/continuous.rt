@@ -1,4 +1,5 @@
-//! Whole logs, judged by the rule of continuous trading. All are of one firm, so that each trade is a self trade.
+//! Whole logs, judged by the rule of continuous trading. All are of one firm, so that each
+//! trade is a self trade.
 use crate::records::{
     cancel_of, deals_of, history_of, new_order, new_trade, price_of, replacement_of,
 };
@@ -32,7 +33,7 @@ use Line::{Ask, Bid, Cancel, ImmediateAsk, ImmediateBid, MarketAsk, MarketBid, R
 #[derive(Clone, Copy, Drop)]
 struct Trade<'a>(&'a str, &'a str, u64, u64);
 
-/// What an audit comes to.
+/// What an audit answers.
 #[derive(Clone, Copy, Debug, PartialEq, Drop)]
 enum Answer {
     /// The trades conform, with this volume.
@@ -90,7 +91,7 @@ fn history<R: AllocGlobal + Abort>(rt: &R, lines: &[Line<'_>]) -> History {
     history_of(rt, &entries)
 }
 
-/// What the audit of these trades over a history comes to.
+/// What the audit of these trades over a history answers.
 fn outcome_of<R: AllocGlobal + Abort>(rt: &R, history: &History, trades: &[Trade<'_>]) -> Outcome {
     let mut reports = Vec::new(rt.alloc());
     for (trade, id) in trades.iter().zip(["T1", "T2", "T3", "T4", "T5"]) {
@@ -105,7 +106,8 @@ fn outcome_of<R: AllocGlobal + Abort>(rt: &R, history: &History, trades: &[Trade
     }
 }
 
-/// The Expected trades of a history: the index of the bid and of the ask, the quantity and the price.
+/// The Expected trades of a history: the index of the bid and of the ask, the quantity and the
+/// price.
 fn expected_of<R: AllocGlobal + Abort>(rt: &R, history: &History) -> Vec<Expected> {
     let deals = continuous_matching(rt.alloc(), &history.orders()).expect(rt, "memory");
     let mut expected = Vec::new(rt.alloc());
@@ -153,8 +155,8 @@ type Row = (
     Answer,
 );
 
-/// Asserts that the audits of rows answer what the rows say. The rows are tables of a few each, handed on whole: the
-/// proof of a function with a long table in it takes a minute.
+/// Asserts that the audits of rows answer what the rows say. The rows are tables of a few each,
+/// handed on whole: the proof of a function with a long table in it takes a minute.
 fn assert_rows<R: AllocGlobal + Abort>(rt: &R, rows: &[Row]) {
     for &(name, lines, trades, answer) in rows {
         assert_eq!(rt; answer_to(rt, lines, trades), answer, "{name}");

@@ -1,5 +1,5 @@
-//! Days over few orders. Most begin with a bid of 5 at 10 and an ask of 3 at 9 in a call, which leaves 2 of
-//! the bid.
+//! Days over few orders. Most begin with a bid of 5 at 10 and an ask of 3 at 9 in a call, which
+//! leaves 2 of the bid.
 ghost use Rattle.session_audit.specs.Phases.{ArePhases};
 
 use crate::records::{

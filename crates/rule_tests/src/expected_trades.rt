@@ -1,4 +1,5 @@
-//! Small order lists with the Expected trades of `uniform` and `maximum`, which their audits accept.
+//! Small order lists with the Expected trades of `uniform` and `maximum`, which their audits
+//! accept.
 use crate::records::{history_of, new_order, price_of};
 use audit_base::orders::Deal;
 use audit_base::records::OrderRecord;
@@ -72,8 +73,8 @@ const SPLIT: [Row; 5] = [
     (Side::Sell, 9, 4),
 ];
 
-/// The volume and the bound with which the audit of the Expected trades accepts them, once they are the
-/// trades of the case.
+/// The volume and the bound with which the audit of the Expected trades accepts them, once they
+/// are the trades of the case.
 fn bound_of_expected<R: AllocGlobal + Abort>(
     rt: &R,
     rule: VolumeRule,

@@ -1,14 +1,15 @@
--- What a program answers to its command line. A program gives the relation of its own that its runs keep, from
--- words and from what a run reads and writes, before and after, to a status; and the status which says that
--- memory ran out.
+-- What a program answers to its command line. A program gives the relation of its own that its
+-- runs keep, from words and from what a run reads and writes, before and after, to a status;
+-- and the status which says that memory ran out.
 use Rattle.std.specs.Prelude.{◌≡◌, ◌⊎◌, ℕ, List, Option, None}
 use Rattle.std.specs.Process.{exit_status}
 use Rattle.std.specs.declared.process.ExitCode.{ExitCode}
 use Rattle.run_notes.specs.CommandLines.{AreWordsOf}
 
 module _ {W T : Type 0} (Answers : List (List ℕ) → W → W → T → Type 0) (memory : T) where
-  -- the answer is the program's own to the words of the command line, which are the known ones where they are
-  -- known, or there was no memory for these, and all that a run reads and writes is as before
+  -- the answer is the program's own to the words of the command line, which are the known ones
+  -- where they are known, or there was no memory for these, and all that a run reads and writes
+  -- is as before
   abbrev pub AnswersCommandLine : Option (List (List ℕ)) → W → W → T → Type 0
   AnswersCommandLine known old new status =
       ((status ≡ memory) × (new ≡ old))

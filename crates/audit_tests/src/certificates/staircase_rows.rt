@@ -21,8 +21,8 @@ const LINES: [&str; 10] = [
     "order,6,0",
 ];
 
-/// The certificate of the staircase with this in the place of the line of this number, each line with this
-/// end. Number 0 is of no line.
+/// The certificate of the staircase with this in the place of the line of this number, each
+/// line with this end. Number 0 is of no line.
 fn staircase_with(
     alloc: Global,
     number: usize,
@@ -61,8 +61,8 @@ fn check_staircase(
     check_certificate(alloc, &row, certificate)
 }
 
-/// The number of a line of the certificate of the staircase, what stands in its place, the status and the
-/// report.
+/// The number of a line of the certificate of the staircase, what is in its place, the status
+/// and the report.
 type Change = (usize, &'static str, u8, &'static str);
 
 fn check_change(alloc: Global, change: &Change) -> Result<(), RowFault> {
@@ -135,8 +135,8 @@ fn line_ends_and_missing_lines(rt: HostRuntime) -> Result<(), Fail> {
     Ok(check_staircase(alloc, "nothing", Vec::new(alloc), 1, "refused,1\n")?)
 }
 
-/// The certificate of the staircase, and behind it one line more of such a length that the whole has this
-/// many bytes.
+/// The certificate of the staircase, and behind it one line more of such a length that the
+/// whole has this many bytes.
 fn certificate_of_size(alloc: Global, size: usize) -> Result<Vec<u8>, NoMemory> {
     let mut certificate = staircase_with(alloc, 0, "", "\n")?;
     certificate.resize(size, b'x')?;

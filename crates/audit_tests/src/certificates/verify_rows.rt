@@ -306,7 +306,8 @@ fn certificates_of_other_quantities(rt: HostRuntime) -> Result<(), Fail> {
     Ok(())
 }
 
-/// Rows without a certificate. It is read before any finding is told, and not where a log is malformed.
+/// Rows without a certificate. It is read before any finding is reported, and not where a log
+/// is malformed.
 const ABSENT: [Row; 3] = [
     Row {
         name: "a certificate that is not there",

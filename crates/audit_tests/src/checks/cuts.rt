@@ -6,8 +6,8 @@ use audit_base::terms::Which;
 use log_source::quiet_shelf::QuietShelf;
 use std::alloc::Global;
 
-/// The status and the text where the log ends after at most so many bytes, and after more than the row
-/// before has.
+/// The status and the text where the log ends after at most this many bytes, and after more
+/// than the row before has.
 #[derive(Clone, Copy)]
 pub(crate) struct Cut {
     pub(crate) last: usize,

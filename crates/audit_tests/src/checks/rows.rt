@@ -8,8 +8,8 @@ use log_source::memory_shelf::MemoryShelf;
 use log_source::quiet_shelf::QuietShelf;
 use std::alloc::Global;
 
-/// A row: its name, the words of the command line, the order log and the trade log as texts with `|` in the
-/// place of SOH, and the status and the text that are wanted.
+/// A row: its name, the words of the command line, the order log and the trade log as texts
+/// with `|` in the place of SOH, and the status and the text that are wanted.
 #[derive(Clone, Copy)]
 pub(crate) struct Row {
     pub(crate) name: &'static str,

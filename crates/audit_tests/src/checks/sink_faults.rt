@@ -23,8 +23,8 @@ fn answer_in_writes(
     answer_into(alloc, row.words, &mut shelf, out)
 }
 
-/// Checks that a run wrote this many bytes of the row's text and answered that it could not write all of
-/// them, where the text has more, and else the row's answer.
+/// Checks that a run wrote this many bytes of the row's text and answered that it could not
+/// write all of them, where the text has more, and else the row's answer.
 fn check_written(
     alloc: Global,
     row: &Row,

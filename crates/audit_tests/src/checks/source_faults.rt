@@ -11,8 +11,9 @@ use std::alloc::Global;
 /// More calls than any row makes.
 const CALLS: u32 = 40;
 
-/// A row with how many calls it makes: of the order log, and in all. A log takes a start, a read for each of
-/// its pieces, and a read that is answered by no bytes. A certificate is there under the name `certificate`.
+/// A row with how many calls it makes: of the order log, and in all. A log takes a start, a
+/// read for each of its pieces, and a read that is answered by no bytes. A certificate is there
+/// under the name `certificate`.
 #[derive(Clone, Copy)]
 pub(crate) struct SourceRow {
     pub(crate) row: Row,
@@ -39,8 +40,8 @@ fn failing_shelf(
     Ok(shelf)
 }
 
-/// Checks a row whose call of this number fails: the log at which it fails is told, and a call that is not
-/// made changes nothing.
+/// Checks a row whose call of this number fails: the log at which it fails is named, and a call
+/// that is not made changes nothing.
 fn check_call(alloc: Global, row: &SourceRow, piece: usize, fails: u32) -> Result<(), RowFault>
     requires { 1 ≤ piece }
 {
@@ -66,8 +67,8 @@ fn check_each_call(alloc: Global, row: &SourceRow, piece: usize) -> Result<(), R
     Ok(())
 }
 
-/// Checks each of these rows, over logs that come at most `piece` bytes at a time, with each of its calls
-/// failing once.
+/// Checks each of these rows, over logs that come at most `piece` bytes at a time, with each of
+/// its calls failing once.
 pub(crate) fn check_source_faults(
     alloc: Global,
     rows: &[SourceRow],

@@ -4,7 +4,8 @@ use crate::checks::rows::{Row, check_rows};
 use crate::days::logs::{CALL_FIRST, CALL_TRADES, DAY_TRADES};
 use std::test::Fail;
 
-/// A bid of 5 of which a call leaves 2, its replacement by one of 6 in all, and an ask that meets it.
+/// A bid of 5 of which a call leaves 2, its replacement by one of 6 in all, and an ask that
+/// meets it.
 const PART_REPLACED: [&str; 2] = [
     ORDERS,
     "N,A,b1,20240102-09:00:00,Z,B,5,10,

@@ -4,8 +4,8 @@ use crate::checks::inputs::{ORDERS, TRADES};
 /// A call up to place 2, and continuous trading from place 3 on.
 pub(crate) const CALL_FIRST: &str = "session Z uniform@1,continuous@3 orders trades --table";
 
-/// A bid of 5 at 10 and asks of 3 at 9 and of 4 at 10: 156 bytes, of which the header has 52 and the lines 35,
-/// 34 and 35.
+/// A bid of 5 at 10 and asks of 3 at 9 and of 4 at 10: 156 bytes, of which the header has 52
+/// and the lines 35, 34 and 35.
 pub(crate) const DAY_ORDERS: [&str; 2] = [
     ORDERS,
     "N,A,b1,20240102-09:00:00,Z,B,5,10,
@@ -17,7 +17,8 @@ N,B,s2,20240102-09:00:00,Z,S,4,10,
 /// The trade of the call alone: 106 bytes, of which the header has 67 and the line 39.
 pub(crate) const CALL_TRADES: [&str; 2] = [TRADES, "T1,20240102-09:00:01,Z,A,b1,B,s1,3,9.5\n"];
 
-/// This trade, and that of what the call leaves of the bid: 144 bytes, of which the last line has 38.
+/// This trade, and that of what the call leaves of the bid: 144 bytes, of which the last line
+/// has 38.
 pub(crate) const DAY_TRADES: [&str; 2] = [
     TRADES,
     "T1,20240102-09:00:01,Z,A,b1,B,s1,3,9.5

@@ -7,7 +7,7 @@ use log_source::quiet_shelf::QuietShelf;
 use std::alloc::Global;
 use std::test::Fail;
 
-/// The word of so many phases of continuous trading, each of one place.
+/// The word of this many phases of continuous trading, each of one place.
 fn continuous_phases(alloc: Global, count: u32) -> Result<String, NoMemory> {
     let mut word = String::from_str(alloc, "continuous@1")?;
     for first in 2..=count {
@@ -30,14 +30,14 @@ fn report_of(alloc: Global, phases: &str) -> Result<String, NoMemory> {
     Ok(format!(in alloc; "session,Z,{phases}\ntotals,0,0,0\n")?)
 }
 
-/// Checks that a day of so many phases is answered by its report.
+/// Checks that a day of this many phases is answered by its report.
 fn check_day(alloc: Global, count: u32) -> Result<(), RowFault> {
     let phases = continuous_phases(alloc, count)?;
     let report = report_of(alloc, &phases)?;
     day(alloc, &phases)?.check(alloc, "a day of many phases", 0, 0, report.as_bytes())
 }
 
-/// Checks that a day of so many phases is answered by the usage line.
+/// Checks that a day of this many phases is answered by the usage line.
 fn check_too_many(alloc: Global, count: u32) -> Result<(), RowFault> {
     let phases = continuous_phases(alloc, count)?;
     day(alloc, &phases)?.check(alloc, "a day of too many phases", 0, 2, usage_text())

@@ -6,8 +6,8 @@ use crate::days::logs::{
 };
 use std::test::Fail;
 
-/// What a call leaves of a bid trades, does not trade and trades too much; and it is replaced, and what
-/// continuous trading leaves of that trades in a second call.
+/// What a call leaves of a bid trades, does not trade and trades too much; and it is replaced,
+/// and what continuous trading leaves of that trades in a second call.
 const ROWS: [Row; 4] = [
     Row {
         name: "a call, and what it leaves trades on",

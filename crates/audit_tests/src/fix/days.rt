@@ -6,8 +6,8 @@ use crate::fix::messages::{
 };
 use std::test::Fail;
 
-/// A bid that a call leaves trades, or does not; a report without its other one; both logs in one file, and in
-/// two forms.
+/// A bid that a call leaves trades, or does not; a report without its other one; both logs in
+/// one file, and in two forms.
 const ROWS: [Row; 5] = [
     Row {
         name: "a day",

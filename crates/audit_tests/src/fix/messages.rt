@@ -54,7 +54,8 @@ pub(crate) const DAY_TRADES: [&str; 5] = [BUY, BREAK, HEARTBEAT, BREAK, SELL];
 /// The report on the day.
 pub(crate) const ACCEPTED: &str = "accepted,matching,Z\ntotals,2,1,100\n";
 
-/// The words of a day of two phases, the bid alone in a call and then continuous trading, over two FIX logs.
+/// The words of a day of two phases, the bid alone in a call and then continuous trading, over
+/// two FIX logs.
 pub(crate) const SESSION: &str =
     "session Z uniform@1,continuous@2 orders trades --orders-form fix --trades-form fix --table";
 

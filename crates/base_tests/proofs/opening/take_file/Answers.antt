@@ -1,4 +1,4 @@
--- The shelf tells what the files tell that it was made of.
+-- Of the shelf is known what is known of the files that it was made of.
 use Rattle.std.proofs.Common.{◌≡◌, ◌∙◌, sym, Bool, true, IfOk, Some, Ok, Err, List, Result, ℕ}
 use Rattle.std.specs.Prelude.{Option}
 use Rattle.base_tests.proofs.opening.take_file.Goals as goal

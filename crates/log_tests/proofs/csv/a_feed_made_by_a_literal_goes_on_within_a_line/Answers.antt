@@ -15,7 +15,7 @@ first_lines = codes "kind,firm,id,time,symbol,side,quantity,price,target\nN,A,b1
 abbrev second_line : List ℕ
 second_line = codes "N,B,s1"
 
--- the length of a log is told of one without a header alone
+-- the length of a log counts only where it has no header
 any-size : (lines : List Line) (size : ℕ) (entries : List OrderRecord) → read_lines order_columns order_entry size lines ≡ Ok entries
     → read_lines order_columns order_entry 0 lines ≡ Ok entries
 any-size [] size entries e = absurd (cc e)
@@ -33,7 +33,7 @@ open-within entries reads = record {
   good = any-size (full_lines first_lines) (length first_lines) entries reads;
 }
 
--- the literal stands for these
+-- the literal is a feed of these records, within a line
 stands : (entries : List OrderRecord) (new all : List ℕ) → order_log first_lines ≡ Ok entries → new ≡ [] → all ≡ new ++ second_line
     → IsOpen order_columns order_entry entries all 89 true (first_lines ++ second_line)
 stands entries new all reads none rest =
