@@ -20,12 +20,12 @@ AuditorAnswers shelf words old new status =
 
 -- a shelf that has the file under each path, with nothing started, and a sink that holds what
 -- the output holds
-abbrev pub IsFreshAuditor : {S : Type 0} → Shelf S → Bool → (List ℕ → Option (List ℕ))
+abbrev pub AuditorBegins : {S : Type 0} → Shelf S → Bool → (List ℕ → Option (List ℕ))
     → Option (List ℕ) → AuditorEnds S → Type 0
-IsFreshAuditor shelf told file_at held ends =
+AuditorBegins shelf told file_at held ends =
     IsFreshOver shelf told file_at ends.shelf × (ends.sink ≡ fresh_sink held)
 
 -- such a shelf and such a sink over files and an output of which nothing is known, as those of
 -- the runtime
-abbrev pub IsUnknownAuditor : {S : Type 0} → Shelf S → AuditorEnds S → Type 0
-IsUnknownAuditor shelf = IsFreshAuditor shelf false (λ path. None) None
+abbrev pub AuditorBeginsUnknown : {S : Type 0} → Shelf S → AuditorEnds S → Type 0
+AuditorBeginsUnknown shelf = AuditorBegins shelf false (λ path. None) None

@@ -6,10 +6,10 @@
 
 ghost use Rattle.std.specs.Prelude.{◌≡◌};
 ghost use Rattle.std.specs.Process.{exit_status};
-ghost use Rattle.audit_program.specs.Answers.{AuditorAnswers, IsFreshAuditor, IsUnknownAuditor};
+ghost use Rattle.audit_program.specs.Answers.{AuditorAnswers, AuditorBegins, AuditorBeginsUnknown};
 ghost use Rattle.audit_report.specs.Statuses.{status_number};
 ghost use Rattle.audit_report.specs.declared.statuses.Status.TheVariants as status;
-ghost use Rattle.run_notes.specs.ProgramAnswers.{AnswersCommandLine, AnswersFresh, AnswersUnknownWords, EndsAsAnswer};
+ghost use Rattle.run_notes.specs.ProgramAnswers.{AnswersCommandLine, AnswersFrom, AnswersUnknownWords, EndsAsAnswer};
 
 use audit_report::statuses::Status;
 use audit_run::running::run_seeded;
@@ -63,8 +63,8 @@ fn run_over<R: CommandLine + AllocGlobal + RandomSource, S: FileSystem + Drop, W
 ) -> Ran<S, W>
     ensures { let shelf = ⟦<NotedShelf<FileShelf<S>> as Shelf>⟧ in
         let state = ⟦<NotedSink<StdSink<W>> as Sink>⟧.state in
-        AnswersFresh (AuditorAnswers shelf) status.Memory (R.told rt.now)
-        (IsFreshAuditor shelf (S.tells files) (S.file_at files) (W.contents output))
+        AnswersFrom (AuditorAnswers shelf) status.Memory (R.told rt.now)
+        (AuditorBegins shelf (S.tells files) (S.file_at files) (W.contents output))
         (record { shelf = result.shelf; sink = state result.out }) result.status }
 {
     let mut shelf = noted_files(rt.alloc(), files);
@@ -97,7 +97,7 @@ fn tell<F: Shelf>(rt: &HostRuntime, status: Status, shelf: &NotedShelf<F>, last:
 /// Runs the command over files and standard output.
 fn answer(rt: HostRuntime) -> Status
     ensures { let shelf = ⟦<NotedShelf<FileShelf<HostRuntime>> as Shelf>⟧ in
-        AnswersUnknownWords (AuditorAnswers shelf) status.Memory (IsUnknownAuditor shelf) result }
+        AnswersUnknownWords (AuditorAnswers shelf) status.Memory (AuditorBeginsUnknown shelf) result }
 {
     let Ok(files) = rt.clone() else {
         return Status::Memory;
@@ -118,7 +118,7 @@ fn exit_code(status: Status) -> ExitCode
 pub fn run_auditor(rt: HostRuntime) -> ExitCode
     ensures { let shelf = ⟦<NotedShelf<FileShelf<HostRuntime>> as Shelf>⟧ in
         EndsAsAnswer (AuditorAnswers shelf) status.Memory status_number
-        (IsUnknownAuditor shelf) result }
+        (AuditorBeginsUnknown shelf) result }
 {
     exit_code(answer(rt))
 }

@@ -32,13 +32,13 @@ CasebookAnswers shelf words old new status =
 
 -- an opener that this is known of, a shelf that has the file under each path, with nothing
 -- started, and a sink that holds what the output holds
-abbrev pub IsFreshCasebook : {S : Type 0} → Shelf S → Bool → (List ℕ → Option (List ℕ))
+abbrev pub CasebookBegins : {S : Type 0} → Shelf S → Bool → (List ℕ → Option (List ℕ))
     → Option (List ℕ) → OpenerState → CasebookEnds S → Type 0
-IsFreshCasebook shelf told file_at held opener ends =
+CasebookBegins shelf told file_at held opener ends =
     IsFreshOver shelf told file_at ends.shelf × (ends.opener ≡ opener)
     × (ends.sink ≡ fresh_sink held)
 
 -- such a shelf and such a sink over files and an output of which nothing is known, as those of
 -- the runtime, and an opener that has opened nothing
-abbrev pub IsUnknownCasebook : {S : Type 0} → Shelf S → CasebookEnds S → Type 0
-IsUnknownCasebook shelf = IsFreshCasebook shelf false (λ path. None) None fresh_opener
+abbrev pub CasebookBeginsUnknown : {S : Type 0} → Shelf S → CasebookEnds S → Type 0
+CasebookBeginsUnknown shelf = CasebookBegins shelf false (λ path. None) None fresh_opener

@@ -5,10 +5,10 @@
 //! error says so (`run_notes`).
 ghost use Rattle.std.specs.Prelude.{◌≡◌};
 ghost use Rattle.std.specs.Process.{exit_status};
-ghost use Rattle.case_files.specs.ClosedRuns.{CasebookAnswers, IsFreshCasebook, IsUnknownCasebook};
+ghost use Rattle.case_files.specs.ClosedRuns.{CasebookAnswers, CasebookBegins, CasebookBeginsUnknown};
 ghost use Rattle.case_run.specs.Statuses.{case_status_number};
 ghost use Rattle.case_run.specs.declared.statuses.CaseStatus.TheVariants as status;
-ghost use Rattle.run_notes.specs.ProgramAnswers.{AnswersCommandLine, AnswersFresh, AnswersUnknownWords, EndsAsAnswer};
+ghost use Rattle.run_notes.specs.ProgramAnswers.{AnswersCommandLine, AnswersFrom, AnswersUnknownWords, EndsAsAnswer};
 
 use crate::closing::{Closing, run_and_close};
 use crate::file_opener::FileOpener;
@@ -69,8 +69,8 @@ fn run_over<
 >(rt: &R, files: S, output: W, opener: &mut O) -> Ran<S, W>
     ensures { let shelf = ⟦<NotedShelf<FileShelf<S>> as Shelf>⟧ in
         let state = ⟦<NotedSink<StdSink<W>> as Sink>⟧.state in
-        AnswersFresh (CasebookAnswers shelf) status.Memory (R.told rt.now)
-        (IsFreshCasebook shelf (S.tells files) (S.file_at files) (W.contents output)
+        AnswersFrom (CasebookAnswers shelf) status.Memory (R.told rt.now)
+        (CasebookBegins shelf (S.tells files) (S.file_at files) (W.contents output)
         (O.state opener.old))
         (record { shelf = result.shelf; opener = O.state opener.new; sink = state result.out })
         result.status }
@@ -109,7 +109,8 @@ fn tell<F: Shelf>(
 /// Runs the commands over files and standard output.
 fn answer(rt: HostRuntime) -> CaseStatus
     ensures { let shelf = ⟦<NotedShelf<FileShelf<HostRuntime>> as Shelf>⟧ in
-        AnswersUnknownWords (CasebookAnswers shelf) status.Memory (IsUnknownCasebook shelf) result }
+        AnswersUnknownWords (CasebookAnswers shelf) status.Memory
+        (CasebookBeginsUnknown shelf) result }
 {
     let Ok(files) = rt.clone() else {
         return CaseStatus::Memory;
@@ -139,7 +140,7 @@ fn exit_code(status: CaseStatus) -> ExitCode
 pub fn run_casebook(rt: HostRuntime) -> ExitCode
     ensures { let shelf = ⟦<NotedShelf<FileShelf<HostRuntime>> as Shelf>⟧ in
         EndsAsAnswer (CasebookAnswers shelf) status.Memory case_status_number
-        (IsUnknownCasebook shelf) result }
+        (CasebookBeginsUnknown shelf) result }
 {
     exit_code(answer(rt))
 }
