@@ -54,8 +54,8 @@ const OPENED: [Row; 4] = [
     ("--help list", 8, "keeperfault\n"),
 ];
 
-// A database that is closed has its cases in its own file alone, and there is no other file of
-// it. A path that is refused makes no file.
+// A database that is closed has its cases in its own file alone, and nothing is beside it. A
+// path that is refused makes no file.
 #[test]
 fn databases_are_opened_by_their_paths(rt: HostRuntime) -> Result<(), Fail> {
     remove_files(&rt);

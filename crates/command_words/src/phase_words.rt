@@ -65,7 +65,7 @@ fn phase_named(part: &str) -> Option<Phase>
 }
 
 /// Whether a phase may begin with this place after one that begins with `before`: the first
-/// phase, before which `before` is 0, begins with 1, and the others with a greater place.
+/// phase, for which `before` is 0, begins with 1, and the others with a greater place.
 fn follows(before: u32, first: u32) -> bool
     ensures { result ≡ spec.follows before first }
 {

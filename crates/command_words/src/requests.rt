@@ -104,8 +104,8 @@ impl From<NoMemory> for WordsFault {
 ///
 /// - `audit RULE SYMBOL ORDERS TRADES`, and after them, in any order and each at most once,
 ///   `--orders-form FORM`, `--trades-form FORM` and, where the rule has one, `--table`;
-/// - `expect RULE SYMBOL ORDERS` of a rule with Expected trades, and after them `--orders-form
-///   FORM`;
+/// - `expect RULE SYMBOL ORDERS` of a rule with Expected trades, and after them
+///   `--orders-form FORM`;
 /// - `convert orders|trades FORM PATH`;
 /// - `generate START COUNT`, START from 1 to 2,147,483,646 and COUNT from 1 to 1,000,000, each
 ///   of 1 to 10 digits;

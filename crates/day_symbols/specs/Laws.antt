@@ -18,8 +18,8 @@ abbrev pub EachSymbolOnce : Type 0
 EachSymbolOnce = (entries : List OrderRecord) (trades : List TradeRecord)
     → AreEachOnce (symbols_written entries trades) (symbols_of_day entries trades)
 
--- The share is one of as many as given, and the symbol at the index is in it and in no other of
--- them.
+-- The share `number` is one of the `count` shares, and the symbol at the index is in it and in
+-- no other of them.
 pub record IsOnlyShare (count index number : ℕ) : Type 0 where
   pub first : 1 ≤ number
   pub among : number ≤ count
