@@ -195,7 +195,7 @@ no_faults-conform orders deals (suc n) e i lt =
       | inr ne ↦ earlier i (omega (arith, ne))
     ]
 
--- A place at which no order stands changes nothing.
+-- A place that is not that of an order changes nothing.
 
 uncancelled-before : (c : Option ℕ) (p : ℕ) → uncancelled_before c (suc p) ≡ true → uncancelled_before c p ≡ true
 uncancelled-before None p e = refl

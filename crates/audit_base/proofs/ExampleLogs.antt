@@ -38,7 +38,7 @@ firm Sell = codes "B"
 abbrev pub key : Side → List ℕ → Key
 key side id = record { firm = firm side; id = id }
 
--- 20240102-09:00:00, and so many seconds later
+-- 20240102-09:00:00, and as many seconds later as are given
 abbrev pub at : ℕ → Moment
 at later = record { second = 66137316300 + later; nano = 0 }
 

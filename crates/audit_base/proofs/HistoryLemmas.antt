@@ -97,7 +97,7 @@ module _ {E O : Type 0} (f : ℕ → E → Option O) (test : E → Bool) (tells 
   kept-from [] from i lt = absurd (omega arith)
   kept-from (x ∷ xs) from i lt = kept-step xs x from i (f from x) refl (λ j. kept-from xs (from + 1) j) lt
 
-  -- and the element at k, if it is kept, stands at the number of those before it
+  -- and the element at k, if it is kept, is at the number of those before it
   abbrev StandsAt : ℕ → List E → List O → ℕ → Type 0
   StandsAt from xs os k = (count_by test (take k xs) < length os) × (f (from + k) (get_or xs k d) ≡ Some (get_or os (count_by test (take k xs)) any))
 
@@ -288,7 +288,7 @@ module _ (symbol : List ℕ) (entries : List OrderRecord) where
         (record_place records found.0, cond-true (is_placed records k) _ _ t ∙ ap (option_map (record_place records)) found.1, le)
   ]
 
-  -- each order of the list comes from a record of the history, and each new order or replacement of the history stands in the list
+  -- each order of the list comes from a record of the history, and each new order or replacement of the history is in the list
   pub record IsFrom (o : Order) (i : ℕ) : Type 0 where
     pub at : ℕ
     pub inside : at < length records
@@ -308,7 +308,7 @@ module _ (symbol : List ℕ) (entries : List OrderRecord) where
       let same : 0 + k ≡ k = omega arith in
       (r.0, order-fields records k (get_or records k missing_entry) _ (rw same at r.1))
 
-  -- earlier records have lesser indices
+  -- earlier records have smaller indices
   index-most : (j k : ℕ) → j ≤ k → k ≤ length records → order_index records j ≤ order_index records k
   index-most j k le below = count-take (λ e. is_order e.1) records j k le
 

@@ -73,12 +73,12 @@ fraction_digits_write (suc places) number some below =
     fraction_more places number (fraction_digits places (number / 10)) whole (fraction_digits_write places (number / 10) (omega arith) (omega arith)))
     (λ _. fraction_whole (suc places) number (omega arith) below)
 
--- a point stands before the digits of a fraction
+-- a point is before the digits of a fraction
 after_some : (digits : List ℕ) → 1 ≤ length digits → after_point digits ≡ 46 ∷ digits
 after_some [] some = absurd (omega arith)
 after_some (digit ∷ digits) some = refl
 
--- a point stands before the fraction of a price
+-- a point is before the fraction of a price
 pub point_before : (places number : ℕ) → 0 < number → number < 10 ^ places → after_point (fraction_digits places number) ≡ 46 ∷ fraction_digits places number
 point_before places number some below =
     let is = fraction_digits_write places number some below in
@@ -99,7 +99,7 @@ no_point (c ∷ text) are =
     let rest = no_point text (second_so (is_ascii_digit c) (list_all is_ascii_digit text) are) in
     rw first (omega (arith, rest))
 
--- the first point stands after the digits
+-- the first point is after the digits
 first_point : (text rest : List ℕ) → list_all is_ascii_digit text ≡ true → position_or_len is_point (text ++ 46 ∷ rest) ≡ length text
 first_point [] rest are = refl
 first_point (c ∷ text) rest are =
@@ -126,7 +126,7 @@ pub whole_quantity : (text : List ℕ) (value : ℕ) → digits_form 13 text ≡
 whole_quantity text value is =
     ap (quantity_around text) (position_none text (digits_are 13 text value is)) ∙ ap in_quantity is
 
--- where the point stands
+-- where the point is
 pub position_some : (text rest : List ℕ) → list_all is_ascii_digit text ≡ true → position is_point (text ++ 46 ∷ rest) ≡ Some (length text)
 position_some text rest are =
     let at : position_or_len is_point (text ++ 46 ∷ rest) ≡ length text = first_point text rest are in

@@ -1,4 +1,4 @@
--- Orders of a list: their sides, their places, and which of them stand.
+-- Orders of a list: their sides, their places, and which of them no record cancels.
 use Rattle.std.proofs.Common.{◌≡◌, ◌<◌, ◌⊎◌, ℕ, List, length, true, Option, Some, None, refl, ap, arith, inl, inr}
 use Rattle.std.specs.Prelude.{is_none}
 use Rattle.std.proofs.lemmas.Bool.{cases_lt, cases_order, and_parts, and_from}
@@ -35,7 +35,7 @@ none_is : (o : Option ℕ) → is_none o ≡ true → o ≡ None
 none_is None e = refl
 none_is (Some x) e = cc
 
--- the test on an order says that it stands
+-- the test on an order says that no record cancels it
 pub test-stands : (orders : List Order) (side : Side) (i : ℕ) → i < length orders → stands_on side (order_at orders i) ≡ true → Stands orders side i
 test-stands orders side i lt t =
     let parts = and_parts (is_none (order_at orders i).cancelled) (same_side side (order_at orders i).side) t in
@@ -51,7 +51,7 @@ is_live : (o : Option ℕ) → (o ≡ None) ⊎ (o ≡ None → ⊥)
 is_live None = inl refl
 is_live (Some x) = inr (λ e. cc)
 
--- each index stands on the side of the bids, on that of the asks, or on none
+-- each index is that of an uncancelled bid, of an uncancelled ask, or of neither
 pub standing : (orders : List Order) (i : ℕ) → (Stands orders Buy i ⊎ Stands orders Sell i) ⊎ ((Stands orders Buy i → ⊥) × (Stands orders Sell i → ⊥))
 standing orders i = elim (cases_lt i (length orders)) [
   | inr past ↦ inr ((λ s. let lt = s.inside in absurd (omega arith)), (λ s. let lt = s.inside in absurd (omega arith)))

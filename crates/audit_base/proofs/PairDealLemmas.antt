@@ -18,7 +18,7 @@ use Rattle.audit_base.proofs.SumLemmas.{AllPairs-head, AllPairs-tail, AllPairs-c
 abbrev pub ends_of : Deal → ℕ × ℕ
 ends_of d = (d.bid, d.ask)
 
--- one pair stands before another: by the bid, and then by the ask
+-- one pair is before another: by the bid, and then by the ask
 abbrev pub Before : ℕ × ℕ → ℕ × ℕ → Type 0
 Before p q = (p.0 < q.0) ⊎ ((p.0 ≡ q.0) × (p.1 < q.1))
 

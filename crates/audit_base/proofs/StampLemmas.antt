@@ -28,7 +28,7 @@ clock_again second below =
     let same : (second / 61 / 60 * 60 + second / 61 % 60) * 61 + second % 61 ≡ second = omega arith in
     (λ i. second_of (hours i) (minutes i) (seconds i)) ∙ ap Some same
 
--- a fraction of three, six or nine digits is read as so many billionths
+-- a fraction of three, six or nine digits is read as nanoseconds
 pub fraction_again : (width number : ℕ) → (width == 3 || width == 6 || width == 9) ≡ true → 1 ≤ width → width ≤ 9 → number < 10 ^ width → fraction_of (fixed_digits width number) ≡ Some (number * 10 ^ (9 - width))
 fraction_again width number listed some few below =
     let size : length (fixed_digits width number) ≡ width = length-fixed_digits width number in

@@ -12,7 +12,7 @@ use Rattle.audit_base.proofs.OffenceLemmas.{traded_more, part-away}
 use Rattle.audit_base.proofs.DealLemmas.{part-bid, part-ask}
 use Rattle.audit_base.proofs.OrderLemmas.{not_both_sides}
 
--- what the first k deals come to
+-- what the first k deals give
 pub record AreTotalsSoFar (orders : List Order) (deals : List Deal) (k : ℕ) (so_far : List ℕ) (total : ℕ) : Type 0 where
   pub totals : AreTotals orders (take k deals) so_far
   pub whole : total ≡ volume (take k deals)

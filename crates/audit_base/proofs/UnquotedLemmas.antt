@@ -1,4 +1,4 @@
--- What the writers write can stand between the commas of a line.
+-- What the writers write can be put between the commas of a line.
 use Rattle.std.proofs.Common.{◌≡◌, ℕ, true, ◌%◌, ◌/◌, ◌^◌, ◌<◌, ◌≤◌, List, [], ◌∷◌, refl, ◌∙◌, arith, suc, zero}
 use Rattle.std.proofs.lemmas.Bool.{and_from, cond_both}
 use Rattle.std.proofs.lemmas.Bool.Decides.{nat_tests}

@@ -36,7 +36,7 @@ supply_below orders p = sum_by (offered_below p) orders
 abbrev pub cut : List Order → ℕ → ℕ
 cut orders p = demand orders p + supply_below orders p
 
--- executable volume: the lesser of demand and supply, which is what can trade at this one price
+-- executable volume: the smaller of demand and supply, which is what can trade at this one price
 abbrev pub executable_volume : List Order → ℕ → ℕ
 executable_volume orders p = min (demand orders p) (supply orders p)
 
@@ -50,8 +50,8 @@ pub record IsBestUniform (orders : List Order) (c : Cut) : Type 0 where
   pub reached : IsLeast (λ q. (q ≤ 10 ^ 18) × (executable_volume orders q ≡ c.volume)) c.price
   pub greatest : (q : ℕ) → q ≤ 10 ^ 18 → executable_volume orders q ≤ c.volume
 
--- Bound: the least price from 0 to 10^18 at which the cut (under `uniform`, the executable volume)
--- is the volume
+-- Bound: the least price from 0 to 10^18 at which the cut (under `uniform`,
+-- the executable volume) is the volume
 abbrev pub IsBound : VolumeRule → List Order → ℕ → ℕ → Type 0
 IsBound of_volume.Maximum orders volume p =
     IsLeast (λ q. (q ≤ 10 ^ 18) × (cut orders q ≡ volume)) p

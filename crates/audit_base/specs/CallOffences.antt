@@ -23,8 +23,8 @@ use Rattle.audit_base.specs.Rules.{Only}
 use Rattle.audit_base.specs.RuleKinds.{greatest_of, rule_of_volume, asks_one_price}
 use Rattle.audit_base.specs.Shows.{at_deal, with_traded, show_order, show_found, show_place}
 
--- First part: the least deal up to which the deals aren't a matching (or, under `uniform`, haven't
--- one price).
+-- First part: the least deal up to which the deals aren't a matching (or,
+-- under `uniform`, haven't one price).
 
 -- some record cancels the order
 abbrev pub is_cancelled : List Order → ℕ → Bool
@@ -50,13 +50,15 @@ unfoldable pub call_off_limit : List Order → List Deal → ℕ → Option Find
 call_off_limit orders deals k =
     let d = deal_at deals k in let so_far = traded (take (k + 1) deals) in
     only_if (not (keeps_limits orders d))
-    (at_deal property.Limit d (show_order orders so_far d.bid) (show_order orders so_far d.ask))
+    (at_deal property.Limit d (show_order orders so_far d.bid)
+    (show_order orders so_far d.ask))
 
 -- 9: one price is asked for, and the price is not that of the first deal
 unfoldable pub other_price : Bool → List Deal → ℕ → Option Finding
 other_price uniform deals k = let d = deal_at deals k in
     only_if (uniform && not (d.price == (deal_at deals 0).price))
-    (at_deal property.UniformPrice d (show_place which.Trades (deal_at deals 0).place) None)
+    (at_deal property.UniformPrice d
+    (show_place which.Trades (deal_at deals 0).place) None)
 
 -- 10 and 11: up to the deal at k the order at i, which it names, trades more than its quantity
 abbrev pub overfilled : Property → List Order → List Deal → ℕ → ℕ → Option Finding
@@ -66,17 +68,20 @@ overfilled property orders deals k i = let so_far = traded (take (k + 1) deals) 
 
 -- 10, of the deal's bid
 unfoldable pub bid_overfilled : List Order → List Deal → ℕ → Option Finding
-bid_overfilled orders deals k = overfilled property.BuyQuantity orders deals k (deal_at deals k).bid
+bid_overfilled orders deals k =
+    overfilled property.BuyQuantity orders deals k (deal_at deals k).bid
 
 -- 11, of the deal's ask
 unfoldable pub ask_overfilled : List Order → List Deal → ℕ → Option Finding
-ask_overfilled orders deals k = overfilled property.SellQuantity orders deals k (deal_at deals k).ask
+ask_overfilled orders deals k =
+    overfilled property.SellQuantity orders deals k (deal_at deals k).ask
 
 -- the first of these at the deal at k
 abbrev pub matching_finding : Bool → List Order → List Deal → ℕ → Option Finding
 matching_finding uniform orders deals k =
     first_of (call_inactive orders deals k ∷ call_off_limit orders deals k
-    ∷ other_price uniform deals k ∷ bid_overfilled orders deals k ∷ ask_overfilled orders deals k
+    ∷ other_price uniform deals k ∷ bid_overfilled orders deals k
+    ∷ ask_overfilled orders deals k
     ∷ [])
 
 -- the offence of the first part, if there is one
@@ -86,8 +91,8 @@ matching_offence uniform orders deals =
 
 -- Second part: the least deal whose bid or ask is outranked by a short order.
 
--- short, that is not fully traded (LeavesQty, FIX tag 151, above 0): no record cancels the order, and its
--- Traded in the whole log is below its quantity
+-- short, that is not fully traded (LeavesQty, FIX tag 151, above 0): no record cancels the order,
+-- and its Traded in the whole log is below its quantity
 abbrev pub is_short : List Order → List Deal → Side → ℕ → Bool
 is_short orders deals side i =
     stands_on side (order_at orders i) && nat_lt (traded deals i) (quantity_at orders i)
@@ -102,8 +107,8 @@ is_outranked_by_short orders deals side i =
     any_below (λ j. is_short orders deals side j && better (order_at orders j) (order_at orders i))
     (length orders)
 
--- 12 and 13: the order at i, which the deal at k names, is outranked by a short order of its side. The
--- best of these is shown, and the order, with what they trade in the whole log
+-- 12 and 13: the order at i, which the deal at k names, is outranked by a short order of its side.
+-- The best of these is shown, and the order, with what they trade in the whole log
 abbrev pub outranked : Property → Side → List Order → List Deal → ℕ → ℕ → Option Finding
 outranked property side orders deals k i =
     only_if (is_outranked_by_short orders deals side i)
@@ -124,7 +129,8 @@ ask_passed_over orders deals k =
 -- the offence of the second part, if there is one
 abbrev pub fair_offence : List Order → List Deal → Option Finding
 fair_offence orders deals =
-    least_answer (λ k. option_or (bid_passed_over orders deals k) (ask_passed_over orders deals k))
+    least_answer (λ k. option_or (bid_passed_over orders deals k)
+    (ask_passed_over orders deals k))
     (length deals)
 
 -- Third part: the volume isn't the greatest that the rule allows.
@@ -134,9 +140,9 @@ abbrev pub IsGreatestUnder : VolumeRule → List Order → ℕ → Type 0
 IsGreatestUnder of_volume.Uniform orders v = IsGreatestUniformVolume orders v
 IsGreatestUnder of_volume.Maximum orders v = IsGreatestVolume orders v
 
--- 14: the volume is below the greatest. The finding stands at one more than the number of trades of
--- the whole log, and shows the best short bid and the best short ask, with what they trade in the
--- whole log and their dues
+-- 14: the volume is below the greatest. The place of the finding is one more than the number of
+-- trades of the whole log. It shows the best short bid and the best short ask, with what they
+-- trade in the whole log and their dues
 pub record IsVolumeOffence (the_rule : VolumeRule) (orders : List Order) (deals : List Deal)
     (count : ℕ) (finding : Finding) : Type 0 where
   pub most : ℕ
@@ -167,8 +173,8 @@ early_offence call.Fair orders deals =
 early_offence (call.Greatest the_rule) orders deals =
     option_or (matching_offence (asks_one_price the_rule) orders deals) (fair_offence orders deals)
 
--- First offence (call): the first of the three parts, the third of which only a rule that asks for the
--- greatest volume has
+-- First offence (call): the first of the three parts, the third of which only a rule that asks
+-- for the greatest volume has
 abbrev pub IsCallOffence : CallRule → List Order → List Deal → ℕ → Finding → Type 0
 IsCallOffence the_rule orders deals count finding =
     MatchOption (early_offence the_rule orders deals)

@@ -1,5 +1,5 @@
--- The four rules of a call, in which all orders meet at once. Only the orders that no record cancels
--- take part.
+-- The four rules of a call, in which all orders meet at once.
+-- Only the orders that no record cancels take part.
 use Rattle.std.specs.Prelude.{◌≡◌, ◌<◌, ◌≤◌, ℕ, List, All, EachIndex}
 use Rattle.audit_base.specs.declared.terms.Side.{Side}
 use Rattle.audit_base.specs.declared.terms.Side.TheVariants.{Buy, Sell}
@@ -9,22 +9,23 @@ use Rattle.audit_base.specs.Orders.{quantity_at, limit_at, Stands}
 use Rattle.audit_base.specs.Priority.{Better}
 use Rattle.audit_base.specs.Deals.{traded, volume, AreDeals}
 
--- a deal between a bid and an ask that no record cancels, at a price from the ask's limit to the
--- bid's
+-- a deal between a bid and an ask that no record cancels,
+-- at a price from the ask's limit to the bid's
 pub record Keeps (orders : List Order) (d : Deal) : Type 0 where
   pub bid_stands : Stands orders Buy d.bid
   pub ask_stands : Stands orders Sell d.ask
   pub least : limit_at orders d.ask ≤ d.price
   pub most : d.price ≤ limit_at orders d.bid
 
--- Matching: each deal keeps this, and no order trades more than its quantity
+-- Matching: each deal is such a deal, and no order trades more than its quantity
 pub record Matching (orders : List Order) (deals : List Deal) : Type 0 where
   pub kept : All (Keeps orders) deals
   pub within : EachIndex orders (λ i. traded deals i ≤ quantity_at orders i)
 
 -- Fair: an order that is better than one that trades is fully traded
 pub record Fair (orders : List Order) (deals : List Deal) : Type 0 where
-  pub fills : (side : Side) (i j : ℕ) → Stands orders side i → Stands orders side j
+  pub fills : (side : Side) (i j : ℕ) → Stands orders side i
+      → Stands orders side j
       → Better orders i j → 0 < traded deals j → traded deals i ≡ quantity_at orders i
 
 -- OnePrice: there is a price that every deal has. A list with no deals has one price

@@ -1,9 +1,9 @@
 -- The words of continuous trading, in which each order meets at its own record those that rest.
 --
--- The words take `past`: past p o is what the order at o has traded in deals whose cause is below the
--- place p. `left` and `rests` look at the moment before the record at p; `active` looks at the moment
--- after it, which is that before p + 1. The second part says the same words of a list of deals, each
--- with the moment in its name.
+-- The words take `past`: past p o is what the order at o has traded in deals whose cause
+-- is below the place p. What is left and what rests are said of the moment before the record
+-- at p; what is active is said of the moment after it, which is that before p + 1.
+-- The second part says the same words of a list of deals.
 use Rattle.std.specs.Prelude.{ℕ, zero, suc, ◌-◌, max, Bool, true, false, ◌==◌, ◌&&◌, ◌||◌, not, nat_lt, nat_le, List, [], ◌∷◌, Option, None, Some, sum_by, if◌then◌else◌}
 use Rattle.audit_base.specs.declared.orders.Order.{Order}
 use Rattle.audit_base.specs.declared.orders.Deal.{Deal}
@@ -16,10 +16,12 @@ cause orders d = max (place_at orders d.bid) (place_at orders d.ask)
 
 -- the order whose record is the cause, and the one that rested before it
 abbrev pub incoming : List Order → Deal → ℕ
-incoming orders d = if nat_lt (place_at orders d.bid) (place_at orders d.ask) then d.ask else d.bid
+incoming orders d =
+    if nat_lt (place_at orders d.bid) (place_at orders d.ask) then d.ask else d.bid
 
 abbrev pub resting : List Order → Deal → ℕ
-resting orders d = if nat_lt (place_at orders d.bid) (place_at orders d.ask) then d.bid else d.ask
+resting orders d =
+    if nat_lt (place_at orders d.bid) (place_at orders d.ask) then d.bid else d.ask
 
 -- what an order trades in deals of causes below a place
 unfoldable pub traded_before : List Order → List Deal → ℕ → ℕ → ℕ
@@ -41,8 +43,8 @@ abbrev pub is_own_place : Option ℕ → ℕ → Bool
 is_own_place None place = false
 is_own_place (Some c) place = c == place
 
--- the chain that begins with a target: the target, its target, and so on. A target is a lower index,
--- so at most n steps lead back from an index below n
+-- the chain that begins with a target: the target, its target, and so on.
+-- A target is a lower index, so at most n steps lead back from an index below n
 abbrev pub chain_within : ℕ → List Order → Option ℕ → List ℕ
 chain_within zero orders target = []
 chain_within (suc n) orders None = []
@@ -58,10 +60,11 @@ before orders past i = sum_by (past (place_at orders i)) (chain orders i)
 
 -- Size, where it is known whether the order entered: its quantity less Before, or 0
 abbrev pub size_if : Bool → List Order → (ℕ → ℕ → ℕ) → ℕ → ℕ
-size_if entered orders past i = if entered then quantity_at orders i - before orders past i else 0
+size_if entered orders past i =
+    if entered then quantity_at orders i - before orders past i else 0
 
--- Rests before p, where it is known whether the order entered: its life is Rests, its place is below
--- p, no record below p cancels it, and it has not traded its whole Size
+-- Rests before p, where it is known whether the order entered: its life is Rests,
+-- its place is below p, no record below p cancels it, and it has not traded its whole Size
 abbrev pub rests_if : Bool → List Order → (ℕ → ℕ → ℕ) → ℕ → ℕ → Bool
 rests_if entered orders past p i =
     (is_rests (order_at orders i).life && nat_lt (place_at orders i) p)
@@ -70,7 +73,8 @@ rests_if entered orders past p i =
 
 -- the order was placed: it isn't cancelled at its own place
 abbrev pub was_placed : List Order → ℕ → Bool
-was_placed orders i = not (is_own_place (order_at orders i).cancelled (place_at orders i))
+was_placed orders i =
+    not (is_own_place (order_at orders i).cancelled (place_at orders i))
 
 -- whether an order with this target entered, in at most n steps back
 abbrev pub entered_within : ℕ → List Order → (ℕ → ℕ → ℕ) → ℕ → Option ℕ → Bool
@@ -84,8 +88,8 @@ entered_within (suc n) orders past i (Some t) = was_placed orders i
 unfoldable pub entered : List Order → (ℕ → ℕ → ℕ) → ℕ → Bool
 entered orders past i = entered_within (suc i) orders past i (order_at orders i).target
 
--- Size: what an order may trade, its quantity less Before where it entered and this is above 0, else
--- 0
+-- Size: what an order may trade, its quantity less Before where it entered
+-- and this is above 0, else 0
 unfoldable pub size : List Order → (ℕ → ℕ → ℕ) → ℕ → ℕ
 size orders past i = size_if (entered orders past i) orders past i
 
@@ -95,10 +99,11 @@ left orders past p i = size orders past i - past p i
 
 -- Rests before p
 unfoldable pub rests : List Order → (ℕ → ℕ → ℕ) → ℕ → ℕ → Bool
-rests orders past p i = rests_if (entered orders past i) orders past p i
+rests orders past p i =
+    rests_if (entered orders past i) orders past p i
 
--- Active after the record at p: the order rests then, or it is the order at p itself, no record up to
--- p cancels it, and something is left
+-- Active after the record at p: the order rests then, or it is the order at p itself,
+-- no record up to p cancels it, and something is left
 unfoldable pub active : List Order → (ℕ → ℕ → ℕ) → ℕ → ℕ → Bool
 active orders past p i = rests orders past (suc p) i
     || ((place_at orders i == p) && uncancelled_before (order_at orders i).cancelled (suc p)

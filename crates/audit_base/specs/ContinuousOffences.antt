@@ -19,14 +19,15 @@ use Rattle.audit_base.specs.Shows.{found, at_deal, show_order, show_found, prior
 
 -- First part: the least deal of cause i that fails 7, 8, 10 or 11, with the first of these.
 
--- what an order trades in deals of lesser causes, and in those of cause i up to the deal at k
+-- what an order trades in deals of earlier causes, and in those of cause i up to the deal at k
 abbrev pub traded_upto : List Order → List Deal → ℕ → ℕ → ℕ → ℕ
 traded_upto orders deals i k x =
     traded_before orders deals i x + traded_at orders (take (k + 1) deals) i x
 
 -- the number shown with an order in the first part: this, and Before added
 abbrev pub shown_upto : List Order → List Deal → ℕ → ℕ → ℕ → ℕ
-shown_upto orders deals i k x = traded_upto orders deals i k x + before_of orders deals x
+shown_upto orders deals i k x =
+    traded_upto orders deals i k x + before_of orders deals x
 
 -- 7: the resting order doesn't rest before i, or else the incoming order never entered
 unfoldable pub continuous_inactive : List Order → List Deal → ℕ → ℕ → Option Finding
@@ -35,25 +36,29 @@ continuous_inactive orders deals i k =
     first_of (only_if (not (rests_before orders deals i (resting orders d)))
     (at_deal property.Inactive d (show_order orders shown (resting orders d)) None)
     ∷ only_if (not (entered_of orders deals (incoming orders d)))
-    (at_deal property.Inactive d (show_order orders shown (incoming orders d)) None) ∷ [])
+    (at_deal property.Inactive d
+    (show_order orders shown (incoming orders d)) None) ∷ [])
 
 -- 8: the price is outside a limit
 unfoldable pub continuous_off_limit : List Order → List Deal → ℕ → ℕ → Option Finding
 continuous_off_limit orders deals i k =
     let d = deal_at deals k in let shown = shown_upto orders deals i k in
     only_if (not (keeps_limits orders d))
-    (at_deal property.Limit d (show_order orders shown d.bid) (show_order orders shown d.ask))
+    (at_deal property.Limit d (show_order orders shown d.bid)
+    (show_order orders shown d.ask))
 
 -- 10 and 11: the order at x, which the deal names, trades more than its Size
 unfoldable pub over_size : Property → List Order → List Deal → ℕ → ℕ → ℕ → Option Finding
 over_size property orders deals i k x =
     only_if (nat_lt (size_of orders deals x) (traded_upto orders deals i k x))
-    (at_deal property (deal_at deals k) (show_order orders (shown_upto orders deals i k) x) None)
+    (at_deal property (deal_at deals k)
+    (show_order orders (shown_upto orders deals i k) x) None)
 
 -- the first of these at the deal at k, where its cause is i
 abbrev pub conservation_finding : List Order → List Deal → ℕ → ℕ → Option Finding
 conservation_finding orders deals i k = if cause orders (deal_at deals k) == i
-    then first_of (continuous_inactive orders deals i k ∷ continuous_off_limit orders deals i k
+    then first_of (continuous_inactive orders deals i k
+    ∷ continuous_off_limit orders deals i k
     ∷ over_size property.BuyQuantity orders deals i k (deal_at deals k).bid
     ∷ over_size property.SellQuantity orders deals i k (deal_at deals k).ask ∷ [])
     else None
@@ -61,8 +66,8 @@ conservation_finding orders deals i k = if cause orders (deal_at deals k) == i
 -- Second part: the least deal of cause i whose resting order is outranked by an order that rests
 -- before i and has something left after i.
 
--- the number shown with an order in the second and the third part: what it trades in causes up to i,
--- and Before added
+-- the number shown with an order in the second and the third part:
+-- what it trades in causes up to i, and Before added
 abbrev pub shown_after : List Order → List Deal → ℕ → ℕ → ℕ
 shown_after orders deals i x = traded_after orders deals i x + before_of orders deals x
 
@@ -85,7 +90,8 @@ priority_finding orders deals i k =
 
 -- the order at x is of this side and active after i
 abbrev pub active_on : List Order → List Deal → ℕ → Side → ℕ → Bool
-active_on orders deals i side x = same_side side (side_at orders x) && active_after orders deals i x
+active_on orders deals i side x =
+    same_side side (side_at orders x) && active_after orders deals i x
 
 -- some active bid has a limit of at least that of some active ask
 unfoldable pub active_meet : List Order → List Deal → ℕ → Bool
@@ -98,8 +104,10 @@ active_meet orders deals i =
 unfoldable pub spread_finding : List Order → List Deal → ℕ → Option Finding
 spread_finding orders deals i =
     only_if (active_meet orders deals i) (found property.Spread which.Orders i
-    (show_found orders (shown_after orders deals i) (best orders (active_on orders deals i Buy)))
-    (show_found orders (shown_after orders deals i) (best orders (active_on orders deals i Sell))))
+    (show_found orders (shown_after orders deals i)
+    (best orders (active_on orders deals i Buy)))
+    (show_found orders (shown_after orders deals i)
+    (best orders (active_on orders deals i Sell))))
 
 -- the first of the three parts at place i
 abbrev pub finding_at_place : List Order → List Deal → ℕ → Option Finding
@@ -108,7 +116,8 @@ finding_at_place orders deals i =
     ∷ least_answer (priority_finding orders deals i) (length deals)
     ∷ spread_finding orders deals i ∷ [])
 
--- First offence (continuous): at the least place at which the rule fails, the first of the three parts
+-- First offence (continuous): at the least place at which the rule fails,
+-- the first of the three parts
 pub record IsContinuousOffence (orders : List Order) (deals : List Deal) (finding : Finding)
     : Type 0 where
   pub place : ℕ

@@ -30,7 +30,7 @@ pair deals bid ask = sum_by (λ d. if (d.bid == bid) && (d.ask == ask) then d.qu
 abbrev pub volume : List Deal → ℕ
 volume deals = sum_by (λ d. d.quantity) deals
 
--- what stands for a deal past the end of a list, and the deal at an index
+-- what is read past the end of a list of deals, and the deal at an index
 abbrev pub missing_deal : Deal
 missing_deal = record { place = 0; bid = 0; ask = 0; quantity = 0; price = 0 }
 
@@ -48,8 +48,8 @@ pub record NamesOrders (orders : List Order) (d : Deal) : Type 0 where
   pub buys : side_at orders d.bid ≡ Buy
   pub sells : side_at orders d.ask ≡ Sell
 
--- a list of deals over an order list: each names a bid and an ask, places rise strictly, and there are
--- fewer than 2^32
+-- a list of deals over an order list: each names a bid and an ask, places rise strictly,
+-- and there are fewer than 2^32
 pub record IsDealList (orders : List Order) (deals : List Deal) : Type 0 where
   pub named : All (NamesOrders orders) deals
   pub rising : AllPairs (λ d e. d.place < e.place) deals

@@ -47,7 +47,8 @@ pub record IsExpectedUniform (orders : List Order) (deals : List Deal) : Type 0 
 -- `maximum`: with the greatest volume, the pairs of units at the ask's limit
 abbrev pub maximum_deals : List Order → ℕ → List Deal
 maximum_deals orders v =
-    pair_deals orders (of_standing orders (maximum_units orders v)) (λ bid ask. limit_at orders ask)
+    pair_deals orders (of_standing orders (maximum_units orders v))
+    (λ bid ask. limit_at orders ask)
 
 -- they are the Expected trades
 pub record IsExpectedMaximum (orders : List Order) (deals : List Deal) : Type 0 where
@@ -64,11 +65,12 @@ limits_meet Sell a b = nat_le a b
 abbrev pub meets : Order → Order → Bool
 meets o r = same_side (other_side o.side) r.side && limits_meet o.side o.limit r.limit
 
--- what the order at n finds of the one at r: its Left, where it is of the other side, meets n and rests
--- before the record of n
+-- what the order at n finds of the one at r: its Left, where it is of the other side,
+-- meets n and rests before the record of n
 unfoldable pub available : List Order → (ℕ → ℕ → ℕ) → ℕ → ℕ → ℕ
 available orders past n r =
-    if meets (order_at orders n) (order_at orders r) && rests orders past (place_at orders n) r
+    if meets (order_at orders n) (order_at orders r)
+    && rests orders past (place_at orders n) r
     then left orders past (place_at orders n) r else 0
 
 -- what it finds of all orders that are better than the one at r
@@ -77,11 +79,12 @@ available_ahead orders past n r =
     sum_below (λ k. if better (order_at orders k) (order_at orders r)
     then available orders past n k else 0) (length orders)
 
--- what the two trade: the lesser of what n finds of r, and what the better ones leave of the Size of
--- n
+-- what the two trade: the smaller of what n finds of r, and what the better
+-- ones leave of the Size of n
 abbrev pub share : List Order → (ℕ → ℕ → ℕ) → ℕ → ℕ → ℕ
 share orders past n r =
-    min (available orders past n r) (size orders past n - available_ahead orders past n r)
+    min (available orders past n r)
+    (size orders past n - available_ahead orders past n r)
 
 -- the same of a bid and an ask, of which the later is the incoming one
 unfoldable pub pair_share : List Order → (ℕ → ℕ → ℕ) → ℕ → ℕ → ℕ
@@ -97,7 +100,7 @@ resting_limit orders bid ask =
     then limit_at orders bid else limit_at orders ask
 
 -- `continuous`: each pair trades its share under these same deals, of which a share takes those of
--- lesser causes alone, at the limit of the resting order
+-- earlier causes alone, at the limit of the resting order
 abbrev pub IsExpectedContinuous : List Order → List Deal → Type 0
 IsExpectedContinuous orders deals = deals ≡
     pair_deals orders (pair_share orders (traded_before orders deals)) (resting_limit orders)
@@ -110,8 +113,8 @@ IsExpected rule.Continuous orders deals = IsExpectedContinuous orders deals
 IsExpected rule.Matching orders deals = ⊥
 IsExpected rule.Fair orders deals = ⊥
 
--- the trade record of a deal: the id is T and its number from 1, the time that of the later of its two
--- orders
+-- the trade record of a deal: the id is T and its number from 1,
+-- the time that of the later of its two orders
 abbrev pub trade_of_deal : List Order → List ℕ → ℕ → Deal → TradeRecord
 trade_of_deal orders symbol number d = record {
   trade = 84 ∷ decimal number;

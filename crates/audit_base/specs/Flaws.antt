@@ -50,7 +50,7 @@ property_of (Volume short bid ask) = property.Volume
 property_of (Spread bid ask) = property.Spread
 property_of InstantOrder = property.InstantOrder
 
--- the log that its record stands in
+-- the log that its record is in
 abbrev pub log_of : Evidence → Which
 log_of (DuplicateId earlier) = which.Orders
 log_of (TimeBack last) = which.Orders

@@ -49,7 +49,8 @@ is_order (Replace key time symbol target side quantity price) = true
 -- a record ends its target: a cancel or a replacement that names this key
 abbrev pub ends : Key → OrderRecord → Bool
 ends key (New own time symbol side quantity price life) = false
-ends key (Cancel own time symbol target) = same_key (record { firm = own.firm; id = target }) key
+ends key (Cancel own time symbol target) =
+    same_key (record { firm = own.firm; id = target }) key
 ends key (Replace own time symbol target side quantity price) =
     same_key (record { firm = own.firm; id = target }) key
 
@@ -71,13 +72,13 @@ fits_side None target = true
 fits_side (Some side) None = false
 fits_side (Some side) (Some target) = same_side side target
 
--- The history of a symbol: its order records, each with its place in the log, from 1 over all
--- symbols.
+-- The history of a symbol: its order records, each with its place
+-- in the log, from 1 over all symbols.
 
 abbrev pub history : List ℕ → List OrderRecord → List (ℕ × OrderRecord)
 history symbol entries = filter (λ e. same_name (symbol_of e.1) symbol) (enumerate_from 1 entries)
 
--- what stands for a record past the end
+-- what is read past the end of a history
 abbrev pub missing_entry : ℕ × OrderRecord
 missing_entry = (0, Cancel missing_order.key missing_order.time [] [])
 
@@ -95,33 +96,40 @@ key_at records k = key_of (record_at records k)
 
 -- the earlier record that has the key of the one at k
 abbrev pub earlier_with_key : List (ℕ × OrderRecord) → ℕ → Option ℕ
-earlier_with_key records k = least_with (λ j. same_key (key_at records j) (key_at records k)) k
+earlier_with_key records k =
+    least_with (λ j. same_key (key_at records j) (key_at records k)) k
 
 -- the earlier order that the record at k may name as its target
 abbrev pub target_of : List (ℕ × OrderRecord) → ℕ → Option ℕ
 target_of records k =
-    least_with (λ j. is_order (record_at records j) && ends (key_at records j) (record_at records k)
+    least_with (λ j. is_order (record_at records j)
+    && ends (key_at records j) (record_at records k)
     && fits_side (side_of (record_at records k)) (side_of (record_at records j))) k
 
 -- 1: the key is that of an earlier record, cancels and replacements included
 abbrev pub duplicate_id : List (ℕ × OrderRecord) → ℕ → Option Finding
 duplicate_id records k =
-    option_map (λ j. found property.DuplicateId which.Orders (record_place records k)
-    (show_place which.Orders (record_place records j)) None) (earlier_with_key records k)
+    option_map (λ j. found property.DuplicateId which.Orders
+    (record_place records k)
+    (show_place which.Orders (record_place records j)) None)
+    (earlier_with_key records k)
 
--- 2: the time is lesser than that of the history's record before it
+-- 2: the time is earlier than that of the history's record before it
 abbrev pub time_back : List (ℕ × OrderRecord) → ℕ → Option Finding
 time_back records zero = None
 time_back records (suc j) =
-    only_if (is_before (time_of (record_at records (suc j))) (time_of (record_at records j)))
+    only_if (is_before (time_of (record_at records (suc j)))
+    (time_of (record_at records j)))
     (found property.TimeBack which.Orders (record_place records (suc j))
     (show_place which.Orders (record_place records j)) None)
 
--- 3: a cancel's target is no earlier order of its firm, or a replacement's none of its firm and side
+-- 3: a cancel's target is no earlier order of its firm, or a replacement's
+-- none of its firm and side
 abbrev pub unknown_target : List (ℕ × OrderRecord) → ℕ → Option Finding
 unknown_target records k =
     only_if (is_some (target_key (record_at records k)) && is_none (target_of records k))
-    (found property.UnknownTarget which.Orders (record_place records k) None None)
+    (found property.UnknownTarget which.Orders
+    (record_place records k) None None)
 
 -- the first of the three at the record at k
 abbrev pub record_finding : List (ℕ × OrderRecord) → ℕ → Option Finding
@@ -141,11 +149,13 @@ WellFormed symbol entries = history_finding symbol entries ≡ None
 
 -- the target of a replacement; a new order and a cancel replace nothing
 abbrev pub replaced_at : List (ℕ × OrderRecord) → ℕ → Option ℕ
-replaced_at records k = if is_order (record_at records k) then target_of records k else None
+replaced_at records k =
+    if is_order (record_at records k) then target_of records k else None
 
 -- a record before k ends the order at t
 abbrev pub ended_before : List (ℕ × OrderRecord) → ℕ → ℕ → Bool
-ended_before records k t = any_below (λ j. ends (key_at records t) (record_at records j)) k
+ended_before records k t =
+    any_below (λ j. ends (key_at records t) (record_at records j)) k
 
 -- placed: a new order always, a replacement where its target is placed and no record before it ends
 -- the target. Targets are earlier, so at most n steps lead back from the record at an index below n
@@ -158,8 +168,8 @@ placed_within (suc n) records k (Some t) =
 abbrev pub is_placed : List (ℕ × OrderRecord) → ℕ → Bool
 is_placed records k = placed_within (suc k) records k (replaced_at records k)
 
--- `cancelled`: of a replacement that isn't placed its own place, of every other order the least place
--- of a record that ends it
+-- `cancelled`: of a replacement that isn't placed its own place, of every other order the least
+-- place of a record that ends it
 abbrev pub cancelled_of : List (ℕ × OrderRecord) → ℕ → Option ℕ
 cancelled_of records k = if is_placed records k
     then option_map (record_place records)
@@ -217,5 +227,6 @@ pub record Regular (orders : List Order) : Type 0 where
 -- 16: the least order of the history whose life isn't Rests
 abbrev pub instant_order : List Order → Option Finding
 instant_order orders =
-    option_map (λ i. found property.InstantOrder which.Orders (place_at orders i) None None)
+    option_map (λ i. found property.InstantOrder which.Orders
+    (place_at orders i) None None)
     (least_with (λ i. not (is_rests (order_at orders i).life)) (length orders))

@@ -1,5 +1,5 @@
--- The first of several: the least number with a property, and the first answer. Every "first", "least"
--- and "some" of the rules is said by these words.
+-- The first of several: the least number with a property, and the first answer.
+-- Every "first", "least" and "some" of the rules is said by these words.
 use Rattle.std.specs.Prelude.{◌<◌, ℕ, zero, suc, Bool, false, ◌||◌, List, [], ◌∷◌, Option, None, Some, if◌then◌else◌}
 use Rattle.std.specs.Option.{option_or}
 

@@ -35,7 +35,7 @@ is_rests Rests = true
 is_rests Immediate = false
 is_rests Market = false
 
--- what stands for an order past the end of a list: it has quantity 0 and waits for nobody
+-- what is read past the end of an order list: an order of quantity 0 that does not rest
 abbrev pub missing_order : Order
 missing_order = record {
   place = 0;
@@ -66,8 +66,8 @@ quantity_at orders i = (order_at orders i).quantity
 abbrev pub limit_at : List Order → ℕ → ℕ
 limit_at orders i = (order_at orders i).limit
 
--- an order list: places rise strictly, there are fewer than 2^32 orders, each target is a lower index
--- of the same side, and the life of an order with a target is always Rests
+-- an order list: places rise strictly, there are fewer than 2^32 orders, each target is a lower
+-- index of the same side, and the life of an order with a target is always Rests
 pub record IsOrderList (orders : List Order) : Type 0 where
   pub rising : AllPairs (λ o p. o.place < p.place) orders
   pub few : length orders < 2 ^ 32

@@ -11,7 +11,8 @@ abbrev pub better_limit : Side → ℕ → ℕ → Bool
 better_limit Buy a b = nat_lt b a
 better_limit Sell a b = nat_lt a b
 
--- of two orders of this side, the first has the better limit, or the same limit and the smaller place
+-- of two orders of this side, the first has the better limit,
+-- or the same limit and the smaller place
 abbrev pub outranks : Side → Order → Order → Bool
 outranks side o p =
     better_limit side o.limit p.limit || ((o.limit == p.limit) && nat_lt o.place p.place)

@@ -16,8 +16,8 @@ Conforms rule.Uniform orders deals = ConformsUniform orders deals
 Conforms rule.Maximum orders deals = ConformsMaximum orders deals
 Conforms rule.Continuous orders deals = ConformsContinuous orders deals
 
--- Only: there is a conforming list of deals, and in each conforming list the order at i trades n. This
--- n is the due of the order
+-- Only: there is a conforming list of deals, and in each conforming list the order at i trades n.
+-- This n is the due of the order
 pub record Only (the_rule : Rule) (orders : List Order) (i n : ℕ) : Type 0 where
   pub some : List Deal
   pub ranges : AreDeals some

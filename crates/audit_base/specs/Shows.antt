@@ -14,8 +14,8 @@ use Rattle.audit_base.specs.declared.findings.Shown.{Shown}
 use Rattle.audit_base.specs.declared.findings.Shown.TheVariants as shown
 use Rattle.audit_base.specs.Orders.{order_at}
 
--- a finding without volumes: a property, the place of the offending record in its log, and what shows
--- it
+-- a finding without volumes: a property, the place of the offending record
+-- in its log, and what shows it
 abbrev pub found : Property → Which → ℕ → Option Shown → Option Shown → Finding
 found property log place first second = record {
   property = property;
@@ -28,7 +28,8 @@ found property log place first second = record {
 
 -- such a finding at a trade, by its deal
 abbrev pub at_deal : Property → Deal → Option Shown → Option Shown → Finding
-at_deal property d first second = found property which.Trades d.place first second
+at_deal property d first second =
+    found property which.Trades d.place first second
 
 -- an order with a traded number
 abbrev pub with_traded : Order → ℕ → OrderLine

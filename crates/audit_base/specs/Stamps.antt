@@ -1,5 +1,6 @@
--- The written form of points in time, after FIX 4.4, UTCTimestamp: `YYYYMMDD-HH:MM:SS`, then optionally
--- a point and a fraction of three, six or nine digits. The codes of `-`, `.` and `:` are 45, 46, 58.
+-- The written form of points in time, after FIX 4.4, UTCTimestamp:
+-- `YYYYMMDD-HH:MM:SS`, then optionally a point and a fraction of three, six or nine digits.
+-- The codes of `-`, `.` and `:` are 45, 46, 58.
 use Rattle.std.specs.Prelude.{ℕ, ◌+◌, ◌-◌, ◌*◌, ◌/◌, ◌%◌, ◌^◌, ◌==◌, ◌&&◌, ◌||◌, nat_le, Option, Some, None, List, [], ◌∷◌, ◌++◌, length, slice_index, take, drop, if◌then◌else◌}
 use Rattle.audit_base.specs.Digits.{digits_between, digits_form, fixed_digits}
 use Rattle.audit_base.specs.Moments.{Moment}

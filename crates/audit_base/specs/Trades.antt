@@ -1,5 +1,5 @@
--- Sound trades: those of the symbol have ids of their own, and each names a bid and an ask of the
--- history.
+-- Sound trades: those of the symbol have ids of their own, and each names a bid
+-- and an ask of the history.
 use Rattle.std.specs.Prelude.{◌≡◌, ◌<◌, ◌≤◌, ◌^◌, ℕ, All, List, [], Option, None, Some, is_none, option_map, filter, map, length, slice_index_or, unwrap_or}
 use Rattle.std.specs.Option.{option_or}
 use Rattle.std.specs.List.{enumerate_from}

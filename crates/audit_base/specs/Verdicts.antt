@@ -1,4 +1,4 @@
--- The verdict on two logs that have been read: the first phase with an answer decides.
+-- The verdict on two logs that have been read: the first stage with an answer decides.
 use Rattle.std.specs.Prelude.{◌≡◌, ℕ, List, [], ◌∷◌, Option, None, Some, Result, Ok, Err, length, MatchOption, option_and_then}
 use Rattle.audit_base.specs.declared.terms.Rule.{Rule}
 use Rattle.audit_base.specs.declared.records.OrderRecord.{OrderRecord}
@@ -16,10 +16,11 @@ use Rattle.audit_base.specs.ContinuousOffences.{IsContinuousOffence}
 
 -- finding 16 is looked for under the four rules of a call
 abbrev pub call_finding : Rule → List Order → Option Finding
-call_finding the_rule orders = option_and_then (λ call. instant_order orders) (call_rule the_rule)
+call_finding the_rule orders =
+    option_and_then (λ call. instant_order orders) (call_rule the_rule)
 
--- finding 4: a trade log that has been read is its trades, or this finding where its reports don't
--- pair
+-- finding 4: a trade log that has been read is its trades, or this finding
+-- where its reports don't pair
 abbrev pub pairing_finding : Result (List TradeRecord) Finding → Option Finding
 pairing_finding (Ok trades) = None
 pairing_finding (Err finding) = Some finding
@@ -29,11 +30,12 @@ abbrev pub paired_trades : Result (List TradeRecord) Finding → List TradeRecor
 paired_trades (Ok trades) = trades
 paired_trades (Err finding) = []
 
--- the findings before those of the rule, in the order of the phases: 1 to 3, 16, 4, 5 and 6
+-- the findings before those of the rule, in the order of the stages: 1 to 3, 16, 4, 5 and 6
 abbrev pub log_finding : Rule → List ℕ → List OrderRecord → Result (List TradeRecord) Finding
     → Option Finding
 log_finding the_rule symbol entries trades =
-    first_of (history_finding symbol entries ∷ call_finding the_rule (order_list symbol entries)
+    first_of (history_finding symbol entries
+    ∷ call_finding the_rule (order_list symbol entries)
     ∷ pairing_finding trades
     ∷ unsound_trade (order_list symbol entries) symbol (paired_trades trades) ∷ [])
 

@@ -1,6 +1,6 @@
-//! What is wrong with a record, by places, indices and numbers, and the finding that it is. A finding has
-//! hundreds of bytes, and most records have none: so a flaw is looked for and handed on in its place, and
-//! only the one finding that is answered is made, here.
+//! What is wrong with a record, by places, indices and numbers, and the finding that it is.
+//! A finding has hundreds of bytes, and most records have none: so a flaw is looked for and handed
+//! on in its place, and only the one finding that is answered is made, here.
 ghost use Rattle.std.specs.Prelude.{◌≡◌, ◌<◌, [], IfSome, length, option_and_then};
 ghost use Rattle.audit_base.specs.Flaws as spec;
 ghost use Rattle.audit_base.specs.Shows.{priority_of, show_place};
@@ -134,7 +134,7 @@ impl Evidence {
         }
     }
 
-    /// The log that its record stands in.
+    /// The log that its record is in.
     fn log(self) -> Which
         ensures { result ≡ spec.log_of self }
     {
@@ -198,7 +198,8 @@ impl Evidence {
 }
 
 impl Flaw {
-    /// The finding, of a flaw that names no order, as what is wrong with a record of a log by itself does.
+    /// The finding, of a flaw that names no order, as what is wrong
+    /// with a record of a log by itself does.
     pub fn finding(self) -> Finding
         requires { spec.IsInside [] self.evidence }
         ensures { result ≡ spec.finding_of [] self }
@@ -206,8 +207,8 @@ impl Flaw {
         self.finding_among(&NoOrders)
     }
 
-    /// The finding: property, log and place, with what shows it. The orders are those that the indices
-    /// are of.
+    /// The finding: property, log and place, with what shows it.
+    /// The orders are those that the indices are of.
     pub fn finding_among<L: OrderLines>(self, orders: &L) -> Finding
         requires { spec.IsInside (L.orders orders.now) self.evidence }
         ensures { result ≡ spec.finding_of (L.orders orders.now) self }

@@ -47,8 +47,8 @@ impl Price {
     }
 }
 
-/// The price of a market order of this side: 999,999,999,999,999,999 units of a bid, 0 of an ask. So
-/// it takes any price.
+/// The price of a market order of this side: 999,999,999,999,999,999 units of a bid,
+/// 0 of an ask. So it takes any price.
 pub fn market_price(side: Side) -> Price
     ensures { result ≡ form.market_price side }
 {
@@ -60,7 +60,7 @@ pub fn market_price(side: Side) -> Price
     }
 }
 
-/// A number of shares, from 1 to 1,000,000,000,000.
+/// A whole number of what is traded, from 1 to 1,000,000,000,000.
 #[derive(Clone, Copy, Debug, PartialEq, Eq, Hash, PartialOrd, Ord)]
 pub struct Quantity {
     value: u64,
@@ -193,8 +193,8 @@ fn read_around_point(text: &[u8]) -> Option<Quantity>
     }
 }
 
-/// The quantity that the text writes: 1 to 13 digits, then optionally `.` and one or more zeros, with
-/// a whole part from 1 to 1,000,000,000,000. None exactly where it is not in this form.
+/// The quantity that the text writes: 1 to 13 digits, then optionally `.` and one or more zeros,
+/// with a whole part from 1 to 1,000,000,000,000. None exactly where it is not in this form.
 pub fn read_quantity(text: &[u8]) -> Option<Quantity>
     ensures { result ≡ form.quantity_form text.now }
 {

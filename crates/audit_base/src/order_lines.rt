@@ -11,7 +11,8 @@ pub trait OrderLines {
     // The order list.
     ghost orders: { Self → List Order };
 
-    /// The line of the order at an index, where it has traded this much. None exactly where there is no order.
+    /// The line of the order at an index, where it has traded this much.
+    /// None exactly where there is no order.
     fn line_at(&self, index: usize, traded: u128) -> Option<OrderLine>
         ensures there { index < length (orders self.now)
             → result ≡ Some (with_traded (order_at (orders self.now) index) traded) }

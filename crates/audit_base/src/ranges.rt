@@ -1,5 +1,5 @@
-//! The ranges of the numbers of records, as facts. Nothing is computed here: the types keep the ranges, and
-//! reading a number tells a proof so.
+//! The ranges of the numbers of records, as facts. Nothing is computed here:
+//! the types keep the ranges, and reading a number gives it to a proof.
 ghost use Rattle.audit_base.specs.Deals.{IsDeal, AreDeals};
 ghost use Rattle.audit_base.specs.Trades.{IsTrade, AreTrades};
 

@@ -27,8 +27,8 @@ fn clock_of(text: &[u8]) -> [u8; 17]
     clock
 }
 
-/// A reader of points in time. It keeps the text of the last date and clock that it read, and the second
-/// that they write, so that a text with the same ones is read from its fraction on.
+/// A reader of points in time. It keeps the text of the last date and clock that it read,
+/// and the second that they write, so that a text with the same ones is read from its fraction on.
 #[derive(Clone, Copy)]
 pub struct StampReader {
     clock: [u8; 17],
@@ -46,8 +46,8 @@ impl StampReader {
         }
     }
 
-    /// The point in time that a text writes, as `read_stamp` reads it. None exactly where the text is not
-    /// in its form.
+    /// The point in time that a text writes, as `read_stamp` reads it.
+    /// None exactly where the text is not in its form.
     pub fn read(&mut self, text: &[u8]) -> Option<Stamp>
         ensures { result ≡ form.stamp_form text.now }
     {

@@ -30,10 +30,10 @@ pub fn write_number(_alloc: Global, number: u128, out: &mut Vec<u8>) -> Result<(
     Ok(())
 }
 
-/// Appends the canonical text of a price of this many units of 10^-8: its whole part without leading
-/// zeros, then, where there is a fraction, `.` and its digits without zeros at the end. `units` is at
-/// most 10^18, whose text `10000000000` is the one that is not read again. Out of memory, it leaves
-/// `out` as it was.
+/// Appends the canonical text of a price of this many units of 10^-8: its whole part without
+/// leading zeros, then, where there is a fraction, `.` and its digits without zeros at the end.
+/// `units` is at most 10^18, whose text `10000000000` is the one that is not read again.
+/// Out of memory, it leaves `out` as it was.
 pub fn write_price(_alloc: Global, units: u64, out: &mut Vec<u8>) -> Result<(), NoMemory>
     requires { units ≤ 10 ^ 18 }
     ensures appended { OnOk result (out.new.items ≡ out.old.items ++ price_text units) }

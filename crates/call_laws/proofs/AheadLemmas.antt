@@ -18,7 +18,7 @@ use Rattle.audit_base.proofs.OrderLemmas.{stands-test}
 use Rattle.audit_base.proofs.PriorityLemmas.{outranks-strict, outranks-onward, better-outranks}
 use Rattle.call_laws.proofs.RankedLemmas.{ranked, ranked-is, ranked-sum, indexed}
 
--- the quantity of an order, where it stands on the side and outranks another
+-- the quantity of an order, where no record cancels it, it is of the side, and it outranks another
 abbrev pub part_ahead : List Order → Side → ℕ → ℕ → ℕ
 part_ahead orders side i k = cond (stands_on side (order_at orders k) && outranks side (order_at orders k) (order_at orders i)) (quantity_at orders k) 0
 
@@ -99,7 +99,7 @@ only_at i n k = cond (eqb k i) n 0
 pub below-only : (i n count : ℕ) → i < count → sum_below (only_at i n) count ≡ n
 below-only i n count lt = below-single (only_at i n) count i lt (λ k _ ne. cond-false (eqb k i) n 0 (ne_eqb k i ne)) ∙ cond-true (eqb i i) n 0 (eq-eqb i i refl)
 
--- an order and what is ahead of it stand together ahead of each worse order
+-- an order and what is ahead of it are together ahead of each worse order
 pub ahead-better : (orders : List Order) (side : Side) (i j : ℕ) → Stands orders side i → Better orders i j
     → ahead orders side i + quantity_at orders i ≤ ahead orders side j
 ahead-better orders side i j s b =

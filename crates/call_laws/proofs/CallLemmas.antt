@@ -54,12 +54,12 @@ cond-some : (b : Bool) (x : ℕ) → 0 < cond b x 0 → (b ≡ true) × (cond b 
 cond-some true x some = (refl, refl)
 cond-some false x some = absurd (omega arith)
 
--- a sum of what stands under one test
+-- a sum all of whose terms have one test
 cond-sum : (b : Bool) (f : ℕ → ℕ) (n : ℕ) → sum_below (λ k. cond b (f k) 0) n ≡ cond b (sum_below f n) 0
 cond-sum true f n = refl
 cond-sum false f n = below-none (λ k. 0) n (λ k lt. refl)
 
--- an order stands on one side
+-- an order is of one side alone
 not-sell : (orders : List Order) (i : ℕ) → Stands orders Buy i → stands_on Sell (order_at orders i) ≡ false
 not-sell orders i s = elim (cases_Bool (stands_on Sell (order_at orders i))) [
   | inl t ↦ absurd (not_both_sides (sym s.of_side ∙ (test-stands orders Sell i s.inside t).of_side))

@@ -171,7 +171,7 @@ lesser-short orders deals others m n lt side =
           (k, record { stands = subst (λ s. Stands orders s k) sided (trades-stands orders others n.kept k (omega arith)); below = omega arith })
     ]
 
--- the best short order of a side stands on it
+-- the best short order of a side is on it, and no record cancels it
 pub best-stands : (orders : List Order) (deals : List Deal) (side : Side) (i : ℕ) → best_short orders deals side ≡ Some i → Stands orders side i
 unfolding best_short
 best-stands orders deals side i e =

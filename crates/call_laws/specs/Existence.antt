@@ -21,7 +21,8 @@ LeastCutExists = (orders : List Order) → (c : Cut) × IsLeastCut orders c
 
 -- each order list has a greatest executable volume over all prices
 abbrev pub GreatestExecutableVolumeExists : Type 0
-GreatestExecutableVolumeExists = (orders : List Order) → (c : Cut) × IsBestUniform orders c
+GreatestExecutableVolumeExists =
+    (orders : List Order) → (c : Cut) × IsBestUniform orders c
 
 -- under each rule of a call some list of deals conforms
 abbrev pub ConformingListExists : Type 0
@@ -37,11 +38,13 @@ ExpectedTradesExist = (the_rule : VolumeRule) (orders : List Order)
 
 -- and each order has a due
 abbrev pub DuesExist : Type 0
-DuesExist = (the_rule : VolumeRule) (orders : List Order) → IsOrderList orders → AreOrders orders
+DuesExist =
+    (the_rule : VolumeRule) (orders : List Order) → IsOrderList orders → AreOrders orders
     → (i : ℕ) → (due : ℕ) × Only (rule_of_volume the_rule) orders i due
 
 -- under each rule of a call every list of deals conforms or has a first offence
 abbrev pub RuleVerdictExists : Type 0
 RuleVerdictExists = (the_rule : CallRule) (orders : List Order) (deals : List Deal) (count : ℕ)
-    → IsOrderList orders → AreOrders orders → All (NamesOrders orders) deals → AreDeals deals
+    → IsOrderList orders → AreOrders orders → All (NamesOrders orders) deals
+    → AreDeals deals
     → (verdict : Option Finding) × IsRuleVerdict (rule_of_call the_rule) orders deals count verdict

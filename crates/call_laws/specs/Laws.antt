@@ -13,8 +13,8 @@ use Rattle.audit_base.specs.Rules.{Conforms, Only}
 use Rattle.audit_base.specs.CallOffences.{is_short, best_short}
 use Rattle.audit_base.specs.Units.{due_by_rank}
 
--- a fair matching fills its volume by rank: an order trades what the better ones leave of the volume,
--- up to its quantity
+-- a fair matching fills its volume by rank: an order trades what the better ones leave
+-- of the volume, up to its quantity
 abbrev pub FairVolumeFillsByRank : Type 0
 FairVolumeFillsByRank = (orders : List Order) (deals : List Deal)
     → IsOrderList orders → Matching orders deals → Fair orders deals
@@ -27,8 +27,8 @@ FairVolumeFixes = (orders : List Order) (first second : List Deal) → IsOrderLi
     → Matching orders first → Fair orders first → Matching orders second → Fair orders second
     → volume first ≡ volume second → (i : ℕ) → traded first i ≡ traded second i
 
--- where the volume is the greatest that the rule allows, the limits of a short bid and a short ask
--- don't meet
+-- where the volume is the greatest that the rule allows, the limits of a short bid
+-- and a short ask don't meet
 abbrev pub ShortOrdersDoNotMeet : Type 0
 ShortOrdersDoNotMeet = (the_rule : VolumeRule) (orders : List Order) (deals : List Deal)
     → AreOrders orders → AreDeals deals → Conforms (rule_of_volume the_rule) orders deals
@@ -42,8 +42,8 @@ LesserVolumeLeavesShortOrders = (orders : List Order) (deals others : List Deal)
     → Matching orders deals → Matching orders others → volume deals < volume others
     → (side : Side) → best_short orders deals side ≢ None
 
--- under a rule that asks for a greatest volume, what an order trades in one conforming list of deals is
--- its due
+-- under a rule that asks for a greatest volume, what an order trades in one
+-- conforming list of deals is its due
 abbrev pub OnlyQuantities : Type 0
 OnlyQuantities = (the_rule : VolumeRule) (orders : List Order) (deals : List Deal)
     → IsOrderList orders → AreDeals deals → Conforms (rule_of_volume the_rule) orders deals

@@ -24,13 +24,14 @@ UniformOptimum = (orders : List Order) (c : Cut)
     × (volume (uniform_deals orders c.volume c.price) ≡ c.volume)
     × AreDeals (uniform_deals orders c.volume c.price)
 
--- so these pairs are the Expected trades, this volume is the greatest of a matching of one price, and
--- the price its bound
+-- so these pairs are the Expected trades, this volume is the greatest of a matching of one
+-- price, and the price its bound
 abbrev pub UniformTradesAreExpected : Type 0
 UniformTradesAreExpected = (orders : List Order) (c : Cut)
     → IsOrderList orders → AreOrders orders → IsBestUniform orders c
     → IsExpectedUniform orders (uniform_deals orders c.volume c.price)
-    × IsGreatestUniformVolume orders c.volume × IsBound of_volume.Uniform orders c.volume c.price
+    × IsGreatestUniformVolume orders c.volume
+    × IsBound of_volume.Uniform orders c.volume c.price
 
 -- the pairs of units conform to `maximum` and reach the least cut
 abbrev pub MaximumReachesLeastCut : Type 0
@@ -40,17 +41,19 @@ MaximumReachesLeastCut = (orders : List Order) (c : Cut)
     × (volume (maximum_deals orders c.volume) ≡ c.volume)
     × AreDeals (maximum_deals orders c.volume)
 
--- so these pairs are the Expected trades, this volume is the greatest of a matching, and the price its
--- bound
+-- so these pairs are the Expected trades, this volume is the greatest
+-- of a matching, and the price its bound
 abbrev pub MaximumTradesAreExpected : Type 0
 MaximumTradesAreExpected = (orders : List Order) (c : Cut)
     → IsOrderList orders → AreOrders orders → IsLeastCut orders c
     → IsExpectedMaximum orders (maximum_deals orders c.volume)
     × IsGreatestVolume orders c.volume × IsBound of_volume.Maximum orders c.volume c.price
 
--- under `uniform` both sides have units enough for the greatest volume, and its bound is below 10^18
+-- under `uniform` both sides have units enough for the greatest volume,
+-- and its bound is below 10^18
 abbrev pub UniformUnitsSuffice : Type 0
-UniformUnitsSuffice = (orders : List Order) (c : Cut) → AreOrders orders → IsBestUniform orders c
+UniformUnitsSuffice =
+    (orders : List Order) (c : Cut) → AreOrders orders → IsBestUniform orders c
     → (c.volume ≤ demand orders 0) × (c.volume ≤ supply orders (10 ^ 18)) × (c.price < 10 ^ 18)
 
 -- under `maximum` both sides have units enough for the least cut

@@ -2,8 +2,8 @@
 //! of the same would run out of it.
 ghost use Rattle.call_laws.specs.Existence.{LeastCutExists, GreatestExecutableVolumeExists, ConformingListExists, ExpectedTradesExist, DuesExist, RuleVerdictExists};
 
-/// Each order list has a least cut, and a greatest executable volume, over the prices from 0 to 10^18,
-/// each with the least price that reaches it.
+/// Each order list has a least cut, and a greatest executable volume,
+/// over the prices from 0 to 10^18, each with the least price that reaches it.
 pub fn extremes_exist()
     ensures cut { LeastCutExists }
     ensures executable { GreatestExecutableVolumeExists }
@@ -14,8 +14,8 @@ pub fn conforming_list_exists()
     ensures { ConformingListExists }
 {}
 
-/// Under `uniform` and `maximum` there are Expected trades, and each order has a due: the quantity that
-/// it trades in every list of deals that conforms.
+/// Under `uniform` and `maximum` there are Expected trades, and each order has a due:
+/// the quantity that it trades in every list of deals that conforms.
 pub fn expected_trades_and_dues_exist()
     ensures expected { ExpectedTradesExist }
     ensures dues { DuesExist }

@@ -7,8 +7,8 @@ pub fn fair_volume_fills_by_rank()
     ensures { FairVolumeFillsByRank }
 {}
 
-/// Under `uniform` and `maximum` the limits of a short bid and a short ask don't meet: else one more
-/// unit could trade.
+/// Under `uniform` and `maximum` the limits of a short bid and a short ask don't meet:
+/// else one more unit could trade.
 pub fn short_orders_do_not_meet()
     ensures { ShortOrdersDoNotMeet }
 {}
@@ -23,8 +23,8 @@ pub fn only_quantities()
     ensures { OnlyQuantities }
 {}
 
-/// Under `uniform` and `maximum` the due of an order is what the better ones leave of the volume that
-/// conforms, up to its quantity.
+/// Under `uniform` and `maximum` the due of an order is what the better ones leave of the volume
+/// that conforms, up to its quantity.
 pub fn due_by_rank()
     ensures { DueByRank }
 {}

@@ -13,15 +13,17 @@ use std::alloc::Global;
 
 /// An opener that closes what it has opened, once nothing more is asked of it.
 ///
-/// What handles a keeper by this knows nothing of what it is made of. A function that has a database by its own
-/// type is proved by way of all that the database is made of, which takes half a minute or more.
+/// What handles a keeper by this knows nothing of what it is made of. A function that has a
+/// database by its own type is proved by way of all that the database is made of, which takes
+/// half a minute or more.
 pub trait Closing: Opener {
-    /// Closes the keeper that was opened last. What it has kept stays kept, also where the close fails.
+    /// Closes the keeper that was opened last. What it has kept stays kept, also where the
+    /// close fails.
     fn close(&self, keeper: Self::Book);
 }
 
-/// Runs the commands over the casebook that the first word names, as `run_book_seeded` does, and closes it. The answer
-/// is that of the commands.
+/// Runs the commands over the casebook that the first word names, as `run_book_seeded` does,
+/// and closes it. The answer is that of the commands.
 pub fn run_and_close<F: Shelf, K: Sink, O: Closing>(
     alloc: Global,
     seed: HashSeed,
@@ -31,7 +33,8 @@ pub fn run_and_close<F: Shelf, K: Sink, O: Closing>(
     opener: &mut O,
 ) -> CaseStatus
     ensures { RunsWordsAndCloses F.Shelf shelf.old shelf.new
-        (O.state opener.old) (O.state opener.new) (map string_bytes words.now) (K.state out.old) (K.state out.new) result }
+        (O.state opener.old) (O.state opener.new) (map string_bytes words.now)
+        (K.state out.old) (K.state out.new) result }
 {
     let Ended { status, book } = run_book_seeded(alloc, seed, words, shelf, out, opener);
     if let Some(book) = book {

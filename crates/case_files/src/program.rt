@@ -1,11 +1,14 @@
-//! What the program `casebook` does with what its machine gives it: words, files, standard output, an opener over
-//! files and a random seed are handed to `run_and_close`, and the number of the status is what the process ends with.
-//! Where it is above 1, where a database was made, and where a list may not be the one that was meant, a line on standard
+//! What the program `casebook` does with what its machine gives it: the arguments, files,
+//! standard output, an opener over files and a random seed are handed to `run_and_close`, and
+//! the number of the status is what the process ends with. Where it is above 1, where a
+//! database was made, and where a list may not be the one that was meant, a line on standard
 //! error says so (`run_notes`).
 ghost use Rattle.std.specs.Prelude.{◌≡◌};
 ghost use Rattle.std.specs.Process.{exit_status};
-ghost use Rattle.case_files.specs.ClosedRuns.{AnswersWords, AnswersOver, AnswersUntold, EndsAsAnswer};
+ghost use Rattle.case_files.specs.ClosedRuns.{CasebookAnswers, CasebookBegins, CasebookBeginsUnknown};
 ghost use Rattle.case_run.specs.Statuses.{case_status_number};
+ghost use Rattle.case_run.specs.declared.statuses.CaseStatus.TheVariants as status;
+ghost use Rattle.run_notes.specs.ProgramAnswers.{AnswersCommandLine, AnswersFrom, AnswersUnknownWords, EndsAsAnswer};
 
 use crate::closing::{Closing, run_and_close};
 use crate::file_opener::FileOpener;
@@ -28,15 +31,18 @@ use std::io;
 use std::process::ExitCode;
 use std::random::RandomSource;
 
-/// Runs the commands that the words of the command line ask for, with hashes of a random seed, and closes the casebook.
+/// Runs the commands that the words of the command line ask for, with hashes of a random seed,
+/// and closes the casebook.
 fn answer_words<R: CommandLine + AllocGlobal + RandomSource, F: Shelf, K: Sink, O: Closing>(
     rt: &R,
     shelf: &mut F,
     out: &mut K,
     opener: &mut O,
 ) -> CaseStatus
-    ensures { AnswersWords (R.told rt.now) F.Shelf shelf.old shelf.new (O.state opener.old) (O.state opener.new)
-        (K.state out.old) (K.state out.new) result }
+    ensures { AnswersCommandLine (CasebookAnswers F.Shelf) status.Memory (R.told rt.now)
+        (record { shelf = shelf.old; opener = O.state opener.old; sink = K.state out.old })
+        (record { shelf = shelf.new; opener = O.state opener.new; sink = K.state out.new })
+        result }
 {
     match rt.words() {
         Ok(words) => run_and_close(rt.alloc(), seed_of(rt), &words, shelf, out, opener),
@@ -44,7 +50,8 @@ fn answer_words<R: CommandLine + AllocGlobal + RandomSource, F: Shelf, K: Sink, 
     }
 }
 
-/// What a run leaves: its status, the files that it read and the output that it wrote, with what was noted of both.
+/// What a run leaves: its status, the files that it read and the output that it wrote, with
+/// what was noted of both.
 #[derive(Drop)]
 struct Ran<S: FileSystem, W> {
     status: CaseStatus,
@@ -52,7 +59,8 @@ struct Ran<S: FileSystem, W> {
     out: NotedSink<StdSink<W>>,
 }
 
-/// Runs the commands that the words of the command line ask for over these files, this output and this opener.
+/// Runs the commands that the words of the command line ask for over these files, this output
+/// and this opener.
 fn run_over<
     R: CommandLine + AllocGlobal + RandomSource,
     S: FileSystem + Drop,
@@ -61,9 +69,11 @@ fn run_over<
 >(rt: &R, files: S, output: W, opener: &mut O) -> Ran<S, W>
     ensures { let shelf = ⟦<NotedShelf<FileShelf<S>> as Shelf>⟧ in
         let state = ⟦<NotedSink<StdSink<W>> as Sink>⟧.state in
-        AnswersOver (R.told rt.now) shelf (S.tells files) (S.file_at files) (W.contents output)
-        (O.state opener.old) (O.state opener.new)
-        result.shelf (state result.out) result.status }
+        AnswersFrom (CasebookAnswers shelf) status.Memory (R.told rt.now)
+        (CasebookBegins shelf (S.tells files) (S.file_at files) (W.contents output)
+        (O.state opener.old))
+        (record { shelf = result.shelf; opener = O.state opener.new; sink = state result.out })
+        result.status }
 {
     let mut shelf = noted_files(rt.alloc(), files);
     let mut out = noted_output(rt.alloc(), output);
@@ -71,7 +81,8 @@ fn run_over<
     Ran { status, shelf, out }
 }
 
-/// Tells on standard error why a run ended above 1.
+/// Says on standard error why a run ended above 1, or of which symbol a list is that may be
+/// meant otherwise.
 fn tell<F: Shelf>(
     rt: &HostRuntime,
     status: CaseStatus,
@@ -97,7 +108,9 @@ fn tell<F: Shelf>(
 
 /// Runs the commands over files and standard output.
 fn answer(rt: HostRuntime) -> CaseStatus
-    ensures { AnswersUntold ⟦<NotedShelf<FileShelf<HostRuntime>> as Shelf>⟧ result }
+    ensures { let shelf = ⟦<NotedShelf<FileShelf<HostRuntime>> as Shelf>⟧ in
+        AnswersUnknownWords (CasebookAnswers shelf) status.Memory
+        (CasebookBeginsUnknown shelf) result }
 {
     let Ok(files) = rt.clone() else {
         return CaseStatus::Memory;
@@ -116,16 +129,18 @@ fn answer(rt: HostRuntime) -> CaseStatus
     status
 }
 
-/// What a process ends with whose status this is: its number.
+/// The exit code of a status: its number.
 fn exit_code(status: CaseStatus) -> ExitCode
     ensures { exit_status result ≡ case_status_number status }
 {
     ExitCode::from(status.number())
 }
 
-/// Does what the program does, and gives what its process ends with.
+/// Runs the program, and gives the exit code of its process.
 pub fn run_casebook(rt: HostRuntime) -> ExitCode
-    ensures { EndsAsAnswer ⟦<NotedShelf<FileShelf<HostRuntime>> as Shelf>⟧ result }
+    ensures { let shelf = ⟦<NotedShelf<FileShelf<HostRuntime>> as Shelf>⟧ in
+        EndsAsAnswer (CasebookAnswers shelf) status.Memory case_status_number
+        (CasebookBeginsUnknown shelf) result }
 {
     exit_code(answer(rt))
 }

@@ -16,7 +16,7 @@ use Rattle.case_keeper.specs.Cases.{has_label, kept}
 use Rattle.case_keeper.specs.IndexedCases.{place_of, IsIndex}
 use Rattle.case_keeper.specs.declared.case.Case.{Case}
 
--- what is found stands at its place
+-- what is found is at its index
 found_at_place : {X : Type 0} (p : X → Bool) (xs : List X) → find p xs ≡ option_and_then (slice_get xs) (position p xs)
 found_at_place {X} p xs = find_at p xs ∙ inside (ltb place (length xs)) refl
   where
@@ -62,7 +62,7 @@ place_push p xs x =
     ap (λ n. cond (ltb next n) (Some next) None) (length-append xs (x ∷ []))
     ∙ place_shape (position_or_len p xs) next (length xs) (p x) (prefix_len-le-length (λ y. not (p y)) xs) (position_or_len_push p xs x)
 
--- what stands where an index has a label is the case that is kept under it
+-- the case at the index of a label is the case that is kept under it
 pub kept_at : (cases : List Case) (index : BTreeMap (List ℕ) ℕ) (label : List ℕ) (place : Option ℕ) → IsIndex index cases → place ≡ get (slice_cmp nat_cmp) index label
     → option_and_then (slice_get cases) place ≡ kept cases label
 kept_at cases index label place holds e = ap (option_and_then (slice_get cases)) (e ∙ holds label) ∙ sym (found_at_place (has_label label) cases)

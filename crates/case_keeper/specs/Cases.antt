@@ -1,4 +1,5 @@
--- Cases on file: the labels that they are kept under, how their audits ended, and which of them a filter lets through.
+-- Cases on file: the labels that they are kept under, how their audits ended, and which of them
+-- a filter lets through.
 use Rattle.std.specs.Prelude.{◌≢◌, ℕ, Bool, true, false, ◌&&◌, List, Option, bytes_eq, find, filter, AllPairs}
 use Rattle.std.specs.Option.{option_map_or}
 use Rattle.audit_base.specs.Orders.{same_name}
@@ -20,11 +21,12 @@ kept cases label = find (has_label label) cases
 abbrev pub HaveOwnLabels : List Case → Type 0
 HaveOwnLabels cases = AllPairs (λ a b. a.label ≢ b.label) cases
 
--- how the audit of a case ended: accepted where it has no offence, else broken by the offence's property
+-- how the audit of a case ended: accepted where it has no offence, else with the property of
+-- the offence broken
 abbrev pub mark_of : Case → Mark
 mark_of case = option_map_or (λ offence. Broken offence.property) case.offence Accepted
 
--- two audits ended alike: both accepted, or broken by one property
+-- two audits ended alike: both accepted, or with one property broken
 abbrev pub same_mark : Mark → Mark → Bool
 same_mark Accepted Accepted = true
 same_mark Accepted (Broken _) = false

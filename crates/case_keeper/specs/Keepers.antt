@@ -1,4 +1,4 @@
--- What a keeper holds: what stands before and after a find, an addition and a list.
+-- What a keeper holds before and after a find, an addition and a list.
 use Rattle.std.specs.Prelude.{◌≡◌, ℕ, ◌≤◌, List, [], ◌∷◌, ◌++◌, Option, None, IfSome, Result, IfOk, OnOk, OnErr, IsErrOf, All, IsTrue}
 use Rattle.std.specs.Option.{option_map}
 use Rattle.log_source.specs.Sources.{Rose}
@@ -8,42 +8,47 @@ use Rattle.case_keeper.specs.declared.case.Filter.{Filter}
 use Rattle.case_keeper.specs.declared.keeper.KeepFault.{KeepFault}
 use Rattle.case_keeper.specs.declared.keeper.KeepFault.TheVariants as fault
 
--- What a keeper stands at: its cases in the order of filing, where it tells them, and how many faults were counted.
+-- The state of a keeper: its cases in the order of filing, where they are known, and how many
+-- faults were counted.
 pub record KeeperState : Type 0 where
   pub cases : Option (List Case)
   pub faults : ℕ
 
--- no two of the cases that it tells have one label
+-- no two of the cases have one label, where they are known
 abbrev pub HasOwnLabels : KeeperState → Type 0
 HasOwnLabels state = IfSome state.cases HaveOwnLabels
 
--- it tells no case with this label
+-- no case has this label, where the cases are known
 abbrev pub Lacks : KeeperState → List ℕ → Type 0
 Lacks state label = IfSome state.cases (λ cases. kept cases label ≡ None)
 
--- What every call leaves: the faults never fall, it failed only where they rose, and after a fault the cases are as
--- before.
-pub record Accounts {T : Type 0} (old new : KeeperState) (result : Result T KeepFault) : Type 0 where
+-- What every call leaves: the faults never fall, it failed only where they rose, and after a
+-- fault the cases are as before.
+pub record Accounts {T : Type 0} (old new : KeeperState) (result : Result T KeepFault)
+    : Type 0 where
   pub later : old.faults ≤ new.faults
   pub cause : IsErrOf result fault.Failed → Rose old.faults new.faults
   pub stays : OnErr result (new.cases ≡ old.cases)
 
--- What finding a label does: a case that is given has it, and is the one kept under it where the keeper tells. The
--- cases stay.
-pub record Finds (old new : KeeperState) (result : Result (Option Case) KeepFault) (label : List ℕ) : Type 0 where
+-- What finding a label does: a case that is given has it, and is the one kept under it where
+-- the cases are known. The cases stay.
+pub record Finds (old new : KeeperState) (result : Result (Option Case) KeepFault)
+    (label : List ℕ) : Type 0 where
   pub accounts : Accounts old new result
   pub stays : new.cases ≡ old.cases
   pub labelled : IfOk result (λ found. IfSome found (λ case. case.label ≡ label))
   pub known : IfOk result (λ found. IfSome old.cases (λ cases. found ≡ kept cases label))
 
--- What adding a case does: it stands after the others.
-pub record Adds {T : Type 0} (old new : KeeperState) (result : Result T KeepFault) (case : Case) : Type 0 where
+-- What adding a case does: it is put after the others.
+pub record Adds {T : Type 0} (old new : KeeperState) (result : Result T KeepFault)
+    (case : Case) : Type 0 where
   pub accounts : Accounts old new result
   pub appended : OnOk result (new.cases ≡ option_map (λ cases. cases ++ case ∷ []) old.cases)
 
--- What listing does: each case given passes the filter, and they are all that pass, in their order, where the keeper
--- tells. The cases stay.
-pub record Lists (old new : KeeperState) (result : Result (List Case) KeepFault) (filter : Filter) : Type 0 where
+-- What listing does: each case given passes the filter, and they are all that pass, in their
+-- order, where the cases are known. The cases stay.
+pub record Lists (old new : KeeperState) (result : Result (List Case) KeepFault)
+    (filter : Filter) : Type 0 where
   pub accounts : Accounts old new result
   pub stays : new.cases ≡ old.cases
   pub passing_only : IfOk result (λ given. All (λ case. IsTrue (passes filter case)) given)

@@ -4,7 +4,7 @@ use Rattle.log_source.specs.Calls.{count_after, faults_after, is_listed}
 use Rattle.case_keeper.specs.Keepers.{KeeperState}
 use Rattle.case_keeper.specs.declared.map_keeper.MapKeeper.{MapKeeper}
 
--- what it stands at: it tells its cases
+-- its state: its cases are known
 abbrev pub map_state : MapKeeper → KeeperState
 map_state keeper = record { cases = Some keeper.cases; faults = keeper.faults }
 

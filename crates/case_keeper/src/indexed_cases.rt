@@ -1,5 +1,5 @@
-//! Cases in the order of filing, with an index by label, so that a label is found among many without
-//! going over them, whatever the labels are.
+//! Cases in the order of filing, with an index by label, so that a label is found among many
+//! without going over them, whatever the labels are.
 ghost use Rattle.std.specs.Prelude.{◌≡◌, ◌++◌, ◌∷◌, [], None, OnOk, OnErr};
 ghost use Rattle.case_keeper.specs.Cases.{kept};
 
@@ -14,7 +14,7 @@ use std::marker::Model;
 #[derive(Drop)]
 pub(crate) struct IndexedCases {
     cases: Vec<Case>,
-    // Where the case of each label stands among the cases.
+    // The index of the case of each label among the cases.
     index: BTreeMap<Name, usize>,
 }
 

@@ -30,13 +30,14 @@ impl From<NoMemory> for KeepFault {
 
 /// What holds cases under their labels, in the order of filing, no two under one label.
 ///
-/// A keeper that tells has known cases. It counts its faults, which never fall; `Failed` comes only
-/// where they rose, and after a fault the cases are as before.
+/// The cases of a keeper are known where it `tells`. It counts its faults, which never fall;
+/// `Failed` comes only where they rose, and after a fault the cases are as before.
 pub trait Keeper {
-    // What the keeper stands at.
+    // The state of the keeper: its cases, where they are known, and its faults.
     ghost state: { Self → KeeperState };
 
-    /// The case with this label. `None` comes, where the keeper tells, exactly where no case has it.
+    /// The case with this label. `None` comes, where its cases are known, exactly where no case
+    /// has it.
     fn find(&mut self, label: &Name) -> Result<Option<Case>, KeepFault>
         ensures { Finds (state self.old) (state self.new) result label.now };
 
@@ -49,6 +50,6 @@ pub trait Keeper {
     fn list(&mut self, filter: &Filter) -> Result<CaseList, KeepFault>
         ensures { Lists (state self.old) (state self.new) result filter.now };
 
-    // No two of the cases that it tells have one label.
+    // No two of its cases have one label, where they are known.
     ghost own_labels: { (keeper : Self) → HasOwnLabels (state keeper) };
 }

@@ -10,8 +10,8 @@ use crate::keeper::{KeepFault, Keeper};
 use audit_base::names::Name;
 use std::alloc::Global;
 
-/// A keeper in memory, which tells its cases. Its calls are counted from 1; those whose numbers are in
-/// `fails` fail and are counted as faults, and no others.
+/// A keeper in memory, whose cases are known. Its calls are counted from 1; those whose numbers
+/// are in `fails` fail and are counted as faults, and no others.
 #[derive(Drop)]
 pub struct MapKeeper {
     cases: IndexedCases,

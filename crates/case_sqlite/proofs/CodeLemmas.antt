@@ -1,4 +1,4 @@
--- A number tells the rule, the property or the log whose number it is.
+-- The rule, the property or the log of a number is the one whose number it is.
 use Rattle.std.proofs.Common.{◌≡◌, ℕ, Bool, true, false, cond, List, [], ◌∷◌, ◌^◌, eqb, ltb, Some, refl, sym, ap, ◌∙◌}
 use Rattle.std.specs.Prelude.{find}
 use Rattle.std.proofs.lemmas.Bool.{eqb-true}

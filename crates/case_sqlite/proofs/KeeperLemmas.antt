@@ -1,4 +1,4 @@
--- What a keeper that does not tell its cases owes the trait.
+-- What a keeper whose cases are not known owes the trait.
 use Rattle.std.proofs.Common.{◌≡◌, ℕ, List, Ok, Err, None, All, refl, sym, subst}
 use Rattle.std.specs.Prelude.{Option, Result, IfOk, IfSome, IsTrue}
 use Rattle.case_keeper.specs.Cases.{kept, passes, passing}

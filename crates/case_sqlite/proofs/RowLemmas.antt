@@ -1,4 +1,4 @@
--- A row tells the case whose row it is.
+-- The case in a row is the one whose row it is.
 use Rattle.std.proofs.Common.{◌≡◌, ℕ, ◌<◌, ◌≤◌, ◌^◌, ◌&&◌, Bool, true, false, not, cond, List, [], ◌∷◌, length, eqb, ltb, Some, None, refl, sym, ap, ◌∙◌, subst, arith}
 use Rattle.std.specs.Prelude.{pos, negsuc, Option, option_map, option_and_then, IfSome, IsTrue}
 use Rattle.std.proofs.lemmas.Bool.{eqb-true, eqb-false, ne_eqb, ltb-true, lt-ltb, and_parts, not-true}
@@ -52,7 +52,7 @@ number_told (Int (pos m)) n e =
 number_again : (n : ℕ) → n < 2 ^ 32 → number_in (integer n) ≡ Some n
 number_again n small = ap (λ b. cond b (Some n) None) (lt-ltb n (2 ^ 32) small)
 
--- numbers that tell an offence, or that there is none
+-- numbers that say which offence there is, or that there is none
 record AreOf (p l place : ℕ) (offence : Option Offence) : Type 0 where
   columns : offence_columns offence ≡ integer p ∷ integer l ∷ integer place ∷ []
   placed : IfSome offence (λ o. (1 ≤ o.place) × (o.place ≡ place))
@@ -177,7 +177,7 @@ again label r symbol (Some o) is_label is_symbol placed =
 pub case_again : (row : Row) (case : Case) → IsRowOf row case → case_form row ≡ Some case
 case_again row case is = ap case_form is.columns ∙ again case.label case.rule case.symbol case.offence is.label is.symbol is.place
 
--- what is read of a row is what it tells
+-- what is read of a row is what it says
 pub row_tells : (row : Row) (told : Option Case) → told ≡ case_form row → Tells row told
 row_tells row None e = λ case is. none-some case (e ∙ case_again row case is)
 row_tells row (Some case) e = form_told row case (sym e)

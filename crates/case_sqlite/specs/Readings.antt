@@ -1,4 +1,4 @@
--- What rows tell, column by column.
+-- What rows say, column by column.
 use Rattle.std.specs.Prelude.{ℕ, ◌==◌, ◌&&◌, ◌^◌, ℤ, pos, negsuc, nat_lt, find, Bool, not, List, [], ◌∷◌, length, Option, None, Some, Result, Ok, Err, option_map, option_and_then, if◌then◌else◌}
 use Rattle.std.specs.Option.{ok_or}
 use Rattle.audit_base.specs.Least.{only_if}
@@ -24,10 +24,11 @@ rules = rule.Matching ∷ rule.Fair ∷ rule.Uniform ∷ rule.Maximum ∷ rule.C
 
 -- all properties
 abbrev pub properties : List Property
-properties = property.DuplicateId ∷ property.TimeBack ∷ property.UnknownTarget ∷ property.Unpaired
-    ∷ property.DuplicateTrade ∷ property.UnknownOrder ∷ property.Inactive ∷ property.Limit
-    ∷ property.UniformPrice ∷ property.BuyQuantity ∷ property.SellQuantity ∷ property.BuyPriority
-    ∷ property.SellPriority ∷ property.Volume ∷ property.Spread ∷ property.InstantOrder ∷ []
+properties = property.DuplicateId ∷ property.TimeBack ∷ property.UnknownTarget
+    ∷ property.Unpaired ∷ property.DuplicateTrade ∷ property.UnknownOrder ∷ property.Inactive
+    ∷ property.Limit ∷ property.UniformPrice ∷ property.BuyQuantity ∷ property.SellQuantity
+    ∷ property.BuyPriority ∷ property.SellPriority ∷ property.Volume ∷ property.Spread
+    ∷ property.InstantOrder ∷ []
 
 -- both logs
 abbrev pub logs : List Which
@@ -73,44 +74,48 @@ offence_with property log place =
     (λ w. only_if (not (place == 0)) (record { property = p; log = w; place = place }))
     (log_with log)) (property_with property)
 
--- what three numbers tell of an offence: that there is none, or which it is
+-- what three numbers say of an offence: that there is none, or which it is
 abbrev pub offence_form : ℕ → ℕ → ℕ → Option (Option Offence)
 offence_form property log place =
-    if property == 0 && log == 0 && place == 0 then Some None else option_map Some (offence_with property log place)
+    if property == 0 && log == 0 && place == 0 then Some None
+    else option_map Some (offence_with property log place)
 
--- the offence that columns 3 to 5 tell
+-- the offence in columns 3 to 5
 abbrev pub offence_in : Row → Option (Option Offence)
 offence_in row =
-    option_and_then (λ p. option_and_then (λ w. option_and_then (offence_form p w) (number_in (column row 5)))
+    option_and_then (λ p. option_and_then (λ w.
+    option_and_then (offence_form p w) (number_in (column row 5)))
     (number_in (column row 4))) (number_in (column row 3))
 
--- the rule that column 1 tells
+-- the rule in column 1
 abbrev pub rule_in : Row → Option Rule
 rule_in row = option_and_then rule_with (number_in (column row 1))
 
--- the case that the first six columns tell
+-- the case in the first six columns
 abbrev pub case_in : Row → Option Case
 case_in row =
     option_and_then (λ label. option_and_then (λ rule. option_and_then (λ symbol. option_map
-    (λ offence. record { label = label; rule = rule; symbol = symbol; offence = offence }) (offence_in row))
+    (λ offence. record { label = label; rule = rule; symbol = symbol; offence = offence })
+    (offence_in row))
     (name_in (column row 2))) (rule_in row)) (name_in (column row 0))
 
 -- the case that a row tells
 abbrev pub case_form : Row → Option Case
 case_form row = if length row == 6 then case_in row else None
 
--- the case that a row tells, if it passes a test
+-- the case in a row of six columns, if it passes a test
 abbrev pub case_that : (Case → Bool) → Row → Option Case
 case_that test row = option_and_then (λ case. only_if (test case) case) (case_form row)
 
--- the cases that the rows tell, if each row tells one that passes a test
+-- the cases in the rows, if each row has one that passes a test
 abbrev pub cases_that : (Case → Bool) → List Row → Option (List Case)
 cases_that test [] = Some []
 cases_that test (row ∷ rows) =
     option_and_then (λ case. option_map (λ cases. case ∷ cases) (cases_that test rows))
     (case_that test row)
 
--- what the rows with a label tell: no case where there is none, the case of the one row, and else it is a failure
+-- what the rows with a label say: no case where there is none, the case of the one row, and
+-- else it is a failure
 abbrev pub one_that : (Case → Bool) → List Row → Result (Option Case) KeepFault
 one_that test [] = Ok None
 one_that test (row ∷ []) = ok_or (option_map Some (case_that test row)) Failed

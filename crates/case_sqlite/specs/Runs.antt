@@ -57,8 +57,8 @@ module _ {S : Type 0} (g : Ghosts S) where
       (RunsCommitted make_text [] (connection_of keeper) connection)
 
   -- A query that only reads shows these rows, all of them, over the table of the keeper.
-  pub record ShowsRows (text : List ℕ) (values : Row) (old new : SqlKeeper S) (rows : List Row)
-      : Type 0 where
+  pub record ShowsRows (text : List ℕ) (values : Row) (old new : SqlKeeper S)
+      (rows : List Row) : Type 0 where
     pub table : Held S
     pub made : HasTable old table
     pub shown : Shown text values (state g table) (database new) rows
@@ -67,7 +67,8 @@ module _ {S : Type 0} (g : Ghosts S) where
   -- what is found is the one row that the table shows for the label, nothing where it shows none
   abbrev pub FindsRow : SqlKeeper S → SqlKeeper S → List ℕ → Option Case → Type 0
   FindsRow old new label found =
-      ShowsRows find_text (label_values label) old new (map case_columns (option_to_list found))
+      ShowsRows find_text (label_values label) old new
+      (map case_columns (option_to_list found))
 
   -- the cases that are listed are all rows that the table shows for the filter, in the order of
   -- their numbers
@@ -93,4 +94,5 @@ module _ {S : Type 0} (g : Ghosts S) where
   abbrev pub MayLeave : SqlKeeper S → Case → Trees → Type 0
   MayLeave old case db =
       Makes make_text [] (connection_of old) db
-      ⊎ ((table : Held S) × HasTable old table × Makes insert_text (case_columns case) table db)
+      ⊎ ((table : Held S) × HasTable old table
+      × Makes insert_text (case_columns case) table db)

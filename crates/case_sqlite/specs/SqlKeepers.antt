@@ -1,4 +1,4 @@
--- A keeper over a database: what it stands at, and what its calls count.
+-- A keeper over a database: its state, and what its calls count.
 use Rattle.std.specs.Prelude.{◌≡◌, ℕ, Bool, true, false, None, Result, Ok, Err}
 use Rattle.case_keeper.specs.Keepers.{KeeperState}
 use Rattle.case_keeper.specs.declared.keeper.KeepFault.{KeepFault}
@@ -7,11 +7,11 @@ use Rattle.log_source.specs.Calls.{faults_after}
 use Rattle.sqlite.specs.Held.{Held}
 use Rattle.case_sqlite.specs.declared.sql_keeper.SqlKeeper.{SqlKeeper}
 
--- where a keeper stands that does not tell its cases
+-- the state of a keeper whose cases are not known
 abbrev pub silent_state : ℕ → KeeperState
 silent_state faults = record { cases = None; faults = faults }
 
--- what it stands at: it does not tell its cases
+-- its state: its cases are not known
 abbrev pub sql_state : {S : Type 0} → SqlKeeper S → KeeperState
 sql_state keeper = silent_state keeper.faults
 
@@ -26,7 +26,8 @@ is_failure (Err fault.Failed) = true
 is_failure (Err fault.Memory) = false
 
 -- one fault more is counted where a call failed, and none otherwise
-abbrev pub CountsFailure : {T : Type 0} → KeeperState → KeeperState → Result T KeepFault → Type 0
+abbrev pub CountsFailure : {T : Type 0} → KeeperState → KeeperState → Result T KeepFault
+    → Type 0
 CountsFailure old new result = new.faults ≡ faults_after (is_failure result) old.faults
 
 -- no transaction is open after a call before which none was

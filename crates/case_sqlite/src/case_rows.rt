@@ -1,5 +1,6 @@
-//! The rows of the table of cases. A row has six columns: the label, the number of the rule, the symbol, and of an
-//! offence the number of its property, that of its log, and its place; of no offence three times 0.
+//! The rows of the table of cases. A row has six columns: the label, the number of the rule,
+//! the symbol, and of an offence the number of its property, that of its log, and its place; of
+//! no offence three times 0.
 ghost use Rattle.std.specs.Prelude.{◌≡◌, map, MatchBool};
 ghost use Rattle.sqlite_value.specs.Value.{owned};
 ghost use Rattle.sqlite_value.specs.Order.{column};
@@ -50,7 +51,8 @@ fn rule_at(row: &Row) -> Option<Rule>
     rule_with(number_at(row, 1)?)
 }
 
-/// What the numbers of a property, a log and a place tell: that there is no offence where all are 0, or which it is.
+/// What the numbers of a property, a log and a place say: that there is no offence where all
+/// are 0, or which it is.
 fn offence_of(property: u32, log: u32, place: u32) -> Option<Option<Offence>>
     ensures { result ≡ offence_form property log place }
 {
@@ -69,7 +71,7 @@ fn offence_of(property: u32, log: u32, place: u32) -> Option<Option<Offence>>
     }))
 }
 
-/// What columns 3 to 5 tell of an offence.
+/// What columns 3 to 5 say of an offence.
 fn offence_at(row: &Row) -> Option<Option<Offence>>
     ensures { result ≡ offence_in row.now }
 {
@@ -78,7 +80,7 @@ fn offence_at(row: &Row) -> Option<Option<Offence>>
     offence_of(property, log, number_at(row, 5)?)
 }
 
-/// The case that the first six columns tell.
+/// The case in the first six columns.
 fn case_at(row: &Row) -> Option<Case>
     ensures { result ≡ case_in row.now }
 {
@@ -94,7 +96,7 @@ fn case_at(row: &Row) -> Option<Case>
     })
 }
 
-/// The case that a row of six columns tells.
+/// The case in a row of six columns.
 fn case_of(row: &Row) -> Option<Case>
     ensures { result ≡ case_form row.now }
 {

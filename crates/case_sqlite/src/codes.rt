@@ -1,4 +1,4 @@
-//! The numbers that stand for rules, properties and logs.
+//! The numbers of rules, properties and logs in the table of cases.
 ghost use Rattle.std.specs.Prelude.{◌≡◌, ◌==◌, find, option_copied};
 ghost use Rattle.case_sqlite.specs.Codes as code;
 ghost use Rattle.case_sqlite.specs.Readings as reading;

@@ -16,13 +16,13 @@ use case_keeper::keeper::{KeepFault, Keeper};
 use sqlite::{Alter, Connection};
 use std::alloc::Global;
 
-/// A keeper over a connection to a database, whose table `cases` it makes at its first call where it
-/// is not there.
+/// A keeper over a connection to a database, whose table `cases` it makes at its first call
+/// where it is not there.
 ///
-/// It does not tell its cases. A call fails, and its fault is counted, where the database refuses or
-/// gives a row that is no case, has another label or does not pass the filter. Out of memory is no
-/// failure and is not counted. After either no transaction is open, and what the call began is rolled
-/// back.
+/// Its cases are not known to contracts. A call fails, and its fault is counted, where the
+/// database refuses or gives a row that is no case, has another label or does not pass the
+/// filter. Out of memory is no failure and is not counted. After either no transaction is open,
+/// and what the call began is rolled back.
 #[derive(Drop)]
 pub struct SqlKeeper<S: Alter> {
     connection: Connection<S>,
@@ -47,7 +47,8 @@ fn count_failure<T>(faults: &mut u64, outcome: Result<T, KeepFault>) -> Result<T
 impl<S: Alter> SqlKeeper<S> {
     ghost use Rattle.case_sqlite.specs.SqlKeepers.{sql_state, connection_of, EndsTransaction};
 
-    /// A keeper over this connection, with no fault counted. Takes no memory, and asks nothing of the database.
+    /// A keeper over this connection, with no fault counted. Takes no memory, and asks nothing
+    /// of the database.
     pub fn new(alloc: Global, connection: Connection<S>) -> SqlKeeper<S>
         ensures state { sql_state result ≡ record { cases = None; faults = 0 } }
         ensures connection { connection_of result ≡ connection }

@@ -56,7 +56,7 @@ fn commit_one<S: Alter>(
     transaction.commit()
 }
 
-/// The same. It is refused where a transaction is open.
+/// Runs one statement in a transaction of its own. It is refused where a transaction is open.
 fn change<S: Alter>(
     connection: &mut Connection<S>,
     sql: &str,

@@ -13,8 +13,8 @@ use std::alloc::Global;
 use std::process::Abort;
 use std::test::Fail;
 
-/// The logs of the tests, by their names: those of one trade, a trade log of no trades, and a log that is in
-/// no grammar.
+/// The logs of the tests, by their names: those of one trade, a trade log of no trades, and a
+/// log that is in no grammar.
 const LOGS: [(&str, &str); 4] = [
     (
         "o",
@@ -70,7 +70,7 @@ fn book_of(alloc: Global, fails: u32) -> Result<Casebook<MapKeeper>, Fail> {
     Ok(Casebook::new(MapKeeper::new(alloc, list)))
 }
 
-/// What the words come to over a casebook.
+/// What the words give over a casebook: the status and the lines.
 pub(crate) fn run_line<B: Keeper>(
     alloc: Global,
     line: &str,
@@ -242,8 +242,8 @@ fn a_case_whose_line_is_cut_stays_filed(rt: HostRuntime) -> Result<(), Fail> {
     Ok(())
 }
 
-// Into a sink of this much room, which the line of the first case fills or not: the second command is done
-// only where the first line was written whole.
+// Into a sink of this much room, which the line of the first case fills or not: the second
+// command is done only where the first line was written whole.
 #[test]
 fn a_command_behind_a_cut_line_files_nothing(rt: HostRuntime) -> Result<(), Fail> {
     let line = "file c1 matching Z csv o t then file c2 matching Z csv o t";
@@ -261,7 +261,8 @@ fn a_command_behind_a_cut_line_files_nothing(rt: HostRuntime) -> Result<(), Fail
     Ok(())
 }
 
-// A keeper whose first call fails: it is asked only behind two logs that are read and in their grammar.
+// A keeper whose first call fails: it is asked only behind two logs that are read and in their
+// grammar.
 #[test]
 fn a_log_is_told_before_a_keeper_that_fails(rt: HostRuntime) -> Result<(), Fail> {
     for row in [
@@ -304,7 +305,8 @@ fn a_read_that_fails_files_nothing(rt: HostRuntime) -> Result<(), Fail> {
     Ok(())
 }
 
-// Words over an opener whose first call fails, or none; the status, the lines, and whether there is a casebook.
+// Words over an opener whose first call fails, or none; the status, the lines, and whether
+// there is a casebook.
 const OPENINGS: [(&str, u32, u8, &str, bool); 4] = [
     ("db list", 1, 8, "keeperfault\n", false),
     ("", 1, 2, USAGE, false),

@@ -1,9 +1,9 @@
-//! Casebooks in databases whose files lie in memory. All tests of databases but the one of real files use these, since
-//! a database is compiled anew for each kind of file.
+//! Casebooks in databases whose files are in memory. All tests of databases but the one of real
+//! files use these, since a database is compiled anew for each kind of file.
 //!
-//! What a test does with a casebook is a visit, over any keeper. So few functions have a database by its own type, all
-//! of them here: the proof of one goes through all that a database is made of at each call that it hands one to, which
-//! takes ten seconds a call.
+//! What a test does with a casebook is a visit, over any keeper. So few functions have a
+//! database by its own type, all of them here: the proof of one goes through all that a
+//! database is made of at each call that it hands one to, which takes ten seconds a call.
 use super::case_tests::{Row, assert_row, run_line};
 use case_keeper::casebook::Casebook;
 use case_keeper::keeper::Keeper;
@@ -65,7 +65,7 @@ impl Visit for MakeTable {
     }
 }
 
-/// Empty files, each of which stops after so many calls.
+/// Empty files, each of which stops after as many calls as given.
 pub(crate) fn empty_files(alloc: Global, log_calls: u64, db_calls: u64) -> Disks {
     Files {
         log: Fuse::new(Memory::new(alloc), log_calls),
@@ -123,8 +123,8 @@ fn visit_keeper<R: AllocGlobal + Abort, K: Keeper, V: Visit>(
     (answer, book.into_keeper())
 }
 
-/// Visits a casebook over the files: what the visit answers, if they could be opened, whether they were closed with
-/// no fault, and the files.
+/// Visits a casebook over the files: what the visit answers, if they could be opened, whether
+/// they were closed with no fault, and the files.
 pub(crate) fn visit_files<R: AllocGlobal + Abort, D: Disk + Drop, V: Visit>(
     rt: &R,
     files: Files<D>,
@@ -157,7 +157,8 @@ pub(crate) fn visit_new<R: AllocGlobal + Abort, V: Visit>(
     opened(answer)
 }
 
-/// Puts a row into the table of a keeper, as something else may: whether it could, and a keeper over the same table.
+/// Puts a row into the table of a keeper, as something else may: whether it could, and a keeper
+/// over the same table.
 fn put_in_table<S: Alter>(
     alloc: Global,
     keeper: SqlKeeper<S>,

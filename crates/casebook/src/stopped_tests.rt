@@ -39,7 +39,7 @@ fn stopping_files(alloc: Global, stopped: Stopped, calls: u64) -> Disks {
     }
 }
 
-/// Does the command `file`, and tells whether it was done.
+/// Does the command `file`, and gives whether it was done.
 struct FileCase;
 
 impl Visit for FileCase {
@@ -85,8 +85,8 @@ fn list_after_crash<R: AllocGlobal + Abort>(rt: &R, mut files: Disks) -> Result<
 /// More calls than one run of `file` makes of a file, from the first open to the close.
 const MOST_CALLS: u64 = 60;
 
-/// Stops a file at each of its calls in turn, up to a run that is not stopped. Whether each time no case was listed
-/// or exactly the case, and this where `file` was done.
+/// Stops a file at each of its calls in turn, up to a run that is not stopped. Whether each
+/// time no case was listed or exactly the case, and this where `file` was done.
 fn leaves_one_or_none<R: AllocGlobal + Abort>(rt: &R, stopped: Stopped) -> Result<bool, Fail> {
     for calls in 0..MOST_CALLS {
         let files = stopping_files(rt.alloc(), stopped, calls);

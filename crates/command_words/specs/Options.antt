@@ -1,5 +1,5 @@
--- The options of a command. They stand after its positional words, in any order, each at most once, and the
--- value of an option is the next word.
+-- The options of a command. They follow its positional words, in any order, each at most once,
+-- and the value of an option is the next word.
 use Rattle.std.specs.Prelude.{ℕ, Bool, true, false, not, Option, None, Some, is_none, option_and_then, unwrap_or, List, [], ◌∷◌, codes, if◌then◌else◌}
 use Rattle.audit_base.specs.Least.{only_if}
 use Rattle.audit_base.specs.declared.terms.Form.{Form}
@@ -42,8 +42,8 @@ with_valued word value said =
     then option_and_then (with_trades_form said) (form_named value)
     else None)
 
--- what these words say as options, or nothing where a word is no option, a value is missing, or an option
--- stands twice
+-- what these words say as options, or nothing where a word is no option, a value is missing, or
+-- an option is given twice
 abbrev pub options_in : List (List ℕ) → Option Options
 options_in [] = Some no_options
 options_in (word ∷ []) = if is_flag word then with_table no_options else None

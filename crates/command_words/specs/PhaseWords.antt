@@ -1,6 +1,6 @@
--- The phases of a day, as one word of a command line gives them: 1 to 64 parts KIND@FIRST, joined by
--- commas, the FIRST of the first being 1 and the others rising. The code of `,` is 44, of `@` 64, and of
--- `0` 48.
+-- The phases of a day, as one word of a command line gives them: 1 to 64 parts KIND@FIRST,
+-- joined by commas, the FIRST of the first being 1 and the others rising. The code of `,` is
+-- 44, of `@` 64, and of `0` 48.
 use Rattle.std.specs.Prelude.{ℕ, Bool, ◌==◌, Option, None, Some, option_map, option_and_then, List, [], ◌∷◌, length, slice_index, codes, nat_le, nat_lt, if◌then◌else◌}
 use Rattle.std.specs.List.{slice_split, position_or_len, before_first, after_first}
 use Rattle.audit_base.specs.Least.{first_of, only_if}
@@ -37,8 +37,8 @@ abbrev pub phase_with : Option PhaseKind → Option ℕ → Option Phase
 phase_with the_kind the_first =
     option_and_then (λ k. option_map (λ f. record { kind = k; first = f }) the_first) the_kind
 
--- a text cut at its first such byte, into what stands before it and what behind it; nothing where there is
--- no such byte
+-- a text cut at its first such byte, into the bytes before it and those behind it; nothing
+-- where there is no such byte
 abbrev pub cut_at : (ℕ → Bool) → List ℕ → Option (List ℕ × List ℕ)
 cut_at is_mark text =
     if nat_lt (position_or_len is_mark text) (length text)
@@ -48,9 +48,11 @@ cut_at is_mark text =
 -- a part KIND@FIRST
 abbrev pub phase_named : List ℕ → Option Phase
 phase_named part =
-    option_and_then (λ cut. phase_with (kind_named cut.0) (first_named cut.1)) (cut_at is_at part)
+    option_and_then (λ cut. phase_with (kind_named cut.0) (first_named cut.1))
+    (cut_at is_at part)
 
--- the first FIRST is 1, and each other is above the one before it; 0 stands before the first
+-- the first FIRST is 1, and each other is above the one before it; 0 is given as the one before
+-- the first
 abbrev pub follows : ℕ → ℕ → Bool
 follows before first = if before == 0 then first == 1 else nat_lt before first
 
@@ -59,14 +61,16 @@ abbrev pub phase_after : ℕ → List ℕ → Option Phase
 phase_after before part =
     option_and_then (λ phase. only_if (follows before phase.first) phase) (phase_named part)
 
--- the phases of parts, each FIRST following the one before it; nothing where a part is no such phase
+-- the phases of parts, each FIRST following the one before it; nothing where a part is no such
+-- phase
 abbrev pub phases_after : ℕ → List (List ℕ) → Option (List Phase)
 phases_after before [] = Some []
 phases_after before (part ∷ parts) =
-    option_and_then (λ phase. option_map (λ rest. phase ∷ rest) (phases_after phase.first parts))
+    option_and_then (λ phase.
+    option_map (λ rest. phase ∷ rest) (phases_after phase.first parts))
     (phase_after before part)
 
--- the phases of parts, of which there are at most so many
+-- the phases of parts, of which there are at most as many as given
 abbrev pub phases_within : ℕ → ℕ → List (List ℕ) → Option (List Phase)
 phases_within most before parts =
     if nat_le (length parts) most then phases_after before parts else None

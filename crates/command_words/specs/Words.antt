@@ -1,5 +1,6 @@
--- What the words of a command line without the program's name ask for, where they are well-formed. The
--- first word names the command; there is one definition a command of what its words ask for.
+-- What the words of a command line without the program's name ask for, where they are
+-- well-formed. The first word names the command; there is one definition a command of what its
+-- words ask for.
 use Rattle.std.specs.Prelude.{ℕ, Bool, not, ◌==◌, ◌&&◌, ◌||◌, ◌+◌, Option, None, Some, option_and_then, is_none, List, [], ◌∷◌, length, drop, codes, nat_le, if◌then◌else◌, IsTrue}
 use Rattle.audit_base.specs.Least.{first_of, only_if}
 use Rattle.audit_base.specs.RuleKinds.{asks_for_greatest, has_table}
@@ -15,11 +16,11 @@ use Rattle.command_words.specs.Options.{options_in, or_csv}
 use Rattle.command_words.specs.PhaseWords.{phases_named}
 use Rattle.command_words.specs.WordForms.{form_named, is_path, is_word, log_named, number_upto, rule_named, symbol_named, word_at}
 
--- what is made of an answer, where there is one
+-- what is made of a value, where there is one
 abbrev pub given : {A B : Type 0} → Option A → (A → Option B) → Option B
 given answer make = option_and_then make answer
 
--- the same of two answers that come together
+-- the same of two values that are given together
 abbrev pub given_both : {A B C : Type 0} → Option (A × B) → (A → B → Option C) → Option C
 given_both answers make = option_and_then (λ both. make both.0 both.1) answers
 
@@ -149,13 +150,15 @@ asked_by command.Certify words = certify_asked words
 asked_by command.Verify words = verify_asked words
 asked_by command.Session words = session_asked words
 
--- what words ask for, by the command that the first of them names; nothing where they are not well-formed
+-- what words ask for, by the command that the first of them names; nothing where they are not
+-- well-formed
 abbrev pub request_of : List (List ℕ) → Option Request
 request_of words =
     given (command_named (word_at words 0)) (λ command. asked_by command words)
 
--- what well-formed words ask for is Expected trades of a rule that has such, a log of numbers in their
--- limits, a certificate of a rule that asks for a greatest volume, and phases that are those of a day
+-- what well-formed words ask for is Expected trades of a rule that has such, a log of numbers
+-- in their limits, a certificate of a rule that asks for a greatest volume, and phases that are
+-- those of a day
 abbrev pub MayBeAsked : Request → Type 0
 MayBeAsked (Audit rule symbol orders trades orders_form trades_form table) = Unit {0}
 MayBeAsked (Expect rule symbol orders orders_form) = IsTrue (has_table rule)

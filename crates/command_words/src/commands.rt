@@ -1,5 +1,6 @@
-//! The words of each command. The first word names the command. A function gives the request where the
-//! words behind it are those of its command, and nothing, with no memory taken, where they are not.
+//! The words of each command. The first word names the command. A function gives the request
+//! where the words behind it are those of its command, and nothing, with no memory taken, where
+//! they are not.
 ghost use Rattle.std.specs.Prelude.{◌≡◌, ◌+◌, ◌<◌, ◌≤◌, length, map, IfOk, IfSome, IsErr, IsSome, IsTrue};
 ghost use Rattle.audit_base.specs.RuleKinds.{asks_for_greatest, has_table};
 ghost use Rattle.std.specs.String.{string_bytes};
@@ -66,7 +67,7 @@ pub(crate) fn command_in(words: &[String]) -> Option<Command>
     command_named(first.as_str())
 }
 
-/// Whether ORDERS and TRADES stand at a place and behind it.
+/// Whether the words at a place and behind it are paths, as ORDERS and TRADES are.
 fn names_logs(words: &[String], place: usize) -> bool
     requires { place + 1 < length words.now }
     ensures { result ≡ spec.names_logs (map string_bytes words.now) place }
@@ -81,10 +82,11 @@ struct LogPaths {
     trades: PathText,
 }
 
-/// The paths that stand at a place and behind it.
+/// The paths that the words at a place and behind it are.
 fn log_paths(alloc: Global, words: &[String], place: usize) -> Result<LogPaths, NoMemory>
     requires { place + 1 < length words.now }
-    ensures orders { IfOk result (λ paths. paths.orders ≡ word_at (map string_bytes words.now) place) }
+    ensures orders { IfOk result (λ paths.
+        paths.orders ≡ word_at (map string_bytes words.now) place) }
     ensures trades { IfOk result
         (λ paths. paths.trades ≡ word_at (map string_bytes words.now) (place + 1)) }
 {
@@ -299,8 +301,8 @@ fn verify_request(alloc: Global, words: &[String]) -> Result<Option<Request>, No
     }))
 }
 
-/// `session SYMBOL PHASES ORDERS TRADES` with its options. The phases are read last, since they take
-/// memory where they are well-formed.
+/// `session SYMBOL PHASES ORDERS TRADES` with its options. The phases are read last, since they
+/// take memory where they are well-formed.
 fn session_request(alloc: Global, words: &[String]) -> Result<Option<Request>, NoMemory>
     ensures request { IfOk result (λ made. made ≡ spec.session_asked (map string_bytes words.now)) }
     ensures memory { IsErr result → IsSome (spec.session_asked (map string_bytes words.now)) }

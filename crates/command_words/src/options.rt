@@ -1,4 +1,4 @@
-//! The options of a command: they stand after its positional words, in any order, each at most once,
+//! The options of a command: they follow its positional words, in any order, each at most once,
 //! and the value of an option is the next word.
 ghost use Rattle.std.specs.Prelude.{◌≡◌, map};
 ghost use Rattle.std.specs.String.{string_bytes};
@@ -95,8 +95,8 @@ fn with_valued(word: &str, value: &str, said: Options) -> Option<Options>
     None
 }
 
-/// What these words say as options. There is nothing where a word is no option, a value is missing, or
-/// an option stands twice.
+/// What these words say as options. There is nothing where a word is no option, a value is
+/// missing, or an option is given twice.
 pub(crate) fn options_in(words: &[String]) -> Option<Options>
     ensures { result ≡ spec.options_in (map string_bytes words.now) }
 {

@@ -1,4 +1,5 @@
-//! The phases of a day, as one word of a command line gives them: parts `KIND@FIRST`, joined by commas.
+//! The phases of a day, as one word of a command line gives them: parts `KIND@FIRST`, joined by
+//! commas.
 ghost use Rattle.std.specs.Prelude.{◌≡◌, ◌<◌, ◌∷◌, length, option_map, IfOk, IfSome, IsErr, IsSome};
 ghost use Rattle.session_audit.specs.Phases.{ArePhases};
 ghost use Rattle.command_words.specs.PhaseWords as spec;
@@ -37,14 +38,14 @@ fn first_named(word: &str) -> Option<u32>
     }
 }
 
-/// What stands before the first `@` of the text, and behind it.
+/// The text before its first `@`, and the text behind it.
 fn cut_at_mark(text: &str) -> Option<(&str, &str)>
     ensures { option_map (λ cut. (cut.0.now, cut.1.now)) result ≡ spec.cut_at spec.is_at text.now }
 {
     text.split_once('@')
 }
 
-/// What stands before the first comma of the text, and behind it.
+/// The text before its first comma, and the text behind it.
 fn cut_at_comma(text: &str) -> Option<(&str, &str)>
     ensures cut { option_map (λ cut. (cut.0.now, cut.1.now)) result
         ≡ spec.cut_at spec.is_comma text.now }
@@ -63,8 +64,8 @@ fn phase_named(part: &str) -> Option<Phase>
     Some(Phase { kind, first })
 }
 
-/// Whether a phase may begin with this place after one that begins with `before`: the first phase, before
-/// which 0 stands, begins with 1, and the others with a greater place.
+/// Whether a phase may begin with this place after one that begins with `before`: the first
+/// phase, for which `before` is 0, begins with 1, and the others with a greater place.
 fn follows(before: u32, first: u32) -> bool
     ensures { result ≡ spec.follows before first }
 {
@@ -97,8 +98,9 @@ fn first_part(word: &str) -> (&str, Option<&str>)
     }
 }
 
-/// The phases of a text, each following the one before it, and at most so many; none are behind a word
-/// without a comma. They are put into a list, from the last on, once all of them are read.
+/// The phases of a text, each following the one before it, and at most `most` of them; none are
+/// behind a word without a comma. They are put into a list, from the last on, once all of them
+/// are read.
 fn phases_within(
     alloc: Global,
     text: Option<&str>,
@@ -128,9 +130,10 @@ fn phases_within(
     Ok(Some(phases))
 }
 
-/// The phases of a day that the word gives: 1 to 64 parts `KIND@FIRST`, joined by commas, where KIND is
-/// `uniform`, `maximum` or `continuous` and FIRST is from 1 to 4,294,967,295, without zeros at its front.
-/// The first FIRST is 1, and they rise. A word that gives none takes no memory.
+/// The phases of a day that the word gives: 1 to 64 parts `KIND@FIRST`, joined by commas, where
+/// KIND is `uniform`, `maximum` or `continuous` and FIRST is from 1 to 4,294,967,295, without
+/// zeros at its front. The first FIRST is 1, and they rise. A word that gives none takes no
+/// memory.
 pub(crate) fn phases_named(alloc: Global, word: &str) -> Result<Option<PhaseList>, NoMemory>
     ensures phases { IfOk result (λ phases. phases ≡ spec.phases_named word.now) }
     ensures memory { IsErr result → IsSome (spec.phases_named word.now) }

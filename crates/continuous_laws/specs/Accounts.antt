@@ -52,7 +52,8 @@ pub record HoldsAt (orders : List Order) (deals : List Deal) (i : ℕ) : Type 0 
       → k < length orders → rests orders (traded_before orders deals) i k ≡ true
       → (order_at orders k).side ≡ (order_at orders j).side
       → outranks (order_at orders j).side (order_at orders k) (order_at orders j) ≡ true
-      → size orders (traded_before orders deals) k ≤ traded_before orders deals (suc i) k) deals
+      → size orders (traded_before orders deals) k
+      ≤ traded_before orders deals (suc i) k) deals
   pub spread : (j k : ℕ) → j < length orders → k < length orders
       → IsActive orders (traded_before orders deals) i j
       → IsActive orders (traded_before orders deals) i k
@@ -64,16 +65,20 @@ pub record HoldsAll (orders : List Order) (deals : List Deal) : Type 0 where
 
 -- what an incoming order can take of one that rests
 unfoldable pub available : List Order → (ℕ → ℕ → ℕ) → ℕ → ℕ → ℕ
-available orders past n k = if meets (order_at orders n) (order_at orders k)
-    && rests orders past (place_at orders n) k then left orders past (place_at orders n) k else 0
+available orders past n k =
+    if meets (order_at orders n) (order_at orders k)
+    && rests orders past (place_at orders n) k
+    then left orders past (place_at orders n) k else 0
 
 abbrev pub ranking : List Order → ℕ → ℕ → ℕ → Bool
-ranking orders n k j = outranks (other_side (order_at orders n).side) (order_at orders k)
+ranking orders n k j =
+    outranks (other_side (order_at orders n).side) (order_at orders k)
     (order_at orders j)
 
 -- what the resting orders trade with the order at n
 unfoldable pub number : List Order → List Deal → ℕ → ℕ → ℕ
-number orders deals n k = if k == n then 0 else traded_at orders deals (place_at orders n) k
+number orders deals n k =
+    if k == n then 0 else traded_at orders deals (place_at orders n) k
 
 -- each pair trades its share
 pub record Shares (orders : List Order) (deals : List Deal) : Type 0 where
@@ -82,13 +87,16 @@ pub record Shares (orders : List Order) (deals : List Deal) : Type 0 where
   pub limits : All (KeepsLimits orders) deals
   pub shares : (n k : ℕ) → n < length orders → k < length orders
       → number orders deals n k
-      ≡ share (length orders) (ranking orders n) (available orders (traded_before orders deals) n)
+      ≡ share (length orders) (ranking orders n)
+      (available orders (traded_before orders deals) n)
       (size orders (traded_before orders deals) n) k
 
 -- The expected trades, one incoming order after another.
 abbrev pub deal_by : Side → ℕ → ℕ → ℕ → ℕ → Deal
-deal_by Buy n k quantity price = record { place = 0; bid = n; ask = k; quantity = quantity; price = price }
-deal_by Sell n k quantity price = record { place = 0; bid = k; ask = n; quantity = quantity; price = price }
+deal_by Buy n k quantity price =
+    record { place = 0; bid = n; ask = k; quantity = quantity; price = price }
+deal_by Sell n k quantity price =
+    record { place = 0; bid = k; ask = n; quantity = quantity; price = price }
 
 abbrev pub deal_of : List Order → ℕ → ℕ → ℕ → Deal
 deal_of orders n k quantity = deal_by (order_at orders n).side n k quantity
@@ -96,15 +104,18 @@ deal_of orders n k quantity = deal_by (order_at orders n).side n k quantity
 
 abbrev pub deals_with : List Order → ℕ → (ℕ → ℕ) → ℕ → List Deal
 deals_with orders n shares zero = []
-deals_with orders n shares (suc k) = deals_with orders n shares k ++ (if nat_lt 0 (shares k)
+deals_with orders n shares (suc k) =
+    deals_with orders n shares k ++ (if nat_lt 0 (shares k)
     then deal_of orders n k (shares k) ∷ [] else [])
 
 abbrev pub share_of : List Order → List Deal → ℕ → ℕ → ℕ
 share_of orders deals n k = share (length orders) (ranking orders n)
-    (available orders (traded_before orders deals) n) (size orders (traded_before orders deals) n) k
+    (available orders (traded_before orders deals) n)
+    (size orders (traded_before orders deals) n) k
 
 abbrev pub extended : List Order → List Deal → ℕ → List Deal
-extended orders deals n = deals ++ deals_with orders n (share_of orders deals n) (length orders)
+extended orders deals n =
+    deals ++ deals_with orders n (share_of orders deals n) (length orders)
 
 abbrev pub expected_below : List Order → ℕ → List Deal
 expected_below orders zero = []

@@ -19,7 +19,8 @@ OneStepFill = (count : ℕ) (better : ℕ → ℕ → Bool) (left : ℕ → ℕ)
     × ((number : ℕ → ℕ) → IsFill count better left size number
     → (i : ℕ) → i < count → number i ≡ share count better left size i)
 
--- 'continuous uniqueness': on a regular order list all lists of deals that conform have the same Pair for every pair
+-- 'continuous uniqueness': on a regular order list all lists of deals that conform have
+-- the same Pair for every pair
 abbrev pub ContinuousUniqueness : Type 0
 ContinuousUniqueness = (orders : List Order) (ds es : List Deal) → IsOrderList orders
     → Regular orders → ConformsContinuous orders ds → ConformsContinuous orders es

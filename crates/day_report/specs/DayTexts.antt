@@ -13,13 +13,14 @@ day_line counts judged_by =
 abbrev pub byte_in_line : List ℕ → Bool → ℕ → List ℕ
 byte_in_line front begins byte = (if begins then front else []) ++ byte ∷ []
 
--- a text with this front before each of its lines, given whether it begins one: a byte behind LF does
+-- a text with this front before each of its lines, given whether it begins one: a byte behind
+-- LF does
 abbrev pub with_fronts : List ℕ → Bool → List ℕ → List ℕ
 with_fronts front begins [] = []
 with_fronts front begins (byte ∷ text) =
     byte_in_line front begins byte ++ with_fronts front (byte == 10) text
 
--- what stands before each line of a symbol: the symbol and a comma
+-- the front of each line of a symbol: the symbol and a comma
 abbrev pub symbol_front : List ℕ → List ℕ
 symbol_front symbol = symbol ++ 44 ∷ []
 

@@ -58,7 +58,7 @@ distinct-more (name ∷ names) more =
     ap (λ kept. name ∷ filter (is_other name) kept) (distinct-more names more)
     ∙ more-behind name more (distinct names) (same_name more name) (list_any (same_name more) (distinct names)) refl refl
 
--- no name stands twice
+-- no name is there twice
 distinct-once : (names : List (List ℕ)) → AllPairs (λ (a b : List ℕ). a ≢ b) (distinct names)
 distinct-once [] = λ i j d lt inside. absurd (omega arith)
 distinct-once (name ∷ names) =

@@ -5,7 +5,8 @@ use Rattle.audit_base.specs.declared.records.TradeRecord.{TradeRecord}
 use Rattle.audit_base.specs.Histories.{symbol_of}
 use Rattle.audit_base.specs.Orders.{same_name}
 
--- these names, each once, where it stands first: the first one, and the distinct ones of the others but for it
+-- these names, each once, where it is first: the first one, and the distinct ones of the others
+-- but for it
 abbrev pub distinct : List (List ℕ) → List (List ℕ)
 distinct [] = []
 distinct (name ∷ names) = name ∷ filter (λ other. not (same_name name other)) (distinct names)
@@ -14,7 +15,8 @@ distinct (name ∷ names) = name ∷ filter (λ other. not (same_name name other
 abbrev pub symbols_written : List OrderRecord → List TradeRecord → List (List ℕ)
 symbols_written entries trades = map symbol_of entries ++ map (λ trade. trade.symbol) trades
 
--- the symbols of a day: those of the order records, in the order in which each appears first, and behind them
--- those of the trades that no order record has, in the order in which each appears first
+-- the symbols of a day: those of the order records, in the order in which each appears first,
+-- and behind them those of the trades that no order record has, in the order in which each
+-- appears first
 abbrev pub symbols_of_day : List OrderRecord → List TradeRecord → List (List ℕ)
 symbols_of_day entries trades = distinct (symbols_written entries trades)

@@ -4,8 +4,8 @@ use std::marker::Model;
 /// The greatest number of shares of a day.
 pub const MOST_SHARES: u32 = 65_536;
 
-/// The share K/N: of the symbols in their order those with the numbers K, K + N, K + 2N and so on, from 1.
-/// K is from 1 to N, and N at most 65,536.
+/// The share K/N: of the symbols in their order those with the numbers K, K + N, K + 2N and so
+/// on, from 1. K is from 1 to N, and N at most 65,536.
 #[derive(Clone, Copy, Debug, PartialEq, Eq)]
 pub struct Share {
     number: u32,

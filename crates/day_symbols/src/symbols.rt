@@ -10,8 +10,9 @@ use seeded_hash::seed::HashSeed;
 use std::alloc::Global;
 use std::marker::Model;
 
-/// Symbols in the order in which each was met first. Contracts see their list. A symbol is found by its hash,
-/// which begins with a seed, so that nobody can choose symbols that hash alike.
+/// Symbols in the order in which each was met first. Contracts see their list. A symbol is
+/// found by its hash, which begins with a seed, so that nobody can choose symbols that hash
+/// alike.
 #[derive(Drop)]
 pub struct Symbols {
     names: IndexSet<Name, HashSeed>,
@@ -50,8 +51,8 @@ impl Symbols {
         self.names.is_empty()
     }
 
-    /// Meets a symbol, and gives its index. Where it was met before nothing changes. After `NoMemory` the
-    /// symbols are as they were.
+    /// Meets a symbol, and gives its index. Where it was met before nothing changes. After
+    /// `NoMemory` the symbols are as they were.
     pub fn meet(&mut self, symbol: &Name) -> Result<usize, NoMemory>
         ensures meets { (names : List (List ℕ)) → self.old ≡ distinct names
             → OnOk result (self.new ≡ distinct (names ++ symbol.now ∷ [])) }

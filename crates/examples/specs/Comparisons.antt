@@ -9,7 +9,7 @@ use Rattle.audit_report.specs.declared.statuses.Status.TheVariants.{Accepted, Re
 abbrev pub begins : List ℕ → List ℕ → Bool
 begins report word = starts_with ◌==◌ report word
 
--- the status that goes with a report, which its first word tells
+-- the status that goes with a report, by its first word
 abbrev pub status_of : List ℕ → Status
 status_of report = unwrap_or (first_of (only_if (begins report (codes "rejected,")) Rejected
     ∷ only_if (begins report (codes "refused,")) Rejected

@@ -25,7 +25,7 @@ impl fmt::Display for Difference {
     }
 }
 
-/// The status that goes with a report, which its first word tells.
+/// The status that goes with a report, by its first word.
 fn status_of(report: &[u8]) -> Status
     ensures { result ≡ spec.status_of report.now }
 {

@@ -52,7 +52,7 @@ module _ (i state : ℕ) where
   is-new : i % 10 ≢ 0 → record_of_state i state ≡ new_order_of i state
   is-new other = cond-false (i % 10 == 0) (cancel_of i) (new_order_of i state) (ne_eqb (i % 10) 0 other)
 
--- keys tell the records apart
+-- no two records have one key
 keys-apart : (i j : ℕ) → i < 2 ^ 32 → j < 2 ^ 32 → i ≢ j → same_key (key_of_number i) (key_of_number j) ≡ false
 keys-apart i j small_i small_j apart = elim (cases_Bool (same_key (key_of_number i) (key_of_number j))) [
   | inr apart_is ↦ apart_is

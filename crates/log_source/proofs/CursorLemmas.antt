@@ -62,7 +62,7 @@ left-more : (logs more : List Log) (i at : ℕ) (started : Bool) → (started �
 left-more logs more i at true within = ap (drop at) (bytes_at-front logs more i (within refl))
 left-more logs more i at false within = refl
 
--- what a cursor stands at stays as logs are added
+-- the state of a cursor stays as logs are added
 pub cursor_state-more : (logs more : List Log) (cursor : Cursor) → IsCursorInside logs cursor → cursor_state (logs ++ more) cursor ≡ cursor_state logs cursor
 cursor_state-more logs more cursor within =
     ap (λ (left : List ℕ). record { started = cursor.started; left = Some left; taken = cursor.at; starts = cursor.starts; faults = cursor.faults }) (left-more logs more cursor.log cursor.at cursor.started within)

@@ -1,5 +1,5 @@
--- Logs in memory, and where a slot stands in one of them: what the private functions of the shelf in
--- memory say.
+-- Logs in memory, and where a slot is in one of them: what the private functions
+-- of the shelf in memory say.
 use Rattle.std.specs.Prelude.{◌≡◌, ℕ, ◌<◌, Bool, true, List, [], drop, reverse, find, length, min, Option, Some, slice_get, if◌then◌else◌, string_bytes}
 use Rattle.std.specs.Option.{option_map, option_map_or}
 use Rattle.std.specs.Str.{bytes_eq}
@@ -13,7 +13,8 @@ is_named name log = bytes_eq (string_bytes log.name) name
 
 -- the bytes of the last log of this name, which is the newest
 abbrev pub newest : List Log → List ℕ → Option (List ℕ)
-newest logs name = option_map (λ log. log.bytes.items) (find (is_named name) (reverse logs))
+newest logs name =
+    option_map (λ log. log.bytes.items) (find (is_named name) (reverse logs))
 
 -- the bytes of the log at an index
 abbrev pub bytes_at : List Log → ℕ → List ℕ
@@ -29,9 +30,11 @@ cursor_state logs cursor = record {
   faults = cursor.faults;
 }
 
--- how many bytes a read gives at a cursor: at most a piece, what is left, and the room of the buffer
+-- how many bytes a read gives at a cursor: at most a piece, what is left,
+-- and the room of the buffer
 abbrev pub cursor_read_size : List Log → Cursor → ℕ → ℕ → ℕ
-cursor_read_size logs cursor piece room = min piece (min (length (drop cursor.at (bytes_at logs cursor.log))) room)
+cursor_read_size logs cursor piece room =
+    min piece (min (length (drop cursor.at (bytes_at logs cursor.log))) room)
 
 -- a cursor whose log is started is in a log that is there
 abbrev pub IsCursorInside : List Log → Cursor → Type 0

@@ -12,12 +12,12 @@ use Rattle.log_source.specs.declared.memory_shelf.MemoryShelf.{MemoryShelf}
 abbrev pub memory_log : MemoryShelf → List ℕ → Option (List ℕ)
 memory_log shelf name = newest shelf.logs.items name
 
--- what stands in a slot
+-- the state of each slot
 abbrev pub memory_slot : MemoryShelf → Which → Slot
 memory_slot shelf Orders = cursor_state shelf.logs.items shelf.orders
 memory_slot shelf Trades = cursor_state shelf.logs.items shelf.trades
 
--- it tells what it holds
+-- what it holds is known
 abbrev pub memory_tells : MemoryShelf → Bool
 memory_tells shelf = true
 
@@ -49,9 +49,11 @@ fails_next shelf = is_listed (count_after (calls_made shelf)) (failing_calls she
 abbrev pub fails_to_start : MemoryShelf → List ℕ → Bool
 fails_to_start shelf name = fails_next shelf || is_none (memory_log shelf name)
 
--- how many bytes the next read into a buffer of this length gives: at most a piece, and what is left
+-- how many bytes the next read into a buffer of this length gives:
+-- at most a piece, and what is left
 abbrev pub read_size : MemoryShelf → Which → ℕ → ℕ
-read_size shelf which room = min (piece_size shelf) (min (option_map_or length (memory_slot shelf which).left 0) room)
+read_size shelf which room =
+    min (piece_size shelf) (min (option_map_or length (memory_slot shelf which).left 0) room)
 
 -- every name has the bytes that it had
 abbrev pub KeepsLogs : MemoryShelf → MemoryShelf → Type 0
@@ -68,7 +70,8 @@ pub record KeepsRules (old new : MemoryShelf) : Type 0 where
 
 -- where the call was to fail, it is counted as a fault of this slot
 abbrev pub CountsFault : MemoryShelf → MemoryShelf → Which → Type 0
-CountsFault old new which = memory_faults new which ≡ faults_after (fails_next old) (memory_faults old which)
+CountsFault old new which =
+    memory_faults new which ≡ faults_after (fails_next old) (memory_faults old which)
 
 -- one more call was made
 pub record CountsCall (old new : MemoryShelf) : Type 0 where

@@ -9,10 +9,13 @@ abbrev pub sure_room : List ℕ → ℕ → ℕ
 sure_room [] room = room
 sure_room (_ ∷ _) room = 0
 
--- what the sink stands at: it tells all that was written
+-- the state of the sink: all that was written is known
 abbrev pub memory_state : MemorySink → SinkState
-memory_state sink =
-    record { wrote = Some (sink.bytes.items); faults = sink.faults; sure = sure_room sink.fails.items sink.room }
+memory_state sink = record {
+  wrote = Some (sink.bytes.items);
+  faults = sink.faults;
+  sure = sure_room sink.fails.items sink.room;
+}
 
 -- how many bytes the sink can hold
 abbrev pub room_of : MemorySink → ℕ
@@ -36,9 +39,12 @@ length_of sink = length sink.bytes.items
 
 -- the next write fails: its number is listed, or the room is full
 abbrev pub write_fails : MemorySink → Bool
-write_fails sink = is_listed (count_after sink.calls) sink.fails.items || nat_le sink.room (length_of sink)
+write_fails sink =
+    is_listed (count_after sink.calls) sink.fails.items
+    || nat_le sink.room (length_of sink)
 
--- how many bytes of a piece of this length the next write takes: at most `most`, and the room that is left
+-- how many bytes of a piece of this length the next write takes: at most `most`,
+-- and the room that is left
 abbrev pub write_size : MemorySink → ℕ → ℕ
 write_size sink size = min sink.most (min size (sink.room - length_of sink))
 

@@ -10,22 +10,25 @@ use Rattle.log_source.specs.declared.take.TakeFault.TheVariants as take
 use Rattle.log_source.specs.declared.shelf.StartFault.{StartFault}
 use Rattle.log_source.specs.declared.shelf.StartFault.TheVariants as start
 
--- the shelf tells, and has no log of this name for the slot
+-- the logs of the shelf are known, and it has none of this name for the slot
 abbrev pub LacksLog : {F : Type 0} → shelf.Ghosts F → Which → List ℕ → F → Type 0
-LacksLog shelves which name shelf = (shelves.tells shelf ≡ true) × (shelves.log_of shelf which name ≡ None)
+LacksLog shelves which name shelf =
+    (shelves.tells shelf ≡ true) × (shelves.log_of shelf which name ≡ None)
 
--- the shelf, where it tells, has a log of this name that is longer than the limit
+-- where the logs of the shelf are known, it has one of this name that is longer than the limit
 abbrev pub HasTooLong : {F : Type 0} → shelf.Ghosts F → Which → List ℕ → ℕ → F → Type 0
 HasTooLong shelves which name limit shelf =
-    shelves.tells shelf ≡ true → IsSomeAnd (shelves.log_of shelf which name) (λ bytes. limit < length bytes)
+    shelves.tells shelf ≡ true
+    → IsSomeAnd (shelves.log_of shelf which name) (λ bytes. limit < length bytes)
 
--- these are the bytes of the log that the shelf has under the name, where it tells
+-- these are the bytes of the log that the shelf has under the name, where its logs are known
 abbrev pub IsWhole : {F : Type 0} → shelf.Ghosts F → Which → List ℕ → F → List ℕ → Type 0
-IsWhole shelves which name shelf bytes = shelves.tells shelf ≡ true → shelves.log_of shelf which name ≡ Some bytes
+IsWhole shelves which name shelf bytes =
+    shelves.tells shelf ≡ true → shelves.log_of shelf which name ≡ Some bytes
 
--- What taking a whole log does to its slot. It is started once. After `Ok` the log was read to its end. It is too long
--- exactly where more bytes were taken than the limit. `Fault` comes only where the slot's faults rose, or
--- where the shelf tells and has no such log.
+-- What taking a whole log does to its slot. It is started once. After `Ok` the log was read to its
+-- end. It is too long exactly where more bytes were taken than the limit. `Fault` comes only where
+-- the slot's faults rose, or where the logs of the shelf are known and it has none of this name.
 pub record Takes {F T : Type 0} (shelves : shelf.Ghosts F) (which : Which) (name : List ℕ)
     (limit : ℕ) (old new : F) (result : Result T TakeFault) : Type 0 where
   pub once : (shelves.slot new which).starts ≡ count_after (shelves.slot old which).starts
@@ -35,7 +38,8 @@ pub record Takes {F T : Type 0} (shelves : shelf.Ghosts F) (which : Which) (name
   pub too_long : IsErrOf result take.TooLong ↔ (limit < (shelves.slot new which).taken)
   pub longer : IsErrOf result take.TooLong → HasTooLong shelves which name limit old
   pub fault : IsErrOf result take.Fault
-      → Rose (shelves.slot old which).faults (shelves.slot new which).faults ⊎ LacksLog shelves which name old
+      → Rose (shelves.slot old which).faults (shelves.slot new which).faults
+      ⊎ LacksLog shelves which name old
 
 -- what a call that takes a whole log answers where the start failed so
 abbrev pub of_start : StartFault → TakeFault

@@ -1,4 +1,5 @@
-//! A collector: what is handed the records of a log one after another and keeps what it needs of them.
+//! A collector: what is handed the records of a log one after another
+//! and keeps what it needs of them.
 ghost use Rattle.std.specs.Prelude.{◌≡◌, ◌∷◌, [], ℕ, Bool, List, OnOk, length};
 ghost use Rattle.log_source.specs.Collectors.{HasPlace, PassesOver};
 ghost use Rattle.log_source.specs.Handing.{Adds};
@@ -6,13 +7,14 @@ ghost use Rattle.log_source.specs.Handing.{Adds};
 use audit_base::faults::NoMemory;
 use audit_base::records::Traded;
 
-/// What is handed the records of a log in order, one by one, so that nothing of the log need be kept
-/// but what the collector keeps. Its meaning is the lists of records that it may have been handed so
-/// far.
+/// What is handed the records of a log in order, one by one,
+/// so that nothing of the log need be kept but what the collector keeps.
+/// Its meaning is the lists of records that it may have been handed so far.
 ///
-/// A reader asks `wants` before it makes a record. A record that is not wanted is only tested, and
-/// handed on by `pass_over`; it still has its place. There may be at most 4,294,967,294 records before
-/// each, which those of a log of `LONGEST_READ` bytes never reach: each has at least nine of the bytes.
+/// A reader asks `wants` before it makes a record. A record that is not wanted is only tested,
+/// and handed on by `pass_over`; it still has its place. There may be at most 4,294,967,294
+/// records before each, which those of a log of `LONGEST_READ` bytes never reach:
+/// each has at least nine of the bytes.
 pub trait Collector: Drop {
     type Entry: Traded;
 
@@ -22,11 +24,12 @@ pub trait Collector: Drop {
     // It looks at the records of this symbol.
     ghost wants: { Self → List ℕ → Bool };
 
-    /// Hands on the next record. A collector that has answered `NoMemory` is given up: nothing is known
-    /// of it afterwards.
+    /// Hands on the next record. A collector that has answered `NoMemory` is given up:
+    /// nothing is known of it afterwards.
     fn take(&mut self, entry: Self::Entry) -> Result<(), NoMemory>
         requires { HasPlace has_taken self.old }
-        ensures { OnOk result (Adds (has_taken self.old) (has_taken self.new) (entry ∷ [])) };
+        ensures { OnOk result
+            (Adds (has_taken self.old) (has_taken self.new) (entry ∷ [])) };
 
     /// Whether it looks at the records of the symbol.
     fn wants(&self, symbol: &[u8]) -> bool

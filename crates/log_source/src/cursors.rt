@@ -1,4 +1,4 @@
-//! Logs in memory, and where a slot stands in one of them.
+//! Logs in memory, and where a slot is in one of them.
 ghost use Rattle.std.specs.Prelude.{◌≡◌, ◌<◌, ◌≤◌, true, length, drop, Some, None, IfSome, IfNone, IfOk, IfErr, is_err, is_none, ◌||◌};
 ghost use Rattle.log_source.specs.Calls.{faults_after};
 ghost use Rattle.log_source.specs.Sources.{Starts, Reads};
@@ -14,7 +14,7 @@ pub(crate) struct Log {
     pub(crate) bytes: Vec<u8>,
 }
 
-/// Where a slot stands: in which log, and after how many of its bytes.
+/// Where a slot is: in which log, and after how many of its bytes.
 #[derive(Clone, Copy)]
 pub(crate) struct Cursor {
     pub(crate) started: bool,
@@ -27,7 +27,8 @@ pub(crate) struct Cursor {
 /// The index of the newest log of this name.
 fn newest_index(logs: &[Log], name: &str) -> Option<usize>
     ensures within { IfSome result (λ i. i < length logs.now) }
-    ensures found { IfSome result (λ i. newest logs.now name.now ≡ Some (bytes_at logs.now i)) }
+    ensures found { IfSome result
+        (λ i. newest logs.now name.now ≡ Some (bytes_at logs.now i)) }
     ensures none { IfNone result (newest logs.now name.now ≡ None) }
 {
     let mut found = None;
@@ -47,7 +48,8 @@ pub(crate) fn start_cursor(
     name: &str,
 ) -> Result<(), StartFault>
     ensures slot { let state = cursor_state logs.now in
-        Starts true (newest logs.now name.now) (state cursor.old) (state cursor.new) result }
+        Starts true (newest logs.now name.now)
+        (state cursor.old) (state cursor.new) result }
     ensures within { IsCursorInside logs.now cursor.new }
     ensures failing { is_err result ≡ (fails || is_none (newest logs.now name.now)) }
     ensures memory { IfErr result (λ fault. fault ≡ StartFault.Failed) }

@@ -27,7 +27,7 @@ impl EndlessSlot {
     }
 }
 
-/// A shelf both of whose slots give one byte without end, under every name. It tells nothing of its
+/// A shelf both of whose slots give one byte without end, under every name. Nothing is known of its
 /// logs, and no call of it fails.
 #[derive(Clone, Copy)]
 pub struct EndlessShelf {

@@ -11,8 +11,8 @@ pub trait Feed {
     // The feed has been handed these bytes, however they were cut.
     ghost stands_for: { Self → List ℕ → Type 0 };
 
-    /// Hands on the next piece. All pieces together have at most `LONGEST_READ` bytes. A feed that has
-    /// answered `NoMemory` is given up: nothing is known of it afterwards.
+    /// Hands on the next piece. All pieces together have at most `LONGEST_READ` bytes.
+    /// A feed that has answered `NoMemory` is given up: nothing is known of it afterwards.
     fn feed(&mut self, piece: &[u8]) -> Result<(), NoMemory>
         requires { HasRoom stands_for self.old piece.now }
         ensures { OnOk result (Adds (stands_for self.old) (stands_for self.new) piece.now) };

@@ -87,11 +87,11 @@ impl<X: Read + Drop> FileSlot<X> {
     }
 }
 
-/// A shelf over files, where a log's name is its path. It tells what its file system tells: over the
-/// runtime's files that is nothing, and over one that tells, each slot reads the file under the path that
-/// was named, from its first byte to its last. A start closes the file that was open in its slot. An open or
-/// a read that is refused is counted as a fault of its slot, as of a file that is not there, a directory,
-/// or a file that may not be read. An open that finds no memory is no fault.
+/// A shelf over files, where a log's name is its path. Its logs are known where the files are:
+/// the runtime's are not; where they are, each slot reads the file under the path that was named,
+/// from its first byte to its last. A start closes the file that was open in its slot. An open
+/// or a read that is refused is counted as a fault of its slot, as of a file that is not there,
+/// a directory, or a file that may not be read. An open that finds no memory is no fault.
 #[derive(Drop)]
 pub struct FileShelf<S: FileSystem> {
     files: S,

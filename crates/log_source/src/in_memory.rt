@@ -1,5 +1,5 @@
-//! What the shelves and the sink in memory share: the calls that are to fail, and a piece of known
-//! bytes.
+//! What the shelves and the sink in memory share: the calls that are to fail,
+//! and a piece of known bytes.
 ghost use Rattle.std.specs.Prelude.{◌≡◌, length, min, take};
 ghost use Rattle.log_source.specs.Calls as calls;
 

@@ -12,8 +12,8 @@ use audit_base::terms::Which;
 use std::alloc::Global;
 
 /// A shelf over logs in memory, each under its name. Starts and reads are counted together from 1;
-/// a call whose number is listed fails and is counted as a fault of its slot. A start of a name that is
-/// not there always fails, and no other call does.
+/// a call whose number is listed fails and is counted as a fault of its slot.
+/// A start of a name that is not there always fails, and no other call does.
 #[derive(Drop)]
 pub struct MemoryShelf {
     // A log is never changed, so that a slot that reads it keeps what is left: a name's newer bytes
@@ -84,7 +84,8 @@ impl Shelf for MemoryShelf {
     ghost slot = { memory_slot };
 
     fn start(&mut self, which: Which, name: &str) -> Result<(), StartFault>
-        ensures only { ChangesOnly memory_tells memory_log_of memory_slot which self.old self.new }
+        ensures only { ChangesOnly memory_tells memory_log_of memory_slot
+            which self.old self.new }
         ensures slot { let log = memory_log self.old name.now in
             Starts true log (memory_slot self.old which) (memory_slot self.new which) result }
         ensures counted { CountsCall self.old self.new }
@@ -104,7 +105,8 @@ impl Shelf for MemoryShelf {
         requires room { 0 < length buf.old }
         requires started { (memory_slot self.old which).started ≡ true }
         requires within { (memory_slot self.old which).taken ≤ longest_read }
-        ensures only { ChangesOnly memory_tells memory_log_of memory_slot which self.old self.new }
+        ensures only { ChangesOnly memory_tells memory_log_of memory_slot
+            which self.old self.new }
         ensures slot { Reads (memory_slot self.old which) (memory_slot self.new which)
             result buf.new }
         ensures counted { CountsCall self.old self.new }

@@ -27,9 +27,9 @@ pub struct MemorySink {
 impl MemorySink {
     ghost use Rattle.log_source.specs.MemorySinks.{memory_state, room_of, most_of, writes_made, failing_writes, sink_faults};
 
-    /// An empty sink with room for `room` bytes. One write takes at most `most` bytes, and the
-    /// writes whose numbers, from 1, are in `fails` fail, as does every write once the room is
-    /// full.
+    /// An empty sink with room for `room` bytes. One write takes at most `most` bytes,
+    /// and the writes whose numbers, from 1, are in `fails` fail,
+    /// as does every write once the room is full.
     pub fn new(
         alloc: Global,
         room: usize,
@@ -70,7 +70,8 @@ impl Sink for MemorySink {
 
     fn write(&mut self, piece: &[u8]) -> Result<usize, Failed>
         requires { 0 < length piece.now }
-        ensures written { Writes (memory_state self.old) (memory_state self.new) result piece.now }
+        ensures written { Writes (memory_state self.old) (memory_state self.new)
+            result piece.now }
         ensures counted { CountsWrite self.old self.new }
         ensures failing { is_err result ≡ write_fails self.old }
         ensures count { IfOk result (λ n. n ≡ write_size self.old (length piece.now)) }

@@ -23,20 +23,21 @@ pub enum StartFault {
 
 /// Two logs that are read piece by piece, one in each slot.
 ///
-/// A shelf that tells has known bytes under each name that it knows, and they never change. Each
-/// slot counts its starts and its faults, which never fall, and no call on one slot touches the other.
+/// Where the logs of a shelf are known (`tells`), so are the bytes under each of its names,
+/// and they never change. Each slot counts its starts and its faults, which never fall,
+/// and no call on one slot touches the other.
 pub trait Shelf {
     // Whether the bytes of its logs are known.
     ghost tells: { Self → Bool };
 
-    // The bytes that a slot finds under a name, or nothing; known where the shelf tells.
+    // The bytes that a slot finds under a name, or nothing, where its logs are known.
     ghost log_of: { Self → Which → List ℕ → Option (List ℕ) };
 
-    // What stands in a slot.
+    // The state of a slot.
     ghost slot: { Self → Which → Slot };
 
     /// Starts the log of this name in the slot, from its first byte. `Failed` comes only where the
-    /// slot's faults rose, or where the shelf tells and has no such log.
+    /// slot's faults rose, or where the logs of the shelf are known and it has none of this name.
     fn start(&mut self, which: Which, name: &str) -> Result<(), StartFault>
         ensures only { ChangesOnly tells log_of slot which self.old self.new }
         ensures slot { let log = log_of self.old which name.now in

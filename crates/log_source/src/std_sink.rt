@@ -6,8 +6,8 @@ use crate::output::Output;
 use crate::shelf::Failed;
 use crate::sink::Sink;
 
-/// A sink over a writer, which tells what its writer tells. A write that fails, or that takes nothing of
-/// its piece, is counted as a fault.
+/// A sink over a writer. What it wrote is known where the content of its writer is.
+/// A write that fails, or that takes nothing of its piece, is counted as a fault.
 #[derive(Drop)]
 pub struct StdSink<W> {
     writer: W,

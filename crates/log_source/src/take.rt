@@ -73,9 +73,10 @@ impl Feed for WholeLog {
 }
 
 /// Takes the log of this name whole. `limit` is the greatest number of bytes that it may have,
-/// `LONGEST_READ` at most. `Fault` comes only where the slot's faults rose in this call, or where the
-/// shelf tells and has no such log. `TooLong` comes exactly where more than `limit` bytes were taken.
-/// Whatever the answer, the slot may be started anew, and the other slot is as it was.
+/// `LONGEST_READ` at most. `Fault` comes only where the slot's faults rose in this call,
+/// or where the logs of the shelf are known and it has none of this name.
+/// `TooLong` comes exactly where more than `limit` bytes were taken. Whatever the answer,
+/// the slot may be started anew, and the other slot is as it was.
 pub fn take_log<F: Shelf>(
     alloc: Global,
     shelf: &mut F,

@@ -1,12 +1,12 @@
-//! What is told of a log that could not be read, is too long or is malformed.
+//! What is said of a log that could not be read, is too long or is malformed.
 use crate::noted_shelf::NotedShelf;
 use audit_base::terms::Which;
 use log_source::shelf::Shelf;
 use std::io::{self, Read};
 use std::{fs, str};
 
-/// Why the system does not let a file be read, as it says itself when it is asked once more. What may wait for its
-/// bytes, as a pipe, is not asked.
+/// Why the system does not let a file be read, as it says itself when it is asked once more.
+/// What may wait for its bytes, as a pipe, is not asked.
 pub(crate) fn refusal(rt: &HostRuntime, path: &str) -> Option<io::Error> {
     match fs::metadata(rt, path) {
         Ok(found) if found.is_file() || found.is_dir() => match fs::open(rt, path) {
@@ -35,8 +35,9 @@ fn log_named(word: &str) -> Option<Which> {
     }
 }
 
-/// Tells of the log that a line of a fault is of: `malformed,LOG,PLACE,OFFSET,REASON`, `readfault,LOG` or
-/// `toolong,LOG`. Any other line tells nothing.
+/// Says what is wrong with the log that a line of a fault names:
+/// `malformed,LOG,PLACE,OFFSET,REASON`, `readfault,LOG` or `toolong,LOG`. Of any other line it
+/// says nothing.
 pub fn tell_log_fault<F: Shelf>(
     rt: &HostRuntime,
     program: &str,

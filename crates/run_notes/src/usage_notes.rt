@@ -1,4 +1,5 @@
-//! What is told of words that are not well-formed: the first that is wrong or missing, and what may stand there.
+//! What is said of words that are not well-formed: the first that is wrong or missing, and what
+//! may be there.
 use crate::word_parts::Part;
 
 const AUDIT: [Part; 4] = [Part::Rule, Part::Symbol, Part::Path, Part::Path];
@@ -53,7 +54,8 @@ fn auditor_parts(command: &str) -> Option<&'static [Part]> {
     }
 }
 
-/// Tells the first part that a word does not fit or that has none. Where all fit it tells the word behind them.
+/// Says which is the first part that a word does not fit or that has none. Where all fit it
+/// names the word behind them.
 fn tell_parts(rt: &HostRuntime, program: &str, parts: &[Part], words: &[String]) {
     let mut rest = words.iter();
     for part in parts {
@@ -100,7 +102,8 @@ fn casebook_parts(command: &str) -> Option<&'static [Part]> {
     }
 }
 
-/// Whether each word fits its part, and none is left over. The last parts may have no word where that is said.
+/// Whether each word fits its part, and none is left over. The last parts may have no word
+/// where that is said.
 fn all_fit(parts: &[Part], words: &[String], may_end: bool) -> bool {
     let mut rest = words.iter();
     for part in parts {
@@ -130,7 +133,7 @@ fn told_command(rt: &HostRuntime, words: &[String]) -> bool {
     true
 }
 
-/// Tells what is wrong with the first command in which something is.
+/// Says what is wrong with the first command in which something is.
 fn tell_commands(rt: &HostRuntime, words: &[String]) {
     let first = words.iter().position(|word| word.as_str() == "then");
     match first {
@@ -145,7 +148,8 @@ fn tell_commands(rt: &HostRuntime, words: &[String]) {
     }
 }
 
-/// Tells what is wrong with words that are none of `casebook`: the first of its commands in which something is.
+/// Tells what is wrong with words that are none of `casebook`: the first of its commands in
+/// which something is.
 pub fn tell_casebook_usage(rt: &HostRuntime, words: &[String]) {
     let Some((_database, commands)) = words.split_first() else {
         let _told = eprintln!(rt; "casebook: no database is given: {}", Part::Path.wanted());

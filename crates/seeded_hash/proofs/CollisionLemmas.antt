@@ -145,7 +145,7 @@ in-window a b w v d n parts same =
     let split : n * w ≡ n * d + n * v = ap (λ k. n * k) parts ∙ (grind arith) in
     omega (arith, split, same)
 
--- the hash under a factor, as a sum in which it stands alone
+-- the hash under a factor, as a sum in which it is a term of its own
 alone : (hasher : BlockHasher) (j : ℕ) (block : List ℕ) (n : ℕ) → length hasher.factors ≡ 8 → j < 8 → length block ≡ 32
     → hash_with hasher j block n ≡ ((hasher.sum + block_sum hasher.factors block - term_at hasher.factors block j) + n * word_at block (4 * j)) % 2 ^ 64 / 2 ^ 32
 alone hasher j block n size lt whole =

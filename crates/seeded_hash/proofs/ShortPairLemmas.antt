@@ -8,7 +8,7 @@ use Rattle.std.proofs.lemmas.Slice.Eq.{bytes_eq-Decides}
 use Rattle.seeded_hash.specs.declared.short_pairs.ShortPair.{ShortPair}
 use Rattle.seeded_hash.specs.ShortPairs.{is_short, put_at, sizes_block, short_block, short_pair_of, same_block, held_by, first_text, second_text}
 
--- what stands behind the first two
+-- what is behind the first two
 abbrev behind : List ℕ → List ℕ
 behind [] = []
 behind (x ∷ []) = []

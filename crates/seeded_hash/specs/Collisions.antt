@@ -15,8 +15,8 @@ pub record AreBlocks (first second : List ℕ) : Type 0 where
   pub first_bytes : All (λ byte. byte < 256) first
   pub second_bytes : All (λ byte. byte < 256) second
 
--- Two blocks that differ in a word have one hash for few values of its factor, whatever the other secrets
--- are: of the 2^64 values, for at most 2^35.
+-- Two blocks that differ in a word have one hash for few values of its factor,
+-- whatever the other secrets are: of the 2^64 values, for at most 2^35.
 abbrev pub FewFactorsCollide : Type 0
 FewFactorsCollide = (hasher : BlockHasher) (index : ℕ) (first second : List ℕ) (values : List ℕ)
     → length hasher.factors ≡ 8 → index < 8 → AreBlocks first second

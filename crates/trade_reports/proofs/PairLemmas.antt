@@ -72,7 +72,7 @@ pairs-second : (report : Report) (before : List Report) (first : PlacedReport) �
     → pairs (report ∷ before) ≡ pairs before ++ record { first = first; second = placed_report report before } ∷ []
 pairs-second report before first some = ap (λ (o : Option PlacedReport). pairs before ++ pair_with (placed_report report before) o) some
 
--- what a pair that disagrees comes to, if there is one
+-- what a pair that disagrees gives, if there is one
 abbrev disagreement : Option Pair → Option LoneReport
 disagreement pair = option_map disagreement_of pair
 
@@ -199,7 +199,7 @@ pub ok-map : {T E : Type 0} (result : Result T E) (P Q : T → Type 0) → ((val
 ok-map (Ok value) P Q weaker holds = weaker value holds
 ok-map (Err why) P Q weaker holds = tt
 
--- what stands at a place of a list
+-- what is at a place of a list
 get-left : {X : Type 0} (xs ys : List X) (k : ℕ) (x : X) → slice_get xs k ≡ Some x → slice_get (xs ++ ys) k ≡ Some x
 get-left [] ys k x h = absurd (cc h)
 get-left (y ∷ xs) ys zero x h = h
@@ -250,7 +250,7 @@ placed-at (report ∷ before) k found h = by (placed-at before k found) (get-spl
         let place : found.place ≡ length before + 1 = ap (λ (p : PlacedReport). p.place) last.1 in
         omega (arith, place, last.0, length-placed before)
 
--- a report that waits stands at its place, under its id
+-- a report that waits is at its place, under its id
 record Stands (id : List ℕ) (all : List Report) (first : PlacedReport) : Type 0 where
   index : ℕ
   place : first.place ≡ index + 1
@@ -328,7 +328,7 @@ module _ {K : Type 0} (has_taken : K → List TradeRecord → Type 0) (draft : P
             ∙ ap (λ (o : Option PlacedReport). trades_unless (option_map without_second o) (trades_of (pairs (reverse reports)))) found;
       }
 
--- an entry that is looked up stands somewhere
+-- an entry that is looked up is somewhere
 lookup-place : (test : List ℕ → Bool) (es : List (List ℕ × PlacedReport)) (value : PlacedReport) → lookup test es ≡ Some value
     → (k : ℕ) × (key : List ℕ) × (k < length es) × (slice_get es k ≡ Some (key, value))
 lookup-place test [] value h = absurd (cc h)

@@ -30,16 +30,19 @@ abbrev pub latest_of : FirstReports → Option PlacedReport
 latest_of reports = if reports.waits then reports.latest else None
 
 -- the latest report where it has the id, else what is found among the earlier ones
-abbrev pub latest_or : Option PlacedReport → List ℕ → Option PlacedReport → Option PlacedReport
+abbrev pub latest_or : Option PlacedReport → List ℕ → Option PlacedReport
+    → Option PlacedReport
 latest_or latest id found = if is_latest latest id then latest else found
 
 -- the first report with an id
 abbrev pub first_in : FirstReports → List ℕ → Option PlacedReport
-first_in reports id = latest_or (latest_of reports) id (held_in reports.earlier id)
+first_in reports id =
+    latest_or (latest_of reports) id (held_in reports.earlier id)
 
--- Of some reports, the latest first: which wait for a second one, the least disagreement, and where there is none
--- that their trades were handed on.
-pub record IsKnown {K : Type 0} (has_taken : K → List TradeRecord → Type 0) (firsts : FirstReports)
+-- Of some reports, the latest first: which wait for a second one, the least disagreement,
+-- and where there is none that their trades were handed on.
+pub record IsKnown {K : Type 0} (has_taken : K → List TradeRecord → Type 0)
+    (firsts : FirstReports)
     (lone : Option LoneReport) (trades : K) (all : List Report)
     : Type 0 where
   pub waits : (id : List ℕ) → first_in firsts id ≡ waiting id all
@@ -47,7 +50,8 @@ pub record IsKnown {K : Type 0} (has_taken : K → List TradeRecord → Type 0) 
   pub handed : lone ≡ None → has_taken trades (trades_of (pairs all))
 
 -- the draft has been handed exactly these reports
-pub record IsPairingDraft {K : Type 0} (has_taken : K → List TradeRecord → Type 0) (draft : PairingDraft K)
+pub record IsPairingDraft {K : Type 0} (has_taken : K → List TradeRecord → Type 0)
+    (draft : PairingDraft K)
     (reports : List Report)
     : Type 0 where
   pub count : draft.count ≡ length reports
@@ -59,16 +63,20 @@ earlier None first = first
 earlier (Some found) first = if nat_le found.place first.place then found else first
 
 -- A pair was taken: its trade was handed on, unless it or a pair before it disagrees.
-abbrev pub TakesPair : {K : Type 0} → (K → List TradeRecord → Type 0) → Option LoneReport → PlacedReport → PlacedReport
+abbrev pub TakesPair : {K : Type 0} → (K → List TradeRecord → Type 0) → Option LoneReport
+    → PlacedReport → PlacedReport
     → K → K → Option LoneReport → Type 0
 TakesPair has_taken (Some found) first second old new lone = lone ≡ Some found
 TakesPair has_taken None first second old new lone =
     MatchBool (agree first.report second.report)
-    ((lone ≡ None) × Adds (has_taken old) (has_taken new) (trade_of first.report second.report ∷ []))
+    ((lone ≡ None) × Adds (has_taken old) (has_taken new)
+    (trade_of first.report second.report ∷ []))
     (lone ≡ Some (disagreement_of (record { first = first; second = second })))
 
 -- the first of the entries up to an index that came first, if there are any
-pub record IsLeast (held : EarlierReports) (count : ℕ) (least : Option PlacedReport) : Type 0 where
+pub record IsLeast (held : EarlierReports) (count : ℕ) (least : Option PlacedReport)
+    : Type 0 where
   pub among : IfSome least (λ first. (id : List ℕ) × (held_in held id ≡ Some first))
-  pub below : (k : ℕ) (entry : List ℕ × PlacedReport) → k < count → slice_get held.map.entries k ≡ Some entry
+  pub below : (k : ℕ) (entry : List ℕ × PlacedReport) → k < count
+      → slice_get held.map.entries k ≡ Some entry
       → IsSomeAnd least (λ first. first.place ≤ entry.1.place)

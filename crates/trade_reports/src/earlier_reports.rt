@@ -46,7 +46,8 @@ impl EarlierReports {
     /// One more report.
     pub fn add(&mut self, first: &PlacedReport) -> Result<(), NoMemory>
         ensures { OnOk result ((q : List ℕ) → held_in self.new q
-            ≡ (if same_name first.now.report.trade q then Some first.now else held_in self.old q)) }
+            ≡ (if same_name first.now.report.trade q then Some first.now
+            else held_in self.old q)) }
     {
         self.map.insert(first.report.trade, *first)?;
         Ok(())
@@ -71,7 +72,7 @@ impl EarlierReports {
     }
 }
 
-/// The report with the lesser place.
+/// The report with the smaller place.
 pub(crate) fn earlier(least: Option<PlacedReport>, first: PlacedReport) -> PlacedReport
     ensures { result ≡ earlier least first }
 {

@@ -1,5 +1,5 @@
-//! The reports that wait for a second one. The second report of a trade mostly comes right behind the
-//! first, so the report that came last waits outside the map of the earlier ones.
+//! The reports that wait for a second one. The second report of a trade mostly comes right behind
+//! the first, so the report that came last waits outside the map of the earlier ones.
 ghost use Rattle.std.specs.Prelude.{◌≡◌, None, true};
 ghost use Rattle.std.specs.Option.{ForSome};
 ghost use Rattle.std.specs.HashMap.{get};
@@ -58,7 +58,8 @@ impl FirstReports {
     /// The report that came last waits no longer.
     pub fn forget_latest(&mut self)
         ensures { (id q : List ℕ) → is_latest (latest_of self.old) id ≡ true
-            → first_in self.new q ≡ (if same_name id q then None else first_in self.old q) }
+            → first_in self.new q
+            ≡ (if same_name id q then None else first_in self.old q) }
     {
         self.waits = false;
     }
@@ -71,12 +72,13 @@ impl FirstReports {
         self.earlier.is_empty()
     }
 
-    /// Takes out the report with the id, if one waits, where the report that came last has another id.
+    /// Takes out the report with the id, if one waits, where the report
+    /// that came last has another id.
     pub fn take_earlier(&mut self, id: &Name) -> Option<PlacedReport>
         requires { is_latest (latest_of self.old) id.now ≡ false }
         ensures first { result ≡ first_in self.old id.now }
-        ensures others { (q : List ℕ) → first_in self.new q ≡ (if same_name id.now q then None
-            else first_in self.old q) }
+        ensures others { (q : List ℕ) → first_in self.new q
+            ≡ (if same_name id.now q then None else first_in self.old q) }
     {
         self.earlier.take(id)
     }
@@ -84,7 +86,8 @@ impl FirstReports {
     // Moves the report that came last to the earlier ones.
     fn put_by(&mut self) -> Result<(), NoMemory>
         ensures nothing { self.new.waits ≡ false }
-        ensures same { OnOk result ((q : List ℕ) → first_in self.new q ≡ first_in self.old q) }
+        ensures same { OnOk result
+            ((q : List ℕ) → first_in self.new q ≡ first_in self.old q) }
     {
         if !self.waits {
             return Ok(());

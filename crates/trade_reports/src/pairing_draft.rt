@@ -16,8 +16,9 @@ use log_source::collector::Collector;
 use seeded_hash::seed::HashSeed;
 use std::alloc::Global;
 
-/// What is known of the reports of a trade log after some of them: which wait for a second one, and
-/// whether a pair disagrees. The trades of the pairs are handed on in the order of their second reports.
+/// What is known of the reports of a trade log after some of them:
+/// which wait for a second one, and whether a pair disagrees.
+/// The trades of the pairs are handed on in the order of their second reports.
 #[derive(Drop)]
 pub struct PairingDraft<K> {
     count: u32,
@@ -26,7 +27,8 @@ pub struct PairingDraft<K> {
     trades: K,
 }
 
-// Hands on the trade of a pair. Where the collector does not look at trades of its symbol, none is made.
+// Hands on the trade of a pair. Where the collector does not look at trades
+// of its symbol, none is made.
 fn hand_on_pair<K: Collector<Entry = TradeRecord>>(
     trades: &mut K,
     first: &Report,
@@ -67,8 +69,8 @@ fn take_pair<K: Collector<Entry = TradeRecord>>(
     hand_on_pair(trades, &first.report, second)
 }
 
-// Takes a report whose id is not that of the report that came last, where earlier ones may wait. Room for an
-// earlier one is made ready where this is called, so it stands apart.
+// Takes a report whose id is not that of the report that came last, where earlier ones may wait.
+// Room for an earlier one is made ready where this is called, so it is a function of its own.
 fn take_with_earlier<K: Collector<Entry = TradeRecord>>(
     firsts: &mut FirstReports,
     trades: &mut K,
@@ -88,8 +90,8 @@ fn take_with_earlier<K: Collector<Entry = TradeRecord>>(
     }
 }
 
-// Takes a report whose id is not that of the report that came last. Mostly no earlier one waits, and then its
-// id need not be hashed.
+// Takes a report whose id is not that of the report that came last. Mostly no earlier one waits,
+// and then its id need not be hashed.
 fn take_other<K: Collector<Entry = TradeRecord>>(
     firsts: &mut FirstReports,
     trades: &mut K,
@@ -110,8 +112,8 @@ fn take_other<K: Collector<Entry = TradeRecord>>(
     }
 }
 
-// Takes one more report. Mostly the report that came last is the first one of its trade, and is looked at
-// where it stands.
+// Takes one more report. Mostly the report that came last is the first one of its trade,
+// and is looked at where it is kept.
 fn take_report<K: Collector<Entry = TradeRecord>>(
     firsts: &mut FirstReports,
     trades: &mut K,
@@ -133,8 +135,8 @@ fn take_report<K: Collector<Entry = TradeRecord>>(
 }
 
 impl<K: Collector<Entry = TradeRecord>> PairingDraft<K> {
-    /// No reports, over a collector of trades that has been handed nothing. Ids are found by hashes of
-    /// this seed.
+    /// No reports, over a collector of trades that has been handed nothing.
+    /// Ids are found by hashes of this seed.
     pub fn over(alloc: Global, seed: HashSeed, trades: K) -> Self
         requires { K.has_taken trades [] }
         ensures { IsPairingDraft K.has_taken result [] }
@@ -147,9 +149,9 @@ impl<K: Collector<Entry = TradeRecord>> PairingDraft<K> {
         }
     }
 
-    /// The collector, which has been handed exactly the trades of the reports, or finding 4 in their
-    /// place: what the pairing of all reports gives, for every list that the draft has been handed. There
-    /// are no more trades than reports.
+    /// The collector, which has been handed exactly the trades of the reports,
+    /// or finding 4 in their place: what the pairing of all reports gives,
+    /// for every list that the draft has been handed. There are no more trades than reports.
     pub fn end(self) -> Result<K, Finding>
         ensures pairs { (reports : List Report) → IsPairingDraft K.has_taken self reports
             → IsPairedAs K.has_taken (pairing reports) result }

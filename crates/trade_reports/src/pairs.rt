@@ -1,4 +1,4 @@
-//! What a pair of reports comes to.
+//! What a pair of reports gives.
 ghost use Rattle.std.specs.Prelude.{◌≡◌};
 ghost use Rattle.trade_reports.specs.Pairings.{agree, trade_of};
 

@@ -51,7 +51,7 @@ module _ (symbol : List ℕ) (entries : List OrderRecord) (trades : Result (List
   abbrev deals : List Deal
   deals = deals_of orders symbol (paired_trades trades)
 
-  -- what the verdict is where the phases before the rule have this finding
+  -- what the verdict is where the stages before the rule have this finding
   abbrev by_rule : Rule → Option Finding → Option Finding → Type 0
   by_rule the_rule v found = MatchOption found (IsRuleVerdict the_rule orders deals (length (paired_trades trades)) v) (λ f. v ≡ Some f)
 

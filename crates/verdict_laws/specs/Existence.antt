@@ -27,13 +27,15 @@ ConformingListExists = (the_rule : Rule) (orders : List Order)
 -- so each well-formed history has such a list under each of them
 abbrev pub HistoryHasConformingList : Type 0
 HistoryHasConformingList = (the_rule : Rule) (symbol : List ℕ) (entries : List OrderRecord)
-    → length entries < 2 ^ 32 → AreOrders (order_list symbol entries) → WellFormed symbol entries
+    → length entries < 2 ^ 32 → AreOrders (order_list symbol entries)
+    → WellFormed symbol entries
     → (deals : List Deal) × AreDeals deals × Conforms the_rule (order_list symbol entries) deals
 
 -- under each of the five rules every list of deals conforms or has a first offence
 abbrev pub RuleVerdictExists : Type 0
 RuleVerdictExists = (the_rule : Rule) (orders : List Order) (deals : List Deal) (count : ℕ)
-    → IsOrderList orders → AreOrders orders → All (NamesOrders orders) deals → AreDeals deals
+    → IsOrderList orders → AreOrders orders → All (NamesOrders orders) deals
+    → AreDeals deals
     → (verdict : Option Finding) × IsRuleVerdict the_rule orders deals count verdict
 
 -- under each of the five rules two logs that have been read have a verdict

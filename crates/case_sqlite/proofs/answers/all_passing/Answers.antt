@@ -1,4 +1,4 @@
--- Row by row: a row that tells no passing case ends it, and else its case is taken.
+-- Row by row: a row with no passing case ends it, and else its case is taken.
 use Rattle.std.proofs.Common.{Some, sym, ap, ◌∙◌}
 use Rattle.case_keeper.specs.Cases.{passes}
 use Rattle.case_sqlite.proofs.AnswerLemmas.{cases_none, cases_more}

@@ -1,4 +1,4 @@
--- The rows seen so far tell the cases that were taken.
+-- The cases in the rows seen so far are those that were taken.
 use Rattle.std.proofs.Common.{◌≡◌, take, Some}
 use Rattle.case_keeper.specs.Cases.{passes}
 use Rattle.case_sqlite.specs.Readings.{cases_that}

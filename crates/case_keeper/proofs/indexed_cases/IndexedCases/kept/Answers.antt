@@ -1,4 +1,4 @@
--- The index has the label where its case stands, or not at all.
+-- The map has the label with the index of its case, or not at all.
 use Rattle.std.proofs.Common.{◌≡◌, ℕ, List, length, Some, None, slice_get, Bor, refl, sym, ap, ◌∙◌}
 use Rattle.std.specs.Prelude.{Option, option_copied}
 use Rattle.std.specs.Slice.{IsItemAt}
