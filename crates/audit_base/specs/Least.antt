@@ -23,9 +23,9 @@ any_below test zero = false
 any_below test (suc n) = any_below test n || test n
 
 -- the first of these answers that is there
-abbrev pub first_of : {A : Type 0} → List (Option A) → Option A
-first_of [] = None
-first_of (a ∷ rest) = option_or a (first_of rest)
+abbrev pub first_answer : {A : Type 0} → List (Option A) → Option A
+first_answer [] = None
+first_answer (a ∷ rest) = option_or a (first_answer rest)
 
 -- a value where the test holds, else nothing
 abbrev pub only_if : {A : Type 0} → Bool → A → Option A

@@ -16,10 +16,10 @@ call_rule rule.Maximum = Some (call.Greatest of_volume.Maximum)
 call_rule rule.Continuous = None
 
 -- a rule of a call as one that asks for the greatest volume
-abbrev pub greatest_of : CallRule → Option VolumeRule
-greatest_of call.Matching = None
-greatest_of call.Fair = None
-greatest_of (call.Greatest the_rule) = Some the_rule
+abbrev pub volume_rule_of_call : CallRule → Option VolumeRule
+volume_rule_of_call call.Matching = None
+volume_rule_of_call call.Fair = None
+volume_rule_of_call (call.Greatest the_rule) = Some the_rule
 
 -- a rule that asks for the greatest volume, as one of the five
 abbrev pub rule_of_volume : VolumeRule → Rule

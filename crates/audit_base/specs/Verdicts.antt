@@ -6,17 +6,17 @@ use Rattle.audit_base.specs.declared.records.TradeRecord.{TradeRecord}
 use Rattle.audit_base.specs.declared.orders.Order.{Order}
 use Rattle.audit_base.specs.declared.orders.Deal.{Deal}
 use Rattle.audit_base.specs.declared.findings.Finding.{Finding}
-use Rattle.audit_base.specs.Least.{first_of}
+use Rattle.audit_base.specs.Least.{first_answer}
 use Rattle.audit_base.specs.Histories.{history_finding, order_list, instant_order}
-use Rattle.audit_base.specs.Trades.{unsound_trade, deals_of}
+use Rattle.audit_base.specs.Trades.{unsound_trade, deals_of_symbol}
 use Rattle.audit_base.specs.RuleKinds.{call_rule}
 use Rattle.audit_base.specs.Rules.{Conforms}
 use Rattle.audit_base.specs.CallOffences.{IsCallOffence}
 use Rattle.audit_base.specs.ContinuousOffences.{IsContinuousOffence}
 
 -- finding 16 is looked for under the four rules of a call
-abbrev pub call_finding : Rule → List Order → Option Finding
-call_finding the_rule orders =
+abbrev pub instant_order_finding : Rule → List Order → Option Finding
+instant_order_finding the_rule orders =
     option_and_then (λ call. instant_order orders) (call_rule the_rule)
 
 -- finding 4: a trade log that has been read is its trades, or this finding
@@ -34,8 +34,8 @@ paired_trades (Err finding) = []
 abbrev pub log_finding : Rule → List ℕ → List OrderRecord → Result (List TradeRecord) Finding
     → Option Finding
 log_finding the_rule symbol entries trades =
-    first_of (history_finding symbol entries
-    ∷ call_finding the_rule (order_list symbol entries)
+    first_answer (history_finding symbol entries
+    ∷ instant_order_finding the_rule (order_list symbol entries)
     ∷ pairing_finding trades
     ∷ unsound_trade (order_list symbol entries) symbol (paired_trades trades) ∷ [])
 
@@ -57,6 +57,6 @@ abbrev pub IsVerdict : Rule → List ℕ → List OrderRecord → Result (List T
 IsVerdict the_rule symbol entries trades verdict =
     let orders = order_list symbol entries in
     MatchOption (log_finding the_rule symbol entries trades)
-    (IsRuleVerdict the_rule orders (deals_of orders symbol (paired_trades trades))
+    (IsRuleVerdict the_rule orders (deals_of_symbol orders symbol (paired_trades trades))
     (length (paired_trades trades)) verdict)
     (λ finding. verdict ≡ Some finding)

@@ -20,15 +20,15 @@ impl Model for Name {
 
     ghost Value = { List ℕ };
 
-    ghost use Rattle.audit_base.specs.NameBlocks.{shown, packed, IsPacked, packed-shown};
+    ghost use Rattle.audit_base.specs.NameBlocks.{name_in_block, block_of_name, IsNameBlock, block-of-name-in-block};
 
-    ghost view = { shown };
+    ghost view = { name_in_block };
 
-    ghost invariant = { IsPacked };
+    ghost invariant = { IsNameBlock };
 
-    ghost inverse = { packed };
+    ghost inverse = { block_of_name };
 
-    ghost inverse_ok = { packed-shown };
+    ghost inverse_ok = { block-of-name-in-block };
 }
 
 impl Name {

@@ -2,7 +2,7 @@
 ghost use Rattle.std.specs.Prelude.{◌≡◌, ◌<◌, ◌≤◌, [], List, None, Some, length};
 ghost use Rattle.audit_base.specs.declared.orders.Order.{Order};
 ghost use Rattle.audit_base.specs.Orders.{order_at};
-ghost use Rattle.audit_base.specs.Shows.{with_traded};
+ghost use Rattle.audit_base.specs.Shows.{with_traded_number};
 
 use super::findings::OrderLine;
 
@@ -15,7 +15,7 @@ pub trait OrderLines {
     /// None exactly where there is no order.
     fn line_at(&self, index: usize, traded: u128) -> Option<OrderLine>
         ensures there { index < length (orders self.now)
-            → result ≡ Some (with_traded (order_at (orders self.now) index) traded) }
+            → result ≡ Some (with_traded_number (order_at (orders self.now) index) traded) }
         ensures none { length (orders self.now) ≤ index → result ≡ None };
 }
 

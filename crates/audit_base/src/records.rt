@@ -130,7 +130,7 @@ pub struct TradeRecord {
 }
 
 /// A record of a log, which is of one symbol.
-pub trait Traded: Copy + Drop {
+pub trait LogRecord: Copy + Drop {
     ghost symbol_of: { Self → List ℕ };
 
     /// The symbol that it trades.
@@ -138,7 +138,7 @@ pub trait Traded: Copy + Drop {
         ensures { result ≡ symbol_of self.now };
 }
 
-impl Traded for OrderRecord {
+impl LogRecord for OrderRecord {
     ghost symbol_of = { history.symbol_of };
 
     fn symbol(&self) -> Name {
@@ -150,7 +150,7 @@ impl Traded for OrderRecord {
     }
 }
 
-impl Traded for TradeRecord {
+impl LogRecord for TradeRecord {
     ghost symbol_of = { λ trade. trade.symbol };
 
     fn symbol(&self) -> Name {

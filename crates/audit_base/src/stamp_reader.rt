@@ -6,7 +6,7 @@ ghost use Rattle.audit_base.specs.Stamps as form;
 use super::stamps::{Stamp, read_fraction, read_stamp};
 
 /// The point in time of a fraction of a second.
-fn in_second(second: u64, nano: Option<u64>) -> Option<Stamp>
+fn stamp_in_second(second: u64, nano: Option<u64>) -> Option<Stamp>
     requires second { second < end_of_time }
     requires nano { IfSome nano (λ n. n < 10 ^ 9) }
     ensures { result ≡ form.with_fraction (Some (record { second = second; nano = 0 })) nano }
@@ -56,7 +56,7 @@ impl StampReader {
         }
         let (clock, fraction) = text.split_at(17);
         if clock == self.clock.as_slice() {
-            return in_second(self.second, read_fraction(fraction));
+            return stamp_in_second(self.second, read_fraction(fraction));
         }
         let stamp = read_stamp(text)?;
         *self = StampReader {

@@ -73,9 +73,9 @@ fn read_clock(text: &[u8]) -> Option<u64>
 }
 
 /// A fraction of this many digits in nanoseconds.
-fn filled_to_nine(places: usize, fraction: Option<u64>) -> Option<u64>
+fn nano_of_fraction(places: usize, fraction: Option<u64>) -> Option<u64>
     requires { IfSome fraction (λ f. (places ≤ 9) × (f < 10 ^ places)) }
-    ensures value { result ≡ form.filled_to_nine places fraction }
+    ensures value { result ≡ form.nano_of_fraction places fraction }
     ensures in_range { IfSome result (λ n. n < 10 ^ 9) }
 {
     Some(scaled(fraction?, places, 9))
@@ -87,9 +87,9 @@ fn fraction_of(digits: &[u8]) -> Option<u64>
     ensures in_range { IfSome result (λ n. n < 10 ^ 9) }
 {
     if digits.len() == 9 {
-        filled_to_nine(9, read_nine(digits))
+        nano_of_fraction(9, read_nine(digits))
     } else if digits.len() == 3 || digits.len() == 6 {
-        filled_to_nine(digits.len(), read_digits(digits, 9))
+        nano_of_fraction(digits.len(), read_digits(digits, 9))
     } else {
         None
     }

@@ -160,7 +160,7 @@ pub enum Life {
 impl Life {
     /// Whether what is left of an order after its own record may wait for others.
     pub fn rests(self) -> bool
-        ensures { result ≡ orders.is_rests self }
+        ensures { result ≡ orders.may_rest self }
     {
         match self {
             Life::Rests => true,

@@ -38,9 +38,9 @@ pub record IsRefusedBound (the_rule : VolumeRule) (orders : List Order) (reached
   pub fails : BeginsWith (IsBoundLine the_rule orders reached) bytes → ⊥
 
 -- the numbers of the lines of last orders
-abbrev pub last_number : Side → ℕ
-last_number Buy = 3
-last_number Sell = 4
+abbrev pub last_line_number : Side → ℕ
+last_line_number Buy = 3
+last_line_number Sell = 4
 
 -- line 3 or 4 passes, or not, whichever deals the numbers are of
 abbrev pub IsBehindLast : List Order → List ℕ → Side → List ℕ → List ℕ → Type 0
@@ -49,6 +49,6 @@ IsBehindLast orders traded side bytes rest = (deals : List Deal) → IsOrderList
 
 pub record IsRefusedLast (orders : List Order) (traded : List ℕ) (side : Side)
     (bytes : List ℕ) (number : ℕ) : Type 0 where
-  pub number_is : number ≡ last_number side
+  pub number_is : number ≡ last_line_number side
   pub fails : (deals : List Deal) → IsOrderList orders → AreTotals orders deals traded
       → BeginsWith (IsLastLine orders deals side) bytes → ⊥

@@ -32,7 +32,7 @@ fn append_last_line(
 ) -> Result<(), NoMemory>
     requires { length traded.now ≡ length orders.now }
     ensures { OnOk result (out.new.items
-        ≡ out.old.items ++ spec.last_line orders.now traded.now side) }
+        ≡ out.old.items ++ spec.last_trading_line orders.now traded.now side) }
 {
     let last = last_trading(orders, traded, side);
     append_last(alloc, side, place_of(orders, last), out)?;

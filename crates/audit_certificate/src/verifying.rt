@@ -73,8 +73,8 @@ fn check_bound<'a>(
 }
 
 /// The number of the line of a side's last order that trades.
-fn last_number(side: Side) -> u32
-    ensures { result ≡ step.last_number side }
+fn last_line_number(side: Side) -> u32
+    ensures { result ≡ step.last_line_number side }
 {
     match side {
         Side::Buy => 3,
@@ -96,7 +96,7 @@ fn check_last<'a>(
         step.IsBehindLast orders.now traded.now side bytes.now rest.now) }
     ensures refused { IfRefused result (step.IsRefusedLast orders.now traded.now side bytes.now) }
 {
-    let number = last_number(side);
+    let number = last_line_number(side);
     let Some(line) = first_line(bytes) else {
         return Err(VerifyFault::No(number));
     };

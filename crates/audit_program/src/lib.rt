@@ -21,11 +21,11 @@ use log_source::shelf::Shelf;
 use log_source::sink::Sink;
 use log_source::std_sink::StdSink;
 use run_notes::command_line::CommandLine;
-use run_notes::log_notes::tell_log_fault;
+use run_notes::log_notes::print_log_fault;
 use run_notes::noted_shelf::NotedShelf;
 use run_notes::noted_sink::NotedSink;
 use run_notes::program_ends::{noted_files, noted_output};
-use run_notes::usage_notes::tell_auditor_usage;
+use run_notes::usage_notes::print_auditor_usage;
 use std::io;
 use std::process::ExitCode;
 use std::random::RandomSource;
@@ -78,7 +78,7 @@ fn tell<F: Shelf>(rt: &HostRuntime, status: Status, shelf: &NotedShelf<F>, last:
     match status {
         Status::Usage => {
             if let Ok(words) = rt.words() {
-                tell_auditor_usage(rt, &words);
+                print_auditor_usage(rt, &words);
             }
         }
         Status::Memory => {
@@ -88,7 +88,7 @@ fn tell<F: Shelf>(rt: &HostRuntime, status: Status, shelf: &NotedShelf<F>, last:
             let _told = eprintln!(rt; "auditor: standard output could not be written");
         }
         Status::Malformed | Status::ReadFault | Status::TooLong => {
-            tell_log_fault(rt, "auditor", shelf, last);
+            print_log_fault(rt, "auditor", shelf, last);
         }
         Status::Accepted | Status::Rejected => {}
     }

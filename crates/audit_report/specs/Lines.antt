@@ -112,8 +112,8 @@ abbrev pub too_long_line : Which → List ℕ
 too_long_line log = line_text (codes "toolong" ∷ log_word log ∷ [])
 
 -- how the command line is used
-abbrev pub usage_line : List ℕ
-usage_line =
+abbrev pub auditor_usage_line : List ℕ
+auditor_usage_line =
     codes "usage: audit RULE SYMBOL ORDERS TRADES" ++ codes " | expect RULE SYMBOL ORDERS"
     ++ codes " | convert orders|trades csv|fix PATH" ++ codes " | generate START COUNT"
     ++ codes " | certify RULE SYMBOL ORDERS TRADES"

@@ -3,7 +3,7 @@
 ghost use Rattle.std.specs.Prelude.{◌≡◌, ◌++◌, ◌∷◌, [], OnOk, map, decimal};
 ghost use Rattle.std.specs.List.{join_with_byte};
 ghost use Rattle.audit_report.specs.Lines.{line_text};
-ghost use Rattle.audit_report.specs.LineParts.{part_text, rest_text};
+ghost use Rattle.audit_report.specs.LineParts.{part_text, later_parts_text};
 
 use audit_base::faults::NoMemory;
 use audit_base::numbers::Price;
@@ -57,7 +57,7 @@ pub fn append_joined(
 /// Appends the parts, each with a comma before it.
 pub fn append_rest(alloc: Global, parts: &[Part<'_>], out: &mut Vec<u8>) -> Result<(), NoMemory>
     ensures { OnOk result
-        (out.new.items ≡ out.old.items ++ rest_text (map part_text parts.now)) }
+        (out.new.items ≡ out.old.items ++ later_parts_text (map part_text parts.now)) }
 {
     for part in parts {
         append_after_comma(alloc, part, out)?;

@@ -130,7 +130,7 @@ pub fn too_long_text(log: Which) -> &'static [u8]
 
 /// The line that says how the command line is used.
 pub fn usage_text() -> &'static [u8]
-    ensures { result.now ≡ text.usage_line }
+    ensures { result.now ≡ text.auditor_usage_line }
 {
     b"usage: audit RULE SYMBOL ORDERS TRADES \
       | expect RULE SYMBOL ORDERS \

@@ -10,6 +10,6 @@ abbrev pub has_path : List ℕ → StoredFile → Bool
 has_path path file = bytes_eq file.path.now path
 
 -- the bytes of the first file of this path
-abbrev pub bytes_at : StoredFiles → List ℕ → Option (List ℕ)
-bytes_at stored path =
+abbrev pub bytes_of_path : StoredFiles → List ℕ → Option (List ℕ)
+bytes_of_path stored path =
     option_map (λ file. file.bytes.now) (find (has_path path) stored.files.now)

@@ -1,7 +1,7 @@
 //! Files in memory whose bytes are known, for the shelf over files.
 ghost use Rattle.std.specs.Prelude.{◌≡◌, true, find};
 ghost use Rattle.std.specs.Option.{option_copied};
-ghost use Rattle.base_tests.specs.StoredFiles.{bytes_at, has_path};
+ghost use Rattle.base_tests.specs.StoredFiles.{bytes_of_path, has_path};
 
 use log_source::file_system::FileSystem;
 use std::io;
@@ -39,7 +39,7 @@ impl<'a> FileSystem for StoredFiles<'a> {
 
     ghost tells = { λ _. true };
 
-    ghost file_at = { bytes_at };
+    ghost file_at = { bytes_of_path };
 
     fn open(&self, path: &str) -> io::Result<&'a [u8]> {
         match file_under(self.files, path) {

@@ -1,6 +1,6 @@
 //! Where tags are among the fields of a body, and a body that is written.
 use audit_base::sizes::LONGEST_BODY;
-use fix_fields::field::{Field, Found, Placed};
+use fix_fields::field::{Field, Found, ValueSpan};
 use fix_fields::find::find_field;
 use fix_fields::notes::TagNotes;
 use fix_fields::split::fields;
@@ -27,24 +27,24 @@ fn the_first_field_is_found(rt: HostRuntime) {
 #[test]
 fn noted_tags_are_found(rt: HostRuntime) {
     let mut notes = TagNotes::new();
-    assert_eq!(rt; notes.find(35), Placed::Absent);
+    assert_eq!(rt; notes.find(35), ValueSpan::Absent);
     let noted = [(35, 3), (34, 8), (11, 14), (527, 20)].map(|(tag, from)| Field {
         tag,
         from,
         to: 30,
     });
     notes.note(&noted);
-    assert_eq!(rt; notes.find(35), Placed::One { from: 3, to: 30 });
-    assert_eq!(rt; notes.find(527), Placed::One { from: 20, to: 30 });
-    assert_eq!(rt; notes.find(55), Placed::Absent);
+    assert_eq!(rt; notes.find(35), ValueSpan::One { from: 3, to: 30 });
+    assert_eq!(rt; notes.find(527), ValueSpan::One { from: 20, to: 30 });
+    assert_eq!(rt; notes.find(55), ValueSpan::Absent);
     let repeated = [(35, 3), (55, 8), (55, 14), (55, 20)].map(|(tag, from)| Field {
         tag,
         from,
         to: 30,
     });
     notes.note(&repeated);
-    assert_eq!(rt; notes.find(55), Placed::Many { from: 8, to: 30 });
-    assert_eq!(rt; notes.find(11), Placed::Absent);
+    assert_eq!(rt; notes.find(55), ValueSpan::Many { from: 8, to: 30 });
+    assert_eq!(rt; notes.find(11), ValueSpan::Absent);
 }
 
 #[test]

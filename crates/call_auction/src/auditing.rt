@@ -3,8 +3,8 @@
 ghost use Rattle.std.specs.Prelude.{◌≡◌, ◌<◌, ◌-◌, ◌^◌, IfOk, IfSome, length};
 ghost use Rattle.audit_base.specs.Orders.{IsOrderList};
 ghost use Rattle.audit_base.specs.Deals.{IsDealList};
-ghost use Rattle.call_auction.specs.Audits.{IsGreatestOf, IsAudited};
-ghost use Rattle.call_auction.specs.Outcomes.{IsShortOf, IsVolumeFinding, IsOutcome};
+ghost use Rattle.call_auction.specs.Audits.{IsGreatestOf, IsAuditedCall};
+ghost use Rattle.call_auction.specs.Outcomes.{IsBestShortWithDue, IsVolumeFinding, IsVolumeOutcome};
 
 use super::dues::due_of;
 use super::fair_matchings::fair_matching;
@@ -28,7 +28,7 @@ fn short_with_due(
 ) -> Option<DueOrder>
     requires order_list { IsOrderList orders.now }
     requires count { length traded.now ≡ length orders.now }
-    ensures short { IsShortOf orders.now traded.now greatest side result }
+    ensures short { IsBestShortWithDue orders.now traded.now greatest side result }
     ensures inside { IfSome result (λ short. short.order.index < length orders.now) }
 {
     let index = best_short_on(orders, traded, side)?;
@@ -65,7 +65,7 @@ fn outcome_of(orders: &OrderList<'_>, totals: Totals, count: u32, most: Cut) -> 
     requires order_list { IsOrderList orders.now }
     requires totals { length totals.0 ≡ length orders.now }
     requires count { count < 2 ^ 32 - 1 }
-    ensures { IsOutcome orders.now totals count most result }
+    ensures { IsVolumeOutcome orders.now totals count most result }
 {
     if totals.volume() < most.volume {
         return Outcome::Broken(volume_finding(orders, &totals, count, most.volume));
@@ -93,7 +93,7 @@ pub fn audit_call(
     requires deal_list { IsDealList orders.now deals.now }
     requires count { count < 2 ^ 32 - 1 }
     requires most { IsGreatestOf rule orders.now most }
-    ensures { IfOk result (IsAudited rule orders.now deals.now count) }
+    ensures { IfOk result (IsAuditedCall rule orders.now deals.now count) }
 {
     match fair_matching(alloc, orders, deals, rule.asks_one_price()) {
         Ok(totals) => Ok(outcome_of(orders, totals, count, most)),

@@ -1,9 +1,9 @@
 //! Whether deals are a fair matching: the first two parts of every rule of a call but `matching`.
 ghost use Rattle.std.specs.Prelude.{IfOk};
 ghost use Rattle.audit_base.specs.Orders.{IsOrderList};
-ghost use Rattle.audit_base.specs.Deals.{IsDealList, AreDeals};
+ghost use Rattle.audit_base.specs.Deals.{IsDealList, DealsInRange};
 ghost use Rattle.call_auction.specs.FairMatchings.{IsFairMatching, IsFairMatchingOffence};
-ghost use Rattle.matching_core.specs.Answers.{IfFound};
+ghost use Rattle.matching_core.specs.Answers.{IfCheckFinding};
 
 use audit_base::orders::Deal;
 use audit_base::ranges::deals_in_range;
@@ -27,8 +27,8 @@ pub fn fair_matching(
     requires order_list { IsOrderList orders.now }
     requires deal_list { IsDealList orders.now deals.now }
     ensures fair { IfOk result (IsFairMatching uniform orders.now deals.now) }
-    ensures found { IfFound result (IsFairMatchingOffence uniform orders.now deals.now) }
-    ensures numbers { AreDeals deals.now }
+    ensures found { IfCheckFinding result (IsFairMatchingOffence uniform orders.now deals.now) }
+    ensures numbers { DealsInRange deals.now }
 {
     deals_in_range(deals);
     let totals = check_matching(alloc, orders, deals, uniform)?;

@@ -1,5 +1,5 @@
 //! What holds of every call, in one sentence each.
-ghost use Rattle.call_laws.specs.Laws.{FairVolumeFillsByRank, ShortOrdersDoNotMeet, LesserVolumeLeavesShortOrders, OnlyQuantities, DueByRank};
+ghost use Rattle.call_laws.specs.Laws.{FairVolumeFillsByRank, ShortOrdersDoNotMeet, LowVolumeLeavesShortOrders, OnlyQuantities, DueByRank};
 
 /// A fair matching fills its volume by rank: an order trades what the better ones leave of the
 /// volume, up to its quantity (price-time priority).
@@ -14,8 +14,8 @@ pub fn short_orders_do_not_meet()
 {}
 
 /// Where another matching has a greater volume, each side has a short order, and so a best one.
-pub fn lesser_volume_leaves_short_orders()
-    ensures { LesserVolumeLeavesShortOrders }
+pub fn low_volume_leaves_short_orders()
+    ensures { LowVolumeLeavesShortOrders }
 {}
 
 /// Under `uniform` and `maximum` all conforming lists of deals trade the same with each order.

@@ -11,9 +11,9 @@ use Rattle.log_source.specs.declared.shelf.Shelf.{Ghosts as Shelf}
 use Rattle.run_notes.specs.FreshEnds.{IsFreshOver, fresh_sink}
 
 -- the answer is that of the commands, which left a casebook that was then closed, or opened none
-abbrev pub RunsWordsAndCloses : {S : Type 0} → Shelf S → S → S → OpenerState → OpenerState
+abbrev pub RunsThenCloses : {S : Type 0} → Shelf S → S → S → OpenerState → OpenerState
     → List (List ℕ) → SinkState → SinkState → CaseStatus → Type 0
-RunsWordsAndCloses shelf old new opener_old opener_new words sink_old sink_new status =
+RunsThenCloses shelf old new opener_old opener_new words sink_old sink_new status =
     (book : Option KeeperState)
     × RunsWords shelf old new opener_old opener_new words sink_old sink_new book status
 
@@ -27,7 +27,7 @@ pub record CasebookEnds (S : Type 0) : Type 0 where
 abbrev pub CasebookAnswers : {S : Type 0} → Shelf S → List (List ℕ)
     → CasebookEnds S → CasebookEnds S → CaseStatus → Type 0
 CasebookAnswers shelf words old new status =
-    RunsWordsAndCloses shelf old.shelf new.shelf old.opener new.opener words
+    RunsThenCloses shelf old.shelf new.shelf old.opener new.opener words
     old.sink new.sink status
 
 -- an opener that this is known of, a shelf that has the file under each path, with nothing

@@ -1,7 +1,7 @@
 //! The run of the commands, and the close of the database behind it.
 ghost use Rattle.std.specs.Prelude.{map};
 ghost use Rattle.std.specs.String.{string_bytes};
-ghost use Rattle.case_files.specs.ClosedRuns.{RunsWordsAndCloses};
+ghost use Rattle.case_files.specs.ClosedRuns.{RunsThenCloses};
 
 use case_run::books::{Ended, run_book_seeded};
 use case_run::opener::Opener;
@@ -32,7 +32,7 @@ pub fn run_and_close<F: Shelf, K: Sink, O: Closing>(
     out: &mut K,
     opener: &mut O,
 ) -> CaseStatus
-    ensures { RunsWordsAndCloses F.Shelf shelf.old shelf.new
+    ensures { RunsThenCloses F.Shelf shelf.old shelf.new
         (O.state opener.old) (O.state opener.new) (map string_bytes words.now)
         (K.state out.old) (K.state out.new) result }
 {

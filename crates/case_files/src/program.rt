@@ -21,12 +21,14 @@ use log_source::shelf::Shelf;
 use log_source::sink::Sink;
 use log_source::std_sink::StdSink;
 use run_notes::command_line::CommandLine;
-use run_notes::database_notes::{is_missing, tell_database_fault, tell_listed_symbols, tell_made};
-use run_notes::log_notes::tell_log_fault;
+use run_notes::database_notes::{
+    is_database_missing, print_database_fault, print_listed_symbols, print_made_database,
+};
+use run_notes::log_notes::print_log_fault;
 use run_notes::noted_shelf::NotedShelf;
 use run_notes::noted_sink::NotedSink;
 use run_notes::program_ends::{noted_files, noted_output};
-use run_notes::usage_notes::tell_casebook_usage;
+use run_notes::usage_notes::print_casebook_usage;
 use std::io;
 use std::process::ExitCode;
 use std::random::RandomSource;
@@ -53,7 +55,7 @@ fn answer_words<R: CommandLine + AllocGlobal + RandomSource, F: Shelf, K: Sink, 
 /// What a run leaves: its status, the files that it read and the output that it wrote, with
 /// what was noted of both.
 #[derive(Drop)]
-struct Ran<S: FileSystem, W> {
+struct RunEnds<S: FileSystem, W> {
     status: CaseStatus,
     shelf: NotedShelf<FileShelf<S>>,
     out: NotedSink<StdSink<W>>,
@@ -66,7 +68,7 @@ fn run_over<
     S: FileSystem + Drop,
     W: Output + Drop,
     O: Closing,
->(rt: &R, files: S, output: W, opener: &mut O) -> Ran<S, W>
+>(rt: &R, files: S, output: W, opener: &mut O) -> RunEnds<S, W>
     ensures { let shelf = ⟦<NotedShelf<FileShelf<S>> as Shelf>⟧ in
         let state = ⟦<NotedSink<StdSink<W>> as Sink>⟧.state in
         AnswersFrom (CasebookAnswers shelf) status.Memory (R.told rt.now)
@@ -78,7 +80,7 @@ fn run_over<
     let mut shelf = noted_files(rt.alloc(), files);
     let mut out = noted_output(rt.alloc(), output);
     let status = answer_words(rt, &mut shelf, &mut out, opener);
-    Ran { status, shelf, out }
+    RunEnds { status, shelf, out }
 }
 
 /// Says on standard error why a run ended above 1, or of which symbol a list is that may be
@@ -91,8 +93,8 @@ fn tell<F: Shelf>(
     last: &[u8],
 ) {
     match status {
-        CaseStatus::Usage => tell_casebook_usage(rt, words),
-        CaseStatus::KeeperFault => tell_database_fault(rt, words),
+        CaseStatus::Usage => print_casebook_usage(rt, words),
+        CaseStatus::KeeperFault => print_database_fault(rt, words),
         CaseStatus::Memory => {
             let _told = eprintln!(rt; "casebook: memory ran out");
         }
@@ -100,9 +102,9 @@ fn tell<F: Shelf>(
             let _told = eprintln!(rt; "casebook: standard output could not be written");
         }
         CaseStatus::Malformed | CaseStatus::ReadFault | CaseStatus::TooLong => {
-            tell_log_fault(rt, "casebook", shelf, last);
+            print_log_fault(rt, "casebook", shelf, last);
         }
-        CaseStatus::Done | CaseStatus::Refused => tell_listed_symbols(rt, words),
+        CaseStatus::Done | CaseStatus::Refused => print_listed_symbols(rt, words),
     }
 }
 
@@ -121,10 +123,10 @@ fn answer(rt: HostRuntime) -> CaseStatus
     let Ok(words) = rt.words() else {
         return CaseStatus::Memory;
     };
-    let was_missing = is_missing(&rt, &words);
+    let was_missing = is_database_missing(&rt, &words);
     let mut opener = FileOpener::new(databases);
-    let Ran { status, shelf, out } = run_over(&rt, files, io::writer(&rt), &mut opener);
-    tell_made(&rt, &words, was_missing);
+    let RunEnds { status, shelf, out } = run_over(&rt, files, io::writer(&rt), &mut opener);
+    print_made_database(&rt, &words, was_missing);
     tell(&rt, status, &words, &shelf, out.last());
     status
 }

@@ -7,10 +7,10 @@ use Rattle.case_keeper.specs.Cases.{has_label}
 use Rattle.case_keeper.specs.declared.case.Case.{Case}
 
 -- the index of the first case with the label
-abbrev pub place_of : List Case → List ℕ → Option ℕ
-place_of cases label = position (has_label label) cases
+abbrev pub index_of_label : List Case → List ℕ → Option ℕ
+index_of_label cases label = position (has_label label) cases
 
 -- the map has under each label the index of its case
-abbrev pub IsIndex : BTreeMap (List ℕ) ℕ → List Case → Type 0
-IsIndex index cases =
-    (label : List ℕ) → get (slice_cmp nat_cmp) index label ≡ place_of cases label
+abbrev pub IsLabelIndex : BTreeMap (List ℕ) ℕ → List Case → Type 0
+IsLabelIndex index cases =
+    (label : List ℕ) → get (slice_cmp nat_cmp) index label ≡ index_of_label cases label

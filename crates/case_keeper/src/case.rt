@@ -39,11 +39,11 @@ pub struct Filter {
 }
 
 impl Mark {
-    ghost use Rattle.case_keeper.specs.Cases.{same_mark};
+    ghost use Rattle.case_keeper.specs.Cases.{same_property_broken};
 
     /// Whether two audits ended alike: both accepted, or with one property broken.
     fn is_same(self, other: Mark) -> bool
-        ensures { result ≡ same_mark self other }
+        ensures { result ≡ same_property_broken self other }
     {
         match (self, other) {
             (Mark::Accepted, Mark::Accepted) => true,
@@ -68,7 +68,7 @@ impl Case {
 }
 
 impl Filter {
-    ghost use Rattle.case_keeper.specs.Cases.{passes, passes_symbol, passes_mark};
+    ghost use Rattle.case_keeper.specs.Cases.{passes_filter, passes_symbol, passes_mark};
 
     /// Whether the symbol of a case is the one that the filter names, if it names one.
     fn passes_symbol(&self, case: &Case) -> bool
@@ -92,7 +92,7 @@ impl Filter {
 
     /// Whether a case has the symbol and the mark that the filter names.
     pub fn passes(&self, case: &Case) -> bool
-        ensures { result ≡ passes self.now case.now }
+        ensures { result ≡ passes_filter self.now case.now }
     {
         self.passes_symbol(case) && self.passes_mark(case)
     }

@@ -15,7 +15,7 @@ use Rattle.sqlite_value.specs.Order.{Row}
 use Rattle.std.specs.Option.{option_to_list}
 use Rattle.case_sqlite.specs.CaseRows.{case_columns}
 use Rattle.case_sqlite.proofs.RowLemmas.{form_told}
-use Rattle.case_sqlite.specs.Readings.{case_form, case_that, cases_that, one_that}
+use Rattle.case_sqlite.specs.Readings.{case_form, case_that, cases_that, one_case_that}
 
 abbrev before : Case → Option (List Case) → Option (List Case)
 before case = option_map (λ cases. case ∷ cases)
@@ -73,7 +73,7 @@ all_pass test (row ∷ rows) cases e =
         subst (All (λ case. IsTrue (test case))) (same_Some (c ∷ more) cases behind) (All-cons (λ case. IsTrue (test case)) c more (told_passes test row c is_c) (pass more is_o))
 
 -- the rows with a label give a case with this label
-pub one_has_label : (label : List ℕ) (rows : List Row) (result : Result (Option Case) KeepFault) → result ≡ one_that (has_label label) rows
+pub one_has_label : (label : List ℕ) (rows : List Row) (result : Result (Option Case) KeepFault) → result ≡ one_case_that (has_label label) rows
     → IfOk result (λ found. IfSome found (λ case. case.label ≡ label))
 one_has_label label rows result e = subst (λ r. IfOk r (λ found. IfSome found (λ case. case.label ≡ label))) (sym e) (told rows)
   where
@@ -81,7 +81,7 @@ one_has_label label rows result e = subst (λ r. IfOk r (λ found. IfSome found 
     one row None is = tt
     one row (Some case) is = (bytes_eq-Decides case.label label).0 (told_passes (has_label label) row case is)
 
-    told : (rows : List Row) → IfOk (one_that (has_label label) rows) (λ found. IfSome found (λ case. case.label ≡ label))
+    told : (rows : List Row) → IfOk (one_case_that (has_label label) rows) (λ found. IfSome found (λ case. case.label ≡ label))
     told [] = tt
     told (row ∷ []) = one row (case_that (has_label label) row) refl
     told (row ∷ next ∷ rows) = tt
@@ -106,7 +106,7 @@ all_rows test (row ∷ rows) cases e =
         ap₂ (λ r rs. r ∷ rs) (told_columns test row c is_c) (same more is_o) ∙ ap (map case_columns) (same_Some (c ∷ more) cases behind)
 
 -- the rows that give a case, or none, are its columns, or none
-pub one_row : (test : Case → Bool) (rows : List Row) (found : Option Case) → Ok found ≡ one_that test rows → rows ≡ map case_columns (option_to_list found)
+pub one_row : (test : Case → Bool) (rows : List Row) (found : Option Case) → Ok found ≡ one_case_that test rows → rows ≡ map case_columns (option_to_list found)
 one_row test [] found e = ap (λ o. map case_columns (option_to_list o)) (sym (ok_same found None e))
   where
     ok_same : (a b : Option Case) → ◌≡◌ {A = Result (Option Case) KeepFault} (Ok a) (Ok b) → a ≡ b

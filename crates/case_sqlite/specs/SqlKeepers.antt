@@ -8,27 +8,27 @@ use Rattle.sqlite.specs.Held.{Held}
 use Rattle.case_sqlite.specs.declared.sql_keeper.SqlKeeper.{SqlKeeper}
 
 -- the state of a keeper whose cases are not known
-abbrev pub silent_state : ℕ → KeeperState
-silent_state faults = record { cases = None; faults = faults }
+abbrev pub state_of_faults : ℕ → KeeperState
+state_of_faults faults = record { cases = None; faults = faults }
 
 -- its state: its cases are not known
 abbrev pub sql_state : {S : Type 0} → SqlKeeper S → KeeperState
-sql_state keeper = silent_state keeper.faults
+sql_state keeper = state_of_faults keeper.faults
 
 -- the connection that it keeps its cases by
 abbrev pub connection_of : {S : Type 0} → SqlKeeper S → Held S
 connection_of keeper = keeper.connection
 
 -- the answer is a failure, which out of memory is not
-abbrev pub is_failure : {T : Type 0} → Result T KeepFault → Bool
-is_failure (Ok _) = false
-is_failure (Err fault.Failed) = true
-is_failure (Err fault.Memory) = false
+abbrev pub is_failed_call : {T : Type 0} → Result T KeepFault → Bool
+is_failed_call (Ok _) = false
+is_failed_call (Err fault.Failed) = true
+is_failed_call (Err fault.Memory) = false
 
 -- one fault more is counted where a call failed, and none otherwise
 abbrev pub CountsFailure : {T : Type 0} → KeeperState → KeeperState → Result T KeepFault
     → Type 0
-CountsFailure old new result = new.faults ≡ faults_after (is_failure result) old.faults
+CountsFailure old new result = new.faults ≡ faults_after (is_failed_call result) old.faults
 
 -- no transaction is open after a call before which none was
 abbrev pub EndsTransaction : {S : Type 0} → Held S → Held S → Type 0

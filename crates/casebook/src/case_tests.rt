@@ -65,7 +65,7 @@ pub(crate) fn shelf_of(alloc: Global, fails: u32) -> Result<MemoryShelf, Fail> {
 }
 
 /// A casebook in memory of no cases, whose keeper's call of this number fails.
-fn book_of(alloc: Global, fails: u32) -> Result<Casebook<MapKeeper>, Fail> {
+fn casebook_over(alloc: Global, fails: u32) -> Result<Casebook<MapKeeper>, Fail> {
     let list = Vec::from_slice(alloc, &[fails])?;
     Ok(Casebook::new(MapKeeper::new(alloc, list)))
 }
@@ -121,7 +121,7 @@ nocase,c9
 #[test]
 fn cases_are_filed_once_and_listed(rt: HostRuntime) -> Result<(), Fail> {
     for &row in &FILED {
-        let mut book = book_of(rt.alloc(), 0)?;
+        let mut book = casebook_over(rt.alloc(), 0)?;
         assert_row(&rt, row, &mut book)?;
     }
     Ok(())
@@ -175,7 +175,7 @@ const LINES: [Row; 14] = [
 
 #[test]
 fn a_casebook_is_asked_again_and_again(rt: HostRuntime) -> Result<(), Fail> {
-    let mut book = book_of(rt.alloc(), 0)?;
+    let mut book = casebook_over(rt.alloc(), 0)?;
     for &row in &LINES {
         assert_row(&rt, row, &mut book)?;
     }
@@ -206,7 +206,7 @@ const FAULTY: [&str; 18] = [
 
 #[test]
 fn faulty_words_are_told_the_usage(rt: HostRuntime) -> Result<(), Fail> {
-    let mut book = book_of(rt.alloc(), 0)?;
+    let mut book = casebook_over(rt.alloc(), 0)?;
     for &line in &FAULTY {
         assert_row(&rt, (line, 2, USAGE), &mut book)?;
     }
@@ -217,7 +217,7 @@ fn faulty_words_are_told_the_usage(rt: HostRuntime) -> Result<(), Fail> {
 #[test]
 fn a_keeper_that_fails_keeps_its_cases(rt: HostRuntime) -> Result<(), Fail> {
     for fails in [1, 2] {
-        let mut book = book_of(rt.alloc(), fails)?;
+        let mut book = casebook_over(rt.alloc(), fails)?;
         let row = ("file c1 matching Z csv o t", 8, "keeperfault\n");
         assert_row(&rt, row, &mut book)?;
         assert_row(&rt, ("list", 0, ""), &mut book)?;
@@ -231,7 +231,7 @@ fn a_case_whose_line_is_cut_stays_filed(rt: HostRuntime) -> Result<(), Fail> {
     let words = split_words(rt.alloc(), "file c1 matching Z csv o t then list")?;
     let label = read_name(b"c1").expect(&rt, "a name");
     for room in [0, 10, 27, 28, 40] {
-        let mut book = book_of(rt.alloc(), 0)?;
+        let mut book = casebook_over(rt.alloc(), 0)?;
         let mut shelf = shelf_of(rt.alloc(), 0)?;
         let mut out = MemorySink::new(rt.alloc(), room, 4096, Vec::new(rt.alloc()))?;
         let status = run_case(rt.alloc(), &words, &mut shelf, &mut out, &mut book);
@@ -250,7 +250,7 @@ fn a_command_behind_a_cut_line_files_nothing(rt: HostRuntime) -> Result<(), Fail
     let words = split_words(rt.alloc(), line)?;
     let second = read_name(b"c2").expect(&rt, "a name");
     for (room, filed) in [(0, false), (1, false), (28, true)] {
-        let mut book = book_of(rt.alloc(), 0)?;
+        let mut book = casebook_over(rt.alloc(), 0)?;
         let mut shelf = shelf_of(rt.alloc(), 0)?;
         let mut out = MemorySink::new(rt.alloc(), room, 4096, Vec::new(rt.alloc()))?;
         let status = run_case(rt.alloc(), &words, &mut shelf, &mut out, &mut book);
@@ -279,7 +279,7 @@ fn a_log_is_told_before_a_keeper_that_fails(rt: HostRuntime) -> Result<(), Fail>
         ),
         ("file c1 matching Z csv o t", 8, "keeperfault\n"),
     ] {
-        let mut book = book_of(rt.alloc(), 1)?;
+        let mut book = casebook_over(rt.alloc(), 1)?;
         assert_row(&rt, row, &mut book)?;
     }
     Ok(())
@@ -294,7 +294,7 @@ fn a_read_that_fails_files_nothing(rt: HostRuntime) -> Result<(), Fail> {
         (4, "readfault,orders\n"),
         (6, "readfault,trades\n"),
     ] {
-        let mut book = book_of(rt.alloc(), 0)?;
+        let mut book = casebook_over(rt.alloc(), 0)?;
         let mut shelf = shelf_of(rt.alloc(), fails)?;
         let mut out = MemorySink::new(rt.alloc(), 4096, 4096, Vec::new(rt.alloc()))?;
         let status = run_case(rt.alloc(), &words, &mut shelf, &mut out, &mut book);

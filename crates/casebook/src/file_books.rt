@@ -19,7 +19,7 @@ use std::test::Fail;
 pub(crate) type Disks = Files<Fuse<Memory>>;
 
 /// What a test does with a casebook.
-pub(crate) trait Visit {
+pub(crate) trait VisitKeeper {
     /// What is known when it is done.
     type Answer;
 
@@ -34,7 +34,7 @@ pub(crate) trait Visit {
 #[derive(Drop)]
 pub(crate) struct Command(pub(crate) Row);
 
-impl Visit for Command {
+impl VisitKeeper for Command {
     type Answer = ();
 
     fn visit<R: AllocGlobal + Abort, B: Keeper>(
@@ -49,7 +49,7 @@ impl Visit for Command {
 /// Makes the table of cases, which the first call makes.
 struct MakeTable;
 
-impl Visit for MakeTable {
+impl VisitKeeper for MakeTable {
     type Answer = ();
 
     fn visit<R: AllocGlobal + Abort, B: Keeper>(
@@ -113,7 +113,7 @@ fn close<D: Disk + Drop>(keeper: SqlKeeper<FileStore<D>>) -> (bool, Files<D>) {
 }
 
 /// What a visit to a casebook over the keeper answers, and the keeper.
-fn visit_keeper<R: AllocGlobal + Abort, K: Keeper, V: Visit>(
+fn visit_keeper<R: AllocGlobal + Abort, K: Keeper, V: VisitKeeper>(
     rt: &R,
     keeper: K,
     visit: &V,
@@ -125,7 +125,7 @@ fn visit_keeper<R: AllocGlobal + Abort, K: Keeper, V: Visit>(
 
 /// Visits a casebook over the files: what the visit answers, if they could be opened, whether
 /// they were closed with no fault, and the files.
-pub(crate) fn visit_files<R: AllocGlobal + Abort, D: Disk + Drop, V: Visit>(
+pub(crate) fn visit_files<R: AllocGlobal + Abort, D: Disk + Drop, V: VisitKeeper>(
     rt: &R,
     files: Files<D>,
     visit: &V,
@@ -149,7 +149,7 @@ pub(crate) fn opened<A>(answer: Result<Option<A>, Fail>) -> Result<A, Fail> {
 }
 
 /// Visits a casebook of no cases.
-pub(crate) fn visit_new<R: AllocGlobal + Abort, V: Visit>(
+pub(crate) fn visit_new<R: AllocGlobal + Abort, V: VisitKeeper>(
     rt: &R,
     visit: &V,
 ) -> Result<V::Answer, Fail> {
@@ -186,7 +186,7 @@ fn put_row<D: Disk + Drop>(
 }
 
 /// Visits a casebook into whose table something else has put this row.
-pub(crate) fn visit_with_row<R: AllocGlobal + Abort, V: Visit>(
+pub(crate) fn visit_with_row<R: AllocGlobal + Abort, V: VisitKeeper>(
     rt: &R,
     row: &str,
     visit: &V,

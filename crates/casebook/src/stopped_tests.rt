@@ -1,6 +1,8 @@
 //! Runs of commands over files whose machine stops, and which are opened again.
 use super::case_tests::run_line;
-use super::file_books::{Command, Disks, Visit, empty_files, opened, visit_files, whole_files};
+use super::file_books::{
+    Command, Disks, VisitKeeper, empty_files, opened, visit_files, whole_files,
+};
 use case_keeper::casebook::Casebook;
 use case_keeper::keeper::Keeper;
 use case_run::statuses::CaseStatus;
@@ -42,7 +44,7 @@ fn stopping_files(alloc: Global, stopped: Stopped, calls: u64) -> Disks {
 /// Does the command `file`, and gives whether it was done.
 struct FileCase;
 
-impl Visit for FileCase {
+impl VisitKeeper for FileCase {
     type Answer = bool;
 
     fn visit<R: AllocGlobal + Abort, B: Keeper>(
@@ -58,7 +60,7 @@ impl Visit for FileCase {
 /// Does the command `list`, and gives what it writes.
 struct ListCases;
 
-impl Visit for ListCases {
+impl VisitKeeper for ListCases {
     type Answer = MemorySink;
 
     fn visit<R: AllocGlobal + Abort, B: Keeper>(

@@ -4,7 +4,7 @@
 ghost use Rattle.std.specs.Prelude.{◌≡◌, ◌+◌, ◌<◌, ◌≤◌, length, map, IfOk, IfSome, IsErr, IsSome, IsTrue};
 ghost use Rattle.audit_base.specs.RuleKinds.{asks_for_greatest, has_table};
 ghost use Rattle.std.specs.String.{string_bytes};
-ghost use Rattle.command_words.specs.WordForms.{word_at};
+ghost use Rattle.command_words.specs.WordForms.{nth_word};
 ghost use Rattle.command_words.specs.Words as spec;
 
 use super::options::{Options, options_in, or_csv};
@@ -61,7 +61,7 @@ fn command_named(word: &str) -> Option<Command>
 
 /// The command that the first word names, where there is one.
 pub(crate) fn command_in(words: &[String]) -> Option<Command>
-    ensures { result ≡ spec.command_named (word_at (map string_bytes words.now) 0) }
+    ensures { result ≡ spec.command_named (nth_word (map string_bytes words.now) 0) }
 {
     let first = words.first()?;
     command_named(first.as_str())
@@ -86,9 +86,9 @@ struct LogPaths {
 fn log_paths(alloc: Global, words: &[String], place: usize) -> Result<LogPaths, NoMemory>
     requires { place + 1 < length words.now }
     ensures orders { IfOk result (λ paths.
-        paths.orders ≡ word_at (map string_bytes words.now) place) }
+        paths.orders ≡ nth_word (map string_bytes words.now) place) }
     ensures trades { IfOk result
-        (λ paths. paths.trades ≡ word_at (map string_bytes words.now) (place + 1)) }
+        (λ paths. paths.trades ≡ nth_word (map string_bytes words.now) (place + 1)) }
 {
     let orders = path_of(alloc, word_at(words, place))?;
     let trades = path_of(alloc, word_at(words, place + 1))?;

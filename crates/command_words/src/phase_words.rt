@@ -29,8 +29,8 @@ fn kind_named(word: &str) -> Option<PhaseKind>
 }
 
 /// The place, from 1 on, that the word writes without a zero at its front.
-fn first_named(word: &str) -> Option<u32>
-    ensures { result ≡ spec.first_named word.now }
+fn first_place_named(word: &str) -> Option<u32>
+    ensures { result ≡ spec.first_place_named word.now }
 {
     match word.as_bytes() {
         [b'0', ..] => None,
@@ -39,8 +39,8 @@ fn first_named(word: &str) -> Option<u32>
 }
 
 /// The text before its first `@`, and the text behind it.
-fn cut_at_mark(text: &str) -> Option<(&str, &str)>
-    ensures { option_map (λ cut. (cut.0.now, cut.1.now)) result ≡ spec.cut_at spec.is_at text.now }
+fn cut_at_sign(text: &str) -> Option<(&str, &str)>
+    ensures { option_map (λ cut. (cut.0.now, cut.1.now)) result ≡ spec.cut_at spec.is_at_sign text.now }
 {
     text.split_once('@')
 }
@@ -58,16 +58,16 @@ fn cut_at_comma(text: &str) -> Option<(&str, &str)>
 fn phase_named(part: &str) -> Option<Phase>
     ensures { result ≡ spec.phase_named part.now }
 {
-    let (kind, first) = cut_at_mark(part)?;
+    let (kind, first) = cut_at_sign(part)?;
     let kind = kind_named(kind)?;
-    let first = first_named(first)?;
+    let first = first_place_named(first)?;
     Some(Phase { kind, first })
 }
 
 /// Whether a phase may begin with this place after one that begins with `before`: the first
 /// phase, for which `before` is 0, begins with 1, and the others with a greater place.
 fn follows(before: u32, first: u32) -> bool
-    ensures { result ≡ spec.follows before first }
+    ensures { result ≡ spec.first_follows before first }
 {
     if before == 0 {
         return first == 1;
@@ -89,7 +89,7 @@ fn phase_after(before: u32, part: &str) -> Option<Phase>
 /// The first part of a word, and what is behind its comma.
 fn first_part(word: &str) -> (&str, Option<&str>)
     ensures parts { spec.parts_of word.now
-        ≡ result.0.now ∷ spec.parts_behind (option_map (λ rest. rest.now) result.1) }
+        ≡ result.0.now ∷ spec.parts_after_first (option_map (λ rest. rest.now) result.1) }
     ensures shorter { IfSome result.1 (λ rest. length rest.now < length word.now) }
 {
     match cut_at_comma(word) {
@@ -107,10 +107,10 @@ fn phases_within(
     before: u32,
     most: usize,
 ) -> Result<Option<Vec<Phase>>, NoMemory>
-    ensures phases { let parts = spec.parts_behind (option_map (λ word. word.now) text.entry) in
+    ensures phases { let parts = spec.parts_after_first (option_map (λ word. word.now) text.entry) in
         IfOk result (λ made. option_map (λ phases. phases.items) made
         ≡ spec.phases_within most before parts) }
-    ensures memory { let parts = spec.parts_behind (option_map (λ word. word.now) text.entry) in
+    ensures memory { let parts = spec.parts_after_first (option_map (λ word. word.now) text.entry) in
         IsErr result → IsSome (spec.phases_within most before parts) }
 {
     let Some(word) = text else {

@@ -26,15 +26,15 @@ fills_of side limit size (x ∷ xs) = if trades_with side limit size x
     then fill_of size x ∷ fills_of side limit (size - x.left) xs else []
 
 -- the orders that rest after these fills
-abbrev pub rest_of : Side → ℕ → ℕ → List Resting → List Resting
-rest_of side limit size [] = []
-rest_of side limit size (x ∷ xs) = if trades_with side limit size x
+abbrev pub resting_after_fills : Side → ℕ → ℕ → List Resting → List Resting
+resting_after_fills side limit size [] = []
+resting_after_fills side limit size (x ∷ xs) = if trades_with side limit size x
     then (if nat_lt size x.left then record x { left = x.left - size } ∷ xs
-    else rest_of side limit (size - x.left) xs) else x ∷ xs
+    else resting_after_fills side limit (size - x.left) xs) else x ∷ xs
 
 -- what an order trades in these fills, and what all of them trade
-abbrev pub filled : List Fill → ℕ → ℕ
-filled fills i = sum_by (λ f. if f.index == i then f.quantity else 0) fills
+abbrev pub quantity_filled : List Fill → ℕ → ℕ
+quantity_filled fills i = sum_by (λ f. if f.index == i then f.quantity else 0) fills
 
 abbrev pub total_filled : List Fill → ℕ
 total_filled fills = sum_by (λ f. f.quantity) fills

@@ -40,8 +40,8 @@ pub struct Account {
 
 impl Account {
     /// Whether it trades more than its Size.
-    fn is_over(self) -> bool
-        ensures { result ≡ by_deal.is_over self }
+    fn is_over_size(self) -> bool
+        ensures { result ≡ by_deal.is_over_size self }
     {
         (self.size as u128) < self.traded
     }
@@ -56,7 +56,7 @@ pub struct Accounts {
 
 /// The record that a deal belongs to: its place, and whether its order enters there.
 #[derive(Clone, Copy, Debug)]
-pub struct Coming {
+pub struct Arrival {
     pub place: u32,
     pub entered: bool,
 }
@@ -100,7 +100,7 @@ pub fn deal_evidence(
     deal: &Deal,
     bid: &ListedOrder<'_>,
     ask: &ListedOrder<'_>,
-    coming: Coming,
+    coming: Arrival,
     known: Accounts,
 ) -> Option<Evidence>
     ensures { result ≡ by_deal.deal_evidence deal.now bid.now ask.now coming known }
@@ -114,10 +114,10 @@ pub fn deal_evidence(
     if !is_within(deal, bid, ask) {
         return Some(Evidence::Limit(known.bid.shown, known.ask.shown));
     }
-    if known.bid.is_over() {
+    if known.bid.is_over_size() {
         return Some(Evidence::Quantity(Side::Buy, known.bid.shown));
     }
-    if known.ask.is_over() {
+    if known.ask.is_over_size() {
         return Some(Evidence::Quantity(Side::Sell, known.ask.shown));
     }
     None

@@ -2,10 +2,10 @@
 ghost use Rattle.std.specs.Prelude.{◌≡◌, ◌<◌, ◌≤◌, ◌^◌, ℕ, List, None, Some, true, length};
 ghost use Rattle.audit_base.specs.Orders.{IsOrderList};
 ghost use Rattle.audit_base.specs.declared.orders.Deal.{Deal as ADeal};
-ghost use Rattle.continuous_audit.specs.Chains.{IsOpening, IsOpenSheet};
+ghost use Rattle.continuous_audit.specs.Chains.{IsKnownBeforeOpening, IsOpenSheet};
 ghost use Rattle.continuous_audit.specs.DealFindings.{enters, size_left, waits_in};
-ghost use Rattle.continuous_audit.specs.Sheets.{FitsOrder, IsOpened};
-ghost use Rattle.continuous_audit.specs.Scans.{AreSmall};
+ghost use Rattle.continuous_audit.specs.Sheets.{FitsOrder, IsOpeningOfOrder};
+ghost use Rattle.continuous_audit.specs.Scans.{AreTotalsSmall};
 
 use super::chains::{chain_before, is_closed};
 use super::checking::waits;
@@ -65,11 +65,11 @@ pub struct Opening {
 pub fn open_order(orders: &OrderList<'_>, traded: &[u128], sheet: &Sheet, order: usize) -> Opening
     requires list { IsOrderList orders.now }
     requires order { order < length orders.now }
-    requires traded { AreSmall orders.now traded.now }
+    requires traded { AreTotalsSmall orders.now traded.now }
     requires sheet { IsOpenSheet orders.now order sheet.now }
     ensures opened { (deals : List ADeal)
-        → IsOpening orders.now deals order traded.now sheet.now
-        → IsOpened orders.now deals order result }
+        → IsKnownBeforeOpening orders.now deals order traded.now sheet.now
+        → IsOpeningOfOrder orders.now deals order result }
     ensures fits { FitsOrder orders.now order result }
 {
     let before = chain_before(orders, traded, sheet, order);

@@ -5,7 +5,7 @@ ghost use Rattle.continuous_audit.specs.Flaws.{IsFlawAt};
 ghost use Rattle.continuous_audit.specs.Markets.{IsMarket};
 ghost use Rattle.continuous_audit.specs.Progress.{IsAfterDeals, IsFirstState, IsReadyFor, IsReadyNext};
 
-use super::books::Standing;
+use super::books::BooksSoFar;
 use super::market::Market;
 use super::numbers::Numbers;
 use super::passing::pass_deals;
@@ -19,7 +19,7 @@ use std::alloc::Global;
 #[derive(Drop)]
 pub struct State {
     pub numbers: Numbers,
-    pub standing: Standing,
+    pub standing: BooksSoFar,
 }
 
 impl State {
@@ -30,7 +30,7 @@ impl State {
         let numbers = Numbers::new(alloc, count)?;
         Ok(State {
             numbers,
-            standing: Standing::new(alloc),
+            standing: BooksSoFar::new(alloc),
         })
     }
 

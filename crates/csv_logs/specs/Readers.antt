@@ -14,8 +14,8 @@ use Rattle.csv_logs.specs.Columns.{Row, is_broken, is_unquoted_byte, line_fields
 use Rattle.csv_logs.specs.Lines.{without_cr}
 
 -- what a reader underneath has left, where that is known
-abbrev pub Remaining : Type 0 → Type 0
-Remaining R = R → Option (List ℕ)
+abbrev pub RemainingBytes : Type 0 → Type 0
+RemainingBytes R = R → Option (List ℕ)
 
 -- the first record of a text, for a reader in this state
 abbrev pub record_from : State → List ℕ → Option Read
@@ -62,7 +62,7 @@ pub record IsSetUp {R : Type 0} (reader : Reader R) : Type 0 where
   pub sound : has_failed reader ≡ false
 
 -- The next record of the reader is that of this text.
-pub record IsReading {R : Type 0} (remaining : Remaining R) (reader : Reader R)
+pub record IsReading {R : Type 0} (remaining : RemainingBytes R) (reader : Reader R)
     (text : List ℕ) : Type 0 where
   pub setup : IsSetUp reader
   pub source : List ℕ
@@ -70,13 +70,13 @@ pub record IsReading {R : Type 0} (remaining : Remaining R) (reader : Reader R)
   pub next : record_from (reader_state reader) source ≡ record_from st.StartRecord text
 
 -- It is that of a text that begins with this line.
-pub record IsReadingLine {R : Type 0} (remaining : Remaining R) (reader : Reader R)
+pub record IsReadingLine {R : Type 0} (remaining : RemainingBytes R) (reader : Reader R)
     (line : List ℕ) : Type 0 where
   pub later : List ℕ
   pub reads : IsReading remaining reader (line ++ 10 ∷ later)
 
 -- The reader is at a closed line that is not empty, and that is unquoted where this is true.
-pub record IsAtClosed {R : Type 0} (remaining : Remaining R) (reader : Reader R)
+pub record IsAtClosedLine {R : Type 0} (remaining : RemainingBytes R) (reader : Reader R)
     (unquoted : Bool) : Type 0 where
   pub line : List ℕ
   pub later : List ℕ
@@ -86,13 +86,13 @@ pub record IsAtClosed {R : Type 0} (remaining : Remaining R) (reader : Reader R)
   pub reads : IsReading remaining reader (line ++ 10 ∷ later)
 
 -- A reader that was at this line is at what follows it.
-abbrev pub PassesLine : {R : Type 0} → Remaining R → Reader R → Reader R → List ℕ → Type 0
+abbrev pub PassesLine : {R : Type 0} → RemainingBytes R → Reader R → Reader R → List ℕ → Type 0
 PassesLine remaining old new line =
     (later : List ℕ) → IsReading remaining old (line ++ 10 ∷ later)
     → IsReading remaining new later
 
 -- A reader that was at a closed line that is not empty gave its fields, and is at what follows it.
-abbrev pub ReadsLine : {R : Type 0} → Remaining R → Reader R → Reader R → Row → Type 0
+abbrev pub ReadsLine : {R : Type 0} → RemainingBytes R → Reader R → Reader R → Row → Type 0
 ReadsLine remaining old new fields =
     (line later : List ℕ) → is_closed (without_cr line) ≡ true
     → (length (without_cr line) == 0) ≡ false → IsReading remaining old (line ++ 10 ∷ later)

@@ -6,12 +6,12 @@ ghost use Rattle.log_source.specs.Feeds.{HasRoom};
 ghost use Rattle.log_source.specs.Collectors.{HasNineBytesEach, HasPlace};
 ghost use Rattle.csv_logs.specs.Columns.{is_unquoted_byte};
 ghost use Rattle.csv_logs.specs.Readers.{IsReading, IsReadingLine, PassesLine, is_closed};
-ghost use Rattle.csv_logs.specs.Feeds.{IsHandedAs, IsReadAs, IsWithinLimit, StandsFor};
-ghost use Rattle.csv_logs.specs.Steps.{FeedEndsLine, FeedEndsLines, FeedGoes, FeedHasLine, FeedHasLines, FeedMoves, KeepsAllButRest};
+ghost use Rattle.csv_logs.specs.Feeds.{AnswersCollected, AnswersLogRecords, IsCsvFeedWithinLimit, IsCsvFeedOf};
+ghost use Rattle.csv_logs.specs.Steps.{FeedEndsLine, FeedEndsLines, FeedTakesPiece, FeedHasLine, FeedHasLines, FeedMovesPastLine, KeepsAllButRest};
 ghost use Rattle.csv_logs.specs.Lines.{without_cr};
-ghost use Rattle.csv_logs.specs.Logs.{read_log};
+ghost use Rattle.csv_logs.specs.Logs.{read_csv_log};
 
-use crate::entries::{LogEntry, take_fields, take_text};
+use crate::entries::{CsvRecord, take_fields, take_text};
 use crate::fields::Fields;
 use crate::lines::{
     is_closed, is_plain, is_unquoted, is_unquoted_unless_known, line_at, split_line, without_cr,
@@ -50,11 +50,11 @@ pub type CsvOrderFeed = CsvFeed<Vec<OrderRecord>>;
 /// The feed of a trade log.
 pub type CsvTradeFeed = CsvFeed<Vec<TradeRecord>>;
 
-impl<R: LogEntry, K: Collector<Entry = R>> CsvFeed<K> {
+impl<R: CsvRecord, K: Collector<Entry = R>> CsvFeed<K> {
     /// A feed that has been handed no bytes, over a collector that has been handed nothing.
     pub fn over(alloc: Global, entries: K) -> Self
         requires { K.has_taken entries [] }
-        ensures { StandsFor K.has_taken R.names R.meaning result [] }
+        ensures { IsCsvFeedOf K.has_taken R.names R.meaning result [] }
     {
         CsvFeed {
             alloc,
@@ -73,7 +73,7 @@ impl<R: LogEntry, K: Collector<Entry = R>> CsvFeed<K> {
         requires fits { self.old.offset + size < 2 ^ 64 }
         requires good { self.old.bad ≡ None }
         ensures moved { self.old.offset ≤ self.new.offset }
-        ensures moves { FeedMoves K.has_taken outcome start size self.old self.new }
+        ensures moves { FeedMovesPastLine K.has_taken outcome start size self.old self.new }
         ensures entries { self.new.entries ≡ self.old.entries }
         ensures rest { self.new.rest.items ≡ self.old.rest.items }
     {
@@ -172,9 +172,9 @@ impl<R: LogEntry, K: Collector<Entry = R>> CsvFeed<K> {
     ) -> Result<&'p [u8], NoMemory>
         requires started { 0 < self.old.offset }
         requires rest { self.old.rest.items ≡ [] }
-        requires room { HasRoom (StandsFor K.has_taken R.names R.meaning) self.old text.now }
+        requires room { HasRoom (IsCsvFeedOf K.has_taken R.names R.meaning) self.old text.now }
         requires reading { IsReading I.remaining reader.old text.now }
-        ensures goes { let goes = FeedGoes K.has_taken R.names R.meaning self.old self.new in
+        ensures goes { let goes = FeedTakesPiece K.has_taken R.names R.meaning self.old self.new in
             IfOk result (λ left. goes text.now left.now) }
         ensures rest { OnOk result (self.new.rest.items ≡ []) }
     {
@@ -275,13 +275,13 @@ impl<R: LogEntry, K: Collector<Entry = R>> CsvFeed<K> {
     /// Each has at least nine bytes of the log, so there is a place for one more.
     #[tactic(auto, using(crate::proofs::ReadingLemmas::log_sound, crate::proofs::SizeLemmas::log_nine))]
     pub fn close(mut self) -> Result<K, LogFault>
-        requires { IsWithinLimit K.has_taken R.names R.meaning self }
-        ensures reads { (log : List ℕ) → StandsFor K.has_taken R.names R.meaning self log
-            → IsHandedAs K.has_taken (read_log R.names R.meaning log) result }
+        requires { IsCsvFeedWithinLimit K.has_taken R.names R.meaning self }
+        ensures reads { (log : List ℕ) → IsCsvFeedOf K.has_taken R.names R.meaning self log
+            → AnswersCollected K.has_taken (read_csv_log R.names R.meaning log) result }
         ensures few { IfOk result (HasPlace K.has_taken) }
-        ensures nine { (log : List ℕ) → IfOk (read_log R.names R.meaning log)
+        ensures nine { (log : List ℕ) → IfOk (read_csv_log R.names R.meaning log)
             (λ entries. HasNineBytesEach entries log) }
-        ensures sound { (log : List ℕ) → IfOk (read_log R.names R.meaning log) (All R.sound) }
+        ensures sound { (log : List ℕ) → IfOk (read_csv_log R.names R.meaning log) (All R.sound) }
     {
         R::means_sound_records();
         if let Some(bad) = self.bad {
@@ -303,10 +303,10 @@ impl<R: LogEntry, K: Collector<Entry = R>> CsvFeed<K> {
     }
 }
 
-impl<R: LogEntry> CsvFeed<Vec<R>> {
+impl<R: CsvRecord> CsvFeed<Vec<R>> {
     /// A feed that has been handed no bytes.
     pub fn new(alloc: Global) -> Self
-        ensures { StandsFor ⟦<Vec<R> as Collector>⟧.has_taken R.names R.meaning result [] }
+        ensures { IsCsvFeedOf ⟦<Vec<R> as Collector>⟧.has_taken R.names R.meaning result [] }
     {
         CsvFeed::over(alloc, Vec::new(alloc))
     }
@@ -314,22 +314,22 @@ impl<R: LogEntry> CsvFeed<Vec<R>> {
     /// The records of the log that has come, or its first bad line: what the reading of the whole
     /// log gives, for every log that the feed stands for.
     pub fn finish(self) -> Result<Vec<R>, LogFault>
-        requires { IsWithinLimit ⟦<Vec<R> as Collector>⟧.has_taken R.names R.meaning self }
+        requires { IsCsvFeedWithinLimit ⟦<Vec<R> as Collector>⟧.has_taken R.names R.meaning self }
         ensures reads { let has_taken = ⟦<Vec<R> as Collector>⟧.has_taken in
-            (log : List ℕ) → StandsFor has_taken R.names R.meaning self log
-            → IsReadAs (read_log R.names R.meaning log) result }
+            (log : List ℕ) → IsCsvFeedOf has_taken R.names R.meaning self log
+            → AnswersLogRecords (read_csv_log R.names R.meaning log) result }
         ensures sound { IfOk result (λ entries. All R.sound entries.items) }
         ensures few { IfOk result (λ entries. vec_len entries < 2 ^ 32 - 1) }
         ensures nine { let has_taken = ⟦<Vec<R> as Collector>⟧.has_taken in
-            (log : List ℕ) → StandsFor has_taken R.names R.meaning self log
+            (log : List ℕ) → IsCsvFeedOf has_taken R.names R.meaning self log
             → IfOk result (λ entries. HasNineBytesEach entries.items log) }
     {
         self.close()
     }
 }
 
-impl<R: LogEntry, K: Collector<Entry = R>> Feed for CsvFeed<K> {
-    ghost stands_for = { StandsFor K.has_taken R.names R.meaning };
+impl<R: CsvRecord, K: Collector<Entry = R>> Feed for CsvFeed<K> {
+    ghost stands_for = { IsCsvFeedOf K.has_taken R.names R.meaning };
 
     fn feed(&mut self, piece: &[u8]) -> Result<(), NoMemory> {
         let mut left = piece;

@@ -5,7 +5,7 @@ ghost use Rattle.std.specs.Prelude.{◌≡◌, [], OnOk, IfOk, IsTrue, length, o
 ghost use Rattle.std.specs.List.{list_all};
 ghost use Rattle.audit_base.specs.Names.{is_name_byte};
 ghost use Rattle.csv.specs.Records.{field_at, fields_of};
-ghost use Rattle.csv_logs.specs.Readers.{IsAtClosed, ReadsLine};
+ghost use Rattle.csv_logs.specs.Readers.{IsAtClosedLine, ReadsLine};
 
 use crate::reader::next_fields;
 use audit_base::faults::NoMemory;
@@ -27,11 +27,11 @@ impl Model for Fields {
 
     ghost Value = { List (List ℕ) };
 
-    ghost use Rattle.csv_logs.specs.FieldBytes.{shown, IsTested};
+    ghost use Rattle.csv_logs.specs.FieldBytes.{texts_of_fields, KnowsNameBytes};
 
-    ghost view = { shown };
+    ghost view = { texts_of_fields };
 
-    ghost invariant = { IsTested };
+    ghost invariant = { KnowsNameBytes };
 }
 
 impl Fields {
@@ -60,7 +60,7 @@ impl Fields {
         reader: &mut Reader<I>,
         unquoted: bool,
     ) -> Result<(), NoMemory>
-        requires { IsAtClosed I.remaining reader.old unquoted }
+        requires { IsAtClosedLine I.remaining reader.old unquoted }
         ensures { OnOk result (ReadsLine I.remaining reader.old reader.new self.new) }
     {
         self.have_name_bytes = false;

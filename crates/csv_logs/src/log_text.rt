@@ -1,6 +1,6 @@
 //! The text of a log, which grows by a line with each record.
 ghost use Rattle.std.specs.Prelude.{◌≡◌, ◌∷◌, [], List, IfOk, OnOk};
-ghost use Rattle.log_source.specs.Handing.{Adds};
+ghost use Rattle.log_source.specs.Handing.{HandsOnMore};
 ghost use Rattle.csv_logs.specs.Written.{IsReadAgain, log_text};
 ghost use Rattle.csv_logs.specs.WrittenLines.{IsAtLine, IsConvertedLog, IsLogText};
 
@@ -36,7 +36,7 @@ impl<R: LogLine> LogText<R> {
     /// Adds the line of a record.
     pub fn add(&mut self, entry: &R) -> Result<(), NoMemory>
         requires { IsAtLine self.old.writer }
-        ensures { OnOk result (Adds (IsLogText R.names R.meaning R.sound R.fields self.old)
+        ensures { OnOk result (HandsOnMore (IsLogText R.names R.meaning R.sound R.fields self.old)
             (IsLogText R.names R.meaning R.sound R.fields self.new) (entry.now ∷ [])) }
     {
         entry.write(self.alloc, &mut self.writer)

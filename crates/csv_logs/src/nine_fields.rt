@@ -21,11 +21,11 @@ impl<'l> Model for NineFields<'l> {
 
     ghost Value = { List (List ℕ) };
 
-    ghost use Rattle.csv_logs.specs.NineFields.{shown, AreTested};
+    ghost use Rattle.csv_logs.specs.NineFields.{texts_of_nine_fields, AreNineFields};
 
-    ghost view = { shown };
+    ghost view = { texts_of_nine_fields };
 
-    ghost invariant = { AreTested };
+    ghost invariant = { AreNineFields };
 }
 
 /// The text of a field, which is empty where there is none at this index.

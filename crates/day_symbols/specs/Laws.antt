@@ -3,7 +3,7 @@ use Rattle.std.specs.Prelude.{◌≡◌, ◌≢◌, ◌<◌, ◌≤◌, ℕ, Lis
 use Rattle.audit_base.specs.declared.records.OrderRecord.{OrderRecord}
 use Rattle.audit_base.specs.declared.records.TradeRecord.{TradeRecord}
 use Rattle.audit_base.specs.Histories.{symbol_of}
-use Rattle.day_symbols.specs.Symbols.{symbols_of_day, symbols_written}
+use Rattle.day_symbols.specs.Symbols.{symbols_of_day, symbols_of_logs}
 use Rattle.day_symbols.specs.Shares.{is_in_share}
 
 -- The symbols have no repetition, each name's is among them, and each is one of the names.
@@ -16,7 +16,7 @@ pub record AreEachOnce (names symbols : List (List ℕ)) : Type 0 where
 -- them, and each is the symbol of a record
 abbrev pub EachSymbolOnce : Type 0
 EachSymbolOnce = (entries : List OrderRecord) (trades : List TradeRecord)
-    → AreEachOnce (symbols_written entries trades) (symbols_of_day entries trades)
+    → AreEachOnce (symbols_of_logs entries trades) (symbols_of_day entries trades)
 
 -- The share `number` is one of the `count` shares, and the symbol at the index is in it and in
 -- no other of them.

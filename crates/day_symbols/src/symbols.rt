@@ -1,7 +1,7 @@
 //! The symbols that were met so far, each once.
 ghost use Rattle.std.specs.Prelude.{◌≡◌, ◌∷◌, ◌++◌, [], ℕ, List, OnErr, OnOk, IfOk, Some, ◌==◌, length, option_map, position, slice_get};
 ghost use Rattle.audit_base.specs.Orders.{same_name};
-ghost use Rattle.day_symbols.specs.Symbols.{distinct};
+ghost use Rattle.day_symbols.specs.Symbols.{distinct_names};
 
 use audit_base::faults::NoMemory;
 use audit_base::names::Name;
@@ -54,8 +54,8 @@ impl Symbols {
     /// Meets a symbol, and gives its index. Where it was met before nothing changes. After
     /// `NoMemory` the symbols are as they were.
     pub fn meet(&mut self, symbol: &Name) -> Result<usize, NoMemory>
-        ensures meets { (names : List (List ℕ)) → self.old ≡ distinct names
-            → OnOk result (self.new ≡ distinct (names ++ symbol.now ∷ [])) }
+        ensures meets { (names : List (List ℕ)) → self.old ≡ distinct_names names
+            → OnOk result (self.new ≡ distinct_names (names ++ symbol.now ∷ [])) }
         ensures index { IfOk result (λ at. slice_get self.new at ≡ Some symbol.now) }
         ensures kept { OnErr result (self.new ≡ self.old) }
     {

@@ -8,7 +8,7 @@ ghost use Rattle.audit_base.specs.Deals.{AreTotals, IsDealList};
 ghost use Rattle.audit_base.specs.Calls.{Matching, Fair};
 ghost use Rattle.audit_base.specs.CallOffences.{best_short, fair_offence};
 
-use super::passing::unfair_at;
+use super::passing::unfair_flaw;
 use audit_base::findings::Finding;
 use audit_base::orders::Deal;
 use audit_base::ranges::deals_in_range;
@@ -36,7 +36,7 @@ fn check_passing(
 {
     deals_in_range(deals);
     for deal in deals {
-        if let Some(flaw) = unfair_at(orders, traded, short_bid, short_ask, deal) {
+        if let Some(flaw) = unfair_flaw(orders, traded, short_bid, short_ask, deal) {
             return Err(orders.finding(flaw));
         }
     }

@@ -4,7 +4,7 @@ use Rattle.std.specs.Fmt.{decimal}
 use Rattle.std.specs.List.{All, flat_map}
 use Rattle.audit_base.specs.Sizes.{soh}
 use Rattle.fix_fields.specs.Forms.{length_form}
-use Rattle.fix_fields.specs.Pairs.{is_pair}
+use Rattle.fix_fields.specs.Pairs.{is_data_field_pair}
 
 -- a field as it is written: its tag, and the bytes of its value
 pub record TagValue : Type 0 where
@@ -35,7 +35,7 @@ pub record IsDelimited (value : List ℕ) : Type 0 where
 abbrev pub HasForm : Option TagValue → ℕ → List ℕ → Type 0
 HasForm None tag value = IsDelimited value
 HasForm (Some before) tag value =
-    MatchBool (is_pair before.tag tag)
+    MatchBool (is_data_field_pair before.tag tag)
     (length_form before.value ≡ Some (length value)) (IsDelimited value)
 
 -- this may be a field where `before` is the field right before it

@@ -38,7 +38,7 @@ impl<T: Drop> From<AllocFailed<T>> for FieldFault {
 /// Where the value of the first field with a tag is, and whether there are more: in the bytes of
 /// the body from the byte `from` on and up to the byte `to`.
 #[derive(Clone, Copy, Debug, PartialEq, Eq)]
-pub enum Placed {
+pub enum ValueSpan {
     Absent,
     One { from: usize, to: usize },
     Many { from: usize, to: usize },

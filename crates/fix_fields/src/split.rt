@@ -4,11 +4,11 @@ ghost use Rattle.std.specs.Option.{option_map, ForSome};
 ghost use Rattle.std.specs.Result.{IsErrOf};
 ghost use Rattle.audit_base.specs.Sizes.{longest_body};
 ghost use Rattle.fix_fields.specs.Ends.{HoldsEnds};
-ghost use Rattle.fix_fields.specs.Refusals.{Refuses, OrMemory};
+ghost use Rattle.fix_fields.specs.Refusals.{RefusesBody, OrMemory};
 ghost use Rattle.fix_fields.specs.Grammar.{TagValue, AreFields, Fields, IsUnreadable, LacksType, NoField, begins_with_type, bytes_of};
-ghost use Rattle.fix_fields.specs.Ranges.{AreFieldsOf, HandsFields, HasRangeIn, all_shown, shown};
+ghost use Rattle.fix_fields.specs.Ranges.{AreFieldsOf, HandsFields, HasRangeIn, tag_values_of, tag_value_of};
 ghost use Rattle.fix_fields.specs.TagNotes.{HasNotes};
-ghost use Rattle.fix_fields.specs.FieldAt.{BeginsAt, counter_of};
+ghost use Rattle.fix_fields.specs.FieldAt.{IsFieldAt, counter_of};
 
 use crate::ends::{ends_of, ends_of_front};
 use crate::field::{Field, FieldFault};
@@ -36,11 +36,11 @@ pub fn fields(alloc: Global, body: &[u8]) -> Result<Vec<Field>, FieldFault>
 
     // What each answer says.
     ensures fields { IfOk result (λ v. AreFieldsOf body.now v.items) }
-    ensures fault { IfErr result (λ e. Refuses body.now e) }
+    ensures fault { IfErr result (λ e. RefusesBody body.now e) }
 
     // Each comes wherever what it says holds, unless memory runs out.
     ensures reads { (fs : List TagValue) → Fields body.now fs
-        → OrMemory result (IsOkAnd result (λ v. all_shown body.now v.items ≡ fs)) }
+        → OrMemory result (IsOkAnd result (λ v. tag_values_of body.now v.items ≡ fs)) }
     ensures unreadable { (n : ℕ) → IsUnreadable body.now n
         → OrMemory result (IsErrOf result (FieldFault.Field n)) }
     ensures untyped { LacksType body.now → OrMemory result (IsErrOf result FieldFault.MsgType) }
@@ -57,7 +57,7 @@ pub fn read_fields(body: &[u8], list: &mut Vec<Field>) -> Result<(), FieldFault>
 
     // What each answer says.
     ensures fields { OnOk result (AreFieldsOf body.now list.new.items) }
-    ensures fault { IfErr result (λ e. Refuses body.now e) }
+    ensures fault { IfErr result (λ e. RefusesBody body.now e) }
     ensures empty { OnErr result (list.new.items ≡ []) }
 
     // Each comes wherever what it says holds, unless memory runs out.
@@ -78,7 +78,7 @@ pub fn read_front_fields(text: &[u8], size: usize, list: &mut Vec<Field>) -> Res
 
     // What each answer says.
     ensures fields { OnOk result (AreFieldsOf (take size text.now) list.new.items) }
-    ensures fault { IfErr result (λ e. Refuses (take size text.now) e) }
+    ensures fault { IfErr result (λ e. RefusesBody (take size text.now) e) }
     ensures empty { OnErr result (list.new.items ≡ []) }
 
     // Each comes wherever what it says holds, unless memory runs out.
@@ -100,7 +100,7 @@ pub fn note_front_fields(text: &[u8], size: usize, notes: &mut TagNotes) -> Resu
 
     // What each answer says.
     ensures notes { OnOk result (HasNotes (take size text.now) notes.new) }
-    ensures fault { IfErr result (λ e. Refuses (take size text.now) e) }
+    ensures fault { IfErr result (λ e. RefusesBody (take size text.now) e) }
 
     // Each comes wherever what it says holds, unless memory runs out.
     ensures reads { (fs : List TagValue) → Fields (take size text.now) fs
@@ -119,7 +119,7 @@ fn refill(body: &[u8], ends: Memchr<'_>, list: &mut Vec<Field>) -> Result<(), Fi
     requires size { length body.now ≤ longest_body }
     requires ends { HoldsEnds body.now 0 ends }
     ensures fields { OnOk result (AreFieldsOf body.now list.new.items) }
-    ensures fault { IfErr result (λ e. Refuses body.now e) }
+    ensures fault { IfErr result (λ e. RefusesBody body.now e) }
     ensures empty { OnErr result (list.new.items ≡ []) }
     ensures reads { (fs : List TagValue) → Fields body.now fs → OrMemory result (IsOk result) }
     ensures unreadable { (n : ℕ) → IsUnreadable body.now n
@@ -140,7 +140,7 @@ fn append_fields(body: &[u8], ends: Memchr<'_>, list: &mut Vec<Field>) -> Result
     requires ends { HoldsEnds body.now 0 ends }
     requires empty { list.old.items ≡ [] }
     ensures fields { OnOk result (AreFieldsOf body.now list.new.items) }
-    ensures fault { IfErr result (λ e. Refuses body.now e) }
+    ensures fault { IfErr result (λ e. RefusesBody body.now e) }
     ensures reads { (fs : List TagValue) → Fields body.now fs → OrMemory result (IsOk result) }
     ensures unreadable { (n : ℕ) → IsUnreadable body.now n
         → OrMemory result (IsErrOf result (FieldFault.Field n)) }
@@ -161,7 +161,7 @@ fn hand_fields<T: FieldTaker>(
     requires ends { HoldsEnds body.now 0 ends }
     requires empty { T.has_taken taker.old [] }
     ensures fields { OnOk result (HandsFields (T.has_taken taker.new) body.now) }
-    ensures fault { IfErr result (λ e. Refuses body.now e) }
+    ensures fault { IfErr result (λ e. RefusesBody body.now e) }
     ensures reads { (fs : List TagValue) → Fields body.now fs → OrMemory result (IsOk result) }
     ensures unreadable { (n : ℕ) → IsUnreadable body.now n
         → OrMemory result (IsErrOf result (FieldFault.Field n)) }
@@ -204,9 +204,9 @@ fn field_at(body: &[u8], at: usize, before: Option<Field>, ends: &mut Memchr<'_>
     requires at { at ≤ length body.now }
     requires ends { HoldsEnds body.now at ends.old }
     ensures found { IfSome result
-        (BeginsAt body.now at (option_map (shown body.now) before)) }
+        (IsFieldAt body.now at (option_map (tag_value_of body.now) before)) }
     ensures none { IfNone result
-        (NoField (option_map (shown body.now) before) (drop at body.now)) }
+        (NoField (option_map (tag_value_of body.now) before) (drop at body.now)) }
     ensures ends { IfSome result (λ field. HoldsEnds body.now (field.to + 1) ends.new) }
 {
     let (tag, size) = tag_at(&body[at..])?;

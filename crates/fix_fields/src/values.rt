@@ -6,7 +6,7 @@ ghost use Rattle.memchr.specs.Find.{IsFirstByte, is_byte};
 ghost use Rattle.fix_fields.specs.Ends.{HoldsEnds, SeeksEnd};
 ghost use Rattle.fix_fields.specs.Forms.{length_form};
 ghost use Rattle.fix_fields.specs.Grammar.{IsDelimited, HasForm};
-ghost use Rattle.fix_fields.specs.Ranges.{HasRangeIn, shown};
+ghost use Rattle.fix_fields.specs.Ranges.{HasRangeIn, tag_value_of};
 ghost use Rattle.fix_fields.specs.FieldAt.{EndsAt, NoValue};
 
 use crate::ends::next_end;
@@ -32,9 +32,9 @@ pub fn value_size(
     requires ends { SeeksEnd body.now from ends.old }
     ensures end { IfSome result (EndsAt (drop from body.now)) }
     ensures form { IfSome result (λ n.
-        HasForm (option_map (shown body.now) before) tag (take n (drop from body.now))) }
+        HasForm (option_map (tag_value_of body.now) before) tag (take n (drop from body.now))) }
     ensures none { IfNone result
-        (NoValue (HasForm (option_map (shown body.now) before) tag) (drop from body.now)) }
+        (NoValue (HasForm (option_map (tag_value_of body.now) before) tag) (drop from body.now)) }
     ensures ends { IfSome result (λ n. HoldsEnds body.now (from + n + 1) ends.new) }
 {
     match before {

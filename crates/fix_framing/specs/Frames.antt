@@ -75,8 +75,8 @@ abbrev pub may_begin : List ℕ → Bool
 may_begin r = starts_with nat_eq r header || starts_with nat_eq header r
 
 -- test 1: neither is r a prefix of the header nor the header a prefix of r
-abbrev pub begins_otherwise : List ℕ → Bool
-begins_otherwise r = not (may_begin r)
+abbrev pub has_bad_begin : List ℕ → Bool
+has_bad_begin r = not (may_begin r)
 
 -- test 2: r has fewer than 12 bytes
 abbrev pub ends_in_header : List ℕ → Bool
@@ -124,7 +124,7 @@ first_failing ((fails, fault) ∷ more) = if fails then Some fault else first_fa
 
 -- the tests in their order: those of the header, of the body's length, and of the rest
 abbrev pub header_tests : List ℕ → List (Bool × FrameFault)
-header_tests r = (begins_otherwise r, Begin) ∷ (ends_in_header r, Truncated) ∷ []
+header_tests r = (has_bad_begin r, Begin) ∷ (ends_in_header r, Truncated) ∷ []
 
 abbrev pub length_tests : List ℕ → List (Bool × FrameFault)
 length_tests r =

@@ -47,26 +47,26 @@ next_field before bytes =
     (after_first is_equals bytes)
 
 -- fields from the front, and the bytes that are left behind them
-pub record Split : Type 0 where
+pub record FieldSplit : Type 0 where
   pub fields : List TagValue
   pub left : List ℕ
 
-abbrev pub with_field : TagValue → Split → Split
-with_field field split = record { fields = field ∷ split.fields; left = split.left }
+abbrev pub with_front_field : TagValue → FieldSplit → FieldSplit
+with_front_field field split = record { fields = field ∷ split.fields; left = split.left }
 
-abbrev pub split_next : List ℕ → Option TagValue → (TagValue → Split) → Split
+abbrev pub split_next : List ℕ → Option TagValue → (TagValue → FieldSplit) → FieldSplit
 split_next bytes None later = record { fields = []; left = bytes }
-split_next bytes (Some field) later = with_field field (later field)
+split_next bytes (Some field) later = with_front_field field (later field)
 
 -- at most `most` fields from the front
-abbrev pub split_from : ℕ → Option TagValue → List ℕ → Split
+abbrev pub split_from : ℕ → Option TagValue → List ℕ → FieldSplit
 split_from zero before bytes = record { fields = []; left = bytes }
 split_from (suc most) before bytes =
     split_next bytes (next_field before bytes)
     (λ field. split_from most (Some field) (drop (length (field_bytes field)) bytes))
 
 -- all fields that can be read from the front of a body: each takes a byte at least
-unfoldable pub split_of : List ℕ → Split
+unfoldable pub split_of : List ℕ → FieldSplit
 split_of body = split_from (length body) None body
 
 -- the fields of a body

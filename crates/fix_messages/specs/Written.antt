@@ -25,9 +25,9 @@ abbrev pub field : ℕ → List ℕ → TagValue
 field tag value = record { tag = tag; value = value }
 
 -- `1` for a bid, `2` for an ask
-abbrev pub side_text : Side → List ℕ
-side_text side.Buy = codes "1"
-side_text side.Sell = codes "2"
+abbrev pub message_side_text : Side → List ℕ
+message_side_text side.Buy = codes "1"
+message_side_text side.Sell = codes "2"
 
 -- the fields that the messages of an order log begin with
 abbrev pub head_fields : List ℕ → Key → Moment → List ℕ → List TagValue
@@ -37,7 +37,7 @@ head_fields type key time symbol =
 
 -- the fields of a side and a quantity
 abbrev pub size_fields : Side → ℕ → List TagValue
-size_fields side quantity = field 54 (side_text side) ∷ field 38 (decimal quantity) ∷ []
+size_fields side quantity = field 54 (message_side_text side) ∷ field 38 (decimal quantity) ∷ []
 
 -- the fields of an order type, a price and a life: a market order has no price
 abbrev pub limit_fields : Life → ℕ → List TagValue
@@ -63,25 +63,25 @@ report_fields report =
     field 35 (codes "8") ∷ field 49 (codes "EXCHANGE") ∷ field 56 report.key.firm
     ∷ field 11 report.key.id ∷ field 150 (codes "F") ∷ field 527 report.trade
     ∷ field 60 (stamp_text report.time) ∷ field 55 report.symbol
-    ∷ field 54 (side_text report.side) ∷ field 32 (decimal report.quantity)
+    ∷ field 54 (message_side_text report.side) ∷ field 32 (decimal report.quantity)
     ∷ field 31 (price_text report.price) ∷ []
 
 -- the message of an order, of a report, and the two messages of a trade
-abbrev pub order_text : OrderRecord → List ℕ
-order_text order = frame_text (bytes_of (order_fields order))
+abbrev pub order_message : OrderRecord → List ℕ
+order_message order = frame_text (bytes_of (order_fields order))
 
-abbrev pub report_text : Report → List ℕ
-report_text report = frame_text (bytes_of (report_fields report))
+abbrev pub report_message : Report → List ℕ
+report_message report = frame_text (bytes_of (report_fields report))
 
-abbrev pub trade_text : TradeRecord → List ℕ
-trade_text trade = flat_map report_text (reports_of trade)
+abbrev pub trade_message_pair : TradeRecord → List ℕ
+trade_message_pair trade = flat_map report_message (reports_of trade)
 
 -- the logs of these records, message by message
-abbrev pub orders_text : List OrderRecord → List ℕ
-orders_text orders = flat_map order_text orders
+abbrev pub fix_orders_text : List OrderRecord → List ℕ
+fix_orders_text orders = flat_map order_message orders
 
-abbrev pub trades_text : List TradeRecord → List ℕ
-trades_text trades = flat_map trade_text trades
+abbrev pub fix_trades_text : List TradeRecord → List ℕ
+fix_trades_text trades = flat_map trade_message_pair trades
 
 -- The parts of a record are in their forms, as they are of every record that a
 -- program holds: its names, and its time.

@@ -6,11 +6,11 @@ ghost use Rattle.audit_base.specs.Sizes.{longest_body};
 ghost use Rattle.fix_fields.specs.Grammar.{TagValue};
 ghost use Rattle.fix_fields.specs.TagNotes.{HasNotes};
 ghost use Rattle.fix_messages.specs.declared.meanings.MessageFault.{MessageFault};
-ghost use Rattle.fix_messages.specs.Bodies.{body_says, fault_reason, reasoned};
+ghost use Rattle.fix_messages.specs.Bodies.{body_says, fault_reason, with_reason};
 ghost use Rattle.fix_messages.specs.BodyFields.{fields_of};
 ghost use Rattle.fix_messages.specs.Steps.{TakesSaid};
 ghost use Rattle.log_source.specs.Collectors.{HasPlace};
-ghost use Rattle.log_source.specs.Handing.{Adds};
+ghost use Rattle.log_source.specs.Handing.{HandsOnMore};
 
 use crate::meanings::{MessageFault, Report};
 use crate::message::Message;
@@ -18,7 +18,7 @@ use crate::order_texts::OrderText;
 use crate::orders::order_text;
 use crate::reports::{ReportText, report_text};
 use audit_base::faults::{NoMemory, Reason};
-use audit_base::records::{OrderRecord, Traded};
+use audit_base::records::{LogRecord, OrderRecord};
 use audit_base::stamp_reader::StampReader;
 use fix_fields::field::FieldFault;
 use fix_fields::notes::TagNotes;
@@ -26,7 +26,7 @@ use fix_fields::split::note_front_fields;
 use log_source::collector::Collector;
 
 /// A record of a FIX log: an order, or a report of a trade.
-pub trait FixEntry: Traded {
+pub trait FixRecord: LogRecord {
     // What the fields of a message mean: a record, or nothing.
     ghost meaning: { List TagValue → Result (Option Self) MessageFault };
 
@@ -44,7 +44,7 @@ pub trait FixEntry: Traded {
     ) -> Result<Result<(), Reason>, NoMemory>
         requires notes { HasNotes body.now notes.now }
         requires place { HasPlace K.has_taken entries.old }
-        ensures { IfOk result (TakesSaid (reasoned (meaning (fields_of body.now)))
+        ensures { IfOk result (TakesSaid (with_reason (meaning (fields_of body.now)))
             (K.has_taken entries.old) (K.has_taken entries.new)) };
 
     /// Every record that fields mean is sound. This call does nothing: it only has its contract.
@@ -52,11 +52,11 @@ pub trait FixEntry: Traded {
         ensures { (fields : List TagValue) → IfOk (meaning fields) (λ found. IfSome found sound) };
 }
 
-impl FixEntry for OrderRecord {
-    ghost use Rattle.fix_messages.specs.OrderTables.{order_entry};
+impl FixRecord for OrderRecord {
+    ghost use Rattle.fix_messages.specs.OrderTables.{order_of_message};
     ghost use Rattle.audit_base.specs.Histories.{HasMarketPrice};
 
-    ghost meaning = { order_entry };
+    ghost meaning = { order_of_message };
 
     ghost sound = { HasMarketPrice };
 
@@ -73,11 +73,11 @@ impl FixEntry for OrderRecord {
     fn means_sound_records() {}
 }
 
-impl FixEntry for Report {
+impl FixRecord for Report {
     ghost use Rattle.std.specs.Prelude.{⊤};
-    ghost use Rattle.fix_messages.specs.ReportTable.{report_entry};
+    ghost use Rattle.fix_messages.specs.ReportTable.{report_of_message};
 
-    ghost meaning = { report_entry };
+    ghost meaning = { report_of_message };
 
     ghost sound = { λ _. ⊤ };
 
@@ -113,7 +113,7 @@ fn keep_order<K: Collector<Entry = OrderRecord>>(
 ) -> Result<(), NoMemory>
     requires { HasPlace K.has_taken entries.old }
     ensures { OnOk result
-        (Adds (K.has_taken entries.old) (K.has_taken entries.new) (order.now ∷ [])) }
+        (HandsOnMore (K.has_taken entries.old) (K.has_taken entries.new) (order.now ∷ [])) }
 {
     entries.take(order.record())
 }
@@ -126,7 +126,7 @@ fn hand_on_order<K: Collector<Entry = OrderRecord>>(
 ) -> Result<(), NoMemory>
     requires { HasPlace K.has_taken entries.old }
     ensures { OnOk result
-        (Adds (K.has_taken entries.old) (K.has_taken entries.new) (order.now ∷ [])) }
+        (HandsOnMore (K.has_taken entries.old) (K.has_taken entries.new) (order.now ∷ [])) }
 {
     if entries.wants(order.symbol()) {
         keep_order(entries, order)
@@ -143,7 +143,7 @@ fn hand_on_report<K: Collector<Entry = Report>>(
 ) -> Result<(), NoMemory>
     requires { HasPlace K.has_taken entries.old }
     ensures { OnOk result
-        (Adds (K.has_taken entries.old) (K.has_taken entries.new) (report.now ∷ [])) }
+        (HandsOnMore (K.has_taken entries.old) (K.has_taken entries.new) (report.now ∷ [])) }
 {
     if entries.wants(report.symbol()) {
         entries.take(report.record())
@@ -160,7 +160,7 @@ fn take_order<K: Collector<Entry = OrderRecord>>(
     meaning: Result<Option<OrderText<'_>>, MessageFault>,
 ) -> Result<Result<(), Reason>, NoMemory>
     requires { HasPlace K.has_taken entries.old }
-    ensures { IfOk result (TakesSaid (reasoned meaning.entry) (K.has_taken entries.old)
+    ensures { IfOk result (TakesSaid (with_reason meaning.entry) (K.has_taken entries.old)
         (K.has_taken entries.new)) }
 {
     match meaning {
@@ -179,7 +179,7 @@ fn take_report<K: Collector<Entry = Report>>(
     meaning: Result<Option<ReportText<'_>>, MessageFault>,
 ) -> Result<Result<(), Reason>, NoMemory>
     requires { HasPlace K.has_taken entries.old }
-    ensures { IfOk result (TakesSaid (reasoned meaning.entry) (K.has_taken entries.old)
+    ensures { IfOk result (TakesSaid (with_reason meaning.entry) (K.has_taken entries.old)
         (K.has_taken entries.new)) }
 {
     match meaning {
@@ -196,7 +196,7 @@ fn take_report<K: Collector<Entry = Report>>(
 /// Hands on the record that the body of a message means, if it means one, and gives the first
 /// test that the body fails. The body is in a text from one byte on and up to another. Notes are
 /// taken of its fields in place of what was noted before.
-pub(crate) fn take_body<R: FixEntry, K: Collector<Entry = R>>(
+pub(crate) fn take_body<R: FixRecord, K: Collector<Entry = R>>(
     entries: &mut K,
     text: &[u8],
     from: usize,

@@ -1,7 +1,7 @@
 //! Drafts of deals by themselves: what they keep of the records that they are handed.
 ghost use Rattle.std.specs.Prelude.{◌≡◌, ◌<◌, ◌∷◌, [], OnOk, length};
 ghost use Rattle.log_source.specs.Collectors.{HasPlace};
-ghost use Rattle.log_source.specs.Handing.{Adds};
+ghost use Rattle.log_source.specs.Handing.{HandsOnMore};
 ghost use Rattle.matching_core.specs.DealsDraft.{IsDealsDraft};
 
 use crate::names::name;
@@ -25,7 +25,7 @@ fn hand<M: AuditedHistory>(
 ) -> Result<(), NoMemory>
     requires { HasPlace (IsDealsDraft M.symbol M.orders) draft.old }
     ensures { let has_taken = IsDealsDraft M.symbol M.orders in
-        OnOk result (Adds (has_taken draft.old) (has_taken draft.new) (trade ∷ [])) }
+        OnOk result (HandsOnMore (has_taken draft.old) (has_taken draft.new) (trade ∷ [])) }
 {
     if passes && !draft.wants(trade.symbol.bytes()) {
         draft.pass_over();

@@ -8,7 +8,7 @@ use crate::names::name;
 use audit_base::faults::NoMemory;
 use audit_base::findings::{Finding, Property};
 use audit_base::names::Name;
-use audit_base::records::{OrderRecord, Traded};
+use audit_base::records::{LogRecord, OrderRecord};
 use instruction_history::history::History;
 use instruction_history::history_draft::{AuditedSymbol, HistoryDraft};
 use log_source::collector::Collector;

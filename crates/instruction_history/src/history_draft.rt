@@ -9,7 +9,7 @@ ghost use Rattle.std.specs.Prelude.{◌≡◌, ◌+◌, ◌<◌, ◌^◌, [], �
 ghost use Rattle.audit_base.specs.Histories.{symbol_of, WellFormed};
 ghost use Rattle.audit_base.specs.Orders.{same_name};
 ghost use Rattle.audit_base.specs.declared.records.OrderRecord.{OrderRecord};
-ghost use Rattle.instruction_history.specs.HistoryDraft.{IsHistoryDraft, ForHanded, AreOrdersOf, KeepsMarketPrices, IsFindingOf, TakesRecord};
+ghost use Rattle.instruction_history.specs.HistoryDraft.{IsHistoryDraft, ForHandedRecords, AreOrdersOf, KeepsMarketPrices, IsFindingOfRecords, TakesRecord};
 ghost use Rattle.log_source.specs.Collectors.{HasPlace};
 
 use super::history::History;
@@ -103,10 +103,10 @@ impl<S: AuditedSymbol> HistoryDraft<S> {
     /// The history, where it is well-formed, or else its first finding. Takes no memory.
     pub fn end(self) -> Result<History, Finding>
         requires { (entries : List OrderRecord) × IsHistoryDraft S.symbol self entries }
-        ensures well_formed { OnOk result (ForHanded S.symbol self (WellFormed S.symbol)) }
+        ensures well_formed { OnOk result (ForHandedRecords S.symbol self (WellFormed S.symbol)) }
         ensures orders { IfOk result (AreOrdersOf S.symbol self) }
         ensures market { IfOk result (KeepsMarketPrices S.symbol self) }
-        ensures found { IfErr result (IsFindingOf S.symbol self) }
+        ensures found { IfErr result (IsFindingOfRecords S.symbol self) }
     {
         // This read gives the proof that there are fewer than 2^32 records.
         let _ = self.count;

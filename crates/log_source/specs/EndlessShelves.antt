@@ -17,8 +17,8 @@ endless_state slot = record {
 }
 
 -- the state of a slot that was just started, for this many times
-abbrev pub started_slot : ℕ → Slot
-started_slot starts =
+abbrev pub endless_started_slot : ℕ → Slot
+endless_started_slot starts =
     record { started = true; left = None; taken = 0; starts = starts; faults = 0 }
 
 -- nothing is known of its logs

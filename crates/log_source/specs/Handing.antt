@@ -3,5 +3,5 @@ use Rattle.std.specs.Prelude.{List, ◌++◌}
 
 -- more was handed on: whatever had been handed a list before has now been
 -- handed that list and then this
-abbrev pub Adds : {A : Type 0} → (List A → Type 0) → (List A → Type 0) → List A → Type 0
-Adds before after more = (list : List _) → before list → after (list ++ more)
+abbrev pub HandsOnMore : {A : Type 0} → (List A → Type 0) → (List A → Type 0) → List A → Type 0
+HandsOnMore before after more = (list : List _) → before list → after (list ++ more)

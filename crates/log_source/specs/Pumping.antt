@@ -2,7 +2,7 @@
 use Rattle.std.specs.Prelude.{◌≡◌, ℕ, ◌≤◌, true, List, length, IfSome}
 use Rattle.std.specs.Io.{StartsWith}
 use Rattle.audit_base.specs.declared.terms.Which.{Which}
-use Rattle.log_source.specs.Taking.{IsWhole}
+use Rattle.log_source.specs.Taking.{IsWholeLog}
 use Rattle.log_source.specs.declared.feed.Feed as feed
 use Rattle.log_source.specs.declared.shelf.Shelf as shelf
 
@@ -21,7 +21,7 @@ pub record StandsForWhole {F D : Type 0} (shelves : shelf.Ghosts F) (feeds : fee
   pub stands : feeds.stands_for feed bytes
   pub within : length bytes ≤ limit
   pub count : length bytes ≡ (shelves.slot new which).taken
-  pub whole : IsWhole shelves which name old bytes
+  pub whole : IsWholeLog shelves which name old bytes
 
 -- The feed stands for exactly the bytes that were taken,
 -- no more than the limit and a front of the log.

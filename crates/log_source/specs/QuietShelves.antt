@@ -18,8 +18,8 @@ quiet_state slot = record {
 }
 
 -- the state of a slot whose log was just started, for this many times
-abbrev pub started_slot : List ℕ → ℕ → Slot
-started_slot log starts =
+abbrev pub quiet_started_slot : List ℕ → ℕ → Slot
+quiet_started_slot log starts =
     record { started = true; left = Some log; taken = 0; starts = starts; faults = 0 }
 
 -- the log of a slot

@@ -15,9 +15,9 @@ abbrev pub longest_read : ℕ
 longest_read = 34359738368
 
 -- the slot beside this one
-abbrev pub other_of : Which → Which
-other_of Orders = Trades
-other_of Trades = Orders
+abbrev pub other_log : Which → Which
+other_log Orders = Trades
+other_log Trades = Orders
 
 -- The state of one slot of a shelf: whether a log is started, the bytes still to come where
 -- they are known, how many bytes reads have given since the start, how many starts were made,
@@ -38,12 +38,12 @@ abbrev pub Rose : ℕ → ℕ → Type 0
 Rose old new = (old < new) ⊎ (new ≡ 2 ^ 64 - 1)
 
 -- Only this slot may have changed: whether its logs are known, its logs and its other slot stay.
-pub record ChangesOnly {F : Type 0} (tells : F → Bool)
+pub record ChangesOneSlot {F : Type 0} (tells : F → Bool)
     (log_of : F → Which → List ℕ → Option (List ℕ)) (slot : F → Which → Slot) (which : Which)
     (old new : F) : Type 0 where
   pub tells_stays : tells new ≡ tells old
   pub logs_stay : (w : Which) (n : List ℕ) → log_of new w n ≡ log_of old w n
-  pub other_stays : slot new (other_of which) ≡ slot old (other_of which)
+  pub other_stays : slot new (other_log which) ≡ slot old (other_log which)
 
 -- What a start does to its slot. `log` is what the shelf has under the name, where that is known.
 pub record Starts {T : Type 0} (tells : Bool) (log : Option (List ℕ)) (old new : Slot)

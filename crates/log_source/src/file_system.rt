@@ -1,6 +1,6 @@
 //! What a shelf over files asks of the system: one call, that opens the file under a path.
 ghost use Rattle.std.specs.Prelude.{ℕ, Bool, false, List, Option, None};
-ghost use Rattle.log_source.specs.FileSystems.{Opens};
+ghost use Rattle.log_source.specs.FileSystems.{OpensFile};
 
 use std::io::Read;
 use std::rt::Files;
@@ -23,7 +23,7 @@ pub trait FileSystem {
     /// Opens the file under this path, to be read from its first byte. Err may come for any cause.
     fn open(&self, path: &str) -> io::Result<Self::File>
         ensures { let file = file_at self.now path.now in
-            Opens (tells self.now) file Self.File.remaining result };
+            OpensFile (tells self.now) file Self.File.remaining result };
 }
 
 /// The files of the runtime. Contracts know nothing of what is under a path.

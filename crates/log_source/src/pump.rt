@@ -1,6 +1,6 @@
 //! Handing a whole log to a feed, piece by piece.
 ghost use Rattle.std.specs.Prelude.{◌≤◌, [], OnOk, IsErrOf};
-ghost use Rattle.log_source.specs.Sources.{ChangesOnly, longest_read};
+ghost use Rattle.log_source.specs.Sources.{ChangesOneSlot, longest_read};
 ghost use Rattle.log_source.specs.Taking.{Takes};
 ghost use Rattle.log_source.specs.Pumping.{StandsForWhole, StandsForTaken, StandsForFront};
 
@@ -31,7 +31,7 @@ pub fn pump<F: Shelf, D: Feed>(
 ) -> Result<(), TakeFault>
     requires limit { limit ≤ longest_read }
     requires empty { D.stands_for feed.old [] }
-    ensures only { ChangesOnly F.tells F.log_of F.slot which shelf.old shelf.new }
+    ensures only { ChangesOneSlot F.tells F.log_of F.slot which shelf.old shelf.new }
     ensures slot { Takes F.Shelf which name.now limit shelf.old shelf.new result }
     ensures whole { OnOk result
         (StandsForWhole F.Shelf D.Feed which name.now limit shelf.old shelf.new feed.new) }

@@ -15,21 +15,21 @@ pub struct StdSink<W> {
 }
 
 impl<W: Output> StdSink<W> {
-    ghost use Rattle.log_source.specs.StdSinks.{std_state};
+    ghost use Rattle.log_source.specs.StdSinks.{std_sink_state};
 
     /// A sink over this writer, with no fault counted. What the writer holds is what was written.
     pub fn new(writer: W) -> StdSink<W>
         ensures { let held = W.contents writer in
-            std_state W.contents result ≡ record { wrote = held; faults = 0; sure = 0 } }
+            std_sink_state W.contents result ≡ record { wrote = held; faults = 0; sure = 0 } }
     {
         StdSink { writer, faults: 0 }
     }
 }
 
 impl<W: Output> Sink for StdSink<W> {
-    ghost use Rattle.log_source.specs.StdSinks.{std_state};
+    ghost use Rattle.log_source.specs.StdSinks.{std_sink_state};
 
-    ghost state = { std_state W.contents };
+    ghost state = { std_sink_state W.contents };
 
     fn write(&mut self, piece: &[u8]) -> Result<usize, Failed> {
         match self.writer.write(piece) {

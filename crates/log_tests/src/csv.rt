@@ -1,7 +1,7 @@
 //! Rows of the specification on whole logs, on feeds and on the writers.
 ghost use Rattle.std.specs.Prelude.{◌≤◌, ◌<◌, [], length, OnOk};
 ghost use Rattle.log_source.specs.Sources.{longest_log};
-ghost use Rattle.csv_logs.specs.Feeds.{IsWithinLimit, StandsFor};
+ghost use Rattle.csv_logs.specs.Feeds.{IsCsvFeedWithinLimit, IsCsvFeedOf};
 
 use audit_base::faults::{BadPlace, LogFault, NoMemory, Reason};
 use audit_base::names::{Key, Name, read_name};
@@ -9,7 +9,7 @@ use audit_base::numbers::{Price, Quantity};
 use audit_base::records::{OrderRecord, TradeRecord};
 use audit_base::stamps::Stamp;
 use audit_base::terms::{Life, Side};
-use csv_logs::entries::LogEntry;
+use csv_logs::entries::CsvRecord;
 use csv_logs::feeds::{CsvFeed, CsvOrderFeed, CsvTradeFeed};
 use csv_logs::logs::{csv_orders_of, csv_trades_of};
 use csv_logs::writers::{write_orders, write_trades};
@@ -109,7 +109,7 @@ fn place(place: u32, offset: u64, reason: Reason) -> Option<BadPlace> {
 }
 
 /// How many records a log has, where each is only tested and none is made.
-fn count_of<R: LogEntry>(alloc: Global, log: &[u8]) -> Result<u32, LogFault>
+fn count_of<R: CsvRecord>(alloc: Global, log: &[u8]) -> Result<u32, LogFault>
     requires { length log.now ≤ longest_log }
 {
     let mut feed = CsvFeed::over(alloc, Counter::<R>::new());
@@ -403,15 +403,15 @@ fn trade_lines_name_the_first_column_that_is_out_of_form(rt: HostRuntime) {
 }
 
 /// Feeds a log in pieces of this size.
-fn feed_all<R: LogEntry, K: Collector<Entry = R>>(
+fn feed_all<R: CsvRecord, K: Collector<Entry = R>>(
     feed: &mut CsvFeed<K>,
     log: &[u8],
     size: usize,
 ) -> Result<(), NoMemory>
     requires size { 0 < size }
-    requires new { StandsFor K.has_taken R.names R.meaning feed.old [] }
+    requires new { IsCsvFeedOf K.has_taken R.names R.meaning feed.old [] }
     requires within { length log.now ≤ longest_log }
-    ensures { OnOk result (IsWithinLimit K.has_taken R.names R.meaning feed.new) }
+    ensures { OnOk result (IsCsvFeedWithinLimit K.has_taken R.names R.meaning feed.new) }
 {
     let mut left = log;
     'pieces: while !left.is_empty() {

@@ -8,7 +8,7 @@ use Rattle.audit_base.specs.declared.records.OrderRecord.{OrderRecord}
 use Rattle.audit_base.specs.declared.records.TradeRecord.{TradeRecord}
 use Rattle.audit_base.specs.declared.orders.Order.{Order}
 use Rattle.audit_base.specs.Histories.{order_list, WellFormed}
-use Rattle.audit_base.specs.Trades.{deals_of, unsound_trade}
+use Rattle.audit_base.specs.Trades.{deals_of_symbol, unsound_trade}
 use Rattle.matching_core.specs.declared.deals_draft.ResolvedTrades.{ResolvedTrades}
 use Rattle.log_verdict.specs.declared.stops.Stop.{Stop}
 use Rattle.log_verdict.specs.declared.stops.Stop.TheVariants as stop
@@ -170,9 +170,9 @@ pub record IsAdmitted (scope : Scope) (entries : List OrderRecord)
 
 -- What was gathered of these trades: how many they are, their first finding,
 -- and, where there is none, their deals.
-pub record IsEndOf (scope : Scope) (trades : List TradeRecord)
+pub record AreResolvedTrades (scope : Scope) (trades : List TradeRecord)
     (ended : ResolvedTrades) : Type 0 where
   pub count : ended.count ≡ length trades
   pub finding : unsound_trade ended.history scope.symbol trades ≡ ended.finding
   pub deals : ended.finding ≡ None
-      → ended.deals.items ≡ deals_of ended.history scope.symbol trades
+      → ended.deals.items ≡ deals_of_symbol ended.history scope.symbol trades

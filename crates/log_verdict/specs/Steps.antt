@@ -37,25 +37,25 @@ abbrev pub reading : {S : Type 0} → Shelf S → S → S → Reading
 reading shelf old new = reading_within longest_log shelf old new
 
 -- No call changes whether what the shelf has is known, or what it has in a slot under a name.
-pub record KeepsLogs {S : Type 0} (shelf : Shelf S) (old new : S) : Type 0 where
+pub record KeepsShelfLogs {S : Type 0} (shelf : Shelf S) (old new : S) : Type 0 where
   pub tells : shelf.tells new ≡ shelf.tells old
   pub logs : (log : Which) (name : List ℕ)
       → shelf.log_of new log name ≡ shelf.log_of old log name
 
 -- A log that was started: its slot, its name, and what was in the slot before and after.
-pub record Step : Type 0 where
+pub record LogStep : Type 0 where
   pub log : Which
   pub name : List ℕ
   pub before : Slot
   pub after : Slot
 
 -- the log was started once
-abbrev pub IsStartedOnce : Step → Type 0
+abbrev pub IsStartedOnce : LogStep → Type 0
 IsStartedOnce step = step.after.starts ≡ count_after step.before.starts
 
 -- The log was started once and read to its end, and these are its bytes, whatever pieces they
 -- came in; where it is known what the shelf has, they are what it has under the name.
-pub record IsRead (r : Reading) (step : Step) (bytes : List ℕ) : Type 0 where
+pub record IsRead (r : Reading) (step : LogStep) (bytes : List ℕ) : Type 0 where
   pub once : IsStartedOnce step
   pub started : step.after.started ≡ true
   pub at_end : IsAtEnd step.after.left
@@ -65,14 +65,14 @@ pub record IsRead (r : Reading) (step : Step) (bytes : List ℕ) : Type 0 where
 
 -- The log was started once and could not be read: its faults rose, or the
 -- shelf knows that it lacks the log.
-pub record IsReadFault (r : Reading) (step : Step) : Type 0 where
+pub record IsReadFault (r : Reading) (step : LogStep) : Type 0 where
   pub once : IsStartedOnce step
   pub cause : Rose step.before.faults step.after.faults
       ⊎ ((r.tells ≡ true) × (r.log_of step.log step.name ≡ None))
 
 -- The log was started once and is too long: more of it was taken than a log may have, and where
 -- it is known what the shelf has, the log has more bytes.
-pub record IsTooLong (r : Reading) (step : Step) : Type 0 where
+pub record IsTooLong (r : Reading) (step : LogStep) : Type 0 where
   pub once : IsStartedOnce step
   pub taken : r.limit < step.after.taken
   pub longer : r.tells ≡ true
@@ -86,20 +86,20 @@ with_slot slots Trades slot Orders = slots Orders
 with_slot slots Trades slot Trades = slot
 
 -- A step begins at what is in its slot, and its faults never fall.
-pub record BeginsAt (slots : Which → Slot) (step : Step) : Type 0 where
+pub record BeginsAt (slots : Which → Slot) (step : LogStep) : Type 0 where
   pub at : step.before ≡ slots step.log
   pub later : step.before.faults ≤ step.after.faults
 
 -- the steps, one after another, lead from what was in the slots before to what is there after,
 -- and change nothing else
-abbrev pub Lead : (Which → Slot) → List Step → (Which → Slot) → Type 0
-Lead before [] after = (log : Which) → after log ≡ before log
-Lead before (step ∷ steps) after =
-    BeginsAt before step × Lead (with_slot before step.log step.after) steps after
+abbrev pub StepsLead : (Which → Slot) → List LogStep → (Which → Slot) → Type 0
+StepsLead before [] after = (log : Which) → after log ≡ before log
+StepsLead before (step ∷ steps) after =
+    BeginsAt before step × StepsLead (with_slot before step.log step.after) steps after
 
 -- no count of faults fell
-abbrev pub NeverFall : Reading → Type 0
-NeverFall r = (log : Which) → (r.before log).faults ≤ (r.after log).faults
+abbrev pub FaultsNeverFall : Reading → Type 0
+FaultsNeverFall r = (log : Which) → (r.before log).faults ≤ (r.after log).faults
 
 -- both slots were within the limit when the call began, as those of a new shelf are
 abbrev pub BeginsWithin : Reading → Type 0

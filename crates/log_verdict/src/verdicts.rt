@@ -2,7 +2,7 @@
 ghost use Rattle.std.specs.Prelude.{IfOk};
 ghost use Rattle.audit_report.specs.Texts.{IsVerdictInRange};
 ghost use Rattle.log_verdict.specs.BothLogs.{DecidesVerdict, HaveOneLimit, StaysWithin};
-ghost use Rattle.log_verdict.specs.Steps.{reading_by, KeepsLogs, NeverFall};
+ghost use Rattle.log_verdict.specs.Steps.{reading_by, KeepsShelfLogs, FaultsNeverFall};
 
 use crate::both_logs::read_both;
 use crate::sources::Source;
@@ -30,8 +30,8 @@ pub fn verdict_on<F: Shelf>(
     trades: &Source<'_>,
 ) -> Result<Verdict, Stop>
     requires limit { HaveOneLimit orders.now trades.now }
-    ensures logs { KeepsLogs F.Shelf shelf.old shelf.new }
-    ensures later { NeverFall (reading_by orders.now F.Shelf shelf.old shelf.new) }
+    ensures logs { KeepsShelfLogs F.Shelf shelf.old shelf.new }
+    ensures later { FaultsNeverFall (reading_by orders.now F.Shelf shelf.old shelf.new) }
     ensures decides { DecidesVerdict (reading_by orders.now F.Shelf shelf.old shelf.new)
         question.now orders.now trades.now result }
     ensures in_range { IfOk result IsVerdictInRange }

@@ -6,9 +6,9 @@
 //! since only the end of the log says how many deals there are: the deals and the ids grow with
 //! them, by doubling.
 ghost use Rattle.std.specs.Prelude.{◌≡◌, ◌<◌, ◌-◌, ◌^◌, [], None, length};
-ghost use Rattle.audit_base.specs.Deals.{IsDealList, AreDeals};
-ghost use Rattle.instruction_history.specs.Flaws.{found_by, NamesNoOrder};
-ghost use Rattle.matching_core.specs.DealsDraft.{IsDealsDraft, ForHanded, IsFindingOf, AreDealsOf};
+ghost use Rattle.audit_base.specs.Deals.{IsDealList, DealsInRange};
+ghost use Rattle.instruction_history.specs.Flaws.{flaw_finding, NamesNoOrder};
+ghost use Rattle.matching_core.specs.DealsDraft.{IsDealsDraft, ForHandedTrades, IsFindingOfTrades, AreDealsOf};
 ghost use Rattle.log_source.specs.Collectors.{HasPlace};
 
 pub use super::deals_so_far::AuditedHistory;
@@ -47,7 +47,7 @@ pub struct ResolvedTrades {
 /// The finding of a flaw, if there is one.
 fn finding_of(flaw: Option<Flaw>) -> Option<Finding>
     requires { NamesNoOrder flaw }
-    ensures { result ≡ found_by flaw }
+    ensures { result ≡ flaw_finding flaw }
 {
     match flaw {
         Some(flaw) => Some(flaw.finding()),
@@ -74,12 +74,12 @@ impl<M: AuditedHistory> DealsDraft<M> {
     pub fn end(self) -> ResolvedTrades
         requires { HasPlace (IsDealsDraft M.symbol M.orders) self }
         ensures history { result.history ≡ M.orders }
-        ensures count { ForHanded M.symbol M.orders self
+        ensures count { ForHandedTrades M.symbol M.orders self
             (λ trades. result.count ≡ length trades) }
-        ensures finding { IsFindingOf M.symbol M.orders self result.finding }
+        ensures finding { IsFindingOfTrades M.symbol M.orders self result.finding }
         ensures deals { AreDealsOf M.symbol M.orders self result.finding result.deals.items }
         ensures deal_list { result.finding ≡ None → IsDealList M.orders result.deals.items }
-        ensures numbers { result.finding ≡ None → AreDeals result.deals.items }
+        ensures numbers { result.finding ≡ None → DealsInRange result.deals.items }
     {
         let DealsDraft {
             history,

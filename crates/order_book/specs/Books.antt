@@ -10,13 +10,13 @@ pub record BookSide : Type 0 where
   pub resting : List Resting
 
 -- what holds of each: something is left, and its limit is a price
-pub record HasLeft (r : Resting) : Type 0 where
+pub record IsRestingOrder (r : Resting) : Type 0 where
   pub some : 0 < r.left
   pub priced : r.limit < 10 ^ 18
 
 -- the first is ahead of the second: a better limit, or the same limit and a lower index
-abbrev pub IsAhead : Side → Resting → Resting → Type 0
-IsAhead side r s = IsTrue (better_limit side r.limit s.limit) ⊎ ((r.limit ≡ s.limit)
+abbrev pub IsAheadInBook : Side → Resting → Resting → Type 0
+IsAheadInBook side r s = IsTrue (better_limit side r.limit s.limit) ⊎ ((r.limit ≡ s.limit)
     × (r.index < s.index))
 
 -- a list with one order more, behind those whose limit is not worse
@@ -26,21 +26,21 @@ with_order side r (x ∷ xs) = if better_limit side r.limit x.limit then r ∷ x
     else x ∷ with_order side r xs
 
 -- the book with an order more
-abbrev pub with_added : BookSide → ℕ → ℕ → ℕ → BookSide
-with_added b index limit left =
+abbrev pub book_with_order : BookSide → ℕ → ℕ → ℕ → BookSide
+book_with_order b index limit left =
     record b {
       resting = with_order b.side
           (record { index = index; limit = limit; left = left }) b.resting;
     }
 
 -- the order has this index and this limit
-abbrev pub is_pair : ℕ → ℕ → Resting → Bool
-is_pair index limit r = (r.index == index) && (r.limit == limit)
+abbrev pub has_index_and_limit : ℕ → ℕ → Resting → Bool
+has_index_and_limit index limit r = (r.index == index) && (r.limit == limit)
 
 -- a list without the first order that has this index and this limit
 abbrev pub without_order : ℕ → ℕ → List Resting → List Resting
 without_order index limit [] = []
-without_order index limit (x ∷ xs) = if is_pair index limit x then xs
+without_order index limit (x ∷ xs) = if has_index_and_limit index limit x then xs
     else x ∷ without_order index limit xs
 
 -- a list with this much taken from the first order, which is taken out where nothing is left
@@ -50,6 +50,6 @@ after_take quantity (x ∷ xs) = if nat_lt quantity x.left
     then record x { left = x.left - quantity } ∷ xs else xs
 
 -- the first order of a list, if there is one
-abbrev pub first : List Resting → Option Resting
-first [] = None
-first (x ∷ xs) = Some x
+abbrev pub best_resting : List Resting → Option Resting
+best_resting [] = None
+best_resting (x ∷ xs) = Some x

@@ -6,24 +6,25 @@ use Rattle.audit_base.specs.declared.terms.Side.{Side}
 use Rattle.audit_base.specs.Names.{is_name}
 use Rattle.audit_base.specs.Orders.{same_key, same_side}
 use Rattle.seeded_hash.specs.declared.short_pairs.ShortPair.{ShortPair}
-use Rattle.seeded_hash.specs.ShortPairs.{same_block, short_pair_of, held_by, first_text, second_text}
+use Rattle.seeded_hash.specs.ShortPairs.{same_block, short_pair_of, value_by_pair, first_text, second_text}
 use Rattle.order_list.specs.declared.keys.Keys.{Keys}
 use Rattle.order_list.specs.declared.keys.KeyNumber.{KeyNumber}
-use Rattle.order_list.specs.declared.keys.Seen.{Seen}
+use Rattle.order_list.specs.declared.keys.SeenRecord.{SeenRecord}
 
 -- what a key names in the maps, if it is there
-abbrev pub seen_in : Keys → Key → Option Seen
+abbrev pub seen_in : Keys → Key → Option SeenRecord
 seen_in keys key =
-    held_by (get same_block keys.short) (get same_key keys.long key) (short_pair_of key.firm key.id)
+    value_by_pair (get same_block keys.short) (get same_key keys.long key)
+    (short_pair_of key.firm key.id)
 
 -- one key more: it names this, and every other key names what it did
-abbrev pub AddsKey : Keys → Keys → Key → Seen → Type 0
+abbrev pub AddsKey : Keys → Keys → Key → SeenRecord → Type 0
 AddsKey old new key seen =
     (other : Key) → seen_in new other
     ≡ (if same_key key other then Some seen else seen_in old other)
 
 -- the index of what is seen, if it is an order of the side
-abbrev pub index_on : Side → Seen → Option ℕ
+abbrev pub index_on : Side → SeenRecord → Option ℕ
 index_on side seen =
     option_and_then (λ own. if same_side own side then seen.index else None) seen.side
 
@@ -41,11 +42,11 @@ abbrev pub no_key : Key
 no_key = record { firm = 63 ∷ []; id = 63 ∷ [] }
 
 -- the key of an entry of either map
-abbrev pub short_key : Option (ShortPair × Seen) → Key
+abbrev pub short_key : Option (ShortPair × SeenRecord) → Key
 short_key None = no_key
 short_key (Some entry) = key_of_pair entry.0
 
-abbrev pub long_key : Option (Key × Seen) → Key
+abbrev pub long_key : Option (Key × SeenRecord) → Key
 long_key None = no_key
 long_key (Some entry) = entry.0
 

@@ -23,7 +23,7 @@ impl<'a> OrderList<'a> {
     /// The finding of a flaw: property, log and place, with what shows it. The indices in it are
     /// those of this list.
     pub fn finding(&self, flaw: Flaw) -> Finding
-        requires { spec.IsInside self.now flaw.evidence }
+        requires { spec.IsEvidenceInside self.now flaw.evidence }
         ensures { result ≡ spec.finding_of self.now flaw }
     {
         flaw.finding_among(self)

@@ -18,7 +18,7 @@ use std::alloc::Global;
 
 /// What a key names.
 #[derive(Clone, Copy)]
-pub struct Seen {
+pub struct SeenRecord {
     /// The number of its record in the log.
     pub place: u32,
     /// The side of a new order or a replacement. It is kept here so that a trade's order, which
@@ -28,7 +28,7 @@ pub struct Seen {
     pub index: Option<u32>,
 }
 
-impl Seen {
+impl SeenRecord {
     /// The index in the order list, if it is an order of the side.
     pub fn index_on(self, side: Side) -> Option<u32>
         ensures { result ≡ index_on side self }
@@ -46,17 +46,17 @@ pub struct KeyNumber {
 
 /// What a key named before it was added, and its number.
 #[derive(Clone, Copy)]
-pub struct Added {
-    pub earlier: Option<Seen>,
+pub struct AddedKey {
+    pub earlier: Option<SeenRecord>,
     pub number: KeyNumber,
 }
 
 /// What the keys of the records so far name.
 #[derive(Drop)]
 pub struct Keys {
-    short: IndexMap<ShortPair, Seen, BlockSeed>,
+    short: IndexMap<ShortPair, SeenRecord, BlockSeed>,
     /// The keys that are not short.
-    long: IndexMap<Key, Seen, HashSeed>,
+    long: IndexMap<Key, SeenRecord, HashSeed>,
 }
 
 /// A text as a name; where it is none, `?`.
@@ -133,7 +133,7 @@ impl Keys {
 
     /// What the key of this firm and this id names, if a record has it. A key is a copy of both
     /// names, which only a long one needs.
-    pub fn find(&self, firm: &Name, id: &Name) -> Option<Seen>
+    pub fn find(&self, firm: &Name, id: &Name) -> Option<SeenRecord>
         ensures { result ≡ seen_in self.now (record { firm = firm.now; id = id.now }) }
     {
         match ShortPair::of(firm.bytes(), id.bytes()) {
@@ -150,7 +150,7 @@ impl Keys {
 
     /// One more key: what it named before, and where nothing, its number. Where it named something,
     /// it names the new record now.
-    pub fn add(&mut self, key: &Key, seen: Seen) -> Result<Added, NoMemory>
+    pub fn add(&mut self, key: &Key, seen: SeenRecord) -> Result<AddedKey, NoMemory>
         ensures earlier { IfOk result (λ added. added.earlier ≡ seen_in self.old key.now) }
         ensures adds { OnOk result (AddsKey self.old self.new key.now seen) }
         ensures number { IfOk result (λ added. added.earlier ≡ None
@@ -160,12 +160,12 @@ impl Keys {
             Some(short) => {
                 let number = short_number(kept_index(self.short.len())?);
                 let earlier = self.short.insert(short, seen)?;
-                Ok(Added { earlier, number })
+                Ok(AddedKey { earlier, number })
             }
             None => {
                 let number = long_number(kept_index(self.long.len())?);
                 let earlier = self.long.insert(*key, seen)?;
-                Ok(Added { earlier, number })
+                Ok(AddedKey { earlier, number })
             }
         }
     }

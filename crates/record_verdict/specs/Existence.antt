@@ -3,8 +3,8 @@ use Rattle.std.specs.Prelude.{◌<◌, ◌^◌, List, Result, length}
 use Rattle.audit_base.specs.declared.findings.Finding.{Finding}
 use Rattle.audit_base.specs.declared.records.OrderRecord.{OrderRecord}
 use Rattle.audit_base.specs.declared.records.TradeRecord.{TradeRecord}
-use Rattle.audit_base.specs.RecordRanges.{AreRecords}
-use Rattle.audit_base.specs.Trades.{AreTrades}
+use Rattle.audit_base.specs.RecordRanges.{RecordsInRange}
+use Rattle.audit_base.specs.Trades.{TradesInRange}
 use Rattle.audit_base.specs.Verdicts.{paired_trades}
 use Rattle.audit_report.specs.declared.verdicts.Verdict.{Verdict}
 use Rattle.record_verdict.specs.declared.questions.Question.{Question}
@@ -15,6 +15,6 @@ use Rattle.record_verdict.specs.Judgements.{IsJudged}
 abbrev pub JudgementExists : Type 0
 JudgementExists = (q : Question) (entries : List OrderRecord)
     (paired : Result (List TradeRecord) Finding) → length entries < 2 ^ 32
-    → AreRecords entries
-    → AreTrades (paired_trades paired)
+    → RecordsInRange entries
+    → TradesInRange (paired_trades paired)
     → (the_verdict : Verdict) × IsJudged q entries paired the_verdict

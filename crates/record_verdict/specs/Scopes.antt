@@ -7,7 +7,7 @@ use Rattle.audit_base.specs.declared.records.TradeRecord.{TradeRecord}
 use Rattle.audit_base.specs.declared.terms.Rule.{Rule}
 use Rattle.audit_base.specs.RuleKinds.{call_rule}
 use Rattle.audit_base.specs.Histories.{history_finding, instant_order, order_list}
-use Rattle.audit_base.specs.Least.{first_of}
+use Rattle.audit_base.specs.Least.{first_answer}
 use Rattle.audit_base.specs.Trades.{unsound_trade}
 use Rattle.audit_base.specs.Verdicts.{pairing_finding, paired_trades}
 use Rattle.record_verdict.specs.declared.questions.Question.{Question}
@@ -34,7 +34,7 @@ abbrev pub early_finding : Scope → List OrderRecord → Result (List TradeReco
     → Option Finding
 early_finding scope entries trades =
     let orders = order_list scope.symbol entries in
-    first_of (history_finding scope.symbol entries ∷ unadmitted_order scope.admission orders
+    first_answer (history_finding scope.symbol entries ∷ unadmitted_order scope.admission orders
     ∷ pairing_finding trades
     ∷ unsound_trade orders scope.symbol (paired_trades trades) ∷ [])
 

@@ -2,5 +2,5 @@
 use Rattle.std.specs.Prelude.{◌≡◌, ℕ, List, Option, IfSome}
 
 -- these are the known words of the command line, where they are known
-abbrev pub AreWordsOf : Option (List (List ℕ)) → List (List ℕ) → Type 0
-AreWordsOf told words = IfSome told (λ given. words ≡ given)
+abbrev pub AreKnownWords : Option (List (List ℕ)) → List (List ℕ) → Type 0
+AreKnownWords told words = IfSome told (λ given. words ≡ given)

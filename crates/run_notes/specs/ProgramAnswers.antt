@@ -4,7 +4,7 @@
 use Rattle.std.specs.Prelude.{◌≡◌, ◌⊎◌, ℕ, List, Option, None}
 use Rattle.std.specs.Process.{exit_status}
 use Rattle.std.specs.declared.process.ExitCode.{ExitCode}
-use Rattle.run_notes.specs.CommandLines.{AreWordsOf}
+use Rattle.run_notes.specs.CommandLines.{AreKnownWords}
 
 module _ {W T : Type 0} (Answers : List (List ℕ) → W → W → T → Type 0) (memory : T) where
   -- the answer is the program's own to the words of the command line, which are the known ones
@@ -13,7 +13,7 @@ module _ {W T : Type 0} (Answers : List (List ℕ) → W → W → T → Type 0)
   abbrev pub AnswersCommandLine : Option (List (List ℕ)) → W → W → T → Type 0
   AnswersCommandLine known old new status =
       ((status ≡ memory) × (new ≡ old))
-      ⊎ ((words : List (List ℕ)) × AreWordsOf known words × Answers words old new status)
+      ⊎ ((words : List (List ℕ)) × AreKnownWords known words × Answers words old new status)
 
   -- such an answer of a run that began as a program does
   abbrev pub AnswersFrom : Option (List (List ℕ)) → (W → Type 0) → W → T → Type 0

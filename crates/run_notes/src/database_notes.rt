@@ -5,7 +5,7 @@ use command_words::word_forms::is_path;
 use std::fs;
 
 /// Whether the words name a database that is not there.
-pub fn is_missing(rt: &HostRuntime, words: &[String]) -> bool {
+pub fn is_database_missing(rt: &HostRuntime, words: &[String]) -> bool {
     match words.first() {
         Some(path) => fs::metadata(rt, path.as_str()).is_err(),
         None => false,
@@ -13,9 +13,9 @@ pub fn is_missing(rt: &HostRuntime, words: &[String]) -> bool {
 }
 
 /// Says that the database which the words name was made, where it was missing and is there.
-pub fn tell_made(rt: &HostRuntime, words: &[String], was_missing: bool) {
+pub fn print_made_database(rt: &HostRuntime, words: &[String], was_missing: bool) {
     if let Some(path) = words.first() {
-        if was_missing && !is_missing(rt, words) {
+        if was_missing && !is_database_missing(rt, words) {
             let _told = eprintln!(rt; "casebook: {path} was not there, and has been made");
         }
     }
@@ -23,7 +23,7 @@ pub fn tell_made(rt: &HostRuntime, words: &[String], was_missing: bool) {
 
 /// Says which database could not be opened, read or written, and why the system refuses its
 /// file, where it does.
-pub fn tell_database_fault(rt: &HostRuntime, words: &[String]) {
+pub fn print_database_fault(rt: &HostRuntime, words: &[String]) {
     let Some(path) = words.first() else {
         return;
     };
@@ -53,7 +53,7 @@ fn lists_result(words: &[String]) -> bool {
 }
 
 /// Says that a list of one word is that of a symbol, where the word is a result's.
-pub fn tell_listed_symbols(rt: &HostRuntime, words: &[String]) {
+pub fn print_listed_symbols(rt: &HostRuntime, words: &[String]) {
     let mut begins = true;
     for place in 1..words.len() {
         if begins && lists_result(&words[place..]) {

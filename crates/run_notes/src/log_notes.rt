@@ -18,7 +18,7 @@ pub(crate) fn refusal(rt: &HostRuntime, path: &str) -> Option<io::Error> {
     }
 }
 
-fn tell_unread(rt: &HostRuntime, program: &str, path: &str) {
+fn print_unread_log(rt: &HostRuntime, program: &str, path: &str) {
     let _told = match refusal(rt, path) {
         Some(error) => eprintln!(rt; "{program}: {path}: {error}"),
         None => eprintln!(rt; "{program}: {path}: it could not be read"),
@@ -38,7 +38,7 @@ fn log_named(word: &str) -> Option<Which> {
 /// Says what is wrong with the log that a line of a fault names:
 /// `malformed,LOG,PLACE,OFFSET,REASON`, `readfault,LOG` or `toolong,LOG`. Of any other line it
 /// says nothing.
-pub fn tell_log_fault<F: Shelf>(
+pub fn print_log_fault<F: Shelf>(
     rt: &HostRuntime,
     program: &str,
     shelf: &NotedShelf<F>,
@@ -55,7 +55,7 @@ pub fn tell_log_fault<F: Shelf>(
         return;
     };
     if kind == "readfault" {
-        tell_unread(rt, program, path.as_str());
+        print_unread_log(rt, program, path.as_str());
     } else if kind == "toolong" {
         let _told = eprintln!(rt; "{program}: {path}: it has more than 67108864 bytes");
     } else if kind == "malformed" {

@@ -55,10 +55,10 @@ impl BlockHasher {
 }
 
 /// The four bytes of a block from a place on as a number, the lowest first.
-#[tactic(auto, unfolding(crate::specs::Blocks::word_at))]
+#[tactic(auto, unfolding(crate::specs::Blocks::block_word_at))]
 fn word_at(block: &[u8; 32], at: usize) -> u64
     requires { at + 4 ≤ 32 }
-    ensures { result ≡ spec.word_at block.now at }
+    ensures { result ≡ spec.block_word_at block.now at }
 {
     let word = u32::from_le_bytes([block[at], block[at + 1], block[at + 2], block[at + 3]]);
     u64::from(word)

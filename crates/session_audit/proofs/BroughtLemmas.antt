@@ -4,7 +4,7 @@ use Rattle.std.specs.Prelude.{nat_lt, ◌&&◌}
 use Rattle.std.proofs.lemmas.Bool.{cases_lt, cond-true, cond-false, lt-ltb, le-ltb, ltb-true, and_parts}
 use Rattle.audit_base.specs.declared.orders.Order.{Order}
 use Rattle.audit_base.specs.Orders.{order_at, place_at, quantity_at, IsOrderList}
-use Rattle.audit_base.specs.Continuous.{was_placed}
+use Rattle.audit_base.specs.Continuous.{is_placed_order}
 use Rattle.audit_base.proofs.ContinuousLemmas.{IsBelow, target-below}
 use Rattle.session_audit.specs.PhaseOrders.{brought_if, brought_within, brought}
 
@@ -40,10 +40,10 @@ module _ (orders : List Order) (list : IsOrderList orders) (first : ℕ) (rest s
 
   -- an order of an earlier place brings what is left of it
   pub if-carried : (there : Bool) (i : ℕ) → place_at orders i < first → brought_if there orders first rest spent i ≡ rest i
-  if-carried there i lt = cond-true (nat_lt (place_at orders i) first) (rest i) (cond (was_placed orders i && there) (quantity_at orders i - spent i) 0) (lt-ltb _ _ lt)
+  if-carried there i lt = cond-true (nat_lt (place_at orders i) first) (rest i) (cond (is_placed_order orders i && there) (quantity_at orders i - spent i) 0) (lt-ltb _ _ lt)
 
-  pub if-own : (there : Bool) (i : ℕ) → first ≤ place_at orders i → brought_if there orders first rest spent i ≡ cond (was_placed orders i && there) (quantity_at orders i - spent i) 0
-  if-own there i le = cond-false (nat_lt (place_at orders i) first) (rest i) (cond (was_placed orders i && there) (quantity_at orders i - spent i) 0) (le-ltb _ _ le)
+  pub if-own : (there : Bool) (i : ℕ) → first ≤ place_at orders i → brought_if there orders first rest spent i ≡ cond (is_placed_order orders i && there) (quantity_at orders i - spent i) 0
+  if-own there i le = cond-false (nat_lt (place_at orders i) first) (rest i) (cond (is_placed_order orders i && there) (quantity_at orders i - spent i) 0) (le-ltb _ _ le)
 
   any-target : (i : ℕ) (target : Option ℕ) → (order_at orders i).target ≡ target → i < length orders → (there : Bool) × (brought orders first rest spent i ≡ brought_if there orders first rest spent i)
   any-target i None e lt = (true, brought-none i e)
@@ -62,7 +62,7 @@ module _ (orders : List Order) (list : IsOrderList orders) (first : ℕ) (rest s
       let a = any-target i (order_at orders i).target refl lt in
       elim (cases_lt (place_at orders i) first) [
         | inl earlier ↦ let e = brought-carried i lt earlier in omega arith
-        | inr later ↦ let e = a.1 ∙ if-own a.0 i later in let m = own-le (was_placed orders i && a.0) (quantity_at orders i) (spent i) in omega arith
+        | inr later ↦ let e = a.1 ∙ if-own a.0 i later in let m = own-le (is_placed_order orders i && a.0) (quantity_at orders i) (spent i) in omega arith
       ]
 
   some-of : (b : Bool) (n : ℕ) → 0 < cond b n 0 → b ≡ true
@@ -74,12 +74,12 @@ module _ (orders : List Order) (list : IsOrderList orders) (first : ℕ) (rest s
       → 0 < brought orders first rest spent i → 0 < brought orders first rest spent t
   target-brings i t lt e le some =
       let is = brought-some i t lt e ∙ if-own (nat_lt 0 (brought orders first rest spent t)) i le in
-      let both = some-of (was_placed orders i && nat_lt 0 (brought orders first rest spent t)) (quantity_at orders i - spent i) (omega arith) in
-      ltb-true 0 _ (and_parts (was_placed orders i) (nat_lt 0 (brought orders first rest spent t)) both).1
+      let both = some-of (is_placed_order orders i && nat_lt 0 (brought orders first rest spent t)) (quantity_at orders i - spent i) (omega arith) in
+      ltb-true 0 _ (and_parts (is_placed_order orders i) (nat_lt 0 (brought orders first rest spent t)) both).1
 
   -- an order of the phase that brings something was placed
-  pub brings-placed : (i : ℕ) → i < length orders → first ≤ place_at orders i → 0 < brought orders first rest spent i → was_placed orders i ≡ true
+  pub brings-placed : (i : ℕ) → i < length orders → first ≤ place_at orders i → 0 < brought orders first rest spent i → is_placed_order orders i ≡ true
   brings-placed i lt le some =
       let a = any-target i (order_at orders i).target refl lt in
       let is = a.1 ∙ if-own a.0 i le in
-      (and_parts (was_placed orders i) a.0 (some-of (was_placed orders i && a.0) (quantity_at orders i - spent i) (omega arith))).0
+      (and_parts (is_placed_order orders i) a.0 (some-of (is_placed_order orders i && a.0) (quantity_at orders i - spent i) (omega arith))).0

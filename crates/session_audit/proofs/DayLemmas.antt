@@ -6,12 +6,12 @@ use Rattle.std.proofs.lemmas.List.{get_or_past, get_or-replicate, length-replica
 use Rattle.std.proofs.lemmas.Grind.{same_number_lists}
 use Rattle.audit_base.specs.declared.orders.Order.{Order}
 use Rattle.audit_base.specs.declared.orders.Deal.{Deal}
-use Rattle.audit_base.specs.Orders.{order_at, quantity_at, missing_order, IsOrderList}
-use Rattle.audit_base.specs.Deals.{traded, NamesOrders, IsDealList, AreDeals}
+use Rattle.audit_base.specs.Orders.{order_at, quantity_at, order_past_end, IsOrderList}
+use Rattle.audit_base.specs.Deals.{traded, NamesOrders, IsDealList, DealsInRange}
 use Rattle.audit_base.specs.Histories.{Regular}
 use Rattle.audit_base.specs.Rules.{Conforms}
 use Rattle.audit_base.specs.CallOffences.{is_cancelled}
-use Rattle.audit_base.specs.Continuous.{size, entered, before, traded_before, rests, rests_after, left_after, size_of}
+use Rattle.audit_base.specs.Continuous.{size_by_past, entered_by_past, before_quantity_by_past, traded_before, rests_before_by_past, rests_after, left_after, size_of_order}
 use Rattle.audit_base.proofs.OrderLemmas.{place-rises}
 use Rattle.continuous_laws.proofs.StepLemmas.{rests-parts}
 use Rattle.session_audit.specs.declared.phases.Phase.{Phase}
@@ -31,12 +31,12 @@ use Rattle.session_audit.proofs.PartLemmas.{earlier-le, earlier-more, in-le, tra
 
 -- What a phase leaves is at most the quantity, and nothing past the end.
 
-rests-inside : (orders : List Order) (past : ℕ → ℕ → ℕ) (p i : ℕ) → length orders ≤ i → rests orders past p i ≡ false
-rests-inside orders past p i le = elim (cases_Bool (rests orders past p i)) [
+rests-inside : (orders : List Order) (past : ℕ → ℕ → ℕ) (p i : ℕ) → length orders ≤ i → rests_before_by_past orders past p i ≡ false
+rests-inside orders past p i le = elim (cases_Bool (rests_before_by_past orders past p i)) [
   | inr f ↦ f
   | inl t ↦
       let at = rests-parts orders past p i t in
-      let life = sym (ap (λ (o : Order). o.life) (get_or_past orders i missing_order le)) ∙ at.life in
+      let life = sym (ap (λ (o : Order). o.life) (get_or_past orders i order_past_end le)) ∙ at.life in
       absurd (cc)
 ]
 
@@ -52,9 +52,9 @@ left-rest : (b : Bool) (m q : ℕ) → m ≤ q → cond b 0 m ≤ q
 left-rest true m q le = omega arith
 left-rest false m q le = le
 
-pub size-most : (orders : List Order) (deals : List Deal) (i : ℕ) → size_of orders deals i ≤ quantity_at orders i
-unfolding size
-size-most orders deals i = size-le (entered orders (traded_before orders deals) i) (quantity_at orders i) (before orders (traded_before orders deals) i)
+pub size-most : (orders : List Order) (deals : List Deal) (i : ℕ) → size_of_order orders deals i ≤ quantity_at orders i
+unfolding size_by_past
+size-most orders deals i = size-le (entered_by_past orders (traded_before orders deals) i) (quantity_at orders i) (before_quantity_by_past orders (traded_before orders deals) i)
 
 left-after-most : (orders : List Order) (deals : List Deal) (last i : ℕ) → left_after orders deals last i ≤ quantity_at orders i
 left-after-most orders deals last i = let m = size-most orders deals i in omega arith
@@ -65,7 +65,7 @@ left-le kind.Maximum orders deals last i = left-rest (is_cancelled orders i) (qu
 left-le kind.Continuous orders deals last i = left-most (rests_after orders deals last i) (left_after orders deals last i) (quantity_at orders i) (left-after-most orders deals last i)
 
 past-quantity : (orders : List Order) (i : ℕ) → length orders ≤ i → quantity_at orders i ≡ 0
-past-quantity orders i le = ap (λ (o : Order). o.quantity) (get_or_past orders i missing_order le)
+past-quantity orders i le = ap (λ (o : Order). o.quantity) (get_or_past orders i order_past_end le)
 
 pub left-past : (k : PhaseKind) (orders : List Order) (deals : List Deal) (last i : ℕ) → length orders ≤ i → left_of_phase k orders deals last i ≡ 0
 left-past k orders deals last i le = let m = left-le k orders deals last i in let q = past-quantity orders i le in omega arith
@@ -94,7 +94,7 @@ module _ (phases : List Phase) (are : ArePhases phases) (orders : List Order) (l
 
   module _ (traded_list rest : List ℕ) (so_far : IsSoFar phases orders deals k traded_list rest) where
     -- the numbers of a phase are small
-    pub small-so_far : AreDeals deals → length deals < 2 ^ 32 → AreSmall traded_list
+    pub small-so_far : DealsInRange deals → length deals < 2 ^ 32 → AreSmall traded_list
     small-so_far ranges few i = elim (cases_lt i (length orders)) [
       | inl lt ↦
           let e : number_in traded_list i ≡ traded_earlier phases orders deals k i = ap (λ (ns : List ℕ). number_in ns i) so_far.traded_is ∙ listed-at (traded_earlier phases orders deals k) (length orders) i 0 lt in
@@ -176,7 +176,7 @@ pub record IsReady (orders here : List Order) (dealt : List Deal) (last : ℕ) :
   pub more : (i : ℕ) → traded dealt i ≤ 2 ^ 72
   pub few : length here ≤ length orders
 
-pub ready : (phases : List Phase) (are : ArePhases phases) (orders : List Order) (list : IsOrderList orders) (regular : Regular orders) (deals : List Deal) → IsDealList orders deals → AreDeals deals → (k : ℕ) → k < length phases
+pub ready : (phases : List Phase) (are : ArePhases phases) (orders : List Order) (list : IsOrderList orders) (regular : Regular orders) (deals : List Deal) → IsDealList orders deals → DealsInRange deals → (k : ℕ) → k < length phases
     → (here : List Order) (dealt : List Deal) (last : ℕ) → here ≡ phase_orders phases orders deals k → dealt ≡ phase_deals phases orders deals k → last ≡ end_place phases k → IsReady orders here dealt last
 ready phases are orders list regular deals dl ranges k inside here dealt last here_is dealt_is last_is =
     let at : IsReady orders (phase_orders phases orders deals k) (phase_deals phases orders deals k) (end_place phases k) = record {

@@ -5,7 +5,7 @@ use Rattle.std.proofs.lemmas.List.{get_or_past}
 use Rattle.std.proofs.lemmas.Bool.{cases_lt}
 use Rattle.audit_base.specs.declared.orders.Order.{Order}
 use Rattle.audit_base.specs.declared.orders.Deal.{Deal}
-use Rattle.audit_base.specs.Orders.{order_at, missing_order, IsOrderList}
+use Rattle.audit_base.specs.Orders.{order_at, order_past_end, IsOrderList}
 use Rattle.audit_base.specs.Histories.{Regular}
 use Rattle.audit_base.specs.Continuous.{chain, chain_within}
 use Rattle.audit_base.proofs.ContinuousLemmas.{target-below}
@@ -52,7 +52,7 @@ module _ (orders : List Order) (list : IsOrderList orders) (first : ℕ) (rest s
 -- the chain of an index past the end is empty
 chain-past : (orders : List Order) (f : ℕ → ℕ) (i : ℕ) → length orders ≤ i → sum_by f (chain orders i) ≡ 0
 unfolding chain
-chain-past orders f i le = ap (λ (o : Order). sum_by f (chain_within (suc i) orders o.target)) (get_or_past orders i missing_order le)
+chain-past orders f i le = ap (λ (o : Order). sum_by f (chain_within (suc i) orders o.target)) (get_or_past orders i order_past_end le)
 
 module _ (phases : List Phase) (orders : List Order) (list : IsOrderList orders) (regular : Regular orders) (deals : List Deal) (k : ℕ) (traded rest : List ℕ) (so_far : IsSoFar phases orders deals k traded rest) where
   chain-earlier : (i : ℕ) → i < length orders → chain_total orders traded i ≡ chain_earlier phases orders deals k i

@@ -2,14 +2,14 @@
 use Rattle.std.specs.Prelude.{◌<◌, ◌≤◌, ℕ, ◌-◌, Bool, true, ◌&&◌, not, nat_lt, List, Option, None, Some, length, if◌then◌else◌}
 use Rattle.audit_base.specs.declared.orders.Order.{Order}
 use Rattle.audit_base.specs.Orders.{order_at, quantity_at}
-use Rattle.audit_base.specs.Continuous.{is_own_place}
+use Rattle.audit_base.specs.Continuous.{is_cancelled_at_place}
 use Rattle.session_audit.specs.Numbers.{number_in}
 use Rattle.session_audit.specs.PhaseOrders.{listed, brought, phase_order}
 
 -- what an order of the phase brings, where it is known whether its target isn't gone
 abbrev pub own_amount : Order → Bool → ℕ → ℕ
 own_amount o there spent =
-    if not (is_own_place o.cancelled o.place) && there then o.quantity - spent else 0
+    if not (is_cancelled_at_place o.cancelled o.place) && there then o.quantity - spent else 0
 
 -- the order has no target, or one that brings something
 abbrev pub target_brings : Option ℕ → List ℕ → Bool

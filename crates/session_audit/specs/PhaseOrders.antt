@@ -11,7 +11,7 @@ use Rattle.audit_base.specs.Sums.{sum_below}
 use Rattle.audit_base.specs.Orders.{order_at, place_at, quantity_at}
 use Rattle.audit_base.specs.Deals.{traded}
 use Rattle.audit_base.specs.CallOffences.{is_cancelled}
-use Rattle.audit_base.specs.Continuous.{chain, was_placed, left_after, rests_after}
+use Rattle.audit_base.specs.Continuous.{chain, is_placed_order, left_after, rests_after}
 use Rattle.session_audit.specs.declared.phases.Phase.{Phase}
 use Rattle.session_audit.specs.declared.phases.PhaseKind.{PhaseKind}
 use Rattle.session_audit.specs.declared.phases.PhaseKind.TheVariants as kind
@@ -25,7 +25,7 @@ use Rattle.session_audit.specs.Phases.{kind_at, first_place, end_place, phase_de
 -- place or its target is gone
 abbrev pub brought_if : Bool → List Order → ℕ → (ℕ → ℕ) → (ℕ → ℕ) → ℕ → ℕ
 brought_if there orders first rest spent i = if nat_lt (place_at orders i) first then rest i
-    else (if was_placed orders i && there then quantity_at orders i - spent i else 0)
+    else (if is_placed_order orders i && there then quantity_at orders i - spent i else 0)
 
 -- the same of an order with this target, in at most n steps back. An order that brings nothing is gone
 abbrev pub brought_within : ℕ → List Order → ℕ → (ℕ → ℕ) → (ℕ → ℕ) → ℕ → Option ℕ → ℕ

@@ -1,6 +1,6 @@
 //! The first of ranked orders that is short: the best one, where they are the rank of a side.
 ghost use Rattle.std.specs.Prelude.{◌≡◌, ◌<◌, All, IfSome, length, find};
-ghost use Rattle.short_order.specs.ShortOrders.{IsBestShortOf, is_short_by};
+ghost use Rattle.short_order.specs.ShortOrders.{IsBestShortOfRank, is_short_by};
 
 use order_list::lists::OrderList;
 
@@ -36,7 +36,7 @@ pub fn best_short(orders: &OrderList<'_>, ranked: &[usize], traded: &[u128]) -> 
     requires inside { All (λ i. i < length orders.now) ranked.now }
     requires count { length traded.now ≡ length orders.now }
     ensures first { result ≡ find (is_short_by orders.now traded.now) ranked.now }
-    ensures best { IsBestShortOf orders.now ranked.now traded.now result }
+    ensures best { IsBestShortOfRank orders.now ranked.now traded.now result }
     ensures inside { IfSome result (λ i. i < length orders.now) }
 {
     first_short(orders, ranked, traded)

@@ -1,8 +1,8 @@
 //! The best order of a side that is short, where the side has no rank at hand: one
 //! pass over the orders.
 ghost use Rattle.std.specs.Prelude.{◌≡◌, ◌<◌, IfSome, length};
-ghost use Rattle.audit_base.specs.Orders.{side_at, IsOrderList, Stands};
-ghost use Rattle.audit_base.specs.Priority.{best};
+ghost use Rattle.audit_base.specs.Orders.{side_at, IsOrderList, IsUncancelledOn};
+ghost use Rattle.audit_base.specs.Priority.{best_order};
 ghost use Rattle.short_order.specs.ShortOrders.{IsBestShortOn, is_short_on};
 ghost use Rattle.short_order.specs.Searching as spec;
 
@@ -50,7 +50,7 @@ fn next_best(
 ) -> Option<usize>
     requires inside { index < length orders.now }
     requires count { length traded.now ≡ length orders.now }
-    requires held { IfSome held (Stands orders.now side) }
+    requires held { IfSome held (IsUncancelledOn orders.now side) }
     ensures { result
         ≡ spec.next_best orders.now (is_short_on orders.now traded.now side) held index }
 {
@@ -67,7 +67,7 @@ fn next_best(
 pub fn best_short_on(orders: &OrderList<'_>, traded: &[u128], side: Side) -> Option<usize>
     requires order_list { IsOrderList orders.now }
     requires count { length traded.now ≡ length orders.now }
-    ensures best { result ≡ best orders.now (is_short_on orders.now traded.now side) }
+    ensures best { result ≡ best_order orders.now (is_short_on orders.now traded.now side) }
     ensures of_deals { IsBestShortOn orders.now traded.now side result }
     ensures inside { IfSome result (λ i. i < length orders.now) }
 {

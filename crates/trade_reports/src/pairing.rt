@@ -5,7 +5,7 @@ ghost use Rattle.std.specs.Prelude.{◌≡◌, ◌<◌, ◌-◌, ◌^◌, [], If
 ghost use Rattle.audit_base.specs.Verdicts.{paired_trades};
 ghost use Rattle.log_source.specs.Collectors.{HasPlace};
 ghost use Rattle.trade_reports.specs.Drafts.{IsPairingDraft};
-ghost use Rattle.trade_reports.specs.Pairings.{IsPairedAs, pairing, pairing_of};
+ghost use Rattle.trade_reports.specs.Pairings.{IsPairedAs, pairing, result_of_paired};
 
 use crate::pairing_draft::PairingDraft;
 use crate::reports::Report;
@@ -81,9 +81,9 @@ fn pair_by<K: Collector<Entry = TradeRecord>>(
 /// There are no more trades than reports.
 pub fn pair_reports(alloc: Global, reports: &[Report]) -> Result<Paired, NoMemory>
     requires { length reports.now < 2 ^ 32 - 1 }
-    ensures pairs { IfOk result (λ paired. pairing_of paired ≡ pairing reports.now) }
+    ensures pairs { IfOk result (λ paired. result_of_paired paired ≡ pairing reports.now) }
     ensures few { IfOk result
-        (λ paired. length (paired_trades (pairing_of paired)) < 2 ^ 32 - 1) }
+        (λ paired. length (paired_trades (result_of_paired paired)) < 2 ^ 32 - 1) }
 {
     let draft = PairingDraft::over(alloc, HashSeed::fixed(), Vec::new(alloc));
     match pair_by(draft, reports)? {

@@ -1,9 +1,9 @@
 //! Pairing the trade reports of a log as they come.
 ghost use Rattle.std.specs.Prelude.{◌≡◌, ◌∷◌, ◌+◌, [], List, IfOk, OnOk, None, false, length};
 ghost use Rattle.log_source.specs.Collectors.{HasPlace};
-ghost use Rattle.log_source.specs.Handing.{Adds};
-ghost use Rattle.trade_reports.specs.Drafts.{IsKnown, IsPairingDraft, TakesPair, is_latest, latest_of, report_at};
-ghost use Rattle.trade_reports.specs.Pairings.{IsPairedAs, pairing, trade_of};
+ghost use Rattle.log_source.specs.Handing.{HandsOnMore};
+ghost use Rattle.trade_reports.specs.Drafts.{IsKnownOfReports, IsPairingDraft, TakesPair, latest_has_id, latest_waiting, report_at};
+ghost use Rattle.trade_reports.specs.Pairings.{IsPairedAs, pairing, trade_of_reports};
 ghost use Rattle.trade_reports.specs.declared.reports.Report.{Report};
 
 use crate::first_reports::FirstReports;
@@ -35,8 +35,8 @@ fn hand_on_pair<K: Collector<Entry = TradeRecord>>(
     second: &Report,
 ) -> Result<(), NoMemory>
     requires { HasPlace K.has_taken trades.old }
-    ensures { let trade = trade_of first.now second.now in
-        OnOk result (Adds (K.has_taken trades.old) (K.has_taken trades.new) (trade ∷ [])) }
+    ensures { let trade = trade_of_reports first.now second.now in
+        OnOk result (HandsOnMore (K.has_taken trades.old) (K.has_taken trades.new) (trade ∷ [])) }
 {
     if trades.wants(second.symbol.bytes()) {
         trades.take(trade_of(first, second))
@@ -78,11 +78,11 @@ fn take_with_earlier<K: Collector<Entry = TradeRecord>>(
     place: u32,
     report: &Report,
 ) -> Result<(), NoMemory>
-    requires other { is_latest (latest_of firsts.old) report.now.trade ≡ false }
+    requires other { latest_has_id (latest_waiting firsts.old) report.now.trade ≡ false }
     requires place { lone.old ≡ None → HasPlace K.has_taken trades.old }
     ensures { OnOk result ((all : List Report) → place ≡ length all + 1
-        → IsKnown K.has_taken firsts.old lone.old trades.old all
-        → IsKnown K.has_taken firsts.new lone.new trades.new (report.now ∷ all)) }
+        → IsKnownOfReports K.has_taken firsts.old lone.old trades.old all
+        → IsKnownOfReports K.has_taken firsts.new lone.new trades.new (report.now ∷ all)) }
 {
     match firsts.take_earlier(&report.trade) {
         None => firsts.add(place, report),
@@ -99,11 +99,11 @@ fn take_other<K: Collector<Entry = TradeRecord>>(
     place: u32,
     report: &Report,
 ) -> Result<(), NoMemory>
-    requires other { is_latest (latest_of firsts.old) report.now.trade ≡ false }
+    requires other { latest_has_id (latest_waiting firsts.old) report.now.trade ≡ false }
     requires place { lone.old ≡ None → HasPlace K.has_taken trades.old }
     ensures { OnOk result ((all : List Report) → place ≡ length all + 1
-        → IsKnown K.has_taken firsts.old lone.old trades.old all
-        → IsKnown K.has_taken firsts.new lone.new trades.new (report.now ∷ all)) }
+        → IsKnownOfReports K.has_taken firsts.old lone.old trades.old all
+        → IsKnownOfReports K.has_taken firsts.new lone.new trades.new (report.now ∷ all)) }
 {
     if firsts.has_no_earlier() {
         firsts.add(place, report)
@@ -123,8 +123,8 @@ fn take_report<K: Collector<Entry = TradeRecord>>(
 ) -> Result<(), NoMemory>
     requires { lone.old ≡ None → HasPlace K.has_taken trades.old }
     ensures { OnOk result ((all : List Report) → place ≡ length all + 1
-        → IsKnown K.has_taken firsts.old lone.old trades.old all
-        → IsKnown K.has_taken firsts.new lone.new trades.new (report.now ∷ all)) }
+        → IsKnownOfReports K.has_taken firsts.old lone.old trades.old all
+        → IsKnownOfReports K.has_taken firsts.new lone.new trades.new (report.now ∷ all)) }
 {
     let Some(first) = firsts.latest_with(&report.trade) else {
         return take_other(firsts, trades, lone, place, report);

@@ -1,7 +1,7 @@
 //! The Expected trades of the rule `uniform`.
 ghost use Rattle.std.specs.Prelude.{◌≡◌, IfOk};
-ghost use Rattle.audit_base.specs.Orders.{IsOrderList, AreOrders};
-ghost use Rattle.audit_base.specs.Bounds.{IsBestUniform};
+ghost use Rattle.audit_base.specs.Orders.{IsOrderList, OrdersInRange};
+ghost use Rattle.audit_base.specs.Bounds.{IsGreatestExecutableVolume};
 ghost use Rattle.audit_base.specs.Deals.{IsDealList};
 ghost use Rattle.audit_base.specs.Calls.{ConformsUniform};
 ghost use Rattle.audit_base.specs.Expected.{IsExpectedUniform};
@@ -18,8 +18,8 @@ use volume_bound::extremes::best_uniform;
 
 /// The price of a bound. It is below 10^18 units, since at that price nobody bids.
 fn price_of(orders: &OrderList<'_>, most: Cut) -> Price
-    requires numbers { AreOrders orders.now }
-    requires best { IsBestUniform orders.now most }
+    requires numbers { OrdersInRange orders.now }
+    requires best { IsGreatestExecutableVolume orders.now most }
     ensures { result ≡ most.price }
 {
     units_suffice();

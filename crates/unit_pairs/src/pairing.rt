@@ -5,7 +5,7 @@ ghost use Rattle.audit_base.specs.Orders.{IsOrderList};
 ghost use Rattle.audit_base.specs.Deals.{IsDealList};
 ghost use Rattle.audit_base.specs.Expected.{uniform_deals, maximum_deals};
 ghost use Rattle.rank_order.specs.Sides.{AreRanked};
-ghost use Rattle.unit_pairs.specs.Meeting.{AreSides};
+ghost use Rattle.unit_pairs.specs.Meeting.{AreLotSides};
 ghost use Rattle.unit_pairs.specs.Numbering.{AreLotDeals};
 ghost use Rattle.unit_pairs.specs.Volumes.{HaveUnits};
 
@@ -27,7 +27,7 @@ fn deals_of(
     price: &DealPrice,
 ) -> Result<Vec<Deal>, NoMemory>
     requires inside { All (λ l. l.order < length orders.now) lots.asks.items }
-    requires sides { AreSides lots.bids.items lots.asks.items }
+    requires sides { AreLotSides lots.bids.items lots.asks.items }
     ensures { let are_deals = AreLotDeals orders.now price.now lots.bids.items lots.asks.items in
         IfOk result (λ deals. are_deals deals.items) }
 {

@@ -2,10 +2,10 @@ use Rattle.std.proofs.Common.{◌≡◌, [], ◌∷◌, ◌++◌, ◌∙◌, Lis
 use Rattle.std.specs.Prelude.{codes, length}
 use Rattle.audit_base.specs.declared.records.OrderRecord.{OrderRecord}
 use Rattle.audit_base.specs.Columns.{order_columns}
-use Rattle.csv_logs.specs.Lines.{Line, full_lines}
-use Rattle.csv_logs.specs.Logs.{order_log, read_lines, read_log}
-use Rattle.csv_logs.specs.OrderLines.{order_entry}
-use Rattle.csv_logs.specs.Feeds.{IsOpen}
+use Rattle.csv_logs.specs.Lines.{Line, nonempty_lines}
+use Rattle.csv_logs.specs.Logs.{csv_order_log, read_lines, read_csv_log}
+use Rattle.csv_logs.specs.OrderLines.{order_of_row}
+use Rattle.csv_logs.specs.Feeds.{HasNoBadLine}
 use Rattle.log_tests.proofs.csv.a_feed_made_by_a_literal_goes_on_within_a_line.Goals as goal
 
 -- the header and the first order of the row `one-trade`, and then the front of the second
@@ -16,28 +16,28 @@ abbrev second_line : List ℕ
 second_line = codes "N,B,s1"
 
 -- the length of a log counts only where it has no header
-any-size : (lines : List Line) (size : ℕ) (entries : List OrderRecord) → read_lines order_columns order_entry size lines ≡ Ok entries
-    → read_lines order_columns order_entry 0 lines ≡ Ok entries
+any-size : (lines : List Line) (size : ℕ) (entries : List OrderRecord) → read_lines order_columns order_of_row size lines ≡ Ok entries
+    → read_lines order_columns order_of_row 0 lines ≡ Ok entries
 any-size [] size entries e = absurd (cc e)
 any-size (first ∷ lines) size entries e = e
 
-open-within : (entries : List OrderRecord) → order_log first_lines ≡ Ok entries
-    → IsOpen order_columns order_entry entries second_line 89 true (first_lines ++ second_line)
-unfolding read_log
+open-within : (entries : List OrderRecord) → csv_order_log first_lines ≡ Ok entries
+    → HasNoBadLine order_columns order_of_row entries second_line 89 true (first_lines ++ second_line)
+unfolding read_csv_log
 open-within entries reads = record {
   lines = first_lines;
   cut = refl;
   whole = refl;
   size = refl;
   unfinished = refl;
-  good = any-size (full_lines first_lines) (length first_lines) entries reads;
+  good = any-size (nonempty_lines first_lines) (length first_lines) entries reads;
 }
 
 -- the literal is a feed of these records, within a line
-stands : (entries : List OrderRecord) (new all : List ℕ) → order_log first_lines ≡ Ok entries → new ≡ [] → all ≡ new ++ second_line
-    → IsOpen order_columns order_entry entries all 89 true (first_lines ++ second_line)
+stands : (entries : List OrderRecord) (new all : List ℕ) → csv_order_log first_lines ≡ Ok entries → new ≡ [] → all ≡ new ++ second_line
+    → HasNoBadLine order_columns order_of_row entries all 89 true (first_lines ++ second_line)
 stands entries new all reads none rest =
-    subst (λ (r : List ℕ). IsOpen order_columns order_entry entries r 89 true (first_lines ++ second_line)) (sym (rest ∙ ap (λ (t : List ℕ). t ++ second_line) none))
+    subst (λ (r : List ℕ). HasNoBadLine order_columns order_of_row entries r 89 true (first_lines ++ second_line)) (sym (rest ∙ ap (λ (t : List ℕ). t ++ second_line) none))
     (open-within entries reads)
 
 pub feed-requires : goal.feed-requires

@@ -1,10 +1,10 @@
 use Rattle.std.proofs.Common.{◌≡◌, ◌+◌, ◌∙◌, suc, ap, subst, arith}
 use Rattle.audit_base.specs.declared.orders.Order.{Order}
 use Rattle.audit_base.specs.Orders.{place_at}
-use Rattle.continuous_audit.specs.Endings.{AreEndedBelow}
+use Rattle.continuous_audit.specs.Endings.{AreEndingsBelow}
 use Rattle.continuous_audit.specs.Holding.{resting_left_after}
 use Rattle.continuous_audit.proofs.ReadyLemmas.{dropped-more, others-hold}
-use Rattle.continuous_audit.proofs.books.Standing.drop_own.Goals as goal
+use Rattle.continuous_audit.proofs.books.BooksSoFar.drop_own.Goals as goal
 
 pub returns-clause-dropped : goal.returns-clause-dropped
 returns-clause-dropped c =
@@ -13,7 +13,7 @@ returns-clause-dropped c =
     let place_is : c.place-place.result ≡ p = c.place-place.ensures ∙ ap (λ (o : Order). o.place) c.at.ensures in
     let upto_is : c.place-place.result + 1 ≡ suc p = omega arith in
     dropped-more c.args.endings.now c.args.self.now.start c.drop_ended.new.self.start p (suc p) c.requires.dropped (omega arith)
-    (subst (AreEndedBelow c.args.endings.now c.args.self.now.start c.drop_ended.new.self.start) upto_is c.drop_ended.ensures.ended)
+    (subst (AreEndingsBelow c.args.endings.now c.args.self.now.start c.drop_ended.new.self.start) upto_is c.drop_ended.ensures.ended)
 
 pub returns-clause-holds : goal.returns-clause-holds
 returns-clause-holds c = λ deals named hold.
