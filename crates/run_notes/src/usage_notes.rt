@@ -75,7 +75,7 @@ fn print_parts(rt: &HostRuntime, program: &str, parts: &[Part], words: &[String]
     };
 }
 
-/// Tells what is wrong with words that are none of `auditor`.
+/// Says what is wrong with words that are none of `auditor`.
 pub fn print_auditor_usage(rt: &HostRuntime, words: &[String]) {
     let Some((command, rest)) = words.split_first() else {
         let _told = eprintln!(rt; "auditor: no command is given: {AUDITOR_COMMANDS}");
@@ -116,7 +116,7 @@ fn all_fit(parts: &[Part], words: &[String], may_end: bool) -> bool {
     rest.next().is_none()
 }
 
-/// Tells what is wrong with one command of `casebook`, and whether something is.
+/// Says what is wrong with one command of `casebook`, and whether something is.
 fn prints_command(rt: &HostRuntime, words: &[String]) -> bool {
     let Some((command, rest)) = words.split_first() else {
         let _told = eprintln!(rt; "casebook: no command is given: {CASEBOOK_COMMANDS}");
@@ -148,7 +148,7 @@ fn print_commands(rt: &HostRuntime, words: &[String]) {
     }
 }
 
-/// Tells what is wrong with words that are none of `casebook`: the first of its commands in
+/// Says what is wrong with words that are none of `casebook`: the first of its commands in
 /// which something is.
 pub fn print_casebook_usage(rt: &HostRuntime, words: &[String]) {
     let Some((_database, commands)) = words.split_first() else {
