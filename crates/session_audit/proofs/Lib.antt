@@ -1,5 +1,7 @@
 pub mod BrokenLemmas
-pub mod BroughtLemmas
+pub mod InPhaseLemmas
+pub mod OldLemmas
+pub mod OldLaws
 pub mod CarriedLemmas
 pub mod ChainLemmas
 pub mod DayLemmas
@@ -9,7 +11,7 @@ pub mod EnteringLemmas
 pub mod InstantLemmas
 pub mod JudgeLemmas
 pub mod LeavingLemmas
-pub mod ListedLemmas
+pub mod ListBelowLemmas
 pub mod PhaseListLemmas
 pub mod PartLemmas
 pub mod PhaseDealLemmas

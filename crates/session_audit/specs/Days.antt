@@ -1,5 +1,5 @@
 -- When a day conforms, and its first offence.
-use Rattle.std.specs.Prelude.{◌≡◌, ◌<◌, ℕ, Bool, ◌&&◌, not, nat_lt, List, Option, None, length, option_map, EachIndex, MatchOption}
+use Rattle.std.specs.Prelude.{◌≡◌, ◌<◌, ℕ, Bool, ◌&&◌, not, List, Option, None, length, option_map, EachIndex, MatchOption}
 use Rattle.audit_base.specs.declared.terms.Which.TheVariants as which
 use Rattle.audit_base.specs.declared.orders.Order.{Order}
 use Rattle.audit_base.specs.declared.orders.Deal.{Deal}
@@ -11,28 +11,28 @@ use Rattle.audit_base.specs.Rules.{Conforms}
 use Rattle.audit_base.specs.Shows.{found}
 use Rattle.audit_base.specs.Verdicts.{IsFirstOffence}
 use Rattle.session_audit.specs.declared.phases.Phase.{Phase}
-use Rattle.session_audit.specs.Phases.{rule_of, is_call, kind_at, lies_in, phase_deals}
-use Rattle.session_audit.specs.PhaseOrders.{brought_into, phase_orders}
+use Rattle.session_audit.specs.Phases.{rule_of, is_call, phase_kind, is_in_phase, phase_deals}
+use Rattle.session_audit.specs.PhaseOrders.{takes_part, order_in_phase_at, phase_orders}
 
 -- the order at i is an own order of the k-th phase: its place lies in the phase, and it isn't gone
 abbrev pub is_own : List Phase → List Order → List Deal → ℕ → ℕ → Bool
-is_own phases orders deals k i = lies_in phases k (place_at orders i)
-    && nat_lt 0 (brought_into phases orders deals k i)
+is_own phases orders deals k i = is_in_phase phases k (place_at orders i)
+    && takes_part (order_in_phase_at phases orders deals k i)
 
 -- it is an own order of a call phase, and its life isn't Rests
-abbrev pub is_instant : List Phase → List Order → List Deal → ℕ → Bool
-is_instant phases orders deals i = not (is_rests (order_at orders i).life)
-    && any_below (λ k. is_call (kind_at phases k) && is_own phases orders deals k i) (length phases)
+abbrev pub is_instant_in_call : List Phase → List Order → List Deal → ℕ → Bool
+is_instant_in_call phases orders deals i = not (is_rests (order_at orders i).life)
+    && any_below (λ k. is_call (phase_kind phases k) && is_own phases orders deals k i) (length phases)
 
 -- 16: the least such order
 unfoldable pub instant_finding : List Phase → List Order → List Deal → Option Finding
 instant_finding phases orders deals =
     option_map (λ i. found property.InstantOrder which.Orders (place_at orders i) None None)
-    (least_with (is_instant phases orders deals) (length orders))
+    (least_with (is_instant_in_call phases orders deals) (length orders))
 
 -- the deals of the k-th phase are as its rule asks of its order list
 abbrev pub PhaseConforms : List Phase → List Order → List Deal → ℕ → Type 0
-PhaseConforms phases orders deals k = Conforms (rule_of (kind_at phases k))
+PhaseConforms phases orders deals k = Conforms (rule_of (phase_kind phases k))
     (phase_orders phases orders deals k) (phase_deals phases orders deals k)
 
 -- Conforms (day): no call phase has an own order whose life isn't Rests, and each phase conforms
@@ -49,7 +49,7 @@ pub record IsPhaseOffence (phases : List Phase) (orders : List Order) (deals : L
   pub inside : phase < length phases
   pub before : (j : ℕ) → j < phase → PhaseConforms phases orders deals j
   pub fails : PhaseConforms phases orders deals phase → ⊥
-  pub here : IsFirstOffence (rule_of (kind_at phases phase)) (phase_orders phases orders deals phase)
+  pub here : IsFirstOffence (rule_of (phase_kind phases phase)) (phase_orders phases orders deals phase)
       (phase_deals phases orders deals phase) count finding
 
 -- the first offence of a day: finding 16, which is looked for in all call phases, else that of a phase

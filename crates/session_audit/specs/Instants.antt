@@ -10,19 +10,19 @@ use Rattle.audit_base.specs.Orders.{order_at, place_at, is_rests}
 use Rattle.audit_base.specs.Continuous.{is_own_place}
 use Rattle.audit_base.specs.Shows.{found}
 use Rattle.session_audit.specs.declared.phases.Phase.{Phase}
-use Rattle.session_audit.specs.Phases.{is_call, kind_at, lies_in}
+use Rattle.session_audit.specs.Phases.{is_call, phase_kind, is_in_phase}
 
 -- the place lies in a call phase
-abbrev pub in_call : List Phase → ℕ → Bool
-in_call phases place = any_below (λ k. is_call (kind_at phases k) && lies_in phases k place) (length phases)
+abbrev pub is_in_any_call : List Phase → ℕ → Bool
+is_in_any_call phases place = any_below (λ k. is_call (phase_kind phases k) && is_in_phase phases k place) (length phases)
 
 -- the order was placed in a call phase, and its life isn't Rests
 abbrev pub is_instant_order : List Phase → Order → Bool
 is_instant_order phases o = not (is_rests o.life)
-    && (not (is_own_place o.cancelled o.place) && in_call phases o.place)
+    && (not (is_own_place o.cancelled o.place) && is_in_any_call phases o.place)
 
 -- the least such order
-abbrev pub first_instant : List Phase → List Order → Option Finding
-first_instant phases orders =
+abbrev pub first_instant_of_day : List Phase → List Order → Option Finding
+first_instant_of_day phases orders =
     option_map (λ i. found property.InstantOrder which.Orders (place_at orders i) None None)
     (least_with (λ i. is_instant_order phases (order_at orders i)) (length orders))

@@ -2,6 +2,7 @@
 -- of each, when a day conforms, what the audit answers, the text of a day, and the laws.
 pub mod Phases
 pub mod PhaseOrders
+pub mod OldPhaseOrders
 pub mod Days
 pub mod Audits
 pub mod Texts

@@ -32,8 +32,8 @@ abbrev pub last_place : ℕ
 last_place = 4294967295
 
 -- its kind
-abbrev pub kind_at : List Phase → ℕ → PhaseKind
-kind_at phases k = (phase_at phases k).kind
+abbrev pub phase_kind : List Phase → ℕ → PhaseKind
+phase_kind phases k = (phase_at phases k).kind
 
 -- F: the first place of a phase
 abbrev pub first_place : List Phase → ℕ → ℕ
@@ -53,9 +53,9 @@ pub record ArePhases (phases : List Phase) : Type 0 where
   pub rising : AllPairs (λ p q. p.first < q.first) phases
 
 -- a place lies in a phase
-abbrev pub lies_in : List Phase → ℕ → ℕ → Bool
-lies_in phases k place = nat_le (first_place phases k) place && nat_le place (end_place phases k)
+abbrev pub is_in_phase : List Phase → ℕ → ℕ → Bool
+is_in_phase phases k place = nat_le (first_place phases k) place && nat_le place (end_place phases k)
 
 -- the deals of a phase, in log order: those whose cause lies in it
 unfoldable pub phase_deals : List Phase → List Order → List Deal → ℕ → List Deal
-phase_deals phases orders deals k = filter (λ d. lies_in phases k (cause orders d)) deals
+phase_deals phases orders deals k = filter (λ d. is_in_phase phases k (cause orders d)) deals

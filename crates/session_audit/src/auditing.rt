@@ -9,9 +9,9 @@ ghost use Rattle.session_audit.specs.Audits.{IsAuditedDay};
 
 use super::days::Day;
 use super::dealing::{causes_of, deals_between};
-use super::instants::first_instant;
+use super::instants::first_instant_of_day;
 use super::phases::Phase;
-use super::progress::{end_place, first_place, judge_phase, kind_at, list_phase, start};
+use super::progress::{end_place, first_place, judge_phase, phase_kind, list_phase, start};
 use audit_base::faults::NoMemory;
 use audit_base::orders::Deal;
 use audit_base::ranges::deals_in_range;
@@ -42,7 +42,7 @@ fn audit_phases(
         let (first, last) = (first_place(phases, index), end_place(phases, index));
         let dealt = deals_between(alloc, deals, &causes, first, last)?;
         let list = list_phase(alloc, orders, phases, index, &so_far)?;
-        let kind = kind_at(phases, index);
+        let kind = phase_kind(phases, index);
         let own = list.list();
         if let Some(finding) = judge_phase(alloc, kind, &own, &dealt, count, last, &mut so_far)? {
             return Ok(Day::Broken(finding));
@@ -74,7 +74,7 @@ pub fn audit_session(
     ensures { IfOk result (IsAuditedDay phases.now orders.now deals.now count) }
 {
     orders.in_range();
-    if let Some(finding) = first_instant(phases, orders) {
+    if let Some(finding) = first_instant_of_day(phases, orders) {
         return Ok(Day::Broken(finding));
     }
     audit_phases(alloc, orders, phases, deals, count)

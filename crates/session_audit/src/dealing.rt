@@ -3,7 +3,7 @@ ghost use Rattle.std.specs.Prelude.{◌≡◌, ◌≤◌, ◌++◌, All, IfOk, O
 ghost use Rattle.audit_base.specs.Continuous.{cause};
 ghost use Rattle.audit_base.specs.Deals.{NamesOrders};
 ghost use Rattle.session_audit.specs.Phases.{last_place};
-ghost use Rattle.session_audit.specs.Dealing.{HaveSmallCauses, causes_upto, lies_between, deals_if, deals_between};
+ghost use Rattle.session_audit.specs.Dealing.{HaveSmallCauses, causes_below, is_between, deals_if, deals_between};
 
 use audit_base::faults::NoMemory;
 use audit_base::orders::Deal;
@@ -29,7 +29,7 @@ pub fn causes_of(
 ) -> Result<Vec<u32>, NoMemory>
     requires { All (NamesOrders orders.now) deals.now }
     ensures causes { IfOk result (λ causes.
-        causes.items ≡ causes_upto orders.now deals.now (length deals.now)) }
+        causes.items ≡ causes_below orders.now deals.now (length deals.now)) }
     ensures fits { OnOk result (HaveSmallCauses orders.now deals.now) }
 {
     let mut causes = Vec::with_capacity(alloc, deals.len())?;
@@ -40,8 +40,8 @@ pub fn causes_of(
 }
 
 /// Whether a place is from `first` to `last`.
-fn lies_between(place: u32, first: u32, last: u32) -> bool
-    ensures { result ≡ lies_between first last place }
+fn is_between(place: u32, first: u32, last: u32) -> bool
+    ensures { result ≡ is_between first last place }
 {
     first <= place && place <= last
 }
@@ -55,9 +55,9 @@ fn add_deal(
     last: u32,
 ) -> Result<(), NoMemory>
     ensures { OnOk result (part.new.items
-        ≡ part.old.items ++ deals_if (lies_between first last cause) deal.now) }
+        ≡ part.old.items ++ deals_if (is_between first last cause) deal.now) }
 {
-    if lies_between(cause, first, last) {
+    if is_between(cause, first, last) {
         part.push(*deal)?;
     }
     Ok(())

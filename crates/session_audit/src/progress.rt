@@ -8,13 +8,13 @@ ghost use Rattle.audit_base.specs.Histories.{Regular};
 ghost use Rattle.audit_base.specs.Orders.{IsOrderList};
 ghost use Rattle.session_audit.specs.Judging.{IsBrokenPhase};
 ghost use Rattle.session_audit.specs.Leaving.{EndsBy};
-ghost use Rattle.session_audit.specs.Numbers.{AreSmall};
+ghost use Rattle.session_audit.specs.Numbers.{AreBoundedTotals, WithinQuantities};
 ghost use Rattle.session_audit.specs.PhaseOrders.{phase_orders};
 ghost use Rattle.session_audit.specs.Phases as spec;
-ghost use Rattle.session_audit.specs.Progress.{AreAdded, AreLeft, IsPassed, IsPlayed, IsSoFar, lefts_of};
+ghost use Rattle.session_audit.specs.Progress.{AddsNumbers, AddsPhase, HasPhaseTotals, IsDaySoFar, rest_after_phase};
 
 use super::chains::chain_totals;
-use super::entering::{amounts_of, list_orders, orders_upto};
+use super::entering::{amounts_of, list_orders, order_count_upto};
 use super::judging::audit_phase;
 use super::leaving::{leave_call, leave_continuous};
 use super::phases::{Phase, PhaseKind};
@@ -57,9 +57,9 @@ pub fn first_place(phases: &[Phase], index: usize) -> u32
 }
 
 /// How a phase trades.
-pub fn kind_at(phases: &[Phase], index: usize) -> PhaseKind
+pub fn phase_kind(phases: &[Phase], index: usize) -> PhaseKind
     requires { index < length phases.now }
-    ensures { result ≡ spec.kind_at phases.now index }
+    ensures { result ≡ spec.phase_kind phases.now index }
 {
     phases[index].kind
 }
@@ -90,16 +90,16 @@ pub fn list_phase<'a>(
     requires phases { spec.ArePhases phases.now }
     requires inside { index < length phases.now }
     requires counted { length so_far.now.traded.items ≡ length orders.now }
-    requires small { AreSmall so_far.now.traded.items }
-    requires most { AreLeft orders.now so_far.now.rest.items }
+    requires small { AreBoundedTotals so_far.now.traded.items }
+    requires most { WithinQuantities orders.now so_far.now.rest.items }
     ensures { IfOk result (λ list. (deals : List ADeal)
-        → IsSoFar phases.now orders.now deals index so_far.now.traded.items so_far.now.rest.items
+        → IsDaySoFar phases.now orders.now deals index so_far.now.traded.items so_far.now.rest.items
         → list.orders ≡ phase_orders phases.now orders.now deals index) }
 {
     let first = first_place(phases, index);
     let last = end_place(phases, index);
     let spent = chain_totals(alloc, orders, &so_far.traded)?;
-    let count = orders_upto(orders, last);
+    let count = order_count_upto(orders, last);
     let amounts = amounts_of(alloc, orders, count, first, &so_far.rest, &spent)?;
     list_orders(alloc, orders, first, last, &amounts)
 }
@@ -115,10 +115,10 @@ pub fn leave_phase(
     requires order_list { IsOrderList orders.now }
     requires regular { Regular orders.now }
     requires counted { length traded.now ≡ length orders.now }
-    requires small { AreSmall traded.now }
+    requires small { AreBoundedTotals traded.now }
     ensures { IfOk result (λ left. (deals : List ADeal)
-        → IsPlayed kind orders.now deals last traded.now
-        → left.items ≡ lefts_of kind orders.now deals last) }
+        → HasPhaseTotals kind orders.now deals last traded.now
+        → left.items ≡ rest_after_phase kind orders.now deals last) }
 {
     match kind {
         PhaseKind::Uniform | PhaseKind::Maximum => leave_call(alloc, orders, traded),
@@ -129,9 +129,9 @@ pub fn leave_phase(
 /// Adds what each order traded in a phase to what it traded before.
 pub fn add_totals(totals: &mut Vec<u128>, traded: &[u128])
     requires counted { length traded.now ≤ vec_len totals.old }
-    requires small { AreSmall totals.old.items }
-    requires more { AreSmall traded.now }
-    ensures { AreAdded totals.old.items traded.now totals.new.items }
+    requires small { AreBoundedTotals totals.old.items }
+    requires more { AreBoundedTotals traded.now }
+    ensures { AddsNumbers totals.old.items traded.now totals.new.items }
 {
     for index in 0..traded.len() {
         totals[index] += traded[index];
@@ -155,11 +155,11 @@ pub fn judge_phase(
     requires few { count < 2 ^ 32 - 1 }
     requires ends { EndsBy orders.now deals.now last }
     requires more { (i : ℕ) → traded deals.now i ≤ 2 ^ 72 }
-    requires small { AreSmall so_far.old.traded.items }
+    requires small { AreBoundedTotals so_far.old.traded.items }
     requires counted { length orders.now ≤ length so_far.old.traded.items }
     ensures found { (finding : AFinding) → result ≡ Ok (Some finding)
         → IsBrokenPhase (spec.rule_of kind) orders.now deals.now count finding }
-    ensures passed { result ≡ Ok None → IsPassed kind orders.now deals.now last
+    ensures passed { result ≡ Ok None → AddsPhase kind orders.now deals.now last
         so_far.old.traded.items so_far.new.traded.items so_far.new.rest.items }
 {
     match audit_phase(alloc, kind, orders, deals, count)? {
