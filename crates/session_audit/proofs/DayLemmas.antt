@@ -1,4 +1,4 @@
--- A day, phase by phase: what the code keeps is what the phases so far have come to.
+-- A day, phase by phase: what the code keeps is what the phases so far traded and left.
 use Rattle.std.proofs.Common.{◌≡◌, ◌<◌, ◌≤◌, ◌+◌, ◌-◌, ◌^◌, ℕ, suc, List, [], length, Bool, true, false, refl, ap, sym, ◌∙◌, arith, inl, inr, subst, All, cond, add-one}
 use Rattle.std.specs.Prelude.{replicate}
 use Rattle.std.proofs.lemmas.Bool.{cases_lt, cases_eq, cases_Bool}

@@ -9,7 +9,6 @@ use Rattle.audit_base.specs.Orders.{order_at, place_at, quantity_at, missing_ord
 use Rattle.audit_base.specs.Histories.{Regular}
 use Rattle.audit_base.specs.Continuous.{chain, chain_within, was_placed}
 use Rattle.audit_base.proofs.ContinuousLemmas.{target-below}
-use Rattle.audit_base.proofs.OffenceLemmas.{get_or-default}
 use Rattle.audit_base.proofs.SumLemmas.{sum_by-same}
 use Rattle.session_audit.specs.declared.phases.Phase.{Phase}
 use Rattle.session_audit.specs.Phases.{first_place, end_place}

@@ -1,11 +1,11 @@
 -- What each order is in a phase: what follows from an order being carried, own or gone.
-use Rattle.std.proofs.Common.{◌≡◌, ◌<◌, ◌≤◌, ◌-◌, ℕ, zero, suc, List, [], ◌∷◌, ◌++◌, length, get_or, Bool, true, false, Option, Some, None, refl, ap, sym, ◌∙◌, arith, inl, inr, cond}
+use Rattle.std.proofs.Common.{◌≡◌, ◌<◌, ◌≤◌, ◌-◌, ℕ, zero, suc, List, [], ◌∷◌, ◌++◌, get_or, Bool, true, false, Some, refl, ap, sym, ◌∙◌, arith, inl, inr, cond}
 use Rattle.std.specs.Prelude.{nat_lt, ◌&&◌}
-use Rattle.std.proofs.lemmas.Bool.{cases_lt, cases_Bool, cond-true, cond-false, lt-ltb, le-ltb, ltb-true, and_parts, both_ways}
+use Rattle.std.proofs.lemmas.Bool.{cases_lt, cond-true, cond-false, lt-ltb, le-ltb, ltb-true, and_parts, both_ways}
 use Rattle.audit_base.specs.declared.orders.Order.{Order}
 use Rattle.audit_base.specs.Orders.{order_at, place_at, quantity_at}
 use Rattle.audit_base.specs.Continuous.{was_placed}
-use Rattle.session_audit.specs.PhaseOrders.{OrderInPhase, Carried, Own, Gone, takes_part, carried_or_gone, target_takes_part, own_or_gone, order_by_earlier, orders_in_phase, order_in_phase, end_upto, phase_order, list_below}
+use Rattle.session_audit.specs.PhaseOrders.{OrderInPhase, Carried, Own, Gone, takes_part, carried_or_gone, target_takes_part, own_or_gone, orders_in_phase, order_in_phase, list_below}
 use Rattle.session_audit.specs.Entering.{amount_in_phase, order_by_amount}
 use Rattle.session_audit.proofs.ListBelowLemmas.{list_below-at}
 
@@ -18,8 +18,8 @@ HasAmount Gone = Unit {0}
 none-below : (n : ℕ) → nat_lt 0 n ≡ false → 0 ≡ n
 none-below n e = elim (cases_lt 0 n) [ inl some ↦ absurd (both_ways _ e (lt-ltb 0 n some)) | inr none ↦ omega arith ]
 
--- In the following `some` tells whether the number is above 0, and `placed` and `there` are the tests of an
--- order of the phase: that it was placed, and that its target isn't gone.
+-- In the following `some` says whether the number is above 0, and `placed` and `there` are the
+-- tests of an order of the phase: that it was placed, and that its target isn't gone.
 
 carried-some : (some : Bool) (left : ℕ) → nat_lt 0 left ≡ some → HasAmount (cond some (Carried left) Gone)
 carried-some true left e = ltb-true 0 left e

@@ -17,7 +17,7 @@ use Rattle.audit_base.proofs.ContinuousLemmas.{chain-none}
 use Rattle.audit_base.proofs.LeastLemmas.{with-at, none-with, cases_Option}
 use Rattle.session_audit.specs.declared.phases.Phase.{Phase}
 use Rattle.session_audit.specs.Phases.{is_call, phase_kind, first_place, end_place, is_in_phase}
-use Rattle.session_audit.specs.PhaseOrders.{OrderInPhase, Own, Gone, takes_part, target_takes_part, orders_in_phase, order_in_phase_at, chain_before_phase, traded_before_phase, rest_after}
+use Rattle.session_audit.specs.PhaseOrders.{Own, Gone, takes_part, target_takes_part, orders_in_phase, order_in_phase_at, chain_before_phase, traded_before_phase, rest_after}
 use Rattle.session_audit.specs.Days.{is_own, is_instant_in_call, instant_finding}
 use Rattle.session_audit.specs.Instants.{is_in_any_call, is_instant_order, first_instant_of_day}
 use Rattle.session_audit.proofs.InPhaseLemmas.{is-own}
@@ -31,14 +31,14 @@ first-at phases orders i o same lt before here =
     ap (λ (x : Order). Some (found property.InstantOrder which.Orders x.place None None)) same
     ∙ ap (option_map (λ (k : ℕ). found property.InstantOrder which.Orders (place_at orders k) None None)) (sym first)
 
-pub with-same : (f g : ℕ → Bool) (n : ℕ) → ((k : ℕ) → k < n → f k ≡ g k) → least_with f n ≡ least_with g n
+with-same : (f g : ℕ → Bool) (n : ℕ) → ((k : ℕ) → k < n → f k ≡ g k) → least_with f n ≡ least_with g n
 with-same f g zero h = refl
 with-same f g (suc n) h =
     let front : least_with f n ≡ least_with g n = with-same f g n (λ k lt. h k (omega arith)) in
     let last : f n ≡ g n = h n (omega arith) in
     λ i. option_or (front i) (cond (last i) (Some n) None)
 
-pub any-same : (f g : ℕ → Bool) (n : ℕ) → ((k : ℕ) → k < n → f k ≡ g k) → any_below f n ≡ any_below g n
+any-same : (f g : ℕ → Bool) (n : ℕ) → ((k : ℕ) → k < n → f k ≡ g k) → any_below f n ≡ any_below g n
 any-same f g zero h = refl
 any-same f g (suc n) h =
     let front : any_below f n ≡ any_below g n = any-same f g n (λ k lt. h k (omega arith)) in

@@ -1,4 +1,4 @@
--- What a phase that conforms comes to, in the words of the code.
+-- What a phase that conforms adds to those before it, in the words of the code.
 use Rattle.std.proofs.Common.{◌≡◌, ◌≤◌, ℕ, List, length, get_or, ap, sym, ◌∙◌, arith, inl, inr, All}
 use Rattle.std.proofs.lemmas.List.{get_or_past}
 use Rattle.std.proofs.lemmas.Bool.{cases_lt, cases_Bool, or_cases, eqb-true}

@@ -1,7 +1,5 @@
 pub mod BrokenLemmas
 pub mod InPhaseLemmas
-pub mod OldLemmas
-pub mod OldLaws
 pub mod CarriedLemmas
 pub mod ChainLemmas
 pub mod DayLemmas

@@ -13,7 +13,7 @@ use Rattle.audit_base.specs.Continuous.{cause}
 use Rattle.audit_base.proofs.OrderLemmas.{same_place, not_both_sides}
 use Rattle.audit_base.proofs.SumLemmas.{sum_by-below, sum_by-same, sum_by-le-All, below-same, below-none, below-single, All-each}
 use Rattle.session_audit.specs.declared.phases.Phase.{Phase}
-use Rattle.session_audit.specs.Dealing.{HaveSmallCauses}
+use Rattle.session_audit.specs.Dealing.{HaveCausesInRange}
 use Rattle.session_audit.specs.Phases.{last_place, missing_phase, first_place, end_place, ArePhases, is_in_phase, phase_deals}
 use Rattle.session_audit.specs.PhaseOrders.{traded_in_phase, traded_before_phase}
 
@@ -130,7 +130,7 @@ module _ (phases : List Phase) (are : ArePhases phases) where
           absurd (not_both_sides (sym n.buys ∙ ap (side_at orders) same ∙ n.sells))
     ]
 
-    pub earlier-whole : IsOrderList orders → All (NamesOrders orders) deals → HaveSmallCauses orders deals → (i : ℕ) → traded_before_phase phases orders deals (length phases) i ≡ traded deals i
+    pub earlier-whole : IsOrderList orders → All (NamesOrders orders) deals → HaveCausesInRange orders deals → (i : ℕ) → traded_before_phase phases orders deals (length phases) i ≡ traded deals i
     earlier-whole list named most i = earlier-parts (length phases) i ∙ sum_by-same (λ d. sum_below (λ j. cond (in_test d j) (part_of i d) 0) (length phases)) (part_of i) deals (λ n x lt.
         let d = get_or deals n x in
         let at = lies-somewhere (cause orders d) (cause-some list d (named n x lt)) (most n x lt) in

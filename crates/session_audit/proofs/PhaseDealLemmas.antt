@@ -24,7 +24,8 @@ module _ (phases : List Phase) (orders : List Order) (rises : Rises orders) (dea
   abbrev pub the_deals : List Deal
   the_deals = phase_deals phases orders deals k
 
-  -- a property of all deals is one of the deals of the phase, with the phase in which their cause lies
+  -- a property of all deals is one of the deals of the phase, with the phase in which their
+  -- cause lies
   pub of-phase : (P : Deal → Type 0) → All P deals → All (λ d. P d × (place_test d ≡ true)) the_deals
   unfolding phase_deals
   of-phase P all i d lt = (All-filter place_test P deals all i d lt, filter_passes place_test deals i d lt)

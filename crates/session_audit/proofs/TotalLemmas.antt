@@ -5,7 +5,7 @@ use Rattle.audit_base.specs.declared.orders.Deal.{Deal}
 use Rattle.audit_base.specs.Orders.{IsOrderList}
 use Rattle.audit_base.specs.Deals.{traded, volume, IsDealList}
 use Rattle.session_audit.specs.declared.phases.Phase.{Phase}
-use Rattle.session_audit.specs.Dealing.{HaveSmallCauses}
+use Rattle.session_audit.specs.Dealing.{HaveCausesInRange}
 use Rattle.session_audit.specs.Phases.{ArePhases}
 use Rattle.session_audit.specs.PhaseOrders.{list_below, traded_before_phase}
 use Rattle.session_audit.specs.Days.{instant_finding}
@@ -16,7 +16,7 @@ use Rattle.session_audit.proofs.ListBelowLemmas.{length-list_below, list_below-a
 use Rattle.session_audit.proofs.PartLemmas.{earlier-whole}
 
 pub day-conforms : (phases : List Phase) (are : ArePhases phases) (orders : List Order) → IsOrderList orders → (deals : List Deal) → IsDealList orders deals
-    → HaveSmallCauses orders deals → instant_finding phases orders deals ≡ None → (k : ℕ) → k ≡ length phases → (traded_list rest : List ℕ) (totals : List ℕ × ℕ) → totals ≡ (traded_list, volume deals) → IsDaySoFar phases orders deals k traded_list rest
+    → HaveCausesInRange orders deals → instant_finding phases orders deals ≡ None → (k : ℕ) → k ≡ length phases → (traded_list rest : List ℕ) (totals : List ℕ × ℕ) → totals ≡ (traded_list, volume deals) → IsDaySoFar phases orders deals k traded_list rest
     → IsConformingDay phases orders deals totals
 day-conforms phases are orders list deals dl causes none k all traded_list rest totals same so_far =
     let whole : totals.0 ≡ list_below (traded deals) (length orders) = ap (λ (t : List ℕ × ℕ). t.0) same ∙ so_far.traded_is ∙ ap (λ (n : ℕ). list_below (traded_before_phase phases orders deals n) (length orders)) all

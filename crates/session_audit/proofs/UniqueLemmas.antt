@@ -32,8 +32,8 @@ pub in-range : (phases : List Phase) (orders : List Order) (deals : List Deal) (
 unfolding phase_deals
 in-range phases orders deals k ranges = All-filter (λ d. is_in_phase phases k (cause orders d)) IsDeal deals ranges
 
--- What an order trades with a sum over its pairs. A weight of a deal that its bid and its ask determine gives
--- equal sums where the pairs are equal.
+-- What an order trades with a sum over its pairs. A weight of a deal that its bid and its ask
+-- determine gives equal sums where the pairs are equal.
 module _ (n : ℕ) (w : ℕ → ℕ → Bool) where
   abbrev cell : Deal → ℕ → ℕ → ℕ
   cell d b a = cond (w b a) (cond ((d.bid == b) && (d.ask == a)) d.quantity 0) 0

@@ -1,5 +1,5 @@
--- What each order is in a phase, by one number that is kept of it: its quantity there, or 0 where it is
--- gone.
+-- What each order is in a phase, by one number that is kept of it: its quantity there, or 0
+-- where it is gone.
 use Rattle.std.specs.Prelude.{ℕ, ◌-◌, Bool, true, not, ◌&&◌, nat_lt, List, Option, None, Some, if◌then◌else◌}
 use Rattle.audit_base.specs.declared.orders.Order.{Order}
 use Rattle.audit_base.specs.Orders.{order_at}
@@ -37,10 +37,12 @@ amount_by_earlier orders first rest spent amounts i = let o = order_at orders i 
 
 -- the numbers of the first n orders
 abbrev pub amounts_below : List Order → ℕ → List ℕ → List ℕ → ℕ → List ℕ
-amounts_below orders first rest spent n = list_below
-    (λ i. amount_in_phase (order_in_phase orders first (number_at rest) (number_at spent) i)) n
+amounts_below orders first rest spent n =
+    let what = order_in_phase orders first (number_at rest) (number_at spent) in
+    list_below (λ i. amount_in_phase (what i)) n
 
 -- the first n orders as the list of the phase has them, by their numbers
 abbrev pub phase_list_by_amounts : List Order → ℕ → ℕ → List ℕ → ℕ → List Order
-phase_list_by_amounts orders first last amounts n = list_below (λ i. let o = order_at orders i in
+phase_list_by_amounts orders first last amounts n =
+    list_below (λ i. let o = order_at orders i in
     phase_order last o (order_by_amount first (number_at amounts i) o)) n

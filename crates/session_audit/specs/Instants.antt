@@ -1,5 +1,6 @@
--- Finding 16 by what is known of an order by itself: in an order list an order with another life than Rests
--- has no target, so it is an own order of its phase unless it is cancelled at its own place.
+-- Finding 16 by what is known of an order by itself: in an order list an order with another life
+-- than Rests has no target, so it is an own order of its phase unless it is cancelled at its own
+-- place.
 use Rattle.std.specs.Prelude.{ℕ, Bool, ◌&&◌, not, List, Option, None, option_map, length}
 use Rattle.audit_base.specs.declared.terms.Which.TheVariants as which
 use Rattle.audit_base.specs.declared.orders.Order.{Order}
@@ -12,9 +13,10 @@ use Rattle.audit_base.specs.Shows.{found}
 use Rattle.session_audit.specs.declared.phases.Phase.{Phase}
 use Rattle.session_audit.specs.Phases.{is_call, phase_kind, is_in_phase}
 
--- the place lies in a call phase
+-- the place is in a call phase
 abbrev pub is_in_any_call : List Phase → ℕ → Bool
-is_in_any_call phases place = any_below (λ k. is_call (phase_kind phases k) && is_in_phase phases k place) (length phases)
+is_in_any_call phases place =
+    any_below (λ k. is_call (phase_kind phases k) && is_in_phase phases k place) (length phases)
 
 -- the order was placed in a call phase, and its life isn't Rests
 abbrev pub is_instant_order : List Phase → Order → Bool

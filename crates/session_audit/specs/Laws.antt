@@ -20,7 +20,7 @@ DayUniqueness = (phases : List Phase) (orders : List Order) (ds es : List Deal)
     → (k : ℕ) → k < length phases → (i : ℕ)
     → traded_in_phase phases orders ds k i ≡ traded_in_phase phases orders es k i
 
--- and give each pair the same quantity in each continuous phase
+-- two such lists give each pair the same quantity in each continuous phase
 abbrev pub DayPairs : Type 0
 DayPairs = (phases : List Phase) (orders : List Order) (ds es : List Deal)
     → IsOrderList orders → Regular orders → AreDeals ds → AreDeals es
@@ -33,13 +33,13 @@ abbrev pub PhaseOrdersAreOrderList : Type 0
 PhaseOrdersAreOrderList = (phases : List Phase) (orders : List Order) (deals : List Deal) (k : ℕ)
     → IsOrderList orders → IsOrderList (phase_orders phases orders deals k)
 
--- and it is regular where the order list of the day is
+-- the order list of each phase is regular where that of the day is
 abbrev pub PhaseOrdersAreRegular : Type 0
 PhaseOrdersAreRegular = (phases : List Phase) (orders : List Order) (deals : List Deal) (k : ℕ)
     → IsOrderList orders → Regular orders → Regular (phase_orders phases orders deals k)
 
--- the bids that a call which conforms leaves meet none of the asks that it leaves, so that orders which are
--- carried out of it give by themselves no spread finding
+-- The bids that a call which conforms leaves meet none of the asks that it leaves, so that
+-- orders which are carried out of it give by themselves no spread finding.
 abbrev pub CarriedOrdersDoNotMeet : Type 0
 CarriedOrdersDoNotMeet = (phases : List Phase) (orders : List Order) (deals : List Deal) (k : ℕ)
     → IsOrderList orders → AreOrders orders → AreDeals deals

@@ -13,12 +13,14 @@ use Rattle.session_audit.specs.PhaseOrders.{list_below, left_after_continuous}
 abbrev pub call_leaves : Order → ℕ → ℕ
 call_leaves o traded = if is_some o.cancelled then 0 else o.quantity - traded
 
+-- what a call leaves of the first n orders, which have traded this much
 abbrev pub rest_after_call : List Order → List ℕ → ℕ → List ℕ
 rest_after_call orders traded n =
     list_below (λ i. call_leaves (order_at orders i) (number_at traded i)) n
 
 -- a continuous phase that conforms, with what each order traded in it
-pub record HasContinuousTotals (orders : List Order) (deals : List Deal) (traded : List ℕ) : Type 0 where
+pub record HasContinuousTotals (orders : List Order) (deals : List Deal) (traded : List ℕ)
+    : Type 0 where
   pub conforms : ConformsContinuous orders deals
   pub totals : AreTotals orders deals traded
 
@@ -35,12 +37,13 @@ abbrev pub rests_before_with : Order → ℕ → ℕ → ℕ → Bool
 rests_before_with o p size traded =
     waits_before o p && (uncancelled_before o.cancelled p && nat_lt traded size)
 
--- the order at i has no target, or one that rests before its place
+-- an order has no target, or one that rests before the place p
 abbrev pub target_rests_before : List Order → List ℕ → List ℕ → ℕ → Option ℕ → Bool
 target_rests_before orders traded sizes p None = true
 target_rests_before orders traded sizes p (Some t) =
     rests_before_with (order_at orders t) p (number_at sizes t) (number_at traded t)
 
+-- the order at i has no target, or one that rests before its own place
 abbrev pub has_resting_target : List Order → List ℕ → List ℕ → ℕ → Bool
 has_resting_target orders traded sizes i =
     target_rests_before orders traded sizes (place_at orders i) (order_at orders i).target
@@ -54,11 +57,13 @@ size_by o there before =
 abbrev pub sizes_below : List Order → List Deal → ℕ → List ℕ
 sizes_below orders deals n = list_below (size_of orders deals) n
 
--- what is left of an order that rests after the place
+-- what a continuous phase that ends at `last` leaves of an order, if it has this size and has
+-- traded this much
 abbrev pub continuous_leaves : Order → ℕ → ℕ → ℕ → ℕ
 continuous_leaves o last size traded =
     if rests_before_with o (last + 1) size traded then size - traded else 0
 
--- what the phase leaves of the first n orders
+-- what such a phase leaves of the first n orders
 abbrev pub rest_after_continuous : List Order → List Deal → ℕ → ℕ → List ℕ
-rest_after_continuous orders deals last n = list_below (left_after_continuous orders deals last) n
+rest_after_continuous orders deals last n =
+    list_below (left_after_continuous orders deals last) n

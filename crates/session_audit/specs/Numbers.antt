@@ -17,16 +17,16 @@ WithinQuantities orders numbers = (i : ℕ) → number_at numbers i ≤ quantity
 abbrev pub AreBoundedTotals : List ℕ → Type 0
 AreBoundedTotals numbers = (i : ℕ) → number_at numbers i ≤ 2 ^ 72
 
--- the target of an order stands in both lists
+-- the target of an order is an index of both lists
 abbrev pub IsTargetInside : Option ℕ → ℕ → ℕ → Type 0
 IsTargetInside target n m = (t : ℕ) → target ≡ Some t → (t < n) × (t < m)
 
--- and its two numbers fit a number of 128 bits together
+-- the two numbers of the target of an order, added, are below 2^128
 abbrev pub TargetTotalFits : Option ℕ → List ℕ → List ℕ → Type 0
 TargetTotalFits target traded totals =
     (t : ℕ) → target ≡ Some t → number_at traded t + number_at totals t < 2 ^ 128
 
--- what the target has traded, and its chain
+-- what the target of an order and the chain of the target have traded
 abbrev pub target_total : Option ℕ → List ℕ → List ℕ → ℕ
 target_total None traded totals = 0
 target_total (Some t) traded totals = number_at traded t + number_at totals t
@@ -35,7 +35,8 @@ target_total (Some t) traded totals = number_at traded t + number_at totals t
 abbrev pub total_of_chain : List Order → List ℕ → ℕ → ℕ
 total_of_chain orders traded i = sum_by (number_at traded) (chain orders i)
 
--- this of the first n orders, with a bound
+-- the numbers are what the chains of the first n orders have traded, each at most 2^72 for each
+-- order before its own
 pub record AreChainTotals (orders : List Order) (traded : List ℕ) (n : ℕ)
     (totals : List ℕ) : Type 0 where
   pub are : totals ≡ list_below (total_of_chain orders traded) n

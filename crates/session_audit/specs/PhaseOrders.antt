@@ -1,9 +1,10 @@
 -- Phase list: the order list of each phase, with the orders that earlier phases left.
 --
--- In the first part `first` and `last` are the first and the last place of the phase, `rest o` is what
--- the phases before left of the order at o, and `spent o` is what its chain traded in them. The second
--- part says the same words of a day, in which a phase is named by its index from 0.
-use Rattle.std.specs.Prelude.{ℕ, zero, suc, ◌-◌, Bool, true, false, not, ◌&&◌, nat_lt, nat_le, List, [], ◌∷◌, ◌++◌, Option, None, Some, sum_by, slice_index_or, if◌then◌else◌}
+-- In the first part `first` and `last` are the first and the last place of the phase, `rest i`
+-- is what the phases before left of the order at i, and `spent i` is what its chain traded in
+-- them. The second part says the same words of a day, in which a phase is named by its index,
+-- from 0.
+use Rattle.std.specs.Prelude.{ℕ, zero, suc, ◌-◌, Bool, true, false, ◌&&◌, nat_lt, nat_le, List, [], ◌∷◌, ◌++◌, Option, None, Some, sum_by, slice_index_or, if◌then◌else◌}
 use Rattle.std.specs.List.{prefix_len}
 use Rattle.audit_base.specs.declared.orders.Order.{Order}
 use Rattle.audit_base.specs.declared.orders.Deal.{Deal}
@@ -19,37 +20,37 @@ use Rattle.session_audit.specs.Phases.{phase_kind, first_place, end_place, phase
 
 -- The first part: one phase.
 
--- what an order is in a phase: carried from an earlier phase, with what is left of it; an own order of the
--- phase, with its quantity there; or gone
+-- What an order is in a phase: carried from an earlier phase, with what is left of it; an own order
+-- of the phase, with its quantity there; or gone.
 pub data OrderInPhase : Type 0 where
   Carried : (left : ℕ) → OrderInPhase
   Own : (quantity : ℕ) → OrderInPhase
   Gone : OrderInPhase
 
--- it takes part in the phase: it isn't gone
+-- the order takes part in the phase: it isn't gone
 abbrev pub takes_part : OrderInPhase → Bool
 takes_part (Carried left) = true
 takes_part (Own quantity) = true
 takes_part Gone = false
 
--- an order of an earlier place is carried where something is left of it, and else gone
+-- an order of an earlier phase is carried where something is left of it, else gone
 abbrev pub carried_or_gone : ℕ → OrderInPhase
 carried_or_gone left = if nat_lt 0 left then Carried left else Gone
 
--- an order has no target, or one that isn't gone, by what each order before it is in the phase
+-- an order has no target, or one that isn't gone; `earlier` has what the orders before it are
 abbrev pub target_takes_part : List OrderInPhase → Option ℕ → Bool
 target_takes_part earlier None = true
 target_takes_part earlier (Some t) = takes_part (slice_index_or earlier t Gone)
 
--- The order at i, of a place in the phase, is own with its written quantity less what its chain traded. It
--- is gone where it is cancelled at its own place, where its target is gone, or where this quantity is 0
+-- An order of the phase is own, with its written quantity less what its chain traded. It is gone
+-- where it is cancelled at its own place, where its target is gone, or where this quantity is 0.
 abbrev pub own_or_gone : List Order → (ℕ → ℕ) → List OrderInPhase → ℕ → OrderInPhase
 own_or_gone orders spent earlier i =
     let target_stays = target_takes_part earlier (order_at orders i).target in
     let quantity = quantity_at orders i - spent i in
     if was_placed orders i && (target_stays && nat_lt 0 quantity) then Own quantity else Gone
 
--- what the order at i is in the phase, by what each order before it is
+-- what the order at i is in the phase; `earlier` has what the orders before it are
 abbrev pub order_by_earlier : List Order → ℕ → (ℕ → ℕ) → (ℕ → ℕ) → List OrderInPhase → ℕ
     → OrderInPhase
 order_by_earlier orders first rest spent earlier i =
@@ -73,9 +74,10 @@ abbrev pub end_upto : ℕ → Option ℕ → Option ℕ
 end_upto last None = None
 end_upto last (Some c) = if nat_le c last then Some c else None
 
--- an order in the list of the phase. A carried order has what is left of it as its quantity, and no target;
--- an own order has its quantity there, and its target; and `cancelled` of both is that of the order where it
--- is at most `last`. A gone order has its written quantity, no target, and its own place as `cancelled`
+-- An order in the list of the phase. A carried order has what is left of it as its quantity, and
+-- no target. An own order has its quantity there, and its target. Both have their `cancelled`
+-- where it is at most `last`. A gone order has its written quantity, no target, and its own
+-- place as `cancelled`.
 abbrev pub phase_order : ℕ → Order → OrderInPhase → Order
 phase_order last o (Carried left) =
     record o { quantity = left; cancelled = end_upto last o.cancelled; target = None }
@@ -98,14 +100,14 @@ phase_list orders first last rest spent = list_below
     (λ i. phase_order last (order_at orders i) (order_in_phase orders first rest spent i))
     (order_count_upto orders last)
 
--- what a call leaves of the order at i, from the order list and the deals of its phase: nothing of an order
--- that a record cancels, and else what it has not traded
+-- what a call leaves of the order at i, by the order list and the deals of the phase: what it
+-- has not traded, but nothing where a record cancels it
 abbrev pub left_after_call : List Order → List Deal → ℕ → ℕ
 left_after_call orders deals i =
     if is_cancelled orders i then 0 else quantity_at orders i - traded deals i
 
--- what a continuous phase that ends at `last` leaves of it: what is left of an order that rests then, and
--- nothing of another
+-- what a continuous phase that ends at `last` leaves of it: what is left then, but nothing where it
+-- doesn't rest then
 abbrev pub left_after_continuous : List Order → List Deal → ℕ → ℕ → ℕ
 left_after_continuous orders deals last i =
     if rests_after orders deals last i then left_after orders deals last i else 0
@@ -114,19 +116,21 @@ left_after_continuous orders deals last i =
 abbrev pub left_after_phase : PhaseKind → List Order → List Deal → ℕ → ℕ → ℕ
 left_after_phase kind.Uniform orders deals last i = left_after_call orders deals i
 left_after_phase kind.Maximum orders deals last i = left_after_call orders deals i
-left_after_phase kind.Continuous orders deals last i = left_after_continuous orders deals last i
+left_after_phase kind.Continuous orders deals last i =
+    left_after_continuous orders deals last i
 
 -- The second part: the phases of a day.
 
--- what the order at i trades in the phase at index k, and in the phases before it
+-- what the order at i trades in the phase at index k
 abbrev pub traded_in_phase : List Phase → List Order → List Deal → ℕ → ℕ → ℕ
 traded_in_phase phases orders deals k i = traded (phase_deals phases orders deals k) i
 
+-- what it trades in the phases before that
 unfoldable pub traded_before_phase : List Phase → List Order → List Deal → ℕ → ℕ → ℕ
 traded_before_phase phases orders deals k i =
     sum_below (λ j. traded_in_phase phases orders deals j i) k
 
--- what the orders of its chain trade in the phases before the one at index k
+-- what the orders of its chain trade in the phases before that
 unfoldable pub chain_before_phase : List Phase → List Order → List Deal → ℕ → ℕ → ℕ
 chain_before_phase phases orders deals k i =
     sum_by (traded_before_phase phases orders deals k) (chain orders i)
@@ -137,8 +141,8 @@ phase_list_by_rest phases orders deals k rest =
     phase_list orders (first_place phases k) (end_place phases k) rest
     (chain_before_phase phases orders deals k)
 
--- Rest(k): what is left of each order after the first k phases. Rest(0) is 0 of each order; and Rest(k) is
--- what the k-th phase leaves, the one at index k - 1
+-- Rest(k): what is left of each order after the first k phases. Rest(0) is 0 of each order, and
+-- Rest(k) is what the k-th phase leaves of it, the one at index k - 1.
 unfoldable pub rest_after : List Phase → List Order → List Deal → ℕ → ℕ → ℕ
 rest_after phases orders deals zero = λ i. 0
 rest_after phases orders deals (suc k) = left_after_phase (phase_kind phases k)

@@ -1,5 +1,5 @@
--- What the phases of a day have come to so far.
-use Rattle.std.specs.Prelude.{◌≡◌, ◌<◌, ◌≤◌, ℕ, ◌+◌, List, length}
+-- What is known of a day after its first phases.
+use Rattle.std.specs.Prelude.{◌≡◌, ◌<◌, ℕ, ◌+◌, List, length}
 use Rattle.audit_base.specs.declared.orders.Order.{Order}
 use Rattle.audit_base.specs.declared.orders.Deal.{Deal}
 use Rattle.audit_base.specs.Deals.{AreTotals, traded}
@@ -12,8 +12,8 @@ use Rattle.session_audit.specs.Days.{PhaseConforms}
 use Rattle.session_audit.specs.Leaving.{EndsBy}
 use Rattle.session_audit.specs.Numbers.{number_at, WithinQuantities}
 
--- the phases before the k-th conform; what each order traded in them, and what they left of it, which is
--- at most its written quantity
+-- the first k phases conform; what each order traded in them, and what they left of it, which is at
+-- most its written quantity
 pub record IsDaySoFar (phases : List Phase) (orders : List Order) (deals : List Deal) (k : ℕ)
     (traded rest : List ℕ) : Type 0 where
   pub conformed : (j : ℕ) → j < k → PhaseConforms phases orders deals j
@@ -28,17 +28,20 @@ pub record HasPhaseTotals (kind : PhaseKind) (orders : List Order) (deals : List
   pub totals : AreTotals orders deals traded
   pub ends : EndsBy orders deals last
 
--- what it leaves of each of its orders
+-- what a phase of a kind that ends at `last` leaves of each of its orders
 abbrev pub rest_after_phase : PhaseKind → List Order → List Deal → ℕ → List ℕ
-rest_after_phase kind orders deals last = list_below (left_after_phase kind orders deals last) (length orders)
+rest_after_phase kind orders deals last =
+    list_below (left_after_phase kind orders deals last) (length orders)
 
--- each number is the one before and that of the phase, added
+-- each number is the one before, with that of the phase added
 pub record AddsNumbers (before phase after : List ℕ) : Type 0 where
   pub count : length after ≡ length before
-  pub each : (i : ℕ) → i < length before → number_at after i ≡ number_at before i + number_at phase i
+  pub each : (i : ℕ) → i < length before
+      → number_at after i ≡ number_at before i + number_at phase i
 
--- a phase that conforms and ends at `last`, with what the phases up to it come to: what each order traded
--- in it is added, and what it leaves of each order is kept
+-- a phase that conforms and ends at `last` is added to the phases before it: to what each order
+-- traded before is added what it traded in the phase, and what the phase leaves of each order is
+-- kept
 pub record AddsPhase (kind : PhaseKind) (orders : List Order) (deals : List Deal) (last : ℕ)
     (before after rest : List ℕ) : Type 0 where
   pub conforms : Conforms (rule_of kind) orders deals

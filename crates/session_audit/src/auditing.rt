@@ -11,7 +11,7 @@ use super::days::Day;
 use super::dealing::{causes_of, deals_between};
 use super::instants::first_instant_of_day;
 use super::phases::Phase;
-use super::progress::{end_place, first_place, judge_phase, phase_kind, list_phase, start};
+use super::progress::{end_place, first_place, judge_phase, list_phase, phase_kind, start};
 use audit_base::faults::NoMemory;
 use audit_base::orders::Deal;
 use audit_base::ranges::deals_in_range;
@@ -51,13 +51,13 @@ fn audit_phases(
     Ok(Day::Conforms(Totals::of(so_far.traded, volume_of(deals))))
 }
 
-/// The audit of a day over the deals of a log of `count` trades. Conforms exactly where no call phase has
-/// an own order whose life isn't Rests and each phase conforms, out of memory aside: with what each order
-/// traded over the day, and the volume. Else Broken has the first offence: the least such order, or the first
-/// offence of the least phase that fails.
+/// The audit of a day over the deals of a log of `count` trades. Conforms exactly where no call
+/// phase has an own order whose life isn't Rests and each phase conforms, out of memory aside:
+/// with what each order traded over the day, and the volume. Else Broken has the first offence:
+/// the least such order, or the first offence of the least phase that fails.
 ///
-/// For p phases, n orders and m deals, beside the audits of the phases: p passes over the orders up to the
-/// phase's end and over the causes of all deals.
+/// For p phases, n orders and m deals, beside the audits of the phases: p passes over the orders
+/// up to the phase's end and over the causes of all deals.
 pub fn audit_session(
     alloc: Global,
     orders: &OrderList<'_>,

@@ -7,8 +7,8 @@ use audit_base::faults::NoMemory;
 use order_list::lists::OrderList;
 use std::alloc::Global;
 
-/// What the target of an order has traded, and the target's own chain, from the totals of the orders
-/// before it.
+/// What the target of an order has traded, and the target's own chain, from the totals of the
+/// orders before it.
 fn target_total(target: Option<usize>, traded: &[u128], totals: &[u128]) -> u128
     requires inside { IsTargetInside target (length traded.now) (length totals.now) }
     requires small { TargetTotalFits target traded.now totals.now }
@@ -20,8 +20,8 @@ fn target_total(target: Option<usize>, traded: &[u128], totals: &[u128]) -> u128
     }
 }
 
-/// What the chain of each order has traded, by what each order has traded. One pass, since a target is a
-/// lower index. Err only out of memory.
+/// What the chain of each order has traded, by what each order has traded. One pass, since a
+/// target is a lower index. Err only out of memory.
 pub fn chain_totals(
     alloc: Global,
     orders: &OrderList<'_>,

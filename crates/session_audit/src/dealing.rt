@@ -1,9 +1,9 @@
-//! The deals of a phase: those whose cause lies in it.
+//! The deals of a phase: those whose cause is in it.
 ghost use Rattle.std.specs.Prelude.{◌≡◌, ◌≤◌, ◌++◌, All, IfOk, OnOk, length};
 ghost use Rattle.audit_base.specs.Continuous.{cause};
 ghost use Rattle.audit_base.specs.Deals.{NamesOrders};
 ghost use Rattle.session_audit.specs.Phases.{last_place};
-ghost use Rattle.session_audit.specs.Dealing.{HaveSmallCauses, causes_below, is_between, deals_if, deals_between};
+ghost use Rattle.session_audit.specs.Dealing.{HaveCausesInRange, causes_below, is_between, deals_if, deals_between};
 
 use audit_base::faults::NoMemory;
 use audit_base::orders::Deal;
@@ -30,7 +30,7 @@ pub fn causes_of(
     requires { All (NamesOrders orders.now) deals.now }
     ensures causes { IfOk result (λ causes.
         causes.items ≡ causes_below orders.now deals.now (length deals.now)) }
-    ensures fits { OnOk result (HaveSmallCauses orders.now deals.now) }
+    ensures fits { OnOk result (HaveCausesInRange orders.now deals.now) }
 {
     let mut causes = Vec::with_capacity(alloc, deals.len())?;
     for index in 0..deals.len() {
@@ -46,7 +46,7 @@ fn is_between(place: u32, first: u32, last: u32) -> bool
     first <= place && place <= last
 }
 
-/// Adds a deal, if its cause lies between these places.
+/// Adds a deal, if its cause is between these places.
 fn add_deal(
     part: &mut Vec<Deal>,
     deal: &Deal,
@@ -63,7 +63,7 @@ fn add_deal(
     Ok(())
 }
 
-/// The deals whose cause lies between these places, in log order. Err only out of memory.
+/// The deals whose cause is between these places, in log order. Err only out of memory.
 pub fn deals_between(
     alloc: Global,
     deals: &[Deal],

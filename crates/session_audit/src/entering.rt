@@ -1,4 +1,5 @@
-//! The order list of a phase: what each order brings into it, and how it stands there.
+//! The order list of a phase: how much of each order comes into it, and the order as the list
+//! has it. An order that is gone is kept as the number 0.
 ghost use Rattle.std.specs.Prelude.{◌≡◌, ◌<◌, ◌≤◌, ◌-◌, ◌&&◌, not, nat_lt, if◌then◌else◌, IfOk, IfSome, length};
 ghost use Rattle.audit_base.specs.Continuous.{is_own_place};
 ghost use Rattle.audit_base.specs.Orders.{IsOrderList, order_at};
@@ -37,8 +38,8 @@ pub fn order_count_upto(orders: &OrderList<'_>, last: u32) -> usize
     count
 }
 
-/// What an order of the phase brings, if it was placed and its target isn't gone: its written quantity
-/// less what its chain traded.
+/// How much of an order of the phase comes into it: its written quantity less what its chain
+/// traded, if it was placed and its target isn't gone.
 fn own_amount(order: &ListedOrder<'_>, there: bool, spent: u128) -> u64
     ensures { result ≡ entering.own_amount order.now there spent }
 {
@@ -59,7 +60,7 @@ fn number_at(numbers: &[u64], index: usize) -> u64
     }
 }
 
-/// Whether an order has no target, or one that brings something into the phase.
+/// Whether an order has no target, or one that isn't gone.
 fn target_has_amount(target: Option<usize>, amounts: &[u64]) -> bool
     ensures { result ≡ entering.target_has_amount target amounts.now }
 {
@@ -69,8 +70,8 @@ fn target_has_amount(target: Option<usize>, amounts: &[u64]) -> bool
     }
 }
 
-/// What the order at an index brings into the phase that begins at `first`, from what the orders before it
-/// bring.
+/// How much of the order at an index comes into the phase that begins at `first`, from how much
+/// comes of the orders before it.
 fn amount_by_earlier(
     orders: &OrderList<'_>,
     first: u32,
@@ -81,18 +82,23 @@ fn amount_by_earlier(
 ) -> u64
     requires inside { index < length orders.now }
     requires counted { index < length spent.now }
-    ensures { result ≡ entering.amount_by_earlier orders.now first rest.now spent.now amounts.now index }
+    ensures { result
+        ≡ entering.amount_by_earlier orders.now first rest.now spent.now amounts.now index }
 {
     let order = orders.at(index);
     if order.place() < first {
         number_at(rest, index)
     } else {
-        own_amount(&order, target_has_amount(order.target(), amounts), spent[index])
+        own_amount(
+            &order,
+            target_has_amount(order.target(), amounts),
+            spent[index],
+        )
     }
 }
 
-/// What each of the first `count` orders brings into the phase that begins at `first`, from what is left of
-/// each (0 past the end) and what its chain has traded.
+/// How much of each of the first `count` orders comes into the phase that begins at `first`,
+/// from what is left of each (0 past the end) and what its chain has traded.
 pub fn amounts_of(
     alloc: Global,
     orders: &OrderList<'_>,
@@ -136,7 +142,7 @@ fn own_target(order: &ListedOrder<'_>, first: u32) -> Option<usize>
     }
 }
 
-/// The terms of an order in the list of a phase, by what it brings.
+/// The terms of an order in the list of a phase, by how much of it comes into the phase.
 fn phase_terms(order: &ListedOrder<'_>, first: u32, last: u32, amount: u64) -> Terms
     requires { amount ≤ order.now.quantity }
     ensures order { with_terms result.quantity result.cancelled result.target order.now
@@ -158,7 +164,7 @@ fn phase_terms(order: &ListedOrder<'_>, first: u32, last: u32, amount: u64) -> T
     }
 }
 
-/// The order list of a phase from what each of its orders brings.
+/// The order list of a phase, by how much of each order comes into it.
 pub fn list_orders<'a>(
     alloc: Global,
     orders: &OrderList<'a>,
@@ -168,8 +174,8 @@ pub fn list_orders<'a>(
 ) -> Result<ChangedOrders<'a>, NoMemory>
     requires inside { length amounts.now ≤ length orders.now }
     requires most { WithinQuantities orders.now amounts.now }
-    ensures { IfOk result (λ list.
-        list.orders ≡ entering.phase_list_by_amounts orders.now first last amounts.now (length amounts.now)) }
+    ensures { IfOk result (λ list. list.orders
+        ≡ entering.phase_list_by_amounts orders.now first last amounts.now (length amounts.now)) }
 {
     let mut list = ChangedOrders::new(alloc, orders, amounts.len())?;
     for index in 0..amounts.len() {

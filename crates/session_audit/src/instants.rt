@@ -18,7 +18,7 @@ fn is_call(kind: PhaseKind) -> bool
     kind.rule().call_rule().is_some()
 }
 
-/// Whether a place lies in a phase.
+/// Whether a place is in a phase.
 fn is_in_phase(phases: &[Phase], index: usize, place: u32) -> bool
     requires phases { ArePhases phases.now }
     requires inside { index < length phases.now }
@@ -27,16 +27,17 @@ fn is_in_phase(phases: &[Phase], index: usize, place: u32) -> bool
     first_place(phases, index) <= place && place <= end_place(phases, index)
 }
 
-/// Whether a phase is a call, and a place lies in it.
+/// Whether a phase is a call, and a place is in it.
 fn is_in_call(phases: &[Phase], index: usize, place: u32) -> bool
     requires phases { ArePhases phases.now }
     requires inside { index < length phases.now }
-    ensures { result ≡ (is_call (phase_kind phases.now index) && is_in_phase phases.now index place) }
+    ensures { result
+        ≡ (is_call (phase_kind phases.now index) && is_in_phase phases.now index place) }
 {
     is_call(phase_kind(phases, index)) && is_in_phase(phases, index, place)
 }
 
-/// Whether a place lies in a call phase.
+/// Whether a place is in a call phase.
 fn is_in_any_call(phases: &[Phase], place: u32) -> bool
     requires { ArePhases phases.now }
     ensures { result ≡ spec.is_in_any_call phases.now place }

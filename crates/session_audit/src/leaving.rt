@@ -68,8 +68,8 @@ fn rests_before_with(order: &ListedOrder<'_>, place: u64, size: u64, traded: u12
     waits_before(order, place) && (uncancelled_before(order, place) && traded < u128::from(size))
 }
 
-/// Whether an order has no target, or one that rests before the order's own place, by the sizes of the
-/// orders before it.
+/// Whether an order has no target, or one that rests before the order's own place, by the sizes
+/// of the orders before it.
 fn has_resting_target(orders: &OrderList<'_>, traded: &[u128], sizes: &[u64], index: usize) -> bool
     requires order_list { IsOrderList orders.now }
     requires inside { index < length orders.now }
@@ -109,7 +109,8 @@ fn sizes_of(
     requires order_list { IsOrderList orders.now }
     requires regular { Regular orders.now }
     requires counted { length traded.now ≡ length orders.now }
-    requires before { before.now ≡ list_below (total_of_chain orders.now traded.now) (length orders.now) }
+    requires before { before.now
+        ≡ list_below (total_of_chain orders.now traded.now) (length orders.now) }
     ensures count { IfOk result (λ sizes. length sizes.items ≡ length orders.now) }
     ensures sizes { IfOk result (λ sizes. (deals : List ADeal)
         → spec.HasContinuousTotals orders.now deals traded.now
@@ -123,7 +124,8 @@ fn sizes_of(
     Ok(sizes)
 }
 
-/// What is left of an order that rests after the place `last`.
+/// What a continuous phase that ends at `last` leaves of an order, if it has this size and has
+/// traded this much.
 fn continuous_leaves(order: &ListedOrder<'_>, last: u32, size: u64, traded: u128) -> u64
     ensures { result ≡ spec.continuous_leaves order.now last size traded }
 {
@@ -134,7 +136,8 @@ fn continuous_leaves(order: &ListedOrder<'_>, last: u32, size: u64, traded: u128
     }
 }
 
-/// What a continuous phase that conforms and ends at `last` leaves of each order. Err only out of memory.
+/// What a continuous phase that conforms and ends at `last` leaves of each order. Err only out
+/// of memory.
 pub fn leave_continuous(
     alloc: Global,
     orders: &OrderList<'_>,

@@ -1,5 +1,5 @@
-//! From one phase to the next: the order list of a phase from what the earlier ones came to, and what it
-//! leaves and adds.
+//! From one phase to the next: the order list of a phase from what the earlier ones leave and
+//! what was traded in them, and what the phase adds to that.
 ghost use Rattle.std.specs.Prelude.{◌≡◌, ◌<◌, ◌≤◌, ◌+◌, ◌-◌, ◌^◌, [], ℕ, IfOk, List, None, Ok, Some, length, replicate, vec_len};
 ghost use Rattle.audit_base.specs.declared.findings.Finding.{Finding as AFinding};
 ghost use Rattle.audit_base.specs.declared.orders.Deal.{Deal as ADeal};
@@ -27,7 +27,7 @@ use order_list::changed::ChangedOrders;
 use order_list::lists::OrderList;
 use std::alloc::Global;
 
-/// What the phases so far have come to.
+/// What is known of the orders after the phases so far.
 #[derive(Debug, Drop)]
 pub struct SoFar {
     /// What each order has traded, by its index.
@@ -64,7 +64,8 @@ pub fn phase_kind(phases: &[Phase], index: usize) -> PhaseKind
     phases[index].kind
 }
 
-/// The place at which a phase ends: the one before the next phase begins, or the greatest place there is.
+/// The place at which a phase ends: the one before the next phase begins, or the greatest place
+/// there is.
 pub fn end_place(phases: &[Phase], index: usize) -> u32
     requires phases { spec.ArePhases phases.now }
     requires inside { index < length phases.now }
@@ -138,8 +139,9 @@ pub fn add_totals(totals: &mut Vec<u128>, traded: &[u128])
     }
 }
 
-/// The audit of one phase, over its order list and its deals. It conforms where nothing is found, and
-/// then what it comes to is added to what the phases so far have come to. Err only out of memory.
+/// The audit of one phase, over its order list and its deals. It conforms where nothing is
+/// found; then what was traded in it is added, and what it leaves is kept. Err only out of
+/// memory.
 pub fn judge_phase(
     alloc: Global,
     kind: PhaseKind,
