@@ -11,7 +11,7 @@ use Rattle.audit_base.proofs.OffenceLemmas.{get_or-default}
 use Rattle.session_audit.specs.PhaseOrders.{OrderInPhase, Carried, Own, Gone, takes_part, target_takes_part, orders_in_phase, order_in_phase, end_upto, phase_order, order_count_upto, phase_list}
 use Rattle.session_audit.specs.Entering.{amount_in_phase}
 use Rattle.session_audit.proofs.ListBelowLemmas.{length-list_below, list_below-at}
-use Rattle.session_audit.proofs.InPhaseLemmas.{HasAmount, own-parts, target-stays}
+use Rattle.session_audit.proofs.InPhaseLemmas.{HasAmount, own-target, target-stays}
 
 -- An order of the list of a phase, and what it keeps.
 
@@ -178,8 +178,7 @@ module _ (orders : List Order) (last : ℕ) where
             let less = is.0 in
             let r = regular.targets i t inside p.2 in
             let le = r.2 in
-            let own = own-parts orders first rest spent i p.0 p.1 in
-            let stays : takes_part (what t) ≡ true = sym (target-stays orders first rest spent i t less) ∙ sym (ap (target_takes_part (orders_in_phase orders first rest spent i)) p.2) ∙ own.target in
+            let stays : takes_part (what t) ≡ true = sym (target-stays orders first rest spent i t less) ∙ sym (ap (target_takes_part (orders_in_phase orders first rest spent i)) p.2) ∙ own-target orders first rest spent i p.0 p.1 in
             let upto = phase-upto i lt in
             let t_at : (order_at phase t).cancelled ≡ end_upto last (order_at orders t).cancelled = ap (λ (o : Order). o.cancelled) (phase-at t (omega arith)) ∙ present-cancelled last (order_at orders t) (what t) stays in
             let here = phase-place i lt in
