@@ -1,7 +1,7 @@
 -- A day, phase by phase: what the code keeps is what the phases so far traded and left.
 use Rattle.std.proofs.Common.{◌≡◌, ◌<◌, ◌≤◌, ◌+◌, ◌-◌, ◌^◌, ℕ, suc, List, [], length, Bool, true, false, refl, ap, sym, ◌∙◌, arith, inl, inr, subst, All, cond, add-one}
 use Rattle.std.specs.Prelude.{replicate}
-use Rattle.std.proofs.lemmas.Bool.{cases_lt, cases_eq, cases_Bool}
+use Rattle.std.proofs.lemmas.Bool.{cases_lt, cases_eq}
 use Rattle.std.proofs.lemmas.List.{get_or_past, get_or-replicate, length-replicate}
 use Rattle.std.proofs.lemmas.Grind.{same_number_lists}
 use Rattle.audit_base.specs.declared.orders.Order.{Order}
@@ -11,9 +11,8 @@ use Rattle.audit_base.specs.Deals.{traded, NamesOrders, IsDealList, AreDeals}
 use Rattle.audit_base.specs.Histories.{Regular}
 use Rattle.audit_base.specs.Rules.{Conforms}
 use Rattle.audit_base.specs.CallOffences.{is_cancelled}
-use Rattle.audit_base.specs.Continuous.{size, entered, before, traded_before, rests, rests_after, left_after, size_of}
+use Rattle.audit_base.specs.Continuous.{size, entered, before, traded_before, rests_after, left_after, size_of}
 use Rattle.audit_base.proofs.OrderLemmas.{place-rises}
-use Rattle.continuous_laws.proofs.StepLemmas.{rests-parts}
 use Rattle.session_audit.specs.declared.phases.Phase.{Phase}
 use Rattle.session_audit.specs.declared.phases.PhaseKind.{PhaseKind}
 use Rattle.session_audit.specs.declared.phases.PhaseKind.TheVariants as kind
@@ -30,15 +29,6 @@ use Rattle.session_audit.proofs.PhaseDealLemmas.{deals-list, causes-upto}
 use Rattle.session_audit.proofs.PartLemmas.{earlier-le, earlier-more, in-le, traded-small}
 
 -- What a phase leaves is at most the quantity, and nothing past the end.
-
-rests-inside : (orders : List Order) (past : ℕ → ℕ → ℕ) (p i : ℕ) → length orders ≤ i → rests orders past p i ≡ false
-rests-inside orders past p i le = elim (cases_Bool (rests orders past p i)) [
-  | inr f ↦ f
-  | inl t ↦
-      let at = rests-parts orders past p i t in
-      let life = sym (ap (λ (o : Order). o.life) (get_or_past orders i missing_order le)) ∙ at.life in
-      absurd (cc)
-]
 
 size-le : (b : Bool) (q n : ℕ) → cond b (q - n) 0 ≤ q
 size-le true q n = omega arith
