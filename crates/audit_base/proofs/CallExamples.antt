@@ -21,8 +21,8 @@ use Rattle.audit_base.specs.declared.findings.Shown.{Shown}
 use Rattle.audit_base.proofs.VolumeLemmas.{cut-greatest, line-greatest, demand-falls, supply-under}
 use Rattle.audit_base.proofs.DealLemmas.{bids-volume, asks-volume, keeps-names}
 use Rattle.audit_base.specs.Calls.{Matching, Fair, Greatest}
-use Rattle.audit_base.specs.Bounds.{demand, cut, supply_below, executable_volume, IsBound}
-use Rattle.audit_base.specs.Shows.{found}
+use Rattle.audit_base.specs.Bounds.{demand, cut, supply_below, executable_volume, IsBoundPrice}
+use Rattle.audit_base.specs.Shows.{finding_at_record}
 use Rattle.audit_base.specs.Expected.{uniform_deals, maximum_deals}
 use Rattle.audit_base.specs.Rules.{Conforms}
 use Rattle.audit_base.specs.Verdicts.{IsVerdict}
@@ -52,18 +52,18 @@ overfilled_more = trade (codes "T1") (codes "b1") (codes "s1") 5 (whole 9) ∷ t
     ∷ trade (codes "T4") (codes "b1") (codes "s1") 1 (whole 9) ∷ []
 
 pub buyer_overfilled : IsVerdict rule.Matching symbol overfilled_orders (Ok overfilled_trades)
-    (Some (found property.BuyQuantity which.Trades 3 (Some (shown.Order (line 1 Buy (codes "b1") 10 10 11))) None))
+    (Some (finding_at_record property.BuyQuantity which.Trades 3 (Some (shown.Order (line 1 Buy (codes "b1") 10 10 11))) None))
 unfolding all_definitions
 buyer_overfilled = refl
 
 pub buyer_overfilled_and_more : IsVerdict rule.Matching symbol overfilled_orders (Ok overfilled_more)
-    (Some (found property.BuyQuantity which.Trades 3 (Some (shown.Order (line 1 Buy (codes "b1") 10 10 11))) None))
+    (Some (finding_at_record property.BuyQuantity which.Trades 3 (Some (shown.Order (line 1 Buy (codes "b1") 10 10 11))) None))
 unfolding all_definitions
 buyer_overfilled_and_more = refl
 
 -- the trade after it is not what the finding names, and the trades are no matching
 pub buyer_overfilled-not_later : IsVerdict rule.Matching symbol overfilled_orders (Ok overfilled_more)
-    (Some (found property.BuyQuantity which.Trades 4 (Some (shown.Order (line 1 Buy (codes "b1") 10 10 12))) None)) → ⊥
+    (Some (finding_at_record property.BuyQuantity which.Trades 4 (Some (shown.Order (line 1 Buy (codes "b1") 10 10 12))) None)) → ⊥
 unfolding all_definitions
 buyer_overfilled-not_later e = let p : ◌≡◌ {A = ℕ} 4 3 = ap (λ (f : Finding). f.place) e in absurd (omega arith)
 
@@ -76,45 +76,45 @@ abbrev seller_overfilled_orders : List OrderRecord
 seller_overfilled_orders = new_order Buy (codes "b1") 100 10 ∷ new_order Sell (codes "s1") 10 9 ∷ []
 
 pub seller_overfilled : IsVerdict rule.Matching symbol seller_overfilled_orders (Ok (trade (codes "T1") (codes "b1") (codes "s1") 11 (whole 9) ∷ []))
-    (Some (found property.SellQuantity which.Trades 1 (Some (shown.Order (line 2 Sell (codes "s1") 10 9 11))) None))
+    (Some (finding_at_record property.SellQuantity which.Trades 1 (Some (shown.Order (line 2 Sell (codes "s1") 10 9 11))) None))
 unfolding all_definitions
 seller_overfilled = refl
 
 -- price-over-the-limit: 10.00000001 is above the bid's limit
 pub price_over_the_limit : IsVerdict rule.Matching symbol one_trade_orders (Ok (trade (codes "T1") (codes "b1") (codes "s1") 100 (whole 10 + 1) ∷ []))
-    (Some (found property.Limit which.Trades 1 (Some (shown.Order (line 1 Buy (codes "b1") 100 10 100))) (Some (shown.Order (line 2 Sell (codes "s1") 100 9 100)))))
+    (Some (finding_at_record property.Limit which.Trades 1 (Some (shown.Order (line 1 Buy (codes "b1") 100 10 100))) (Some (shown.Order (line 2 Sell (codes "s1") 100 9 100)))))
 unfolding all_definitions
 price_over_the_limit = refl
 
 -- unknown-sell-order and duplicate-trade
 pub unknown_sell_order : IsVerdict rule.Matching symbol one_trade_orders (Ok (trade (codes "T1") (codes "b1") (codes "s9") 100 (half_over 9) ∷ []))
-    (Some (found property.UnknownOrder which.Trades 1 (Some (shown.Unknown Sell (key Sell (codes "s9")))) None))
+    (Some (finding_at_record property.UnknownOrder which.Trades 1 (Some (shown.Unknown Sell (key Sell (codes "s9")))) None))
 unfolding all_definitions
 unknown_sell_order = refl
 
 pub duplicate_trade : IsVerdict rule.Matching symbol one_trade_orders (Ok (trade (codes "T1") (codes "b1") (codes "s1") 50 (half_over 9) ∷ trade (codes "T1") (codes "b1") (codes "s1") 50 (half_over 9) ∷ []))
-    (Some (found property.DuplicateTrade which.Trades 2 (Some (shown.Place which.Trades 1)) None))
+    (Some (finding_at_record property.DuplicateTrade which.Trades 2 (Some (shown.Place which.Trades 1)) None))
 unfolding all_definitions
 duplicate_trade = refl
 
 -- duplicate-id, time-back and unknown-target
 pub duplicate_id : IsVerdict rule.Matching symbol (new_order Buy (codes "b1") 5 10 ∷ new_order Buy (codes "b1") 6 11 ∷ []) (Ok [])
-    (Some (found property.DuplicateId which.Orders 2 (Some (shown.Place which.Orders 1)) None))
+    (Some (finding_at_record property.DuplicateId which.Orders 2 (Some (shown.Place which.Orders 1)) None))
 unfolding all_definitions
 duplicate_id = refl
 
 pub time_back : IsVerdict rule.Matching symbol (New (key Buy (codes "b1")) (at 1) symbol Buy 5 (whole 10) Rests ∷ New (key Buy (codes "b2")) (at 0) symbol Buy 5 (whole 10) Rests ∷ []) (Ok [])
-    (Some (found property.TimeBack which.Orders 2 (Some (shown.Place which.Orders 1)) None))
+    (Some (finding_at_record property.TimeBack which.Orders 2 (Some (shown.Place which.Orders 1)) None))
 unfolding all_definitions
 time_back = refl
 
-pub unknown_target : IsVerdict rule.Matching symbol (cancel Buy (codes "x1") (codes "b9") ∷ []) (Ok []) (Some (found property.UnknownTarget which.Orders 1 None None))
+pub unknown_target : IsVerdict rule.Matching symbol (cancel Buy (codes "x1") (codes "b9") ∷ []) (Ok []) (Some (finding_at_record property.UnknownTarget which.Orders 1 None None))
 unfolding all_definitions
 unknown_target = refl
 
 -- immediate-in-a-call: an immediate order is refused under a call's rule
 pub immediate_in_a_call : IsVerdict rule.Maximum symbol (immediate_order Buy (codes "i1") 5 10 ∷ new_order Sell (codes "s1") 5 9 ∷ []) (Ok [])
-    (Some (found property.InstantOrder which.Orders 1 None None))
+    (Some (finding_at_record property.InstantOrder which.Orders 1 None None))
 unfolding all_definitions
 immediate_in_a_call = refl
 
@@ -126,13 +126,13 @@ abbrev skipped_trades : List TradeRecord
 skipped_trades = trade (codes "T1") (codes "b2") (codes "s1") 5 (whole 10) ∷ []
 
 pub buyer_skipped : IsVerdict rule.Fair symbol skipped_orders (Ok skipped_trades)
-    (Some (found property.BuyPriority which.Trades 1 (Some (shown.Order (line 1 Buy (codes "b1") 5 10 0))) (Some (shown.Order (line 2 Buy (codes "b2") 5 10 5)))))
+    (Some (finding_at_record property.BuyPriority which.Trades 1 (Some (shown.Order (line 1 Buy (codes "b1") 5 10 0))) (Some (shown.Order (line 2 Buy (codes "b2") 5 10 5)))))
 unfolding all_definitions
 buyer_skipped = refl
 
 pub buyer_skipped_and_another : IsVerdict rule.Fair symbol
     (new_order Buy (codes "b1") 5 10 ∷ new_order Buy (codes "b2") 5 10 ∷ new_order Sell (codes "s1") 5 9 ∷ new_order Buy (codes "b3") 5 10 ∷ []) (Ok skipped_trades)
-    (Some (found property.BuyPriority which.Trades 1 (Some (shown.Order (line 1 Buy (codes "b1") 5 10 0))) (Some (shown.Order (line 2 Buy (codes "b2") 5 10 5)))))
+    (Some (finding_at_record property.BuyPriority which.Trades 1 (Some (shown.Order (line 1 Buy (codes "b1") 5 10 0))) (Some (shown.Order (line 2 Buy (codes "b2") 5 10 5)))))
 unfolding all_definitions
 buyer_skipped_and_another = refl
 
@@ -165,7 +165,7 @@ crossed_pair_maximum =
     let m : Matching crossed_pair deals = no_offence-matching false crossed_pair deals (all_named crossed_pair deals refl) refl in
     record { matching = m; fair = no_offence-fair crossed_pair deals m refl; greatest = cut-greatest crossed_pair deals 0 refl }
 
-pub crossed_pair_maximum-bound : IsBound of_volume.Maximum (orders_in crossed_orders) 2 0
+pub crossed_pair_maximum-bound : IsBoundPrice of_volume.Maximum (orders_in crossed_orders) 2 0
 unfolding all_definitions
 crossed_pair_maximum-bound = record { holds = (omega arith, refl); none_below = λ k lt. absurd (omega arith) }
 
@@ -175,7 +175,7 @@ pub expect_maximum : maximum_deals (orders_in crossed_orders) 2
 unfolding all_definitions
 expect_maximum = refl
 
-pub crossed_pair_uniform : IsVerdict rule.Uniform symbol crossed_orders (Ok crossed_trades) (Some (found property.UniformPrice which.Trades 2 (Some (shown.Place which.Trades 1)) None))
+pub crossed_pair_uniform : IsVerdict rule.Uniform symbol crossed_orders (Ok crossed_trades) (Some (finding_at_record property.UniformPrice which.Trades 2 (Some (shown.Place which.Trades 1)) None))
 unfolding all_definitions
 crossed_pair_uniform = refl
 
@@ -206,7 +206,7 @@ staircase_uniform =
     }
 
 -- the bound is 2: below it at most one unit is offered
-pub staircase_uniform-bound : IsBound of_volume.Uniform staircase 2 (whole 2)
+pub staircase_uniform-bound : IsBoundPrice of_volume.Uniform staircase 2 (whole 2)
 unfolding all_definitions
 staircase_uniform-bound = record {
   holds = (omega arith, refl);
@@ -424,7 +424,7 @@ abbrev cancelled_orders : List OrderRecord
 cancelled_orders = new_order Sell (codes "s1") 5 10 ∷ new_order Buy (codes "b1") 3 10 ∷ cancel Sell (codes "x1") (codes "s1") ∷ new_order Buy (codes "b2") 2 10 ∷ []
 
 pub cancelled_sell_maximum : IsVerdict rule.Maximum symbol cancelled_orders (Ok (trade (codes "T1") (codes "b1") (codes "s1") 3 (whole 10) ∷ []))
-    (Some (found property.Inactive which.Trades 1 (Some (shown.Order (line 1 Sell (codes "s1") 5 10 3))) None))
+    (Some (finding_at_record property.Inactive which.Trades 1 (Some (shown.Order (line 1 Sell (codes "s1") 5 10 3))) None))
 unfolding all_definitions
 cancelled_sell_maximum = refl
 
@@ -458,7 +458,7 @@ greatest_numbers =
     let m : Matching great [] = no_offence-matching false great [] (all_named great [] refl) refl in
     record { matching = m; fair = no_offence-fair great [] m refl; greatest = cut-greatest great [] (10 ^ 18) refl }
 
-pub greatest_numbers-bound : IsBound of_volume.Maximum great 0 (10 ^ 18)
+pub greatest_numbers-bound : IsBoundPrice of_volume.Maximum great 0 (10 ^ 18)
 unfolding all_definitions
 greatest_numbers-bound = record {
   holds = (omega arith, refl);
@@ -486,7 +486,7 @@ table_of_a_call =
     let m : Matching table deals = no_offence-matching false table deals (all_named table deals refl) refl in
     record { matching = m; fair = no_offence-fair table deals m refl; greatest = cut-greatest table deals (whole 10 + 1) refl }
 
-pub table_of_a_call-bound : IsBound of_volume.Maximum table 20 (whole 10 + 1)
+pub table_of_a_call-bound : IsBoundPrice of_volume.Maximum table 20 (whole 10 + 1)
 unfolding all_definitions
 table_of_a_call-bound = record {
   holds = (omega arith, refl);

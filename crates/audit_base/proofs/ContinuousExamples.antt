@@ -12,8 +12,8 @@ use Rattle.audit_base.specs.declared.findings.Property.TheVariants as property
 use Rattle.audit_base.specs.declared.findings.Shown.TheVariants as shown
 use Rattle.audit_base.specs.Numbers.{market_price}
 use Rattle.audit_base.specs.Deals.{pair}
-use Rattle.audit_base.specs.Shows.{found}
-use Rattle.audit_base.specs.Continuous.{traded_before, before, size, left}
+use Rattle.audit_base.specs.Shows.{finding_at_record}
+use Rattle.audit_base.specs.Continuous.{traded_before, before_quantity_by_past, size_by_past, left_before_by_past}
 use Rattle.audit_base.specs.ContinuousRules.{ConformsContinuous}
 use Rattle.audit_base.specs.Expected.{IsExpected}
 use Rattle.audit_base.specs.Verdicts.{IsVerdict}
@@ -31,7 +31,7 @@ abbrev cancelled_two : List TradeRecord
 cancelled_two = trade (codes "T1") (codes "b1") (codes "s1") 3 (whole 10) ∷ trade (codes "T2") (codes "b2") (codes "s1") 2 (whole 10) ∷ []
 
 pub cancelled_resting_sell : IsVerdict rule.Continuous symbol cancelled_orders (Ok cancelled_two)
-    (Some (found property.Inactive which.Trades 2 (Some (shown.Order (line 1 Sell (codes "s1") 5 10 5))) None))
+    (Some (finding_at_record property.Inactive which.Trades 2 (Some (shown.Order (line 1 Sell (codes "s1") 5 10 5))) None))
 unfolding all_definitions
 cancelled_resting_sell = record { place = 4; before = no_faults-conform (orders_in cancelled_orders) (deals_in cancelled_orders cancelled_two) 4 refl; here = refl }
 
@@ -49,7 +49,7 @@ abbrev crossed_orders : List OrderRecord
 crossed_orders = new_order Sell (codes "s1") 5 12 ∷ new_order Buy (codes "b1") 5 9 ∷ new_order Sell (codes "s2") 5 11 ∷ new_order Buy (codes "b2") 5 11 ∷ []
 
 pub crossed_book : IsVerdict rule.Continuous symbol crossed_orders (Ok [])
-    (Some (found property.Spread which.Orders 4 (Some (shown.Order (line 4 Buy (codes "b2") 5 11 0))) (Some (shown.Order (line 3 Sell (codes "s2") 5 11 0)))))
+    (Some (finding_at_record property.Spread which.Orders 4 (Some (shown.Order (line 4 Buy (codes "b2") 5 11 0))) (Some (shown.Order (line 3 Sell (codes "s2") 5 11 0)))))
 unfolding all_definitions
 crossed_book = record { place = 4; before = no_faults-conform (orders_in crossed_orders) [] 4 refl; here = refl }
 
@@ -62,7 +62,7 @@ crossed_then_cancelled_orders = new_order Sell (codes "s1") 5 12 ∷ new_order B
     ∷ cancel Sell (codes "x1") (codes "s2") ∷ cancel Buy (codes "x2") (codes "b2") ∷ []
 
 pub crossed_then_cancelled : IsVerdict rule.Continuous symbol crossed_then_cancelled_orders (Ok [])
-    (Some (found property.Spread which.Orders 4 (Some (shown.Order (line 4 Buy (codes "b2") 5 11 0))) (Some (shown.Order (line 3 Sell (codes "s2") 5 11 0)))))
+    (Some (finding_at_record property.Spread which.Orders 4 (Some (shown.Order (line 4 Buy (codes "b2") 5 11 0))) (Some (shown.Order (line 3 Sell (codes "s2") 5 11 0)))))
 unfolding all_definitions
 crossed_then_cancelled = record { place = 4; before = no_faults-conform (orders_in crossed_then_cancelled_orders) [] 4 refl; here = refl }
 
@@ -86,7 +86,7 @@ abbrev skipped_trades : List TradeRecord
 skipped_trades = trade (codes "T1") (codes "b1") (codes "s2") 5 (whole 11) ∷ []
 
 pub seller_skipped : IsVerdict rule.Continuous symbol skipped_orders (Ok skipped_trades)
-    (Some (found property.SellPriority which.Trades 1 (Some (shown.Order (line 1 Sell (codes "s1") 5 10 0))) (Some (shown.Order (line 2 Sell (codes "s2") 5 11 5)))))
+    (Some (finding_at_record property.SellPriority which.Trades 1 (Some (shown.Order (line 1 Sell (codes "s1") 5 10 0))) (Some (shown.Order (line 2 Sell (codes "s2") 5 11 5)))))
 unfolding all_definitions
 seller_skipped = record { place = 3; before = no_faults-conform (orders_in skipped_orders) (deals_in skipped_orders skipped_trades) 3 refl; here = refl }
 
@@ -102,20 +102,20 @@ unfolding all_definitions
 replaced_and_filled = no_faults-conforms (orders_in replaced_orders) (deals_in replaced_orders (replaced_trades 6)) 4
     (all_named (orders_in replaced_orders) (deals_in replaced_orders (replaced_trades 6)) refl) (is_last (orders_in replaced_orders) 4 refl) refl
 
-pub replaced_and_filled-before : before (orders_in replaced_orders) (traded_before (orders_in replaced_orders) (deals_in replaced_orders (replaced_trades 6))) 2 ≡ 4
+pub replaced_and_filled-before : before_quantity_by_past (orders_in replaced_orders) (traded_before (orders_in replaced_orders) (deals_in replaced_orders (replaced_trades 6))) 2 ≡ 4
 unfolding all_definitions
 replaced_and_filled-before = refl
 
-pub replaced_and_filled-size : size (orders_in replaced_orders) (traded_before (orders_in replaced_orders) (deals_in replaced_orders (replaced_trades 6))) 2 ≡ 6
+pub replaced_and_filled-size : size_by_past (orders_in replaced_orders) (traded_before (orders_in replaced_orders) (deals_in replaced_orders (replaced_trades 6))) 2 ≡ 6
 unfolding all_definitions
 replaced_and_filled-size = refl
 
-pub replaced_and_filled-left : left (orders_in replaced_orders) (traded_before (orders_in replaced_orders) (deals_in replaced_orders (replaced_trades 6))) 5 3 ≡ 3
+pub replaced_and_filled-left : left_before_by_past (orders_in replaced_orders) (traded_before (orders_in replaced_orders) (deals_in replaced_orders (replaced_trades 6))) 5 3 ≡ 3
 unfolding all_definitions
 replaced_and_filled-left = refl
 
 pub replacement_overfilled : IsVerdict rule.Continuous symbol replaced_orders (Ok (replaced_trades 7))
-    (Some (found property.SellQuantity which.Trades 2 (Some (shown.Order (line 3 Sell (codes "r1") 10 11 11))) None))
+    (Some (finding_at_record property.SellQuantity which.Trades 2 (Some (shown.Order (line 3 Sell (codes "r1") 10 11 11))) None))
 unfolding all_definitions
 replacement_overfilled = record { place = 4; before = no_faults-conform (orders_in replaced_orders) (deals_in replaced_orders (replaced_trades 7)) 4 refl; here = refl }
 
@@ -134,7 +134,7 @@ market_partly_filled = no_faults-conforms (orders_in market_orders) (deals_in ma
 abbrev market_line : OrderLine
 market_line = record { place = 2; side = Buy; key = key Buy (codes "m1"); quantity = 8; limit = market_price Buy; traded = 0 }
 
-pub market_unfilled : IsVerdict rule.Continuous symbol market_orders (Ok []) (Some (found property.Spread which.Orders 2 (Some (shown.Order market_line)) (Some (shown.Order (line 1 Sell (codes "s1") 5 10 0)))))
+pub market_unfilled : IsVerdict rule.Continuous symbol market_orders (Ok []) (Some (finding_at_record property.Spread which.Orders 2 (Some (shown.Order market_line)) (Some (shown.Order (line 1 Sell (codes "s1") 5 10 0)))))
 unfolding all_definitions
 market_unfilled = record { place = 2; before = no_faults-conform (orders_in market_orders) [] 2 refl; here = refl }
 
@@ -150,6 +150,6 @@ abbrev late_trades : List TradeRecord
 late_trades = trade (codes "T1") (codes "i1") (codes "s1") 5 (whole 9) ∷ []
 
 pub immediate_trades_late : IsVerdict rule.Continuous symbol immediate_orders (Ok late_trades)
-    (Some (found property.Inactive which.Trades 1 (Some (shown.Order (line 1 Buy (codes "i1") 5 10 5))) None))
+    (Some (finding_at_record property.Inactive which.Trades 1 (Some (shown.Order (line 1 Buy (codes "i1") 5 10 5))) None))
 unfolding all_definitions
 immediate_trades_late = record { place = 2; before = no_faults-conform (orders_in immediate_orders) (deals_in immediate_orders late_trades) 2 refl; here = refl }

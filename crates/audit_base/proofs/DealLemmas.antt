@@ -10,37 +10,37 @@ use Rattle.audit_base.specs.declared.orders.Deal.{Deal}
 use Rattle.audit_base.specs.Sums.{sum_below}
 use Rattle.audit_base.specs.Orders.{side_at, limit_at, same_side}
 use Rattle.audit_base.specs.Priority.{Better}
-use Rattle.audit_base.specs.Deals.{names, part_of, traded, pair, volume, NamesOrders}
-use Rattle.audit_base.specs.Calls.{Keeps, Matching, Fair, OnePrice, Greatest, GreatestUniform, ConformsFair, ConformsUniform, ConformsMaximum}
-use Rattle.audit_base.specs.Continuous.{cause, resting, traded_before, size, left, rests, active}
+use Rattle.audit_base.specs.Deals.{names_order, quantity_traded_by, traded, pair, volume, NamesOrders}
+use Rattle.audit_base.specs.Calls.{IsMatchingDeal, Matching, Fair, OnePrice, Greatest, GreatestUniform, ConformsFair, ConformsUniform, ConformsMaximum}
+use Rattle.audit_base.specs.Continuous.{cause, resting_order, traded_before, size_by_past, left_before_by_past, rests_before_by_past, active_after_by_past}
 use Rattle.audit_base.specs.ContinuousRules.{KeepsLimits, ConformsAt, ConformsContinuous}
 use Rattle.audit_base.proofs.SumLemmas.{sum_by-below, sum_by-same, sum_by-none, below-same, below-single}
 use Rattle.audit_base.proofs.OrderLemmas.{not_both_sides, same_side-is, is-same_side}
 
-pub keeps-names : (orders : List Order) (d : Deal) → Keeps orders d → NamesOrders orders d
+pub keeps-names : (orders : List Order) (d : Deal) → IsMatchingDeal orders d → NamesOrders orders d
 keeps-names orders d k = record { bid_inside = k.bid_stands.inside; ask_inside = k.ask_stands.inside; buys = k.bid_stands.of_side; sells = k.ask_stands.of_side }
 
 -- the part of a deal that belongs to its bid, and to its ask, is its quantity
-pub part-bid : (d : Deal) → part_of d.bid d ≡ d.quantity
-part-bid d = cond-true (names d.bid d) d.quantity 0 (or_left _ _ (eq-eqb d.bid d.bid refl))
+pub part-bid : (d : Deal) → quantity_traded_by d.bid d ≡ d.quantity
+part-bid d = cond-true (names_order d.bid d) d.quantity 0 (or_left _ _ (eq-eqb d.bid d.bid refl))
 
-pub part-ask : (d : Deal) → part_of d.ask d ≡ d.quantity
-part-ask d = cond-true (names d.ask d) d.quantity 0 (or_right _ _ (eq-eqb d.ask d.ask refl))
+pub part-ask : (d : Deal) → quantity_traded_by d.ask d ≡ d.quantity
+part-ask d = cond-true (names_order d.ask d) d.quantity 0 (or_right _ _ (eq-eqb d.ask d.ask refl))
 
 -- an order of a side has a part of a deal only where it is the deal's order of that side
-pub part-other_bid : (orders : List Order) (d : Deal) → NamesOrders orders d → (i : ℕ) → side_at orders i ≡ Buy → i ≢ d.bid → part_of i d ≡ 0
+pub part-other_bid : (orders : List Order) (d : Deal) → NamesOrders orders d → (i : ℕ) → side_at orders i ≡ Buy → i ≢ d.bid → quantity_traded_by i d ≡ 0
 part-other_bid orders d n i buys ne =
     let away : d.ask ≢ i = λ e. not_both_sides (sym buys ∙ ap (side_at orders) (sym e) ∙ n.sells) in
-    cond-false (names i d) d.quantity 0 (or_from _ _ (ne_eqb d.bid i (λ e. ne (sym e))) (ne_eqb d.ask i away))
+    cond-false (names_order i d) d.quantity 0 (or_from _ _ (ne_eqb d.bid i (λ e. ne (sym e))) (ne_eqb d.ask i away))
 
-pub part-other_ask : (orders : List Order) (d : Deal) → NamesOrders orders d → (i : ℕ) → side_at orders i ≡ Sell → i ≢ d.ask → part_of i d ≡ 0
+pub part-other_ask : (orders : List Order) (d : Deal) → NamesOrders orders d → (i : ℕ) → side_at orders i ≡ Sell → i ≢ d.ask → quantity_traded_by i d ≡ 0
 part-other_ask orders d n i sells ne =
     let away : d.bid ≢ i = λ e. not_both_sides (sym n.buys ∙ ap (side_at orders) e ∙ sells) in
-    cond-false (names i d) d.quantity 0 (or_from _ _ (ne_eqb d.bid i away) (ne_eqb d.ask i (λ e. ne (sym e))))
+    cond-false (names_order i d) d.quantity 0 (or_from _ _ (ne_eqb d.bid i away) (ne_eqb d.ask i (λ e. ne (sym e))))
 
 -- the part of a deal that belongs to an order, where the order is of the side
 abbrev pub part_on : List Order → Side → Deal → ℕ → ℕ
-part_on orders side d i = cond (same_side side (side_at orders i)) (part_of i d) 0
+part_on orders side d i = cond (same_side side (side_at orders i)) (quantity_traded_by i d) 0
 
 cond-none : (b : Bool) (z : ℕ) → cond b z z ≡ z
 cond-none true z = refl
@@ -50,17 +50,17 @@ part-on_bids : (orders : List Order) (d : Deal) → NamesOrders orders d → sum
 part-on_bids orders d n =
     below-single (part_on orders Buy d) (length orders) d.bid n.bid_inside (λ i lt ne. elim (cases_Bool (same_side Buy (side_at orders i))) [
       | inl on ↦ let none = part-other_bid orders d n i (same_side-is Buy _ on) ne in rw none (cond-none _ 0)
-      | inr off ↦ cond-false _ (part_of i d) 0 off
+      | inr off ↦ cond-false _ (quantity_traded_by i d) 0 off
     ])
-    ∙ cond-true _ (part_of d.bid d) 0 (is-same_side Buy _ (sym n.buys)) ∙ part-bid d
+    ∙ cond-true _ (quantity_traded_by d.bid d) 0 (is-same_side Buy _ (sym n.buys)) ∙ part-bid d
 
 part-on_asks : (orders : List Order) (d : Deal) → NamesOrders orders d → sum_below (part_on orders Sell d) (length orders) ≡ d.quantity
 part-on_asks orders d n =
     below-single (part_on orders Sell d) (length orders) d.ask n.ask_inside (λ i lt ne. elim (cases_Bool (same_side Sell (side_at orders i))) [
       | inl on ↦ let none = part-other_ask orders d n i (same_side-is Sell _ on) ne in rw none (cond-none _ 0)
-      | inr off ↦ cond-false _ (part_of i d) 0 off
+      | inr off ↦ cond-false _ (quantity_traded_by i d) 0 off
     ])
-    ∙ cond-true _ (part_of d.ask d) 0 (is-same_side Sell _ (sym n.sells)) ∙ part-ask d
+    ∙ cond-true _ (quantity_traded_by d.ask d) 0 (is-same_side Sell _ (sym n.sells)) ∙ part-ask d
 
 cond-sum : (b : Bool) (f : Deal → ℕ) (deals : List Deal) → cond b (sum_by f deals) 0 ≡ sum_by (λ d. cond b (f d) 0) deals
 cond-sum true f deals = refl
@@ -73,7 +73,7 @@ side_traded orders deals side = sum_below (λ i. cond (same_side side (side_at o
 side-parts : (orders : List Order) (deals : List Deal) (side : Side) → side_traded orders deals side ≡ sum_by (λ d. sum_below (part_on orders side d) (length orders)) deals
 side-parts orders deals side =
     below-same (λ i. cond (same_side side (side_at orders i)) (traded deals i) 0) (λ i. sum_by (λ d. part_on orders side d i) deals) (length orders)
-    (λ i lt. cond-sum (same_side side (side_at orders i)) (part_of i) deals)
+    (λ i lt. cond-sum (same_side side (side_at orders i)) (quantity_traded_by i) deals)
     ∙ sym (sum_by-below (part_on orders side) deals (length orders))
 
 -- Traded of all bids, and of all asks, is Volume
@@ -89,7 +89,7 @@ asks-volume orders deals named = side-parts orders deals Sell
 
 module _ (ds es : List Deal) (same : IsPermutation ds es) where
   pub traded-permutation : (i : ℕ) → traded es i ≡ traded ds i
-  traded-permutation i = sum_by-IsPermutation (part_of i) ds es same
+  traded-permutation i = sum_by-IsPermutation (quantity_traded_by i) ds es same
 
   pub volume-permutation : volume es ≡ volume ds
   volume-permutation = sum_by-IsPermutation (λ d. d.quantity) ds es same
@@ -99,7 +99,7 @@ module _ (ds es : List Deal) (same : IsPermutation ds es) where
 
   pub Matching-permutation : (orders : List Order) → Matching orders ds → Matching orders es
   Matching-permutation orders m = record {
-    kept = All-permutation (Keeps orders) ds es same m.kept;
+    kept = All-permutation (IsMatchingDeal orders) ds es same m.kept;
     within = λ i lt. let e = traded-permutation i in let w = m.within i lt in omega arith;
   }
 
@@ -133,7 +133,7 @@ module _ (ds es : List Deal) (same : IsPermutation ds es) where
 
   pub traded_before-permutation : (orders : List Order) → traded_before orders ds ≡ traded_before orders es
   unfolding traded_before
-  traded_before-permutation orders = λ i p k. sym (sum_by-IsPermutation (λ d. cond (names k d && nat_lt (cause orders d) p) d.quantity 0) ds es same) i
+  traded_before-permutation orders = λ i p k. sym (sum_by-IsPermutation (λ d. cond (names_order k d && nat_lt (cause orders d) p) d.quantity 0) ds es same) i
 
   pub ConformsAt-permutation : (orders : List Order) (i : ℕ) → ConformsAt orders ds i → ConformsAt orders es i
   ConformsAt-permutation orders i c =
@@ -145,15 +145,15 @@ module _ (ds es : List Deal) (same : IsPermutation ds es) where
       record {
         conservation = record {
           limits = All-permutation (λ d. cause orders d ≡ i → KeepsLimits orders d) ds es same limits;
-          resting = All-permutation (λ d. cause orders d ≡ i → rests orders (traded_before orders es) i (resting orders d) ≡ true) ds es same
-              (subst (λ q. All (λ d. cause orders d ≡ i → rests orders q i (resting orders d) ≡ true) ds) past before);
-          within = subst (λ q. (k : ℕ) → k < length orders → q (suc i) k ≤ size orders q k) past within;
+          resting = All-permutation (λ d. cause orders d ≡ i → rests_before_by_past orders (traded_before orders es) i (resting_order orders d) ≡ true) ds es same
+              (subst (λ q. All (λ d. cause orders d ≡ i → rests_before_by_past orders q i (resting_order orders d) ≡ true) ds) past before);
+          within = subst (λ q. (k : ℕ) → k < length orders → q (suc i) k ≤ size_by_past orders q k) past within;
         };
-        priority = All-permutation (λ d. cause orders d ≡ i → (k : ℕ) → k < length orders → rests orders (traded_before orders es) i k ≡ true
-            → Better orders k (resting orders d) → left orders (traded_before orders es) (suc i) k ≡ 0) ds es same (subst (λ q. All (λ d. cause orders d ≡ i → (k : ℕ) → k < length orders → rests orders q i k ≡ true
-            → Better orders k (resting orders d) → left orders q (suc i) k ≡ 0) ds) past priority);
+        priority = All-permutation (λ d. cause orders d ≡ i → (k : ℕ) → k < length orders → rests_before_by_past orders (traded_before orders es) i k ≡ true
+            → Better orders k (resting_order orders d) → left_before_by_past orders (traded_before orders es) (suc i) k ≡ 0) ds es same (subst (λ q. All (λ d. cause orders d ≡ i → (k : ℕ) → k < length orders → rests_before_by_past orders q i k ≡ true
+            → Better orders k (resting_order orders d) → left_before_by_past orders q (suc i) k ≡ 0) ds) past priority);
         spread = subst (λ q. (b a : ℕ) → b < length orders → a < length orders → side_at orders b ≡ Buy → side_at orders a ≡ Sell
-            → active orders q i b ≡ true → active orders q i a ≡ true → limit_at orders b < limit_at orders a) past c.spread;
+            → active_after_by_past orders q i b ≡ true → active_after_by_past orders q i a ≡ true → limit_at orders b < limit_at orders a) past c.spread;
       }
 
   pub ConformsContinuous-permutation : (orders : List Order) → ConformsContinuous orders ds → ConformsContinuous orders es

@@ -33,7 +33,7 @@ pub ten_more : (value digit i : ℕ) → value < 10 ^ i → digit ≤ 9 → valu
 ten_more value digit i below few =
     let e : 10 ^ (i + 1) ≡ 10 ^ i * 10 = pow-add 10 i 1 in rw e (omega arith)
 
--- the last digit of a number stands last
+-- the last digit of a number comes last
 pub fixed_digits_last : (width number : ℕ) → 0 < width → fixed_digits width number ≡ fixed_digits (width - 1) (number / 10) ++ (48 + number % 10) ∷ []
 unfolding fixed_digits
 fixed_digits_last zero number some = absurd (omega arith)

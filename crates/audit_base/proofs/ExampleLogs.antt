@@ -17,14 +17,14 @@ use Rattle.audit_base.specs.declared.orders.Deal.{Deal}
 use Rattle.audit_base.specs.declared.findings.OrderLine.{OrderLine}
 use Rattle.audit_base.specs.Numbers.{market_price}
 use Rattle.audit_base.specs.Orders.{side_at, same_side}
-use Rattle.audit_base.specs.Priority.{best}
-use Rattle.audit_base.specs.Deals.{NamesOrders, IsDeal, AreDeals}
+use Rattle.audit_base.specs.Priority.{best_order}
+use Rattle.audit_base.specs.Deals.{NamesOrders, DealInRange, DealsInRange}
 use Rattle.audit_base.specs.Histories.{order_list}
-use Rattle.audit_base.specs.Trades.{trades_of, duplicate_trade, unknown_order, unsound_trade, deals_of}
-use Rattle.audit_base.specs.CallOffences.{call_inactive, call_off_limit, other_price, bid_overfilled, ask_overfilled, best_short, is_outranked_by_short, bid_passed_over, ask_passed_over}
-use Rattle.audit_base.specs.Continuous.{traded_before, traded_at, chain, before, entered, size, rests, active}
-use Rattle.audit_base.specs.ContinuousOffences.{continuous_inactive, continuous_off_limit, over_size, priority_finding, active_meet, spread_finding}
-use Rattle.audit_base.specs.Expected.{pair_deals, available, pair_share}
+use Rattle.audit_base.specs.Trades.{trades_of_symbol, duplicate_trade, unknown_order, unsound_trade, deals_of_symbol}
+use Rattle.audit_base.specs.CallOffences.{call_inactive_finding, call_limit_finding, uniform_price_finding, bid_quantity_finding, ask_quantity_finding, best_short, is_outranked_by_short, bid_priority_finding, ask_priority_finding}
+use Rattle.audit_base.specs.Continuous.{traded_before, traded_at, chain, before_quantity_by_past, entered_by_past, size_by_past, rests_before_by_past, active_after_by_past}
+use Rattle.audit_base.specs.ContinuousOffences.{continuous_inactive_finding, continuous_limit_finding, size_finding, resting_priority_finding, active_orders_meet, spread_finding}
+use Rattle.audit_base.specs.Expected.{pair_deals, available_quantity, pair_share}
 use Rattle.audit_base.proofs.OrderLemmas.{same_side-is}
 use Rattle.audit_base.proofs.ContinuousOffenceLemmas.{IsLast}
 
@@ -38,7 +38,7 @@ firm Sell = codes "B"
 abbrev pub key : Side → List ℕ → Key
 key side id = record { firm = firm side; id = id }
 
--- 20240102-09:00:00, and so many seconds later
+-- 20240102-09:00:00, and as many seconds later as are given
 abbrev pub at : ℕ → Moment
 at later = record { second = 66137316300 + later; nano = 0 }
 
@@ -72,7 +72,7 @@ abbrev pub orders_in : List OrderRecord → List Order
 orders_in entries = order_list symbol entries
 
 abbrev pub deals_in : List OrderRecord → List TradeRecord → List Deal
-deals_in entries trades = deals_of (order_list symbol entries) symbol trades
+deals_in entries trades = deals_of_symbol (order_list symbol entries) symbol trades
 
 -- an order as a finding shows it
 abbrev pub line : ℕ → Side → List ℕ → ℕ → ℕ → ℕ → OrderLine
@@ -80,7 +80,7 @@ line place side id quantity price traded = record { place = place; side = side; 
 
 -- what an example computes with: to unfold this is to unfold all that its line names
 unfoldable pub all_definitions : ℕ
-unfolding trades_of duplicate_trade unknown_order unsound_trade deals_of best call_inactive call_off_limit other_price bid_overfilled ask_overfilled best_short is_outranked_by_short bid_passed_over ask_passed_over traded_before traded_at chain before entered size rests active continuous_inactive continuous_off_limit over_size priority_finding active_meet spread_finding pair_deals available pair_share
+unfolding trades_of_symbol duplicate_trade unknown_order unsound_trade deals_of_symbol best_order call_inactive_finding call_limit_finding uniform_price_finding bid_quantity_finding ask_quantity_finding best_short is_outranked_by_short bid_priority_finding ask_priority_finding traded_before traded_at chain before_quantity_by_past entered_by_past size_by_past rests_before_by_past active_after_by_past continuous_inactive_finding continuous_limit_finding size_finding resting_priority_finding active_orders_meet spread_finding pair_deals available_quantity pair_share
 all_definitions = 0
 
 -- whether each deal names a bid and an ask, as a test
@@ -104,17 +104,17 @@ all_named orders (d ∷ ds) t =
 abbrev pub range_test : Deal → Bool
 range_test d = nat_lt 0 d.quantity && nat_le d.quantity (10 ^ 12) && nat_lt d.price (10 ^ 18)
 
-test-range : (d : Deal) → range_test d ≡ true → IsDeal d
+test-range : (d : Deal) → range_test d ≡ true → DealInRange d
 test-range d t =
     let parts = and_parts (nat_lt 0 d.quantity && nat_le d.quantity (10 ^ 12)) (nat_lt d.price (10 ^ 18)) t in
     let quantity = and_parts (nat_lt 0 d.quantity) (nat_le d.quantity (10 ^ 12)) parts.0 in
     record { some = ltb-true _ _ quantity.0; most = leb-true _ _ quantity.1; priced = ltb-true _ _ parts.1 }
 
-pub all_in_range : (deals : List Deal) → list_all range_test deals ≡ true → AreDeals deals
-all_in_range [] t = All-nil IsDeal
+pub all_in_range : (deals : List Deal) → list_all range_test deals ≡ true → DealsInRange deals
+all_in_range [] t = All-nil DealInRange
 all_in_range (d ∷ ds) t =
     let parts = and_parts (range_test d) (list_all range_test ds) t in
-    All-cons IsDeal d ds (test-range d parts.0) (all_in_range ds parts.1)
+    All-cons DealInRange d ds (test-range d parts.0) (all_in_range ds parts.1)
 
 -- whether each place is at most the last, as a test
 abbrev pub last_test : ℕ → Order → Bool

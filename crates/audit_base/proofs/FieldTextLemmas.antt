@@ -8,7 +8,7 @@ use Rattle.std.proofs.lemmas.List.{length-append}
 use Rattle.audit_base.specs.Digits.{fixed_digits, fraction_digits}
 use Rattle.audit_base.specs.Moments.{Moment}
 use Rattle.audit_base.specs.Names.{is_name, is_name_byte}
-use Rattle.audit_base.specs.Numbers.{after_point, price_text}
+use Rattle.audit_base.specs.Numbers.{point_and_digits, price_text}
 use Rattle.audit_base.specs.Stamps.{clock_text, date_text, nano_text, stamp_text}
 use Rattle.audit_base.proofs.StampLemmas.{length-clock_text, length-date_text}
 use Rattle.audit_base.proofs.UnquotedLemmas.{decimal_is_unquoted, price_is_unquoted, stamp_is_unquoted}
@@ -59,7 +59,7 @@ length-fraction (suc places) number =
     let P : List ℕ → Type 0 = λ text. length text ≤ suc places in
     cond_both (number % 10 == 0) _ _ P (λ _. (let h = length-fraction places (number / 10) in omega (arith, h))) (λ _. omega (arith, length-fixed_digits (suc places) number))
 
-length-after_point : (digits : List ℕ) → length (after_point digits) ≤ 1 + length digits
+length-after_point : (digits : List ℕ) → length (point_and_digits digits) ≤ 1 + length digits
 length-after_point [] = omega arith
 length-after_point (digit ∷ digits) = omega arith
 
@@ -71,5 +71,5 @@ price_is_name units most =
     let some = decimal-some (units / 10 ^ 8) (omega (arith, most)) in
     let after = length-after_point fraction in
     let few = length-fraction 8 (units % 10 ^ 8) in
-    let all : length (price_text units) ≡ length whole + length (after_point fraction) = length-append whole (after_point fraction) in
+    let all : length (price_text units) ≡ length whole + length (point_and_digits fraction) = length-append whole (point_and_digits fraction) in
     in-name (price_text units) (omega (arith, some, all)) (omega (arith, size, after, few, all)) (price_is_unquoted units most)

@@ -15,8 +15,8 @@ use Rattle.audit_base.specs.declared.records.OrderRecord.{OrderRecord}
 use Rattle.audit_base.specs.declared.records.OrderRecord.TheVariants.{New, Cancel, Replace}
 use Rattle.audit_base.specs.declared.orders.Order.{Order}
 use Rattle.audit_base.specs.Least.{least_with}
-use Rattle.audit_base.specs.Orders.{same_name, same_key, order_at, place_at, side_at, missing_order, IsOrderList, HaveOwnKeys}
-use Rattle.audit_base.specs.Histories.{key_of, symbol_of, target_key, is_order, ends, side_of, fits_side, history, missing_entry, record_at, record_place, key_at, earlier_with_key, target_of, duplicate_id, time_back, unknown_target, record_finding, WellFormed, replaced_at, is_placed, cancelled_of, order_index, order_of_record, order_list, Regular}
+use Rattle.audit_base.specs.Orders.{same_name, same_key, order_at, place_at, side_at, order_past_end, IsOrderList, HaveOwnKeys}
+use Rattle.audit_base.specs.Histories.{key_of, symbol_of, target_key, is_order, ends_order, side_of, fits_side, history, entry_past_end, history_entry, history_entry_place, key_at, earlier_entry_with_key, target_of, duplicate_id, time_back, unknown_target, entry_finding, WellFormed, replaced_order_at, is_placed, cancelled_of, order_index, order_of_entry, order_list, Regular}
 use Rattle.audit_base.proofs.SumLemmas.{AllPairs-cons}
 use Rattle.audit_base.proofs.OrderLemmas.{same_side-is}
 use Rattle.audit_base.proofs.LeastLemmas.{cases_Option, none_some, option_or-parts, none-below, none-with, with-found, with-exists}
@@ -48,8 +48,8 @@ enumerated-places (x ∷ xs) test n =
     (λ t. (least, rest.1))
 
 pub place-rises : (symbol : List ℕ) (entries : List OrderRecord) (j k : ℕ) → j < k → k < length (history symbol entries)
-    → record_place (history symbol entries) j < record_place (history symbol entries) k
-place-rises symbol entries j k lt below = (enumerated-places entries (λ e. same_name (symbol_of e.1) symbol) 1).1 j k missing_entry lt below
+    → history_entry_place (history symbol entries) j < history_entry_place (history symbol entries) k
+place-rises symbol entries j k lt below = (enumerated-places entries (λ e. same_name (symbol_of e.1) symbol) 1).1 j k entry_past_end lt below
 
 -- The order list by the indices of the history.
 
@@ -97,7 +97,7 @@ module _ {E O : Type 0} (f : ℕ → E → Option O) (test : E → Bool) (tells 
   kept-from [] from i lt = absurd (omega arith)
   kept-from (x ∷ xs) from i lt = kept-step xs x from i (f from x) refl (λ j. kept-from xs (from + 1) j) lt
 
-  -- and the element at k, if it is kept, stands at the number of those before it
+  -- and the element at k, if it is kept, is at the number of those before it
   abbrev StandsAt : ℕ → List E → List O → ℕ → Type 0
   StandsAt from xs os k = (count_by test (take k xs) < length os) × (f (from + k) (get_or xs k d) ≡ Some (get_or os (count_by test (take k xs)) any))
 
@@ -132,7 +132,7 @@ module _ {E O : Type 0} (f : ℕ → E → Option O) (test : E → Bool) (tells 
 
 -- What an order says of its record.
 
-order-tells : (h : List (ℕ × OrderRecord)) (k : ℕ) (e : ℕ × OrderRecord) → is_some (order_of_record h (k, e.0, e.1)) ≡ is_order e.1
+order-tells : (h : List (ℕ × OrderRecord)) (k : ℕ) (e : ℕ × OrderRecord) → is_some (order_of_entry h (k, e.0, e.1)) ≡ is_order e.1
 order-tells h k (place, New key time symbol side quantity price life) = refl
 order-tells h k (place, Cancel key time symbol target) = refl
 order-tells h k (place, Replace key time symbol target side quantity price) = refl
@@ -143,7 +143,7 @@ pub record IsOrderOf (h : List (ℕ × OrderRecord)) (k : ℕ) (e : ℕ × Order
   pub key : o.key ≡ key_of e.1
   pub cancelled : o.cancelled ≡ cancelled_of h k
   pub side : side_of e.1 ≡ Some o.side
-  pub target : (o.target ≡ None) ⊎ (o.target ≡ option_map (order_index h) (replaced_at h k))
+  pub target : (o.target ≡ None) ⊎ (o.target ≡ option_map (order_index h) (replaced_order_at h k))
   pub resting : (t : ℕ) → o.target ≡ Some t → o.life ≡ Rests
 
 some-same : {A : Type 0} (x y : A) → Some x ≡ Some y → x ≡ y
@@ -152,7 +152,7 @@ some-same x y e = cc
 no_target : (t : ℕ) → None ≡ Some t → ⊥
 no_target t e = cc
 
-order-fields : (h : List (ℕ × OrderRecord)) (k : ℕ) (e : ℕ × OrderRecord) (o : Order) → order_of_record h (k, e.0, e.1) ≡ Some o → IsOrderOf h k e o
+order-fields : (h : List (ℕ × OrderRecord)) (k : ℕ) (e : ℕ × OrderRecord) (o : Order) → order_of_entry h (k, e.0, e.1) ≡ Some o → IsOrderOf h k e o
 order-fields h k (place, New key time symbol side quantity price life) o e =
     let same = some-same _ _ e in
     record { place = sym (ap (λ (x : Order). x.place) same); key = sym (ap (λ (x : Order). x.key) same); cancelled = sym (ap (λ (x : Order). x.cancelled) same); side = ap (λ (x : Order). Some x.side) same; target = inl (sym (ap (λ (x : Order). x.target) same)); resting = λ t e. absurd (no_target t (ap (λ (x : Order). x.target) same ∙ e)) }
@@ -165,31 +165,31 @@ map-some : (f : ℕ → ℕ) (o : Option ℕ) (t : ℕ) → option_map f o ≡ S
 map-some f None t e = cc
 map-some f (Some j) t e = (j, refl, some-same _ _ e)
 
-pub replaced-parts : (h : List (ℕ × OrderRecord)) (k j : ℕ) → replaced_at h k ≡ Some j → target_of h k ≡ Some j
-replaced-parts h k j e = elim (cases_Bool (is_order (record_at h k))) [
-  | inl t ↦ sym (cond-true (is_order (record_at h k)) (target_of h k) None t) ∙ e
-  | inr f ↦ none_some (cond (is_order (record_at h k)) (target_of h k) None) j (cond-false (is_order (record_at h k)) (target_of h k) None f) e
+pub replaced-parts : (h : List (ℕ × OrderRecord)) (k j : ℕ) → replaced_order_at h k ≡ Some j → target_of h k ≡ Some j
+replaced-parts h k j e = elim (cases_Bool (is_order (history_entry h k))) [
+  | inl t ↦ sym (cond-true (is_order (history_entry h k)) (target_of h k) None t) ∙ e
+  | inr f ↦ none_some (cond (is_order (history_entry h k)) (target_of h k) None) j (cond-false (is_order (history_entry h k)) (target_of h k) None f) e
 ]
 
 -- what a record may name as its target
 pub record IsTarget (h : List (ℕ × OrderRecord)) (k t : ℕ) : Type 0 where
   pub earlier : t < k
-  pub ordered : is_order (record_at h t) ≡ true
-  pub named : ends (key_at h t) (record_at h k) ≡ true
-  pub sided : fits_side (side_of (record_at h k)) (side_of (record_at h t)) ≡ true
+  pub ordered : is_order (history_entry h t) ≡ true
+  pub named : ends_order (key_at h t) (history_entry h k) ≡ true
+  pub sided : fits_side (side_of (history_entry h k)) (side_of (history_entry h t)) ≡ true
 
 abbrev names_target : List (ℕ × OrderRecord) → ℕ → ℕ → Bool
-names_target h k j = is_order (record_at h j) && ends (key_at h j) (record_at h k) && fits_side (side_of (record_at h k)) (side_of (record_at h j))
+names_target h k j = is_order (history_entry h j) && ends_order (key_at h j) (history_entry h k) && fits_side (side_of (history_entry h k)) (side_of (history_entry h j))
 
 pub target-is : (h : List (ℕ × OrderRecord)) (k t : ℕ) → target_of h k ≡ Some t → IsTarget h k t
 target-is h k t e =
     let r = with-found (names_target h k) k t e in
-    let outer = and_parts (is_order (record_at h t) && ends (key_at h t) (record_at h k)) (fits_side (side_of (record_at h k)) (side_of (record_at h t))) r.1 in
-    let inner = and_parts (is_order (record_at h t)) (ends (key_at h t) (record_at h k)) outer.0 in
+    let outer = and_parts (is_order (history_entry h t) && ends_order (key_at h t) (history_entry h k)) (fits_side (side_of (history_entry h k)) (side_of (history_entry h t))) r.1 in
+    let inner = and_parts (is_order (history_entry h t)) (ends_order (key_at h t) (history_entry h k)) outer.0 in
     record { earlier = r.0; ordered = inner.0; named = inner.1; sided = outer.1 }
 
 -- a record that ends a key names it as its target
-ends-names : (key : Key) (r : OrderRecord) → ends key r ≡ true → (is_some (target_key r) ≡ true) × ((other : Key) → ends other r ≡ true → other ≡ key)
+ends-names : (key : Key) (r : OrderRecord) → ends_order key r ≡ true → (is_some (target_key r) ≡ true) × ((other : Key) → ends_order other r ≡ true → other ≡ key)
 ends-names key (New own time symbol side quantity price life) e = cc
 ends-names key (Cancel own time symbol target) e = (refl, λ other f. sym (same_key-is _ _ f) ∙ same_key-is _ _ e)
 ends-names key (Replace own time symbol target side quantity price) e = (refl, λ other f. sym (same_key-is _ _ f) ∙ same_key-is _ _ e)
@@ -203,22 +203,22 @@ map-none : {A : Type 0} (f : ℕ → A) (o : Option ℕ) → option_map f o ≡ 
 map-none f None e = refl
 map-none f (Some j) e = cc
 
-first-none : (h : List (ℕ × OrderRecord)) (k : ℕ) → duplicate_id h k ≡ None → earlier_with_key h k ≡ None
-first-none h k e = map-none _ (earlier_with_key h k) e
+first-none : (h : List (ℕ × OrderRecord)) (k : ℕ) → duplicate_id h k ≡ None → earlier_entry_with_key h k ≡ None
+first-none h k e = map-none _ (earlier_entry_with_key h k) e
 
-third-none : (h : List (ℕ × OrderRecord)) (k : ℕ) → unknown_target h k ≡ None → is_some (target_key (record_at h k)) ≡ true → (t : ℕ) × (target_of h k ≡ Some t)
+third-none : (h : List (ℕ × OrderRecord)) (k : ℕ) → unknown_target h k ≡ None → is_some (target_key (history_entry h k)) ≡ true → (t : ℕ) × (target_of h k ≡ Some t)
 third-none h k e some = elim (cases_Option (target_of h k)) [
   | inr found ↦ found
-  | inl none ↦ absurd (both_ways _ (only-none (is_some (target_key (record_at h k)) && is_none (target_of h k)) _ e) (and_from _ _ some (ap is_none none)))
+  | inl none ↦ absurd (both_ways _ (only-none (is_some (target_key (history_entry h k)) && is_none (target_of h k)) _ e) (and_from _ _ some (ap is_none none)))
 ]
 
-last-none : (h : List (ℕ × OrderRecord)) (k : ℕ) → record_finding h k ≡ None → unknown_target h k ≡ None
+last-none : (h : List (ℕ × OrderRecord)) (k : ℕ) → entry_finding h k ≡ None → unknown_target h k ≡ None
 last-none h k e =
     let a = option_or-parts (duplicate_id h k) (option_or (time_back h k) (option_or (unknown_target h k) None)) e in
     let b = option_or-parts (time_back h k) (option_or (unknown_target h k) None) a.1 in
     (option_or-parts (unknown_target h k) None b.1).0
 
-distinct-none : (h : List (ℕ × OrderRecord)) (j k : ℕ) → j < k → earlier_with_key h k ≡ None → key_at h j ≢ key_at h k
+distinct-none : (h : List (ℕ × OrderRecord)) (j k : ℕ) → j < k → earlier_entry_with_key h k ≡ None → key_at h j ≢ key_at h k
 distinct-none h j k lt e same = both_ways _ (none-with (λ i. same_key (key_at h i) (key_at h k)) k e j lt) (is-same_key (key_at h j) (key_at h k) same)
 
 kept-longer : {O : Type 0} (r : Option O) (os : List O) (n : ℕ) → length os ≤ n → length (cons_option r os) ≤ suc n
@@ -250,10 +250,10 @@ module _ (symbol : List ℕ) (entries : List OrderRecord) where
   abbrev orders : List Order
   orders = order_list symbol entries
 
-  pub places : (j k : ℕ) → j < k → k < length records → record_place records j < record_place records k
+  pub places : (j k : ℕ) → j < k → k < length records → history_entry_place records j < history_entry_place records k
   places j k lt below = place-rises symbol entries j k lt below
 
-  same_record : (j k : ℕ) → j < length records → k < length records → record_place records j ≡ record_place records k → j ≡ k
+  same_record : (j k : ℕ) → j < length records → k < length records → history_entry_place records j ≡ history_entry_place records k → j ≡ k
   same_record j k hj hk e = elim (cases_order j k) [
     | inl same ↦ same
     | inr ne ↦ elim ne [
@@ -264,72 +264,72 @@ module _ (symbol : List ℕ) (entries : List OrderRecord) where
 
   -- `cancelled` is the order's own place, where it isn't placed, or the place of the first record that ends it
   pub cancelled-cases : (k c : ℕ) → cancelled_of records k ≡ Some c
-      → ((is_placed records k ≡ false) × (c ≡ record_place records k))
-      ⊎ ((is_placed records k ≡ true) × (j : ℕ) × (j < length records) × (ends (key_at records k) (record_at records j) ≡ true) × (record_place records j ≡ c))
+      → ((is_placed records k ≡ false) × (c ≡ history_entry_place records k))
+      ⊎ ((is_placed records k ≡ true) × (j : ℕ) × (j < length records) × (ends_order (key_at records k) (history_entry records j) ≡ true) × (history_entry_place records j ≡ c))
   cancelled-cases k c e = elim (cases_Bool (is_placed records k)) [
     | inr f ↦ inl (f, sym (some-same _ _ (sym (cond-false (is_placed records k) _ _ f) ∙ e)))
     | inl t ↦
-        let found = map-some (record_place records) (least_with (λ j. ends (key_at records k) (record_at records j)) (length records)) c (sym (cond-true (is_placed records k) _ _ t) ∙ e) in
-        let at = with-found (λ j. ends (key_at records k) (record_at records j)) (length records) found.0 found.1 in
+        let found = map-some (history_entry_place records) (least_with (λ j. ends_order (key_at records k) (history_entry records j)) (length records)) c (sym (cond-true (is_placed records k) _ _ t) ∙ e) in
+        let at = with-found (λ j. ends_order (key_at records k) (history_entry records j)) (length records) found.0 found.1 in
         inr (t, found.0, at.0, at.1, found.2)
   ]
 
   -- an order that a record ends is cancelled at that record or before
-  pub cancelled-upto : (k j : ℕ) → k < j → j < length records → ends (key_at records k) (record_at records j) ≡ true
-      → (c : ℕ) × (cancelled_of records k ≡ Some c) × (c ≤ record_place records j)
+  pub cancelled-upto : (k j : ℕ) → k < j → j < length records → ends_order (key_at records k) (history_entry records j) ≡ true
+      → (c : ℕ) × (cancelled_of records k ≡ Some c) × (c ≤ history_entry_place records j)
   cancelled-upto k j lt below e = elim (cases_Bool (is_placed records k)) [
-    | inr f ↦ (record_place records k, cond-false (is_placed records k) _ _ f, let p = places k j lt below in omega arith)
+    | inr f ↦ (history_entry_place records k, cond-false (is_placed records k) _ _ f, let p = places k j lt below in omega arith)
     | inl t ↦
-        let test : ℕ → Bool = λ i. ends (key_at records k) (record_at records i) in
+        let test : ℕ → Bool = λ i. ends_order (key_at records k) (history_entry records i) in
         let found = with-exists test (length records) j below e in
         let at = with-found test (length records) found.0 found.1 in
         let first : found.0 ≤ j = elim (cases_lt j found.0) [ inl over ↦ absurd (both_ways _ (at.2 j over) e) | inr le ↦ le ] in
-        let le : record_place records found.0 ≤ record_place records j = elim (cases_eq found.0 j) [ inl same ↦ rw same (omega arith) | inr ne ↦ let p = places found.0 j (omega (arith, ne)) below in omega arith ] in
-        (record_place records found.0, cond-true (is_placed records k) _ _ t ∙ ap (option_map (record_place records)) found.1, le)
+        let le : history_entry_place records found.0 ≤ history_entry_place records j = elim (cases_eq found.0 j) [ inl same ↦ rw same (omega arith) | inr ne ↦ let p = places found.0 j (omega (arith, ne)) below in omega arith ] in
+        (history_entry_place records found.0, cond-true (is_placed records k) _ _ t ∙ ap (option_map (history_entry_place records)) found.1, le)
   ]
 
-  -- each order of the list comes from a record of the history, and each new order or replacement of the history stands in the list
+  -- each order of the list comes from a record of the history, and each new order or replacement of the history is in the list
   pub record IsFrom (o : Order) (i : ℕ) : Type 0 where
     pub at : ℕ
     pub inside : at < length records
     pub index : order_index records at ≡ i
-    pub gives : order_of_record records (at, (get_or records at missing_entry).0, (get_or records at missing_entry).1) ≡ Some o
-    pub fields : IsOrderOf records at (get_or records at missing_entry) o
+    pub gives : order_of_entry records (at, (get_or records at entry_past_end).0, (get_or records at entry_past_end).1) ≡ Some o
+    pub fields : IsOrderOf records at (get_or records at entry_past_end) o
 
   pub order-from : (i : ℕ) → i < length orders → IsFrom (order_at orders i) i
   order-from i lt =
-      let r = kept-from (λ (k : ℕ) (e : ℕ × OrderRecord). order_of_record records (k, e.0, e.1)) (λ e. is_order e.1) (order-tells records) missing_entry missing_order records 0 i lt in
+      let r = kept-from (λ (k : ℕ) (e : ℕ × OrderRecord). order_of_entry records (k, e.0, e.1)) (λ e. is_order e.1) (order-tells records) entry_past_end order_past_end records 0 i lt in
       let same : 0 + r.at ≡ r.at = omega arith in
-      record { at = r.at; inside = r.inside; index = r.index; gives = rw same at r.gives; fields = order-fields records r.at (get_or records r.at missing_entry) _ (rw same at r.gives) }
+      record { at = r.at; inside = r.inside; index = r.index; gives = rw same at r.gives; fields = order-fields records r.at (get_or records r.at entry_past_end) _ (rw same at r.gives) }
 
-  pub order-to : (k : ℕ) → k < length records → is_order (record_at records k) ≡ true → (order_index records k < length orders) × IsOrderOf records k (get_or records k missing_entry) (order_at orders (order_index records k))
+  pub order-to : (k : ℕ) → k < length records → is_order (history_entry records k) ≡ true → (order_index records k < length orders) × IsOrderOf records k (get_or records k entry_past_end) (order_at orders (order_index records k))
   order-to k lt t =
-      let r = kept-at (λ (k : ℕ) (e : ℕ × OrderRecord). order_of_record records (k, e.0, e.1)) (λ e. is_order e.1) (order-tells records) missing_entry missing_order records 0 k lt t in
+      let r = kept-at (λ (k : ℕ) (e : ℕ × OrderRecord). order_of_entry records (k, e.0, e.1)) (λ e. is_order e.1) (order-tells records) entry_past_end order_past_end records 0 k lt t in
       let same : 0 + k ≡ k = omega arith in
-      (r.0, order-fields records k (get_or records k missing_entry) _ (rw same at r.1))
+      (r.0, order-fields records k (get_or records k entry_past_end) _ (rw same at r.1))
 
-  -- earlier records have lesser indices
+  -- earlier records have smaller indices
   index-most : (j k : ℕ) → j ≤ k → k ≤ length records → order_index records j ≤ order_index records k
   index-most j k le below = count-take (λ e. is_order e.1) records j k le
 
-  index-less : (j k : ℕ) → j < k → k ≤ length records → is_order (record_at records j) ≡ true → order_index records j < order_index records k
+  index-less : (j k : ℕ) → j < k → k ≤ length records → is_order (history_entry records j) ≡ true → order_index records j < order_index records k
   index-less j k lt below t =
-      let one = count_by_more_yes (λ (e : ℕ × OrderRecord). is_order e.1) records j missing_entry (omega arith) t in
+      let one = count_by_more_yes (λ (e : ℕ × OrderRecord). is_order e.1) records j entry_past_end (omega arith) t in
       let rest = count-take (λ (e : ℕ × OrderRecord). is_order e.1) records (j + 1) k (omega arith) in
       omega arith
 
-  target-record : (k : ℕ) (o : Order) (t : ℕ) → IsOrderOf records k (get_or records k missing_entry) o → o.target ≡ Some t
+  target-record : (k : ℕ) (o : Order) (t : ℕ) → IsOrderOf records k (get_or records k entry_past_end) o → o.target ≡ Some t
       → (j : ℕ) × (target_of records k ≡ Some j) × (order_index records j ≡ t)
   target-record k o t f e = elim f.target [
     | inl none ↦ none_some o.target t none e
     | inr from ↦
-        let found = map-some (order_index records) (replaced_at records k) t (sym from ∙ e) in
+        let found = map-some (order_index records) (replaced_order_at records k) t (sym from ∙ e) in
         (found.0, replaced-parts records k found.0 found.1, found.2)
   ]
 
   orders-few : length orders ≤ length entries
   orders-few =
-      let a = kept-length (λ (k : ℕ) (e : ℕ × OrderRecord). order_of_record records (k, e.0, e.1)) records 0 in
+      let a = kept-length (λ (k : ℕ) (e : ℕ × OrderRecord). order_of_entry records (k, e.0, e.1)) records 0 in
       let test : ℕ × OrderRecord → Bool = λ e. same_name (symbol_of e.1) symbol in
       let b : length records ≤ length (enumerate_from 1 entries) = rw (length-filter test (enumerate_from 1 entries)) (count_by-le-length test (enumerate_from 1 entries)) in
       let c = length-enumerate_from 1 entries in
@@ -349,8 +349,8 @@ module _ (symbol : List ℕ) (entries : List OrderRecord) where
       let p = places from.at to.at k_lt to.inside in
       let place_i = f.place in
       let place_j = g.place in
-      let first : get_or orders i d ≡ order_at orders i = get_or-default orders i d missing_order (omega arith) in
-      let second : get_or orders j d ≡ order_at orders j = get_or-default orders j d missing_order below in
+      let first : get_or orders i d ≡ order_at orders i = get_or-default orders i d order_past_end (omega arith) in
+      let second : get_or orders j d ≡ order_at orders j = get_or-default orders j d order_past_end below in
       let rise : place_at orders i < place_at orders j = omega arith in
       rw (first, second) rise
 
@@ -366,9 +366,9 @@ module _ (symbol : List ℕ) (entries : List OrderRecord) where
       let inside = from.inside in
       let same = found.2 in
       let to = order-to found.0 (omega arith) is.ordered in
-      let g : IsOrderOf records found.0 (get_or records found.0 missing_entry) (order_at orders t) = subst (λ x. IsOrderOf records found.0 (get_or records found.0 missing_entry) (order_at orders x)) found.2 to.1 in
+      let g : IsOrderOf records found.0 (get_or records found.0 entry_past_end) (order_at orders t) = subst (λ x. IsOrderOf records found.0 (get_or records found.0 entry_past_end) (order_at orders x)) found.2 to.1 in
       let less = index-less found.0 k is.earlier (omega arith) is.ordered in
-      (omega arith, fits-same (side_at orders i) (side_at orders t) (side_of (record_at records k)) (side_of (record_at records found.0)) f.side g.side is.sided)
+      (omega arith, fits-same (side_at orders i) (side_at orders t) (side_of (history_entry records k)) (side_of (history_entry records found.0)) f.side g.side is.sided)
 
   -- so it is an order list
   pub order_list-is : length entries < 2 ^ 32 → IsOrderList orders
@@ -381,8 +381,8 @@ module _ (symbol : List ℕ) (entries : List OrderRecord) where
 
   -- what holds where no record has a finding
   module _ (formed : WellFormed symbol entries) where
-    no_finding : (k : ℕ) → k < length records → record_finding records k ≡ None
-    no_finding k lt = none-below (record_finding records) (length records) formed k lt
+    no_finding : (k : ℕ) → k < length records → entry_finding records k ≡ None
+    no_finding k lt = none-below (entry_finding records) (length records) formed k lt
 
     -- no two records have one key
     pub distinct-keys : (j k : ℕ) → j < length records → k < length records → key_at records j ≡ key_at records k → j ≡ k
@@ -395,9 +395,9 @@ module _ (symbol : List ℕ) (entries : List OrderRecord) where
     ]
 
     -- a record that ends the order at k names it as its target
-    pub ending-target : (j k : ℕ) → j < length records → k < length records → ends (key_at records k) (record_at records j) ≡ true → target_of records j ≡ Some k
+    pub ending-target : (j k : ℕ) → j < length records → k < length records → ends_order (key_at records k) (history_entry records j) ≡ true → target_of records j ≡ Some k
     ending-target j k hj hk e =
-        let names = ends-names (key_at records k) (record_at records j) e in
+        let names = ends-names (key_at records k) (history_entry records j) e in
         let found = third-none records j (last-none records j (no_finding j hj)) names.0 in
         let t = target-is records j found.0 found.1 in
         let earlier = t.earlier in
@@ -433,13 +433,13 @@ module _ (symbol : List ℕ) (entries : List OrderRecord) where
             | inl own ↦
                 let same = own.1 in
                 let km : k ≡ m = same_record k m from.inside to.inside (omega arith) in
-                some-same _ _ (sym g.side ∙ ap (λ n. side_of (record_at records n)) (sym km) ∙ f.side)
+                some-same _ _ (sym g.side ∙ ap (λ n. side_of (history_entry records n)) (sym km) ∙ f.side)
             | inr ended ↦
                 let n = ended.1 in
                 let same = ended.4 in
                 let nm : n ≡ m = same_record n m ended.2 to.inside (omega arith) in
                 let t = target-is records n k (ending-target n k ended.2 from.inside ended.3) in
-                sym (fits-same (side_at orders j) (side_at orders i) (side_of (record_at records n)) (side_of (record_at records k)) (ap (λ x. side_of (record_at records x)) nm ∙ g.side) f.side t.sided)
+                sym (fits-same (side_at orders j) (side_at orders i) (side_of (history_entry records n)) (side_of (history_entry records k)) (ap (λ x. side_of (history_entry records x)) nm ∙ g.side) f.side t.sided)
           ];
       targets = λ i t lt e.
           let from = order-from i lt in
@@ -452,7 +452,7 @@ module _ (symbol : List ℕ) (entries : List OrderRecord) where
           let inside = from.inside in
           let to = order-to found.0 (omega arith) is.ordered in
           let upto = cancelled-upto found.0 k is.earlier from.inside is.named in
-          let g : IsOrderOf records found.0 (get_or records found.0 missing_entry) (order_at orders t) = subst (λ x. IsOrderOf records found.0 (get_or records found.0 missing_entry) (order_at orders x)) found.2 to.1 in
+          let g : IsOrderOf records found.0 (get_or records found.0 entry_past_end) (order_at orders t) = subst (λ x. IsOrderOf records found.0 (get_or records found.0 entry_past_end) (order_at orders x)) found.2 to.1 in
           let least = upto.2 in
           (upto.0, g.cancelled ∙ upto.1, omega arith);
     }
@@ -464,8 +464,8 @@ module _ (symbol : List ℕ) (entries : List OrderRecord) where
         let to = order-from j below in
         let index_i = from.index in
         let index_j = to.index in
-        let first : get_or orders i d ≡ order_at orders i = get_or-default orders i d missing_order (omega arith) in
-        let second : get_or orders j d ≡ order_at orders j = get_or-default orders j d missing_order below in
+        let first : get_or orders i d ≡ order_at orders i = get_or-default orders i d order_past_end (omega arith) in
+        let second : get_or orders j d ≡ order_at orders j = get_or-default orders j d order_past_end below in
         let one : key_at records from.at ≡ key_at records to.at = sym from.fields.key ∙ ap (λ (o : Order). o.key) (sym first) ∙ same ∙ ap (λ (o : Order). o.key) second ∙ to.fields.key in
         let e = ap (order_index records) (distinct-keys from.at to.at from.inside to.inside one) in
         omega arith

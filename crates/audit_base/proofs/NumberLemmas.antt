@@ -10,7 +10,7 @@ use Rattle.std.specs.Fmt.{decimal}
 use Rattle.std.specs.List.{list_all, position, position_or_len}
 use Rattle.std.specs.Prelude.{◌==◌, ◌&&◌, nat_lt, nat_le}
 use Rattle.audit_base.specs.Digits.{fixed_digits, fraction_digits, is_digits, digits_form}
-use Rattle.audit_base.specs.Numbers.{is_point, whole_price, price_with_fraction, price_around, price_form, is_quantity, in_quantity, quantity_around, quantity_form, after_point, price_text}
+use Rattle.audit_base.specs.Numbers.{is_point, whole_price, price_with_fraction, price_by_point, price_form, is_quantity, quantity_in_range, quantity_by_point, quantity_form, point_and_digits, price_text}
 use Rattle.audit_base.proofs.DigitLemmas.{digit_bounds}
 use Rattle.audit_base.proofs.WrittenDigits.{decimal_digits, decimal_form, length-fixed_digits, fixed_digits_form}
 
@@ -73,13 +73,13 @@ fraction_digits_write (suc places) number some below =
     fraction_more places number (fraction_digits places (number / 10)) whole (fraction_digits_write places (number / 10) (omega arith) (omega arith)))
     (λ _. fraction_whole (suc places) number (omega arith) below)
 
--- a point stands before the digits of a fraction
-after_some : (digits : List ℕ) → 1 ≤ length digits → after_point digits ≡ 46 ∷ digits
+-- a point is before the digits of a fraction
+after_some : (digits : List ℕ) → 1 ≤ length digits → point_and_digits digits ≡ 46 ∷ digits
 after_some [] some = absurd (omega arith)
 after_some (digit ∷ digits) some = refl
 
--- a point stands before the fraction of a price
-pub point_before : (places number : ℕ) → 0 < number → number < 10 ^ places → after_point (fraction_digits places number) ≡ 46 ∷ fraction_digits places number
+-- a point is before the fraction of a price
+pub point_before : (places number : ℕ) → 0 < number → number < 10 ^ places → point_and_digits (fraction_digits places number) ≡ 46 ∷ fraction_digits places number
 point_before places number some below =
     let is = fraction_digits_write places number some below in
     let size : length (fraction_digits places number) ≡ is.width = ap length is.text ∙ length-fixed_digits is.width is.value in
@@ -99,7 +99,7 @@ no_point (c ∷ text) are =
     let rest = no_point text (second_so (is_ascii_digit c) (list_all is_ascii_digit text) are) in
     rw first (omega (arith, rest))
 
--- the first point stands after the digits
+-- the first point is after the digits
 first_point : (text rest : List ℕ) → list_all is_ascii_digit text ≡ true → position_or_len is_point (text ++ 46 ∷ rest) ≡ length text
 first_point [] rest are = refl
 first_point (c ∷ text) rest are =
@@ -122,11 +122,11 @@ digits_are most text value is = elim (cases_Bool (is_digits 1 most text)) [
 ]
 
 -- digits alone are a quantity by their number
-pub whole_quantity : (text : List ℕ) (value : ℕ) → digits_form 13 text ≡ Some value → quantity_form text ≡ in_quantity (Some value)
+pub whole_quantity : (text : List ℕ) (value : ℕ) → digits_form 13 text ≡ Some value → quantity_form text ≡ quantity_in_range (Some value)
 whole_quantity text value is =
-    ap (quantity_around text) (position_none text (digits_are 13 text value is)) ∙ ap in_quantity is
+    ap (quantity_by_point text) (position_none text (digits_are 13 text value is)) ∙ ap quantity_in_range is
 
--- where the point stands
+-- where the point is
 pub position_some : (text rest : List ℕ) → list_all is_ascii_digit text ≡ true → position is_point (text ++ 46 ∷ rest) ≡ Some (length text)
 position_some text rest are =
     let at : position_or_len is_point (text ++ 46 ∷ rest) ≡ length text = first_point text rest are in
@@ -140,7 +140,7 @@ whole_again whole below =
     let small : whole < 10 ^ 64 = omega arith in
     let at = position_none (decimal whole) (decimal_digits whole small) in
     let form = decimal_form 10 whole (omega arith) below small in
-    (λ i. price_around (decimal whole) (at i)) ∙ (λ i. whole_price (form i))
+    (λ i. price_by_point (decimal whole) (at i)) ∙ (λ i. whole_price (form i))
 
 -- a price with a fraction is read again
 split_again : (whole fraction : ℕ) (digits : List ℕ) → whole < 10 ^ 10 → IsFraction 8 fraction digits → price_form (decimal whole ++ 46 ∷ digits) ≡ Some (whole * 10 ^ 8 + fraction)
@@ -153,7 +153,7 @@ split_again whole fraction digits below is =
     let size : length digits ≡ is.width = ap length is.text ∙ length-fixed_digits is.width is.value in
     let form = decimal_form 10 whole (omega arith) below small in
     let form' : digits_form 8 digits ≡ Some is.value = ap (digits_form 8) is.text ∙ fixed_digits_form is.width 8 is.value is.some is.few is.below in
-    (λ i. price_around text (at i))
+    (λ i. price_by_point text (at i))
     ∙ (λ i. price_with_fraction (digits_form 10 (front i)) (length (back i)) (digits_form 8 (back i)))
     ∙ (λ i. price_with_fraction (form i) (size i) (form' i))
     ∙ ap (λ (f : ℕ). Some (whole * 10 ^ 8 + f)) is.scaled
@@ -167,7 +167,7 @@ price_again units below =
     elim (cases_eq fraction 0) as (λ _. price_form (price_text units) ≡ Some units) [
       | inl none ↦ (
           let same : whole * 10 ^ 8 ≡ units = omega arith in
-          let text : price_text units ≡ decimal whole = ap (λ (f : ℕ). decimal whole ++ after_point (fraction_digits 8 f)) none ∙ ap (λ (t : List ℕ). decimal whole ++ after_point t) (no_fraction_digits 8) ∙ append-nil (decimal whole) in
+          let text : price_text units ≡ decimal whole = ap (λ (f : ℕ). decimal whole ++ point_and_digits (fraction_digits 8 f)) none ∙ ap (λ (t : List ℕ). decimal whole ++ point_and_digits t) (no_fraction_digits 8) ∙ append-nil (decimal whole) in
           ap price_form text ∙ whole_again whole room ∙ ap Some same)
       | inr some ↦ (
           let positive : 0 < fraction = omega (arith, some) in
@@ -184,4 +184,4 @@ quantity_again number is =
     let small : number < 10 ^ 64 = omega arith in
     let at = position_none (decimal number) (decimal_digits number small) in
     let form = decimal_form 13 number (omega arith) (omega arith) small in
-    (λ i. quantity_around (decimal number) (at i)) ∙ (λ i. in_quantity (form i)) ∙ cond-true _ _ _ is
+    (λ i. quantity_by_point (decimal number) (at i)) ∙ (λ i. quantity_in_range (form i)) ∙ cond-true _ _ _ is

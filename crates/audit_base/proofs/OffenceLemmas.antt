@@ -12,11 +12,11 @@ use Rattle.audit_base.specs.declared.orders.Order.{Order}
 use Rattle.audit_base.specs.declared.orders.Deal.{Deal}
 use Rattle.audit_base.specs.declared.findings.Finding.{Finding}
 use Rattle.audit_base.specs.Least.{only_if}
-use Rattle.audit_base.specs.Orders.{order_at, side_at, quantity_at, limit_at, stands_on, Stands}
+use Rattle.audit_base.specs.Orders.{order_at, side_at, quantity_at, limit_at, is_uncancelled_on, IsUncancelledOn}
 use Rattle.audit_base.specs.Priority.{better, Better}
-use Rattle.audit_base.specs.Deals.{missing_deal, deal_at, names, part_of, traded, NamesOrders, IsDeal}
-use Rattle.audit_base.specs.Calls.{Keeps, Matching, Fair, OnePrice}
-use Rattle.audit_base.specs.CallOffences.{is_cancelled, keeps_limits, call_inactive, call_off_limit, other_price, bid_overfilled, ask_overfilled, matching_finding, matching_offence, is_short, is_outranked_by_short, bid_passed_over, ask_passed_over, fair_offence}
+use Rattle.audit_base.specs.Deals.{deal_past_end, deal_at, names_order, quantity_traded_by, traded, NamesOrders, DealInRange}
+use Rattle.audit_base.specs.Calls.{IsMatchingDeal, Matching, Fair, OnePrice}
+use Rattle.audit_base.specs.CallOffences.{is_cancelled, keeps_limits, call_inactive_finding, call_limit_finding, uniform_price_finding, bid_quantity_finding, ask_quantity_finding, matching_finding, matching_offence, is_short, is_outranked_by_short, bid_priority_finding, ask_priority_finding, fair_offence}
 use Rattle.audit_base.proofs.OrderLemmas.{stands-test, test-stands}
 use Rattle.audit_base.proofs.LeastLemmas.{option_or-parts, none-below, least-none, any-none, none-any}
 use Rattle.audit_base.proofs.SumLemmas.{some_part}
@@ -29,7 +29,7 @@ get_or-default (x ∷ xs) (suc k) d e lt = get_or-default xs k d e (omega arith)
 
 -- a fact on each deal, by its index
 pub All-deals : (P : Deal → Type 0) (deals : List Deal) → ((k : ℕ) → k < length deals → P (deal_at deals k)) → All P deals
-All-deals P deals h = λ k d lt. subst P (get_or-default deals k missing_deal d lt) (h k lt)
+All-deals P deals h = λ k d lt. subst P (get_or-default deals k deal_past_end d lt) (h k lt)
 
 pub only-none : {A : Type 0} (b : Bool) (x : A) → only_if b x ≡ None → b ≡ false
 only-none true x e = cc
@@ -52,11 +52,11 @@ is_some-cancelled None e = refl
 is_some-cancelled (Some x) e = cc
 
 -- what the first deals trade, one deal further
-pub traded_more : (deals : List Deal) (k i : ℕ) → k < length deals → traded (take (k + 1) deals) i ≡ traded (take k deals) i + part_of i (deal_at deals k)
-traded_more deals k i lt = sum_by_more (part_of i) deals k missing_deal lt
+pub traded_more : (deals : List Deal) (k i : ℕ) → k < length deals → traded (take (k + 1) deals) i ≡ traded (take k deals) i + quantity_traded_by i (deal_at deals k)
+traded_more deals k i lt = sum_by_more (quantity_traded_by i) deals k deal_past_end lt
 
-pub part-away : (i : ℕ) (d : Deal) → names i d ≡ false → part_of i d ≡ 0
-part-away i d e = cond-false (names i d) d.quantity 0 e
+pub part-away : (i : ℕ) (d : Deal) → names_order i d ≡ false → quantity_traded_by i d ≡ 0
+part-away i d e = cond-false (names_order i d) d.quantity 0 e
 
 -- what one deal of a matching keeps, as tests
 pub record IsFaultless (uniform : Bool) (orders : List Order) (deals : List Deal) (k : ℕ) : Type 0 where
@@ -78,7 +78,7 @@ price-none true false h = let e = h refl in cc
 price-none false same h = refl
 
 pub fault-none : (uniform : Bool) (orders : List Order) (deals : List Deal) (k : ℕ) → matching_finding uniform orders deals k ≡ None → IsFaultless uniform orders deals k
-unfolding call_inactive call_off_limit other_price bid_overfilled ask_overfilled
+unfolding call_inactive_finding call_limit_finding uniform_price_finding bid_quantity_finding ask_quantity_finding
 fault-none uniform orders deals k e =
     let d = deal_at deals k in
     let a = option_or-parts _ _ e in
@@ -98,7 +98,7 @@ fault-none uniform orders deals k e =
     }
 
 pub none-fault : (uniform : Bool) (orders : List Order) (deals : List Deal) (k : ℕ) → IsFaultless uniform orders deals k → matching_finding uniform orders deals k ≡ None
-unfolding call_inactive call_off_limit other_price bid_overfilled ask_overfilled
+unfolding call_inactive_finding call_limit_finding uniform_price_finding bid_quantity_finding ask_quantity_finding
 none-fault uniform orders deals k h =
     option_or-none_both _ _ (option_or-none_both _ _ (none-only _ _ h.bid_live) (option_or-none_both _ _ (none-only _ _ h.ask_live) refl))
     (option_or-none_both _ _ (none-only _ _ (not_from_true _ h.limits))
@@ -116,7 +116,7 @@ within_first orders deals h i (suc n) le =
       | inr nb ↦ elim (cases_eq d.ask i) [
         | inl e ↦ subst (λ x. traded (take (n + 1) deals) x ≤ quantity_at orders x) e f.ask_within
         | inr na ↦
-            let away : names i d ≡ false = or_from _ _ (ne_eqb d.bid i nb) (ne_eqb d.ask i na) in
+            let away : names_order i d ≡ false = or_from _ _ (ne_eqb d.bid i nb) (ne_eqb d.ask i na) in
             omega (arith, traded_more deals n i (omega arith), part-away i d away, rest)
       ]
     ] in
@@ -130,10 +130,10 @@ module _ (uniform : Bool) (orders : List Order) (deals : List Deal) where
   pub faultless : matching_offence uniform orders deals ≡ None → (k : ℕ) → k < length deals → IsFaultless uniform orders deals k
   faultless e k lt = fault-none uniform orders deals k (none-below (matching_finding uniform orders deals) (length deals) e k lt)
 
-  pub faultless-keeps : All (NamesOrders orders) deals → (k : ℕ) → k < length deals → IsFaultless uniform orders deals k → Keeps orders (deal_at deals k)
+  pub faultless-keeps : All (NamesOrders orders) deals → (k : ℕ) → k < length deals → IsFaultless uniform orders deals k → IsMatchingDeal orders (deal_at deals k)
   faultless-keeps named k lt h =
       let d = deal_at deals k in
-      let n = named k missing_deal lt in
+      let n = named k deal_past_end lt in
       let parts = and_parts (nat_le (limit_at orders d.ask) d.price) (nat_le d.price (limit_at orders d.bid)) h.limits in
       record {
         bid_stands = record { inside = n.bid_inside; of_side = n.buys; uncancelled = is_none-cancelled _ h.bid_live };
@@ -147,7 +147,7 @@ module _ (uniform : Bool) (orders : List Order) (deals : List Deal) where
   no_offence-matching named e =
       let each = faultless e in
       record {
-        kept = All-deals (Keeps orders) deals (λ k lt. faultless-keeps named k lt (each k lt));
+        kept = All-deals (IsMatchingDeal orders) deals (λ k lt. faultless-keeps named k lt (each k lt));
         within = λ i lt. subst (λ ds. traded ds i ≤ quantity_at orders i) (take_all (length deals) deals (omega arith))
             (within_first orders deals (λ k below. forget-uniform uniform orders deals k (each k below)) i (length deals) (omega arith));
       }
@@ -159,23 +159,23 @@ module _ (uniform : Bool) (orders : List Order) (deals : List Deal) where
   pub matching-faultless : Matching orders deals → (uniform ≡ true → OnePrice deals) → (k : ℕ) → k < length deals → IsFaultless uniform orders deals k
   matching-faultless m one k lt =
       let d = deal_at deals k in
-      let kept = m.kept k missing_deal lt in
+      let kept = m.kept k deal_past_end lt in
       let bid_in = m.within d.bid kept.bid_stands.inside in
       let ask_in = m.within d.ask kept.ask_stands.inside in
       record {
         bid_live = is_some-cancelled _ kept.bid_stands.uncancelled;
         ask_live = is_some-cancelled _ kept.ask_stands.uncancelled;
         limits = and_from _ _ (le-leb _ _ kept.least) (le-leb _ _ kept.most);
-        price = λ t. let o = one t in o.each k missing_deal lt ∙ sym (o.each 0 missing_deal (omega arith));
-        bid_within = omega (arith, sum_by-take-le (part_of d.bid) deals (k + 1), bid_in);
-        ask_within = omega (arith, sum_by-take-le (part_of d.ask) deals (k + 1), ask_in);
+        price = λ t. let o = one t in o.each k deal_past_end lt ∙ sym (o.each 0 deal_past_end (omega arith));
+        bid_within = omega (arith, sum_by-take-le (quantity_traded_by d.bid) deals (k + 1), bid_in);
+        ask_within = omega (arith, sum_by-take-le (quantity_traded_by d.ask) deals (k + 1), ask_in);
       }
 
   pub matching-no_offence : Matching orders deals → (uniform ≡ true → OnePrice deals) → matching_offence uniform orders deals ≡ None
   matching-no_offence m one = least-none (matching_finding uniform orders deals) (length deals) (λ k lt. none-fault uniform orders deals k (matching-faultless m one k lt))
 
 module _ (orders : List Order) (deals : List Deal) where
-  not_short : (side : Side) (i j : ℕ) → Stands orders side i → Better orders i j → is_outranked_by_short orders deals side j ≡ false → quantity_at orders i ≤ traded deals i
+  not_short : (side : Side) (i j : ℕ) → IsUncancelledOn orders side i → Better orders i j → is_outranked_by_short orders deals side j ≡ false → quantity_at orders i ≤ traded deals i
   unfolding is_outranked_by_short
   not_short side i j s b none =
       elim (cases_lt (traded deals i) (quantity_at orders i)) [
@@ -185,22 +185,22 @@ module _ (orders : List Order) (deals : List Deal) where
       ]
 
   abbrev IsFairDeal : Deal → Type 0
-  IsFairDeal d = Keeps orders d × (is_outranked_by_short orders deals Buy d.bid ≡ false) × (is_outranked_by_short orders deals Sell d.ask ≡ false)
+  IsFairDeal d = IsMatchingDeal orders d × (is_outranked_by_short orders deals Buy d.bid ≡ false) × (is_outranked_by_short orders deals Sell d.ask ≡ false)
 
-  fair_deal : (k : ℕ) → Keeps orders (deal_at deals k) → option_or (bid_passed_over orders deals k) (ask_passed_over orders deals k) ≡ None → IsFairDeal (deal_at deals k)
-  unfolding bid_passed_over ask_passed_over
+  fair_deal : (k : ℕ) → IsMatchingDeal orders (deal_at deals k) → option_or (bid_priority_finding orders deals k) (ask_priority_finding orders deals k) ≡ None → IsFairDeal (deal_at deals k)
+  unfolding bid_priority_finding ask_priority_finding
   fair_deal k kept e =
-      let parts = option_or-parts (bid_passed_over orders deals k) (ask_passed_over orders deals k) e in
+      let parts = option_or-parts (bid_priority_finding orders deals k) (ask_priority_finding orders deals k) e in
       (kept, only-none _ _ parts.0, only-none _ _ parts.1)
 
   -- where the second part finds nothing, the matching is fair
   pub no_offence-fair : Matching orders deals → fair_offence orders deals ≡ None → Fair orders deals
   no_offence-fair m e =
-      let f : ℕ → Option Finding = λ k. option_or (bid_passed_over orders deals k) (ask_passed_over orders deals k) in
-      let none : All IsFairDeal deals = All-deals IsFairDeal deals (λ k lt. fair_deal k (m.kept k missing_deal lt) (none-below f (length deals) e k lt)) in
+      let f : ℕ → Option Finding = λ k. option_or (bid_priority_finding orders deals k) (ask_priority_finding orders deals k) in
+      let none : All IsFairDeal deals = All-deals IsFairDeal deals (λ k lt. fair_deal k (m.kept k deal_past_end lt) (none-below f (length deals) e k lt)) in
       record {
         fills = λ side i j s t b some.
-            let found = some_part IsFairDeal (names j) (λ (d : Deal). d.quantity) deals none some in
+            let found = some_part IsFairDeal (names_order j) (λ (d : Deal). d.quantity) deals none some in
             let d = found.0 in
             let kept = found.1.0 in
             let most = m.within i s.inside in
@@ -221,25 +221,25 @@ module _ (orders : List Order) (deals : List Deal) where
       }
 
   -- and a fair list of deals has no offence of the second part: where a short order is better than one that trades, the deals aren't fair
-  none_passed_over : Fair orders deals → (side : Side) (j : ℕ) → Stands orders side j → 0 < traded deals j → is_outranked_by_short orders deals side j ≡ false
+  none_passed_over : Fair orders deals → (side : Side) (j : ℕ) → IsUncancelledOn orders side j → 0 < traded deals j → is_outranked_by_short orders deals side j ≡ false
   unfolding is_outranked_by_short
   none_passed_over f side j t some = any-none (λ i. is_short orders deals side i && better (order_at orders i) (order_at orders j)) (length orders) (λ i lt.
       false_from_ne_true _ (λ over.
       let parts = and_parts (is_short orders deals side i) (better (order_at orders i) (order_at orders j)) over in
-      let short = and_parts (stands_on side (order_at orders i)) (nat_lt (traded deals i) (quantity_at orders i)) parts.0 in
+      let short = and_parts (is_uncancelled_on side (order_at orders i)) (nat_lt (traded deals i) (quantity_at orders i)) parts.0 in
       let below = ltb-true (traded deals i) (quantity_at orders i) short.1 in
       let full = f.fills side i j (test-stands orders side i lt short.0) t parts.1 some in
       omega arith))
 
-  pub fair-no_offence : All IsDeal deals → Matching orders deals → Fair orders deals → fair_offence orders deals ≡ None
-  unfolding bid_passed_over ask_passed_over
-  fair-no_offence ranges m f = least-none (λ k. option_or (bid_passed_over orders deals k) (ask_passed_over orders deals k)) (length deals) (λ k lt.
+  pub fair-no_offence : All DealInRange deals → Matching orders deals → Fair orders deals → fair_offence orders deals ≡ None
+  unfolding bid_priority_finding ask_priority_finding
+  fair-no_offence ranges m f = least-none (λ k. option_or (bid_priority_finding orders deals k) (ask_priority_finding orders deals k)) (length deals) (λ k lt.
       let d = deal_at deals k in
-      let kept = m.kept k missing_deal lt in
-      let quantity = (ranges k missing_deal lt).some in
-      let bid_part : part_of d.bid d ≡ d.quantity = part-bid d in
-      let ask_part : part_of d.ask d ≡ d.quantity = part-ask d in
-      let bid_least : part_of d.bid d ≤ traded deals d.bid = omega (arith, sum_by_more_le (part_of d.bid) deals k missing_deal lt) in
-      let ask_least : part_of d.ask d ≤ traded deals d.ask = omega (arith, sum_by_more_le (part_of d.ask) deals k missing_deal lt) in
+      let kept = m.kept k deal_past_end lt in
+      let quantity = (ranges k deal_past_end lt).some in
+      let bid_part : quantity_traded_by d.bid d ≡ d.quantity = part-bid d in
+      let ask_part : quantity_traded_by d.ask d ≡ d.quantity = part-ask d in
+      let bid_least : quantity_traded_by d.bid d ≤ traded deals d.bid = omega (arith, sum_by_more_le (quantity_traded_by d.bid) deals k deal_past_end lt) in
+      let ask_least : quantity_traded_by d.ask d ≤ traded deals d.ask = omega (arith, sum_by_more_le (quantity_traded_by d.ask) deals k deal_past_end lt) in
       option_or-none_both _ _ (none-only _ _ (none_passed_over f Buy d.bid kept.bid_stands (omega arith)))
       (none-only _ _ (none_passed_over f Sell d.ask kept.ask_stands (omega arith))))

@@ -1,11 +1,11 @@
--- Orders of a list: their sides, their places, and which of them stand.
+-- Orders of a list: their sides, their places, and which of them no record cancels.
 use Rattle.std.proofs.Common.{◌≡◌, ◌<◌, ◌⊎◌, ℕ, List, length, true, Option, Some, None, refl, ap, arith, inl, inr}
 use Rattle.std.specs.Prelude.{is_none}
 use Rattle.std.proofs.lemmas.Bool.{cases_lt, cases_order, and_parts, and_from}
 use Rattle.audit_base.specs.declared.terms.Side.{Side}
 use Rattle.audit_base.specs.declared.terms.Side.TheVariants.{Buy, Sell}
 use Rattle.audit_base.specs.declared.orders.Order.{Order}
-use Rattle.audit_base.specs.Orders.{order_at, place_at, missing_order, same_side, other_side, stands_on, Stands, IsOrderList}
+use Rattle.audit_base.specs.Orders.{order_at, place_at, order_past_end, same_side, other_side, is_uncancelled_on, IsUncancelledOn, IsOrderList}
 
 pub not_both_sides : Buy ≡ Sell → ⊥
 not_both_sides e = cc
@@ -35,13 +35,13 @@ none_is : (o : Option ℕ) → is_none o ≡ true → o ≡ None
 none_is None e = refl
 none_is (Some x) e = cc
 
--- the test on an order says that it stands
-pub test-stands : (orders : List Order) (side : Side) (i : ℕ) → i < length orders → stands_on side (order_at orders i) ≡ true → Stands orders side i
+-- the test on an order says that no record cancels it
+pub test-stands : (orders : List Order) (side : Side) (i : ℕ) → i < length orders → is_uncancelled_on side (order_at orders i) ≡ true → IsUncancelledOn orders side i
 test-stands orders side i lt t =
     let parts = and_parts (is_none (order_at orders i).cancelled) (same_side side (order_at orders i).side) t in
     record { inside = lt; of_side = same_side-is side _ parts.1; uncancelled = none_is _ parts.0 }
 
-pub stands-test : (orders : List Order) (side : Side) (i : ℕ) → Stands orders side i → stands_on side (order_at orders i) ≡ true
+pub stands-test : (orders : List Order) (side : Side) (i : ℕ) → IsUncancelledOn orders side i → is_uncancelled_on side (order_at orders i) ≡ true
 stands-test orders side i s =
     let live : is_none (order_at orders i).cancelled ≡ true = ap is_none s.uncancelled in
     let sided : same_side side (order_at orders i).side ≡ true = rw s.of_side (same_side-itself side) in
@@ -51,8 +51,8 @@ is_live : (o : Option ℕ) → (o ≡ None) ⊎ (o ≡ None → ⊥)
 is_live None = inl refl
 is_live (Some x) = inr (λ e. cc)
 
--- each index stands on the side of the bids, on that of the asks, or on none
-pub standing : (orders : List Order) (i : ℕ) → (Stands orders Buy i ⊎ Stands orders Sell i) ⊎ ((Stands orders Buy i → ⊥) × (Stands orders Sell i → ⊥))
+-- each index is that of an uncancelled bid, of an uncancelled ask, or of neither
+pub standing : (orders : List Order) (i : ℕ) → (IsUncancelledOn orders Buy i ⊎ IsUncancelledOn orders Sell i) ⊎ ((IsUncancelledOn orders Buy i → ⊥) × (IsUncancelledOn orders Sell i → ⊥))
 standing orders i = elim (cases_lt i (length orders)) [
   | inr past ↦ inr ((λ s. let lt = s.inside in absurd (omega arith)), (λ s. let lt = s.inside in absurd (omega arith)))
   | inl lt ↦ elim (is_live (order_at orders i).cancelled) [
@@ -66,7 +66,7 @@ standing orders i = elim (cases_lt i (length orders)) [
 
 -- places rise with the index, so that two orders of one place are one
 pub place-rises : (orders : List Order) → IsOrderList orders → (i j : ℕ) → i < j → j < length orders → place_at orders i < place_at orders j
-place-rises orders list i j lt below = list.rising i j missing_order lt below
+place-rises orders list i j lt below = list.rising i j order_past_end lt below
 
 pub same_place : (orders : List Order) → IsOrderList orders → (i j : ℕ) → i < length orders → j < length orders → place_at orders i ≡ place_at orders j → i ≡ j
 same_place orders list i j hi hj e = elim (cases_order i j) [

@@ -10,7 +10,7 @@ use Rattle.std.proofs.lemmas.List.FromFn.{length-enumerate_from, get_or-enumerat
 use Rattle.audit_base.specs.declared.orders.Order.{Order}
 use Rattle.audit_base.specs.declared.orders.Deal.{Deal}
 use Rattle.audit_base.specs.Sums.{sum_below}
-use Rattle.audit_base.specs.Deals.{missing_deal}
+use Rattle.audit_base.specs.Deals.{deal_past_end}
 use Rattle.audit_base.specs.Expected.{pair_deal, pair_deals}
 use Rattle.audit_base.proofs.SumLemmas.{AllPairs-head, AllPairs-tail, AllPairs-cons, Contains-cases, Contains-front, Contains-behind, below-same, below-list, sum_by-same}
 
@@ -18,7 +18,7 @@ use Rattle.audit_base.proofs.SumLemmas.{AllPairs-head, AllPairs-tail, AllPairs-c
 abbrev pub ends_of : Deal → ℕ × ℕ
 ends_of d = (d.bid, d.ask)
 
--- one pair stands before another: by the bid, and then by the ask
+-- one pair is before another: by the bid, and then by the ask
 abbrev pub Before : ℕ × ℕ → ℕ × ℕ → Type 0
 Before p q = (p.0 < q.0) ⊎ ((p.0 ≡ q.0) × (p.1 < q.1))
 
@@ -79,17 +79,17 @@ deal-same p p' b b' a a' q q' c c' e f g h i = cc
 mapped-order : (deals : List Deal) → AllPairs (λ d e. Before (ends_of d) (ends_of e)) deals → AllPairs Before (map ends_of deals)
 mapped-order deals h i j p lt below =
     let under : j < length deals = rw (← length-map deals ends_of) below in
-    let a = get_or-map ends_of deals i missing_deal p (omega arith) in
-    let b = get_or-map ends_of deals j missing_deal p under in
-    rw (a, b) (h i j missing_deal lt under)
+    let a = get_or-map ends_of deals i deal_past_end p (omega arith) in
+    let b = get_or-map ends_of deals j deal_past_end p under in
+    rw (a, b) (h i j deal_past_end lt under)
 
 module _ (quantity price : ℕ → ℕ → ℕ) (count : ℕ) where
   moved : (xs ys : List Deal) → ArePairDeals quantity price count xs → ArePairDeals quantity price count ys → (p : ℕ × ℕ) → Contains (map ends_of xs) p → Contains (map ends_of ys) p
   moved xs ys x y p (n, lt, at) =
       let under : n < length xs = rw (← length-map xs ends_of) lt in
-      let d = get_or xs n missing_deal in
-      let k = x.each n missing_deal under in
-      let e : get_or (map ends_of xs) n p ≡ ends_of d = get_or-map ends_of xs n missing_deal p under in
+      let d = get_or xs n deal_past_end in
+      let k = x.each n deal_past_end under in
+      let e : get_or (map ends_of xs) n p ≡ ends_of d = get_or-map ends_of xs n deal_past_end p under in
       let some = k.some in let is = k.is in
       subst (λ q. Contains (map ends_of ys) q) (sym e ∙ at) (y.complete d.bid d.ask k.bid_inside k.ask_inside (omega arith))
 

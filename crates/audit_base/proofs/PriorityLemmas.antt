@@ -7,7 +7,7 @@ use Rattle.audit_base.specs.declared.terms.Side.TheVariants.{Buy, Sell}
 use Rattle.audit_base.specs.declared.orders.Order.{Order}
 use Rattle.audit_base.specs.Least.{any_below}
 use Rattle.audit_base.specs.Orders.{order_at, side_at, same_side, IsOrderList}
-use Rattle.audit_base.specs.Priority.{outranks, better, Better, best}
+use Rattle.audit_base.specs.Priority.{outranks, better, Better, best_order}
 use Rattle.audit_base.proofs.OrderLemmas.{same_side-is, is-same_side, same_place}
 use Rattle.audit_base.proofs.LeastLemmas.{any-none, none-any, with-found, with-exists}
 
@@ -129,9 +129,9 @@ best-test orders test i h = and_from _ _ h.passes (not-false _ (any-none (is_bet
   | inl over ↦ let parts = and_parts (test j) (better (order_at orders j) (order_at orders i)) over in absurd (h.none_better j below parts.0 parts.1)
 ])))
 
--- what `best` gives is best
-pub best-is : (orders : List Order) (test : ℕ → Bool) (i : ℕ) → best orders test ≡ Some i → IsBest orders test i
-unfolding best
+-- what `best_order` gives is best
+pub best-is : (orders : List Order) (test : ℕ → Bool) (i : ℕ) → best_order orders test ≡ Some i → IsBest orders test i
+unfolding best_order
 best-is orders test i e = let r = with-found (is_best orders test) (length orders) i e in test-best orders test i r.0 r.1
 
 -- of the passing orders below n, one is such that none of them is better
@@ -185,8 +185,8 @@ best_below orders test (suc n) = elim (cases_Bool (test n)) [
 ]
 
 -- where an order passes, there is a best one
-pub best-exists : (orders : List Order) (test : ℕ → Bool) (k : ℕ) → k < length orders → test k ≡ true → (i : ℕ) × (best orders test ≡ Some i)
-unfolding best
+pub best-exists : (orders : List Order) (test : ℕ → Bool) (k : ℕ) → k < length orders → test k ≡ true → (i : ℕ) × (best_order orders test ≡ Some i)
+unfolding best_order
 best-exists orders test k lt t = elim (best_below orders test (length orders)) [
   | inl none ↦ absurd (both_ways _ (none k lt) t)
   | inr found ↦ with-exists (is_best orders test) (length orders) found.0 found.1 (best-test orders test found.0 (record { inside = found.1; passes = found.2; none_better = found.3 }))
@@ -203,9 +203,9 @@ best-one orders list test side sided i j a b = elim (cases_eq i j) [
   ]
 ]
 
--- so what is best is what `best` gives
+-- so what is best is what `best_order` gives
 pub is-best : (orders : List Order) → IsOrderList orders → (test : ℕ → Bool) (side : Side) → ((k : ℕ) → k < length orders → test k ≡ true → side_at orders k ≡ side)
-    → (i : ℕ) → IsBest orders test i → best orders test ≡ Some i
+    → (i : ℕ) → IsBest orders test i → best_order orders test ≡ Some i
 is-best orders list test side sided i a =
     let found = best-exists orders test i a.inside a.passes in
     found.1 ∙ ap (λ (k : ℕ). Some k) (best-one orders list test side sided found.0 i (best-is orders test found.0 found.1) a)

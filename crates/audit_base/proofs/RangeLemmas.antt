@@ -14,10 +14,10 @@ use Rattle.audit_base.specs.declared.records.OrderRecord.TheVariants.{New, Cance
 use Rattle.audit_base.specs.declared.terms.Side.{Side}
 use Rattle.audit_base.specs.declared.terms.Side.TheVariants.{Buy, Sell}
 use Rattle.audit_base.specs.Digits.{digits_form, is_digits}
-use Rattle.audit_base.specs.Histories.{history, missing_entry, order_list, order_of_record, symbol_of}
-use Rattle.audit_base.specs.Numbers.{in_quantity, is_point, is_quantity, is_zeros, market_price, price_around, price_form, price_with_fraction, quantity_around, quantity_form, whole_price}
-use Rattle.audit_base.specs.Orders.{AreOrders, IsOrder, missing_order, order_at, same_name}
-use Rattle.audit_base.specs.RecordRanges.{AreRecords, IsRecord}
+use Rattle.audit_base.specs.Histories.{history, entry_past_end, order_list, order_of_entry, symbol_of}
+use Rattle.audit_base.specs.Numbers.{quantity_in_range, is_point, is_quantity, are_zero_digits, market_price, price_by_point, price_form, price_with_fraction, quantity_by_point, quantity_form, whole_price}
+use Rattle.audit_base.specs.Orders.{OrdersInRange, OrderInRange, order_past_end, order_at, same_name}
+use Rattle.audit_base.specs.RecordRanges.{RecordsInRange, RecordInRange}
 use Rattle.audit_base.proofs.DigitLemmas.{digit_bounds, digit_value_is, scaled_fraction}
 use Rattle.audit_base.proofs.HistoryLemmas.{order-from}
 use Rattle.audit_base.proofs.OffenceLemmas.{get_or-default}
@@ -64,7 +64,7 @@ pub record IsQuantity (value : ℕ) : Type 0 where
   pub some : 0 < value
   pub most : value ≤ 10 ^ 12
 
-in-quantity : (found : Option ℕ) (value : ℕ) → in_quantity found ≡ Some value → IsQuantity value
+in-quantity : (found : Option ℕ) (value : ℕ) → quantity_in_range found ≡ Some value → IsQuantity value
 in-quantity None value e = absurd (cc e)
 in-quantity (Some number) value e = elim (cases_Bool (is_quantity number)) [
   | inr f ↦ let none : None ≡ Some value = rw f at e in absurd (cc none)
@@ -75,9 +75,9 @@ in-quantity (Some number) value e = elim (cases_Bool (is_quantity number)) [
       subst IsQuantity same (record { some = ltb-true _ _ parts.0; most = leb-true _ _ parts.1 })
 ]
 
-quantity-around : (text : List ℕ) (point : Option ℕ) (value : ℕ) → quantity_around text point ≡ Some value → IsQuantity value
+quantity-around : (text : List ℕ) (point : Option ℕ) (value : ℕ) → quantity_by_point text point ≡ Some value → IsQuantity value
 quantity-around text None value e = in-quantity (digits_form 13 text) value e
-quantity-around text (Some point) value e = elim (cases_Bool (is_zeros (drop (point + 1) text))) [
+quantity-around text (Some point) value e = elim (cases_Bool (are_zero_digits (drop (point + 1) text))) [
   | inr f ↦ let none : None ≡ Some value = rw f at e in absurd (cc none)
   | inl t ↦ in-quantity (digits_form 13 (take point text)) value (rw t at e)
 ]
@@ -105,7 +105,7 @@ fraction-range (Some whole) places (Some fraction) value below part e =
     let scaled : fraction * 10 ^ (8 - places) < 10 ^ 8 = scaled_fraction fraction places 8 p.1 p.0 in
     omega (arith, same, b, scaled)
 
-price-around : (text : List ℕ) (point : Option ℕ) (value : ℕ) → price_around text point ≡ Some value → value < 10 ^ 18
+price-around : (text : List ℕ) (point : Option ℕ) (value : ℕ) → price_by_point text point ≡ Some value → value < 10 ^ 18
 price-around text None value e = whole-range (digits_form 10 text) value (digits-most 10 text) e
 price-around text (Some point) value e =
     let rest = drop (point + 1) text in
@@ -121,18 +121,18 @@ market-range Sell = omega arith
 
 -- The orders of records.
 
-same-order : (a o : Order) → IsOrder a → Some a ≡ Some o → IsOrder o
-same-order a o is e = let same : a ≡ o = cc in subst IsOrder same is
+same-order : (a o : Order) → OrderInRange a → Some a ≡ Some o → OrderInRange o
+same-order a o is e = let same : a ≡ o = cc in subst OrderInRange same is
 
-order-range : (h : List (ℕ × OrderRecord)) (k : ℕ) (e : ℕ × OrderRecord) (o : Order) → IsRecord e.1 → order_of_record h (k, e.0, e.1) ≡ Some o → IsOrder o
+order-range : (h : List (ℕ × OrderRecord)) (k : ℕ) (e : ℕ × OrderRecord) (o : Order) → RecordInRange e.1 → order_of_entry h (k, e.0, e.1) ≡ Some o → OrderInRange o
 order-range h k (place, New key time symbol side quantity price life) o is e = same-order _ o (record { some = is.some; most = is.most; priced = is.priced }) e
 order-range h k (place, Cancel key time symbol target) o is e = absurd (cc e)
 order-range h k (place, Replace key time symbol target side quantity price) o is e = same-order _ o (record { some = is.some; most = is.most; priced = is.priced }) e
 
 -- the orders of a symbol have numbers in range where the records of the log have
-pub orders-range : (symbol : List ℕ) (entries : List OrderRecord) → AreRecords entries → AreOrders (order_list symbol entries)
+pub orders-range : (symbol : List ℕ) (entries : List OrderRecord) → RecordsInRange entries → OrdersInRange (order_list symbol entries)
 orders-range symbol entries are i d lt =
     let records = history symbol entries in
     let from = order-from symbol entries i lt in
-    let kept = numbered-All IsRecord entries (λ e. same_name (symbol_of e.1) symbol) 1 are from.at missing_entry from.inside in
-    subst IsOrder (sym (get_or-default (order_list symbol entries) i d missing_order lt)) (order-range records from.at (get_or records from.at missing_entry) (order_at (order_list symbol entries) i) kept from.gives)
+    let kept = numbered-All RecordInRange entries (λ e. same_name (symbol_of e.1) symbol) 1 are from.at entry_past_end from.inside in
+    subst OrderInRange (sym (get_or-default (order_list symbol entries) i d order_past_end lt)) (order-range records from.at (get_or records from.at entry_past_end) (order_at (order_list symbol entries) i) kept from.gives)

@@ -4,8 +4,8 @@ use Rattle.std.specs.Prelude.{◌&&◌, find}
 use Rattle.std.proofs.lemmas.Bool.{cases_Bool, cases_order, and_parts, and_from, both_ways, cond-true, cond-false}
 use Rattle.audit_base.specs.declared.terms.Side.{Side}
 use Rattle.audit_base.specs.declared.orders.Order.{Order}
-use Rattle.audit_base.specs.Orders.{order_at, stands_on, Stands, IsOrderList}
-use Rattle.audit_base.specs.Priority.{Better, IsRanked, best}
+use Rattle.audit_base.specs.Orders.{order_at, is_uncancelled_on, IsUncancelledOn, IsOrderList}
+use Rattle.audit_base.specs.Priority.{Better, IsRanked, best_order}
 use Rattle.audit_base.proofs.OrderLemmas.{test-stands, stands-test}
 use Rattle.audit_base.proofs.LeastLemmas.{cases_Option}
 use Rattle.audit_base.proofs.PriorityLemmas.{Better-strict, Better-one_way, IsBest, best-is, is-best}
@@ -60,15 +60,15 @@ find-none test (x ∷ xs) e k d lt = elim (cases_Bool (test x)) [
 
 -- the standing orders of a side that pass
 abbrev pub standing_that : List Order → Side → (ℕ → Bool) → ℕ → Bool
-standing_that orders side test i = stands_on side (order_at orders i) && test i
+standing_that orders side test i = is_uncancelled_on side (order_at orders i) && test i
 
 module _ (orders : List Order) (list : IsOrderList orders) (side : Side) (ranks : List ℕ) (ranked : IsRanked orders side ranks) (test : ℕ → Bool) where
-  standing : (j : ℕ) → j < length orders → standing_that orders side test j ≡ true → Stands orders side j × (test j ≡ true)
-  standing j lt t = let parts = and_parts (stands_on side (order_at orders j)) (test j) t in (test-stands orders side j lt parts.0, parts.1)
+  standing : (j : ℕ) → j < length orders → standing_that orders side test j ≡ true → IsUncancelledOn orders side j × (test j ≡ true)
+  standing j lt t = let parts = and_parts (is_uncancelled_on side (order_at orders j)) (test j) t in (test-stands orders side j lt parts.0, parts.1)
 
   first-best : (i : ℕ) → IsFirst test ranks i → IsBest orders (standing_that orders side test) i
   first-best i f =
-      let s : Stands orders side i = subst (Stands orders side) (f.here i) (ranked.only f.at i f.inside) in
+      let s : IsUncancelledOn orders side i = subst (IsUncancelledOn orders side) (f.here i) (ranked.only f.at i f.inside) in
       record {
         inside = s.inside;
         passes = and_from _ _ (stands-test orders side i s) f.passes;
@@ -91,10 +91,10 @@ module _ (orders : List Order) (list : IsOrderList orders) (side : Side) (ranks 
       }
 
   -- the first of a ranked list that passes is the best
-  pub first-ranked : find test ranks ≡ best orders (standing_that orders side test)
+  pub first-ranked : find test ranks ≡ best_order orders (standing_that orders side test)
   first-ranked = elim (cases_Option (find test ranks)) [
     | inr (i, e) ↦ e ∙ sym (is-best orders list (standing_that orders side test) side (λ k lt t. (standing k lt t).0.of_side) i (first-best i (find-first test ranks i e)))
-    | inl none ↦ none ∙ elim (cases_Option (best orders (standing_that orders side test))) [
+    | inl none ↦ none ∙ elim (cases_Option (best_order orders (standing_that orders side test))) [
       | inl nothing ↦ sym nothing
       | inr (j, e) ↦
           let b = best-is orders (standing_that orders side test) j e in

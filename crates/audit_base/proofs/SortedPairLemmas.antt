@@ -29,7 +29,7 @@ module _ {X : Type 0} (bid ask quantity : X → ℕ) where
   abbrev pub Differ : X → X → Type 0
   Differ p q = (bid p ≡ bid q) → (ask p ≡ ask q) → ⊥
 
-  -- a pair stands before another: by the bid, and then by the ask
+  -- a pair is before another: by the bid, and then by the ask
   abbrev pub Before : X → X → Type 0
   Before p q = (bid p < bid q) ⊎ ((bid p ≡ bid q) × (ask p < ask q))
 

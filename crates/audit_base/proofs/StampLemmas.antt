@@ -5,7 +5,7 @@ use Rattle.std.proofs.lemmas.List.{take_at, drop_at, length-append, length_push,
 use Rattle.std.specs.Prelude.{◌==◌, ◌||◌, nat_le, slice_index}
 use Rattle.audit_base.specs.Digits.{fixed_digits, digits_form}
 use Rattle.audit_base.specs.Moments.{Moment}
-use Rattle.audit_base.specs.Stamps.{day_of, date_form, date_text, second_of, clock_form, clock_text, filled_to_nine, fraction_of, fraction_form, nano_text, moment_of, stamp_form, stamp_text}
+use Rattle.audit_base.specs.Stamps.{day_of, date_form, date_text, second_of, clock_form, clock_text, nano_of_fraction, fraction_of, fraction_form, nano_text, moment_of, stamp_form, stamp_text}
 use Rattle.audit_base.proofs.WrittenDigits.{fixed_digits_between, fixed_digits_form, length-fixed_digits}
 
 -- a day is read again from its date
@@ -28,13 +28,13 @@ clock_again second below =
     let same : (second / 61 / 60 * 60 + second / 61 % 60) * 61 + second % 61 ≡ second = omega arith in
     (λ i. second_of (hours i) (minutes i) (seconds i)) ∙ ap Some same
 
--- a fraction of three, six or nine digits is read as so many billionths
+-- a fraction of three, six or nine digits is read as nanoseconds
 pub fraction_again : (width number : ℕ) → (width == 3 || width == 6 || width == 9) ≡ true → 1 ≤ width → width ≤ 9 → number < 10 ^ width → fraction_of (fixed_digits width number) ≡ Some (number * 10 ^ (9 - width))
 fraction_again width number listed some few below =
     let size : length (fixed_digits width number) ≡ width = length-fixed_digits width number in
     let form : digits_form 9 (fixed_digits width number) ≡ Some number = fixed_digits_form width 9 number some few below in
     let fits : (length (fixed_digits width number) == 3 || length (fixed_digits width number) == 6 || length (fixed_digits width number) == 9) ≡ true = rw size listed in
-    cond-true _ _ _ fits ∙ (λ i. filled_to_nine (size i) (form i))
+    cond-true _ _ _ fits ∙ (λ i. nano_of_fraction (size i) (form i))
 
 -- whole thousandths of a second
 thousandths : (nano : ℕ) → nano % 10 ^ 6 ≡ 0 → nano < 10 ^ 9 → fraction_form (46 ∷ fixed_digits 3 (nano / 10 ^ 6)) ≡ Some nano

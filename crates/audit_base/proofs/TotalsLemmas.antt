@@ -7,12 +7,12 @@ use Rattle.std.proofs.lemmas.Bool.{cases_eq, or_from, ne_eqb}
 use Rattle.audit_base.specs.declared.orders.Order.{Order}
 use Rattle.audit_base.specs.declared.orders.Deal.{Deal}
 use Rattle.audit_base.specs.Orders.{side_at}
-use Rattle.audit_base.specs.Deals.{names, traded, AreTotals, volume, deal_at, missing_deal, NamesOrders}
+use Rattle.audit_base.specs.Deals.{names_order, traded, AreTotals, volume, deal_at, deal_past_end, NamesOrders}
 use Rattle.audit_base.proofs.OffenceLemmas.{traded_more, part-away}
 use Rattle.audit_base.proofs.DealLemmas.{part-bid, part-ask}
 use Rattle.audit_base.proofs.OrderLemmas.{not_both_sides}
 
--- what the first k deals come to
+-- what the first k deals give
 pub record AreTotalsSoFar (orders : List Order) (deals : List Deal) (k : ℕ) (so_far : List ℕ) (total : ℕ) : Type 0 where
   pub totals : AreTotals orders (take k deals) so_far
   pub whole : total ≡ volume (take k deals)
@@ -49,11 +49,11 @@ module _ (orders : List Order) (deals : List Deal) (k : ℕ) (lt : k < length de
   other-same : (i : ℕ) → i ≢ (deal_at deals k).bid → i ≢ (deal_at deals k).ask → traded (take (k + 1) deals) i ≡ traded (take k deals) i
   other-same i not_bid not_ask =
       let d = deal_at deals k in
-      let away : names i d ≡ false = or_from _ _ (ne_eqb d.bid i (λ e. not_bid (sym e))) (ne_eqb d.ask i (λ e. not_ask (sym e))) in
+      let away : names_order i d ≡ false = or_from _ _ (ne_eqb d.bid i (λ e. not_bid (sym e))) (ne_eqb d.ask i (λ e. not_ask (sym e))) in
       omega (arith, traded_more deals k i lt, part-away i d away)
 
   volume-more : volume (take (k + 1) deals) ≡ volume (take k deals) + (deal_at deals k).quantity
-  volume-more = sum_by_more (λ (d : Deal). d.quantity) deals k missing_deal lt
+  volume-more = sum_by_more (λ (d : Deal). d.quantity) deals k deal_past_end lt
 
   module _ (so_far : List ℕ) (total quantity : ℕ) (is : AreTotalsSoFar orders deals k so_far total) (same : quantity ≡ (deal_at deals k).quantity) (most : quantity ≤ 10 ^ 12) where
     -- the totals when the quantity is added to those of both orders

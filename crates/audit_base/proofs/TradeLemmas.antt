@@ -14,9 +14,9 @@ use Rattle.audit_base.specs.declared.terms.Side.TheVariants.{Buy, Sell}
 use Rattle.audit_base.specs.declared.records.TradeRecord.{TradeRecord}
 use Rattle.audit_base.specs.declared.orders.Order.{Order}
 use Rattle.audit_base.specs.declared.orders.Deal.{Deal}
-use Rattle.audit_base.specs.Orders.{order_at, side_at, same_name, same_side, same_key, on_side_with_key}
-use Rattle.audit_base.specs.Deals.{NamesOrders, IsDealList, IsDeal, AreDeals}
-use Rattle.audit_base.specs.Trades.{trades_of, missing_trade, trade_at, IsTrade, AreTrades, duplicate_trade, unknown_order, unsound_trade, Sound, deal_of, deals_of}
+use Rattle.audit_base.specs.Orders.{order_at, side_at, same_name, same_side, same_key, order_on_side_with_key}
+use Rattle.audit_base.specs.Deals.{NamesOrders, IsDealList, DealInRange, DealsInRange}
+use Rattle.audit_base.specs.Trades.{trades_of_symbol, trade_past_end, trade_at, TradeInRange, TradesInRange, duplicate_trade, unknown_order, unsound_trade, SoundTrades, deal_of_trade, deals_of_symbol}
 use Rattle.audit_base.proofs.OrderLemmas.{same_side-is}
 use Rattle.audit_base.proofs.LeastLemmas.{cases_Option, option_or-parts, none-below, with-found}
 use Rattle.audit_base.proofs.OffenceLemmas.{only-none}
@@ -33,37 +33,37 @@ numbered-All P (x ∷ xs) test n h =
     (λ t. rest)
 
 -- what is found by a key is an order of the side
-found-order : (orders : List Order) (side : Side) (key : Key) → is_none (on_side_with_key orders side key) ≡ false
-    → (unwrap_or (on_side_with_key orders side key) (length orders) < length orders) × (side_at orders (unwrap_or (on_side_with_key orders side key) (length orders)) ≡ side)
-found-order orders side key some = elim (cases_Option (on_side_with_key orders side key)) [
-  | inl none ↦ let t : is_none (on_side_with_key orders side key) ≡ true = ap is_none none in absurd (both_ways _ some t)
+found-order : (orders : List Order) (side : Side) (key : Key) → is_none (order_on_side_with_key orders side key) ≡ false
+    → (unwrap_or (order_on_side_with_key orders side key) (length orders) < length orders) × (side_at orders (unwrap_or (order_on_side_with_key orders side key) (length orders)) ≡ side)
+found-order orders side key some = elim (cases_Option (order_on_side_with_key orders side key)) [
+  | inl none ↦ let t : is_none (order_on_side_with_key orders side key) ≡ true = ap is_none none in absurd (both_ways _ some t)
   | inr (i, e) ↦
       let test : ℕ → Bool = λ i. same_side side (side_at orders i) && same_key (order_at orders i).key key in
       let r = with-found test (length orders) i e in
       let parts = and_parts (same_side side (side_at orders i)) (same_key (order_at orders i).key key) r.1 in
-      let same : unwrap_or (on_side_with_key orders side key) (length orders) ≡ i = ap (λ (o : Option ℕ). unwrap_or o (length orders)) e in
+      let same : unwrap_or (order_on_side_with_key orders side key) (length orders) ≡ i = ap (λ (o : Option ℕ). unwrap_or o (length orders)) e in
       (rw same r.0, rw same (same_side-is side _ parts.0))
 ]
 
 known-order : (orders : List Order) (listed : List (ℕ × TradeRecord)) (k : ℕ) → unknown_order orders listed k ≡ None
-    → (is_none (on_side_with_key orders Buy (trade_at listed k).buy) ≡ false) × (is_none (on_side_with_key orders Sell (trade_at listed k).sell) ≡ false)
+    → (is_none (order_on_side_with_key orders Buy (trade_at listed k).buy) ≡ false) × (is_none (order_on_side_with_key orders Sell (trade_at listed k).sell) ≡ false)
 unfolding unknown_order
 known-order orders listed k e = let parts = option_or-parts _ _ e in (only-none _ _ parts.0, only-none _ _ parts.1)
 
 module _ (orders : List Order) (symbol : List ℕ) (trades : List TradeRecord) where
-  deal-at : (k : ℕ) (d : Deal) → k < length (trades_of symbol trades) → get_or (map (deal_of orders) (trades_of symbol trades)) k d ≡ deal_of orders (get_or (trades_of symbol trades) k missing_trade)
-  deal-at k d lt = get_or-map (deal_of orders) (trades_of symbol trades) k missing_trade d lt
+  deal-at : (k : ℕ) (d : Deal) → k < length (trades_of_symbol symbol trades) → get_or (map (deal_of_trade orders) (trades_of_symbol symbol trades)) k d ≡ deal_of_trade orders (get_or (trades_of_symbol symbol trades) k trade_past_end)
+  deal-at k d lt = get_or-map (deal_of_trade orders) (trades_of_symbol symbol trades) k trade_past_end d lt
 
-  deals-length : length (deals_of orders symbol trades) ≡ length (trades_of symbol trades)
-  unfolding deals_of
-  deals-length = length-map (trades_of symbol trades) (deal_of orders)
+  deals-length : length (deals_of_symbol orders symbol trades) ≡ length (trades_of_symbol symbol trades)
+  unfolding deals_of_symbol
+  deals-length = length-map (trades_of_symbol symbol trades) (deal_of_trade orders)
 
   -- each deal of sound trades names a bid and an ask
-  pub sound-names : Sound orders symbol trades → All (NamesOrders orders) (deals_of orders symbol trades)
-  unfolding unsound_trade deals_of
+  pub sound-names : SoundTrades orders symbol trades → All (NamesOrders orders) (deals_of_symbol orders symbol trades)
+  unfolding unsound_trade deals_of_symbol
   sound-names sound k d lt =
-      let listed = trades_of symbol trades in
-      let inside : k < length listed = rw (← length-map listed (deal_of orders)) lt in
+      let listed = trades_of_symbol symbol trades in
+      let inside : k < length listed = rw (← length-map listed (deal_of_trade orders)) lt in
       let none = none-below (λ k. option_or (duplicate_trade listed k) (unknown_order orders listed k)) (length listed) sound k inside in
       let known = known-order orders listed k ((option_or-parts (duplicate_trade listed k) (unknown_order orders listed k) none).1) in
       let bid = found-order orders Buy (trade_at listed k).buy known.0 in
@@ -71,25 +71,25 @@ module _ (orders : List Order) (symbol : List ℕ) (trades : List TradeRecord) w
       subst (NamesOrders orders) (sym (deal-at k d inside)) (record { bid_inside = bid.0; ask_inside = ask.0; buys = bid.1; sells = ask.1 })
 
   -- and has numbers in their ranges
-  pub deals-ranges : AreTrades trades → AreDeals (deals_of orders symbol trades)
-  unfolding trades_of deals_of
+  pub deals-ranges : TradesInRange trades → DealsInRange (deals_of_symbol orders symbol trades)
+  unfolding trades_of_symbol deals_of_symbol
   deals-ranges ranges k d lt =
-      let listed = trades_of symbol trades in
-      let inside : k < length listed = rw (← length-map listed (deal_of orders)) lt in
-      let t = numbered-All IsTrade trades (λ e. same_name e.1.symbol symbol) 1 ranges k missing_trade inside in
-      subst IsDeal (sym (deal-at k d inside)) (record { some = t.some; most = t.most; priced = t.priced })
+      let listed = trades_of_symbol symbol trades in
+      let inside : k < length listed = rw (← length-map listed (deal_of_trade orders)) lt in
+      let t = numbered-All TradeInRange trades (λ e. same_name e.1.symbol symbol) 1 ranges k trade_past_end inside in
+      subst DealInRange (sym (deal-at k d inside)) (record { some = t.some; most = t.most; priced = t.priced })
 
-  deals-rising : AllPairs (λ d e. d.place < e.place) (deals_of orders symbol trades)
-  unfolding trades_of deals_of
+  deals-rising : AllPairs (λ d e. d.place < e.place) (deals_of_symbol orders symbol trades)
+  unfolding trades_of_symbol deals_of_symbol
   deals-rising j k d lt below =
-      let listed = trades_of symbol trades in
-      let inside : k < length listed = rw (← length-map listed (deal_of orders)) below in
-      let rise = (enumerated-places trades (λ e. same_name e.1.symbol symbol) 1).1 j k missing_trade lt inside in
+      let listed = trades_of_symbol symbol trades in
+      let inside : k < length listed = rw (← length-map listed (deal_of_trade orders)) below in
+      let rise = (enumerated-places trades (λ e. same_name e.1.symbol symbol) 1).1 j k trade_past_end lt inside in
       rw (deal-at j d (omega arith), deal-at k d inside) rise
 
   -- they are a list of deals over the orders
-  pub deals-are : length trades < 2 ^ 32 → Sound orders symbol trades → IsDealList orders (deals_of orders symbol trades)
-  unfolding trades_of
+  pub deals-are : length trades < 2 ^ 32 → SoundTrades orders symbol trades → IsDealList orders (deals_of_symbol orders symbol trades)
+  unfolding trades_of_symbol
   deals-are small sound =
       let test : ℕ × TradeRecord → Bool = λ e. same_name e.1.symbol symbol in
       let a = deals-length in

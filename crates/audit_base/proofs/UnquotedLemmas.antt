@@ -1,4 +1,4 @@
--- What the writers write can stand between the commas of a line.
+-- What the writers write can be put between the commas of a line.
 use Rattle.std.proofs.Common.{◌≡◌, ℕ, true, ◌%◌, ◌/◌, ◌^◌, ◌<◌, ◌≤◌, List, [], ◌∷◌, refl, ◌∙◌, arith, suc, zero}
 use Rattle.std.proofs.lemmas.Bool.{and_from, cond_both}
 use Rattle.std.proofs.lemmas.Bool.Decides.{nat_tests}
@@ -11,7 +11,7 @@ use Rattle.std.specs.Prelude.{◌==◌}
 use Rattle.audit_base.specs.Digits.{fixed_digits, fraction_digits}
 use Rattle.audit_base.specs.Moments.{Moment}
 use Rattle.audit_base.specs.Names.{is_name_byte}
-use Rattle.audit_base.specs.Numbers.{after_point, price_text}
+use Rattle.audit_base.specs.Numbers.{point_and_digits, price_text}
 use Rattle.audit_base.specs.Stamps.{nano_text, stamp_text}
 use Rattle.audit_base.proofs.DigitLemmas.{digit_bounds}
 use Rattle.audit_base.proofs.WrittenDigits.{fixed_digits_are, decimal_digits}
@@ -53,14 +53,14 @@ fraction_is_unquoted (suc places) number =
     cond_both (number % 10 == 0) _ _ P (λ _. fraction_is_unquoted places (number / 10)) (λ _. fixed_digits_are_unquoted (suc places) number)
 
 -- a point before unquoted digits
-after_point_is_unquoted : (digits : List ℕ) → list_all is_name_byte digits ≡ true → list_all is_name_byte (after_point digits) ≡ true
+after_point_is_unquoted : (digits : List ℕ) → list_all is_name_byte digits ≡ true → list_all is_name_byte (point_and_digits digits) ≡ true
 after_point_is_unquoted [] are = refl
 after_point_is_unquoted (digit ∷ digits) are = are
 
 -- a price
 pub price_is_unquoted : (units : ℕ) → units ≤ 10 ^ 18 → list_all is_name_byte (price_text units) ≡ true
 price_is_unquoted units below =
-    list_all-append is_name_byte (decimal (units / 10 ^ 8)) (after_point (fraction_digits 8 (units % 10 ^ 8)))
+    list_all-append is_name_byte (decimal (units / 10 ^ 8)) (point_and_digits (fraction_digits 8 (units % 10 ^ 8)))
     ∙ and_from _ _ (decimal_is_unquoted (units / 10 ^ 8) (omega arith)) (after_point_is_unquoted (fraction_digits 8 (units % 10 ^ 8)) (fraction_is_unquoted 8 (units % 10 ^ 8)))
 
 -- a point in time

@@ -8,21 +8,21 @@ use Rattle.audit_base.specs.declared.terms.CallRule.{CallRule}
 use Rattle.audit_base.specs.declared.terms.CallRule.TheVariants as call
 use Rattle.audit_base.specs.declared.terms.VolumeRule.{VolumeRule}
 use Rattle.audit_base.specs.declared.terms.VolumeRule.TheVariants as of_volume
-use Rattle.audit_base.specs.RuleKinds.{rule_of_call, rule_of_volume, greatest_of}
+use Rattle.audit_base.specs.RuleKinds.{rule_of_call, rule_of_volume, volume_rule_of_call}
 use Rattle.audit_base.specs.declared.records.OrderRecord.{OrderRecord}
 use Rattle.audit_base.specs.declared.records.TradeRecord.{TradeRecord}
 use Rattle.audit_base.specs.declared.orders.Order.{Order}
 use Rattle.audit_base.specs.declared.orders.Deal.{Deal}
 use Rattle.audit_base.specs.declared.findings.Finding.{Finding}
-use Rattle.audit_base.specs.Bounds.{IsBound}
-use Rattle.audit_base.specs.Deals.{NamesOrders, AreDeals}
+use Rattle.audit_base.specs.Bounds.{IsBoundPrice}
+use Rattle.audit_base.specs.Deals.{NamesOrders, DealsInRange}
 use Rattle.audit_base.specs.Rules.{Conforms, Only}
-use Rattle.audit_base.specs.CallOffences.{early_offence, IsGreatestUnder, IsVolumeOffence, IsCallOffence}
+use Rattle.audit_base.specs.CallOffences.{offence_before_volume, IsGreatestUnder, IsVolumeOffence, IsCallOffence}
 use Rattle.audit_base.specs.ContinuousOffences.{finding_at_place, IsContinuousOffence}
-use Rattle.audit_base.specs.Least.{first_of}
+use Rattle.audit_base.specs.Least.{first_answer}
 use Rattle.audit_base.specs.Histories.{history_finding, order_list}
-use Rattle.audit_base.specs.Trades.{AreTrades, unsound_trade, deals_of}
-use Rattle.audit_base.specs.Verdicts.{IsFirstOffence, IsRuleVerdict, call_finding, pairing_finding, paired_trades, log_finding, IsVerdict}
+use Rattle.audit_base.specs.Trades.{TradesInRange, unsound_trade, deals_of_symbol}
+use Rattle.audit_base.specs.Verdicts.{IsFirstOffence, IsRuleVerdict, instant_order_finding, pairing_finding, paired_trades, log_finding, IsVerdict}
 use Rattle.audit_base.proofs.LeastLemmas.{cases_Option, none_some, one-least, option_or-parts}
 use Rattle.audit_base.proofs.OffenceLemmas.{option_or-none_both, matching-no_offence, fair-no_offence}
 use Rattle.audit_base.proofs.ContinuousOffenceLemmas.{conforms-no_fault, offence-fails}
@@ -37,7 +37,7 @@ match-none o P Q e h = subst (λ p. MatchOption p P Q) e h
 
 -- the third part of a first offence, which only a rule that asks for the greatest volume has
 abbrev IsLate : CallRule → List Order → List Deal → ℕ → Finding → Type 0
-IsLate r orders deals count f = IsSomeAnd (greatest_of r) (λ v. IsVolumeOffence v orders deals count f)
+IsLate r orders deals count f = IsSomeAnd (volume_rule_of_call r) (λ v. IsVolumeOffence v orders deals count f)
 
 -- each order has one due
 pub one-due : (r : Rule) (orders : List Order) (i m n : ℕ) → Only r orders i m → Only r orders i n → m ≡ n
@@ -59,7 +59,7 @@ one-greatest of_volume.Maximum orders u v a b =
     omega arith
 
 -- a volume has one bound
-pub one-bound : (r : VolumeRule) (orders : List Order) (reached a b : ℕ) → IsBound r orders reached a → IsBound r orders reached b → a ≡ b
+pub one-bound : (r : VolumeRule) (orders : List Order) (reached a b : ℕ) → IsBoundPrice r orders reached a → IsBoundPrice r orders reached b → a ≡ b
 one-bound of_volume.Uniform orders reached a b x y = one-least _ a b x y
 one-bound of_volume.Maximum orders reached a b x y = one-least _ a b x y
 
@@ -81,7 +81,7 @@ one-volume_offence r orders deals count f g a b =
 
 -- a call has at most one first offence
 pub one-call_offence : (r : CallRule) (orders : List Order) (deals : List Deal) (count : ℕ) (f g : Finding) → IsCallOffence r orders deals count f → IsCallOffence r orders deals count g → f ≡ g
-one-call_offence r orders deals count f g a b = elim (cases_Option (early_offence r orders deals)) [
+one-call_offence r orders deals count f g a b = elim (cases_Option (offence_before_volume r orders deals)) [
   | inl none ↦ late r (match-none _ _ _ none a) (match-none _ _ _ none b)
   | inr (x, some) ↦ match-some _ _ _ x some a ∙ sym (match-some _ _ _ x some b)
 ]
@@ -92,7 +92,7 @@ one-call_offence r orders deals count f g a b = elim (cases_Option (early_offenc
     late (call.Greatest r) a b = one-volume_offence r orders deals count f g a b
 
 -- a call that conforms has no offence before the volume
-pub conforms-no_early_offence : (r : CallRule) (orders : List Order) (deals : List Deal) → AreDeals deals → Conforms (rule_of_call r) orders deals → early_offence r orders deals ≡ None
+pub conforms-no_early_offence : (r : CallRule) (orders : List Order) (deals : List Deal) → DealsInRange deals → Conforms (rule_of_call r) orders deals → offence_before_volume r orders deals ≡ None
 conforms-no_early_offence call.Matching orders deals ranges c = matching-no_offence false orders deals c (λ t. cc)
 conforms-no_early_offence call.Fair orders deals ranges c =
     option_or-none_both _ _ (matching-no_offence false orders deals c.matching (λ t. cc)) (fair-no_offence orders deals ranges c.matching c.fair)
@@ -108,7 +108,7 @@ conforms-no_volume_offence of_volume.Uniform orders deals count f c o =
 conforms-no_volume_offence of_volume.Maximum orders deals count f c o =
     let g = o.greatest in let le = c.greatest g.deals g.ranges g.matching in let e = g.reached in let lt = o.below in absurd (omega arith)
 
-pub call_offence-fails : (r : CallRule) (orders : List Order) (deals : List Deal) (count : ℕ) (f : Finding) → AreDeals deals
+pub call_offence-fails : (r : CallRule) (orders : List Order) (deals : List Deal) (count : ℕ) (f : Finding) → DealsInRange deals
     → IsCallOffence r orders deals count f → Conforms (rule_of_call r) orders deals → ⊥
 call_offence-fails r orders deals count f ranges o c =
     late r c (match-none _ _ _ (conforms-no_early_offence r orders deals ranges c) o)
@@ -119,7 +119,7 @@ call_offence-fails r orders deals count f ranges o c =
     late (call.Greatest r) c o = conforms-no_volume_offence r orders deals count f c o
 
 -- continuous trading has at most one first offence
-pub one-continuous_offence : (orders : List Order) (deals : List Deal) (f g : Finding) → All (NamesOrders orders) deals → AreDeals deals
+pub one-continuous_offence : (orders : List Order) (deals : List Deal) (f g : Finding) → All (NamesOrders orders) deals → DealsInRange deals
     → IsContinuousOffence orders deals f → IsContinuousOffence orders deals g → f ≡ g
 one-continuous_offence orders deals f g named ranges a b = elim (cases_order a.place b.place) [
   | inl same ↦ some-one _ f g (subst (λ i. finding_at_place orders deals i ≡ Some f) same a.here) b.here
@@ -130,7 +130,7 @@ one-continuous_offence orders deals f g named ranges a b = elim (cases_order a.p
 ]
 
 -- a rule has at most one first offence, and none where it holds
-pub one-offence : (r : Rule) (orders : List Order) (deals : List Deal) (count : ℕ) (f g : Finding) → All (NamesOrders orders) deals → AreDeals deals
+pub one-offence : (r : Rule) (orders : List Order) (deals : List Deal) (count : ℕ) (f g : Finding) → All (NamesOrders orders) deals → DealsInRange deals
     → IsFirstOffence r orders deals count f → IsFirstOffence r orders deals count g → f ≡ g
 one-offence rule.Continuous orders deals count f g named ranges a b = one-continuous_offence orders deals f g named ranges a b
 one-offence rule.Matching orders deals count f g named ranges a b = one-call_offence call.Matching orders deals count f g a b
@@ -138,7 +138,7 @@ one-offence rule.Fair orders deals count f g named ranges a b = one-call_offence
 one-offence rule.Uniform orders deals count f g named ranges a b = one-call_offence (call.Greatest of_volume.Uniform) orders deals count f g a b
 one-offence rule.Maximum orders deals count f g named ranges a b = one-call_offence (call.Greatest of_volume.Maximum) orders deals count f g a b
 
-pub first_offence-fails : (r : Rule) (orders : List Order) (deals : List Deal) (count : ℕ) (f : Finding) → All (NamesOrders orders) deals → AreDeals deals
+pub first_offence-fails : (r : Rule) (orders : List Order) (deals : List Deal) (count : ℕ) (f : Finding) → All (NamesOrders orders) deals → DealsInRange deals
     → IsFirstOffence r orders deals count f → Conforms r orders deals → ⊥
 first_offence-fails rule.Continuous orders deals count f named ranges o c = offence-fails orders deals f named ranges o c
 first_offence-fails rule.Matching orders deals count f named ranges o c = call_offence-fails call.Matching orders deals count f ranges o c
@@ -147,7 +147,7 @@ first_offence-fails rule.Uniform orders deals count f named ranges o c = call_of
 first_offence-fails rule.Maximum orders deals count f named ranges o c = call_offence-fails (call.Greatest of_volume.Maximum) orders deals count f ranges o c
 
 -- so there is one verdict of a rule
-pub one-rule_verdict : (r : Rule) (orders : List Order) (deals : List Deal) (count : ℕ) (v w : Option Finding) → All (NamesOrders orders) deals → AreDeals deals
+pub one-rule_verdict : (r : Rule) (orders : List Order) (deals : List Deal) (count : ℕ) (v w : Option Finding) → All (NamesOrders orders) deals → DealsInRange deals
     → IsRuleVerdict r orders deals count v → IsRuleVerdict r orders deals count w → v ≡ w
 one-rule_verdict r orders deals count None None named ranges a b = refl
 one-rule_verdict r orders deals count None (Some g) named ranges a b = absurd (first_offence-fails r orders deals count g named ranges b a)
@@ -156,22 +156,22 @@ one-rule_verdict r orders deals count (Some f) (Some g) named ranges a b = ap (�
 
 -- and one verdict on two logs that have been read, where the deals of sound trades are in range
 pub one-verdict-of_deals : (r : Rule) (symbol : List ℕ) (entries : List OrderRecord) (trades : Result (List TradeRecord) Finding) (v w : Option Finding)
-    → (unsound_trade (order_list symbol entries) symbol (paired_trades trades) ≡ None → AreDeals (deals_of (order_list symbol entries) symbol (paired_trades trades)))
+    → (unsound_trade (order_list symbol entries) symbol (paired_trades trades) ≡ None → DealsInRange (deals_of_symbol (order_list symbol entries) symbol (paired_trades trades)))
     → IsVerdict r symbol entries trades v → IsVerdict r symbol entries trades w → v ≡ w
 one-verdict-of_deals r symbol entries trades v w ranges a b = elim (cases_Option (log_finding r symbol entries trades)) [
   | inr (f, some) ↦ match-some _ _ _ f some a ∙ sym (match-some _ _ _ f some b)
   | inl none ↦
       let orders = order_list symbol entries in
-      let later = option_or-parts (history_finding symbol entries) (first_of (call_finding r orders ∷ pairing_finding trades ∷ unsound_trade orders symbol (paired_trades trades) ∷ [])) none in
-      let latest = option_or-parts (call_finding r orders) (first_of (pairing_finding trades ∷ unsound_trade orders symbol (paired_trades trades) ∷ [])) later.1 in
-      let last = option_or-parts (pairing_finding trades) (first_of (unsound_trade orders symbol (paired_trades trades) ∷ [])) latest.1 in
+      let later = option_or-parts (history_finding symbol entries) (first_answer (instant_order_finding r orders ∷ pairing_finding trades ∷ unsound_trade orders symbol (paired_trades trades) ∷ [])) none in
+      let latest = option_or-parts (instant_order_finding r orders) (first_answer (pairing_finding trades ∷ unsound_trade orders symbol (paired_trades trades) ∷ [])) later.1 in
+      let last = option_or-parts (pairing_finding trades) (first_answer (unsound_trade orders symbol (paired_trades trades) ∷ [])) latest.1 in
       let sound = (option_or-parts (unsound_trade orders symbol (paired_trades trades)) None last.1).0 in
-      one-rule_verdict r orders (deals_of orders symbol (paired_trades trades)) (length (paired_trades trades)) v w
+      one-rule_verdict r orders (deals_of_symbol orders symbol (paired_trades trades)) (length (paired_trades trades)) v w
       (sound-names orders symbol (paired_trades trades) sound) (ranges sound)
       (match-none _ _ _ none a) (match-none _ _ _ none b)
 ]
 
-pub one-verdict : (r : Rule) (symbol : List ℕ) (entries : List OrderRecord) (trades : Result (List TradeRecord) Finding) (v w : Option Finding) → AreTrades (paired_trades trades)
+pub one-verdict : (r : Rule) (symbol : List ℕ) (entries : List OrderRecord) (trades : Result (List TradeRecord) Finding) (v w : Option Finding) → TradesInRange (paired_trades trades)
     → IsVerdict r symbol entries trades v → IsVerdict r symbol entries trades w → v ≡ w
 one-verdict r symbol entries trades v w ranges a b =
     one-verdict-of_deals r symbol entries trades v w (λ _. deals-ranges (order_list symbol entries) symbol (paired_trades trades) ranges) a b

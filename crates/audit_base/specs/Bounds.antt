@@ -6,37 +6,37 @@ use Rattle.audit_base.specs.declared.orders.Cut.{Cut}
 use Rattle.audit_base.specs.declared.terms.VolumeRule.{VolumeRule}
 use Rattle.audit_base.specs.declared.terms.VolumeRule.TheVariants as of_volume
 use Rattle.audit_base.specs.Least.{IsLeast}
-use Rattle.audit_base.specs.Orders.{stands_on}
+use Rattle.audit_base.specs.Orders.{is_uncancelled_on}
 
 -- what an order asks for at a price, if it is a bid that no record cancels
-abbrev pub wanted : ℕ → Order → ℕ
-wanted p o = if stands_on Buy o && nat_le p o.limit then o.quantity else 0
+abbrev pub demand_of_order : ℕ → Order → ℕ
+demand_of_order p o = if is_uncancelled_on Buy o && nat_le p o.limit then o.quantity else 0
 
 -- what an order offers at a price, if it is an ask that no record cancels
-abbrev pub offered : ℕ → Order → ℕ
-offered p o = if stands_on Sell o && nat_le o.limit p then o.quantity else 0
+abbrev pub supply_of_order : ℕ → Order → ℕ
+supply_of_order p o = if is_uncancelled_on Sell o && nat_le o.limit p then o.quantity else 0
 
 -- what an order offers below a price, if it is an ask that no record cancels
-abbrev pub offered_below : ℕ → Order → ℕ
-offered_below p o = if stands_on Sell o && nat_lt o.limit p then o.quantity else 0
+abbrev pub supply_below_of_order : ℕ → Order → ℕ
+supply_below_of_order p o = if is_uncancelled_on Sell o && nat_lt o.limit p then o.quantity else 0
 
 -- Demand: the quantity of the bids with limit at least p
 abbrev pub demand : List Order → ℕ → ℕ
-demand orders p = sum_by (wanted p) orders
+demand orders p = sum_by (demand_of_order p) orders
 
 -- Supply: the quantity of the asks with limit at most p
 abbrev pub supply : List Order → ℕ → ℕ
-supply orders p = sum_by (offered p) orders
+supply orders p = sum_by (supply_of_order p) orders
 
 -- the quantity of the asks with limit below p
 abbrev pub supply_below : List Order → ℕ → ℕ
-supply_below orders p = sum_by (offered_below p) orders
+supply_below orders p = sum_by (supply_below_of_order p) orders
 
 -- Cut: the demand at p, and the quantity of the asks with limit below p
 abbrev pub cut : List Order → ℕ → ℕ
 cut orders p = demand orders p + supply_below orders p
 
--- executable volume: the lesser of demand and supply, which is what can trade at this one price
+-- executable volume: the smaller of demand and supply, which is what can trade at this one price
 abbrev pub executable_volume : List Order → ℕ → ℕ
 executable_volume orders p = min (demand orders p) (supply orders p)
 
@@ -46,14 +46,14 @@ pub record IsLeastCut (orders : List Order) (c : Cut) : Type 0 where
   pub least : (q : ℕ) → q ≤ 10 ^ 18 → c.volume ≤ cut orders q
 
 -- the greatest executable volume over these prices, and the least price that reaches it
-pub record IsBestUniform (orders : List Order) (c : Cut) : Type 0 where
+pub record IsGreatestExecutableVolume (orders : List Order) (c : Cut) : Type 0 where
   pub reached : IsLeast (λ q. (q ≤ 10 ^ 18) × (executable_volume orders q ≡ c.volume)) c.price
   pub greatest : (q : ℕ) → q ≤ 10 ^ 18 → executable_volume orders q ≤ c.volume
 
--- Bound: the least price from 0 to 10^18 at which the cut (under `uniform`, the executable volume)
--- is the volume
-abbrev pub IsBound : VolumeRule → List Order → ℕ → ℕ → Type 0
-IsBound of_volume.Maximum orders volume p =
+-- Bound: the least price from 0 to 10^18 at which the cut (under `uniform`,
+-- the executable volume) is the volume
+abbrev pub IsBoundPrice : VolumeRule → List Order → ℕ → ℕ → Type 0
+IsBoundPrice of_volume.Maximum orders volume p =
     IsLeast (λ q. (q ≤ 10 ^ 18) × (cut orders q ≡ volume)) p
-IsBound of_volume.Uniform orders volume p =
+IsBoundPrice of_volume.Uniform orders volume p =
     IsLeast (λ q. (q ≤ 10 ^ 18) × (executable_volume orders q ≡ volume)) p

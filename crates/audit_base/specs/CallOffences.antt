@@ -14,17 +14,17 @@ use Rattle.audit_base.specs.declared.findings.Property.{Property}
 use Rattle.audit_base.specs.declared.findings.Property.TheVariants as property
 use Rattle.audit_base.specs.declared.findings.Finding.{Finding}
 use Rattle.audit_base.specs.declared.findings.Shown.TheVariants as shown
-use Rattle.audit_base.specs.Least.{least_answer, any_below, first_of, only_if}
-use Rattle.audit_base.specs.Orders.{order_at, quantity_at, stands_on}
-use Rattle.audit_base.specs.Priority.{better, best}
-use Rattle.audit_base.specs.Deals.{deal_at, traded, volume, is_within}
+use Rattle.audit_base.specs.Least.{least_answer, any_below, first_answer, only_if}
+use Rattle.audit_base.specs.Orders.{order_at, quantity_at, is_uncancelled_on}
+use Rattle.audit_base.specs.Priority.{better, best_order}
+use Rattle.audit_base.specs.Deals.{deal_at, traded, volume, is_price_within}
 use Rattle.audit_base.specs.Calls.{IsGreatestVolume, IsGreatestUniformVolume}
 use Rattle.audit_base.specs.Rules.{Only}
-use Rattle.audit_base.specs.RuleKinds.{greatest_of, rule_of_volume, asks_one_price}
-use Rattle.audit_base.specs.Shows.{at_deal, with_traded, show_order, show_found, show_place}
+use Rattle.audit_base.specs.RuleKinds.{volume_rule_of_call, rule_of_volume, asks_one_price}
+use Rattle.audit_base.specs.Shows.{finding_at_trade, with_traded_number, show_order, show_if_found, show_place}
 
--- First part: the least deal up to which the deals aren't a matching (or, under `uniform`, haven't
--- one price).
+-- First part: the least deal up to which the deals aren't a matching (or,
+-- under `uniform`, haven't one price).
 
 -- some record cancels the order
 abbrev pub is_cancelled : List Order → ℕ → Bool
@@ -32,51 +32,56 @@ is_cancelled orders i = is_some (order_at orders i).cancelled
 
 -- the price is within the limits of the deal's own orders
 abbrev pub keeps_limits : List Order → Deal → Bool
-keeps_limits orders d = is_within (order_at orders d.bid) (order_at orders d.ask) d
+keeps_limits orders d = is_price_within (order_at orders d.bid) (order_at orders d.ask) d
 
 -- The findings 7 to 11 at the deal at k. Orders are shown with what they trade up to this deal.
 
 -- 7: the bid, or else the ask, is one that some record cancels
-unfoldable pub call_inactive : List Order → List Deal → ℕ → Option Finding
-call_inactive orders deals k =
+unfoldable pub call_inactive_finding : List Order → List Deal → ℕ → Option Finding
+call_inactive_finding orders deals k =
     let d = deal_at deals k in let so_far = traded (take (k + 1) deals) in
-    first_of (only_if (is_cancelled orders d.bid)
-    (at_deal property.Inactive d (show_order orders so_far d.bid) None)
+    first_answer (only_if (is_cancelled orders d.bid)
+    (finding_at_trade property.Inactive d (show_order orders so_far d.bid) None)
     ∷ only_if (is_cancelled orders d.ask)
-    (at_deal property.Inactive d (show_order orders so_far d.ask) None) ∷ [])
+    (finding_at_trade property.Inactive d (show_order orders so_far d.ask) None) ∷ [])
 
 -- 8: the price is outside a limit
-unfoldable pub call_off_limit : List Order → List Deal → ℕ → Option Finding
-call_off_limit orders deals k =
+unfoldable pub call_limit_finding : List Order → List Deal → ℕ → Option Finding
+call_limit_finding orders deals k =
     let d = deal_at deals k in let so_far = traded (take (k + 1) deals) in
     only_if (not (keeps_limits orders d))
-    (at_deal property.Limit d (show_order orders so_far d.bid) (show_order orders so_far d.ask))
+    (finding_at_trade property.Limit d (show_order orders so_far d.bid)
+    (show_order orders so_far d.ask))
 
 -- 9: one price is asked for, and the price is not that of the first deal
-unfoldable pub other_price : Bool → List Deal → ℕ → Option Finding
-other_price uniform deals k = let d = deal_at deals k in
+unfoldable pub uniform_price_finding : Bool → List Deal → ℕ → Option Finding
+uniform_price_finding uniform deals k = let d = deal_at deals k in
     only_if (uniform && not (d.price == (deal_at deals 0).price))
-    (at_deal property.UniformPrice d (show_place which.Trades (deal_at deals 0).place) None)
+    (finding_at_trade property.UniformPrice d
+    (show_place which.Trades (deal_at deals 0).place) None)
 
 -- 10 and 11: up to the deal at k the order at i, which it names, trades more than its quantity
-abbrev pub overfilled : Property → List Order → List Deal → ℕ → ℕ → Option Finding
-overfilled property orders deals k i = let so_far = traded (take (k + 1) deals) in
+abbrev pub quantity_finding : Property → List Order → List Deal → ℕ → ℕ → Option Finding
+quantity_finding property orders deals k i = let so_far = traded (take (k + 1) deals) in
     only_if (nat_lt (quantity_at orders i) (so_far i))
-    (at_deal property (deal_at deals k) (show_order orders so_far i) None)
+    (finding_at_trade property (deal_at deals k) (show_order orders so_far i) None)
 
 -- 10, of the deal's bid
-unfoldable pub bid_overfilled : List Order → List Deal → ℕ → Option Finding
-bid_overfilled orders deals k = overfilled property.BuyQuantity orders deals k (deal_at deals k).bid
+unfoldable pub bid_quantity_finding : List Order → List Deal → ℕ → Option Finding
+bid_quantity_finding orders deals k =
+    quantity_finding property.BuyQuantity orders deals k (deal_at deals k).bid
 
 -- 11, of the deal's ask
-unfoldable pub ask_overfilled : List Order → List Deal → ℕ → Option Finding
-ask_overfilled orders deals k = overfilled property.SellQuantity orders deals k (deal_at deals k).ask
+unfoldable pub ask_quantity_finding : List Order → List Deal → ℕ → Option Finding
+ask_quantity_finding orders deals k =
+    quantity_finding property.SellQuantity orders deals k (deal_at deals k).ask
 
 -- the first of these at the deal at k
 abbrev pub matching_finding : Bool → List Order → List Deal → ℕ → Option Finding
 matching_finding uniform orders deals k =
-    first_of (call_inactive orders deals k ∷ call_off_limit orders deals k
-    ∷ other_price uniform deals k ∷ bid_overfilled orders deals k ∷ ask_overfilled orders deals k
+    first_answer (call_inactive_finding orders deals k ∷ call_limit_finding orders deals k
+    ∷ uniform_price_finding uniform deals k ∷ bid_quantity_finding orders deals k
+    ∷ ask_quantity_finding orders deals k
     ∷ [])
 
 -- the offence of the first part, if there is one
@@ -86,15 +91,15 @@ matching_offence uniform orders deals =
 
 -- Second part: the least deal whose bid or ask is outranked by a short order.
 
--- short, that is not fully traded (LeavesQty, FIX tag 151, above 0): no record cancels the order, and its
--- Traded in the whole log is below its quantity
+-- short, that is not fully traded (LeavesQty, FIX tag 151, above 0): no record cancels the order,
+-- and its Traded in the whole log is below its quantity
 abbrev pub is_short : List Order → List Deal → Side → ℕ → Bool
 is_short orders deals side i =
-    stands_on side (order_at orders i) && nat_lt (traded deals i) (quantity_at orders i)
+    is_uncancelled_on side (order_at orders i) && nat_lt (traded deals i) (quantity_at orders i)
 
 -- the best short order of a side
 unfoldable pub best_short : List Order → List Deal → Side → Option ℕ
-best_short orders deals side = best orders (is_short orders deals side)
+best_short orders deals side = best_order orders (is_short orders deals side)
 
 -- a short order is better than the order at i
 unfoldable pub is_outranked_by_short : List Order → List Deal → Side → ℕ → Bool
@@ -102,29 +107,30 @@ is_outranked_by_short orders deals side i =
     any_below (λ j. is_short orders deals side j && better (order_at orders j) (order_at orders i))
     (length orders)
 
--- 12 and 13: the order at i, which the deal at k names, is outranked by a short order of its side. The
--- best of these is shown, and the order, with what they trade in the whole log
-abbrev pub outranked : Property → Side → List Order → List Deal → ℕ → ℕ → Option Finding
-outranked property side orders deals k i =
+-- 12 and 13: the order at i, which the deal at k names, is outranked by a short order of its side.
+-- The best of these is shown, and the order, with what they trade in the whole log
+abbrev pub call_priority_finding : Property → Side → List Order → List Deal → ℕ → ℕ → Option Finding
+call_priority_finding property side orders deals k i =
     only_if (is_outranked_by_short orders deals side i)
-    (at_deal property (deal_at deals k)
-    (show_found orders (traded deals) (best_short orders deals side))
+    (finding_at_trade property (deal_at deals k)
+    (show_if_found orders (traded deals) (best_short orders deals side))
     (show_order orders (traded deals) i))
 
 -- 12, of the deal's bid
-unfoldable pub bid_passed_over : List Order → List Deal → ℕ → Option Finding
-bid_passed_over orders deals k =
-    outranked property.BuyPriority Buy orders deals k (deal_at deals k).bid
+unfoldable pub bid_priority_finding : List Order → List Deal → ℕ → Option Finding
+bid_priority_finding orders deals k =
+    call_priority_finding property.BuyPriority Buy orders deals k (deal_at deals k).bid
 
 -- 13, of the deal's ask
-unfoldable pub ask_passed_over : List Order → List Deal → ℕ → Option Finding
-ask_passed_over orders deals k =
-    outranked property.SellPriority Sell orders deals k (deal_at deals k).ask
+unfoldable pub ask_priority_finding : List Order → List Deal → ℕ → Option Finding
+ask_priority_finding orders deals k =
+    call_priority_finding property.SellPriority Sell orders deals k (deal_at deals k).ask
 
 -- the offence of the second part, if there is one
 abbrev pub fair_offence : List Order → List Deal → Option Finding
 fair_offence orders deals =
-    least_answer (λ k. option_or (bid_passed_over orders deals k) (ask_passed_over orders deals k))
+    least_answer (λ k. option_or (bid_priority_finding orders deals k)
+    (ask_priority_finding orders deals k))
     (length deals)
 
 -- Third part: the volume isn't the greatest that the rule allows.
@@ -134,9 +140,9 @@ abbrev pub IsGreatestUnder : VolumeRule → List Order → ℕ → Type 0
 IsGreatestUnder of_volume.Uniform orders v = IsGreatestUniformVolume orders v
 IsGreatestUnder of_volume.Maximum orders v = IsGreatestVolume orders v
 
--- 14: the volume is below the greatest. The finding stands at one more than the number of trades of
--- the whole log, and shows the best short bid and the best short ask, with what they trade in the
--- whole log and their dues
+-- 14: the volume is below the greatest. The place of the finding is one more than the number of
+-- trades of the whole log. It shows the best short bid and the best short ask, with what they
+-- trade in the whole log and their dues
 pub record IsVolumeOffence (the_rule : VolumeRule) (orders : List Order) (deals : List Deal)
     (count : ℕ) (finding : Finding) : Type 0 where
   pub most : ℕ
@@ -154,23 +160,23 @@ pub record IsVolumeOffence (the_rule : VolumeRule) (orders : List Order) (deals 
     property = property.Volume;
     log = which.Trades;
     place = count + 1;
-    first = Some (shown.Due (with_traded (order_at orders bid) (traded deals bid)) bid_due);
-    second = Some (shown.Due (with_traded (order_at orders ask) (traded deals ask)) ask_due);
+    first = Some (shown.Due (with_traded_number (order_at orders bid) (traded deals bid)) bid_due);
+    second = Some (shown.Due (with_traded_number (order_at orders ask) (traded deals ask)) ask_due);
     short = Some (record { reached = volume deals; greatest = most });
   }
 
 -- what the parts before the volume find under each rule of a call
-abbrev pub early_offence : CallRule → List Order → List Deal → Option Finding
-early_offence call.Matching orders deals = matching_offence false orders deals
-early_offence call.Fair orders deals =
+abbrev pub offence_before_volume : CallRule → List Order → List Deal → Option Finding
+offence_before_volume call.Matching orders deals = matching_offence false orders deals
+offence_before_volume call.Fair orders deals =
     option_or (matching_offence false orders deals) (fair_offence orders deals)
-early_offence (call.Greatest the_rule) orders deals =
+offence_before_volume (call.Greatest the_rule) orders deals =
     option_or (matching_offence (asks_one_price the_rule) orders deals) (fair_offence orders deals)
 
--- First offence (call): the first of the three parts, the third of which only a rule that asks for the
--- greatest volume has
+-- First offence (call): the first of the three parts, the third of which only a rule that asks
+-- for the greatest volume has
 abbrev pub IsCallOffence : CallRule → List Order → List Deal → ℕ → Finding → Type 0
 IsCallOffence the_rule orders deals count finding =
-    MatchOption (early_offence the_rule orders deals)
-    (IsSomeAnd (greatest_of the_rule) (λ r. IsVolumeOffence r orders deals count finding))
+    MatchOption (offence_before_volume the_rule orders deals)
+    (IsSomeAnd (volume_rule_of_call the_rule) (λ r. IsVolumeOffence r orders deals count finding))
     (λ f. finding ≡ f)

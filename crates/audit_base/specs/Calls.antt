@@ -1,30 +1,31 @@
--- The four rules of a call, in which all orders meet at once. Only the orders that no record cancels
--- take part.
+-- The four rules of a call, in which all orders meet at once.
+-- Only the orders that no record cancels take part.
 use Rattle.std.specs.Prelude.{◌≡◌, ◌<◌, ◌≤◌, ℕ, List, All, EachIndex}
 use Rattle.audit_base.specs.declared.terms.Side.{Side}
 use Rattle.audit_base.specs.declared.terms.Side.TheVariants.{Buy, Sell}
 use Rattle.audit_base.specs.declared.orders.Order.{Order}
 use Rattle.audit_base.specs.declared.orders.Deal.{Deal}
-use Rattle.audit_base.specs.Orders.{quantity_at, limit_at, Stands}
+use Rattle.audit_base.specs.Orders.{quantity_at, limit_at, IsUncancelledOn}
 use Rattle.audit_base.specs.Priority.{Better}
-use Rattle.audit_base.specs.Deals.{traded, volume, AreDeals}
+use Rattle.audit_base.specs.Deals.{traded, volume, DealsInRange}
 
--- a deal between a bid and an ask that no record cancels, at a price from the ask's limit to the
--- bid's
-pub record Keeps (orders : List Order) (d : Deal) : Type 0 where
-  pub bid_stands : Stands orders Buy d.bid
-  pub ask_stands : Stands orders Sell d.ask
+-- a deal between a bid and an ask that no record cancels,
+-- at a price from the ask's limit to the bid's
+pub record IsMatchingDeal (orders : List Order) (d : Deal) : Type 0 where
+  pub bid_stands : IsUncancelledOn orders Buy d.bid
+  pub ask_stands : IsUncancelledOn orders Sell d.ask
   pub least : limit_at orders d.ask ≤ d.price
   pub most : d.price ≤ limit_at orders d.bid
 
--- Matching: each deal keeps this, and no order trades more than its quantity
+-- Matching: each deal is such a deal, and no order trades more than its quantity
 pub record Matching (orders : List Order) (deals : List Deal) : Type 0 where
-  pub kept : All (Keeps orders) deals
+  pub kept : All (IsMatchingDeal orders) deals
   pub within : EachIndex orders (λ i. traded deals i ≤ quantity_at orders i)
 
 -- Fair: an order that is better than one that trades is fully traded
 pub record Fair (orders : List Order) (deals : List Deal) : Type 0 where
-  pub fills : (side : Side) (i j : ℕ) → Stands orders side i → Stands orders side j
+  pub fills : (side : Side) (i j : ℕ) → IsUncancelledOn orders side i
+      → IsUncancelledOn orders side j
       → Better orders i j → 0 < traded deals j → traded deals i ≡ quantity_at orders i
 
 -- OnePrice: there is a price that every deal has. A list with no deals has one price
@@ -34,18 +35,18 @@ pub record OnePrice (deals : List Deal) : Type 0 where
 
 -- Greatest: no matching has a greater volume
 abbrev pub Greatest : List Order → List Deal → Type 0
-Greatest orders deals = (others : List Deal) → AreDeals others → Matching orders others
+Greatest orders deals = (others : List Deal) → DealsInRange others → Matching orders others
     → volume others ≤ volume deals
 
 -- GreatestUniform: no matching of one price has a greater volume
 abbrev pub GreatestUniform : List Order → List Deal → Type 0
-GreatestUniform orders deals = (others : List Deal) → AreDeals others → Matching orders others
+GreatestUniform orders deals = (others : List Deal) → DealsInRange others → Matching orders others
     → OnePrice others → volume others ≤ volume deals
 
 -- a volume that some matching has, and none exceeds
 pub record IsGreatestVolume (orders : List Order) (v : ℕ) : Type 0 where
   pub deals : List Deal
-  pub ranges : AreDeals deals
+  pub ranges : DealsInRange deals
   pub matching : Matching orders deals
   pub greatest : Greatest orders deals
   pub reached : volume deals ≡ v
@@ -53,7 +54,7 @@ pub record IsGreatestVolume (orders : List Order) (v : ℕ) : Type 0 where
 -- the same of the matchings of one price
 pub record IsGreatestUniformVolume (orders : List Order) (v : ℕ) : Type 0 where
   pub deals : List Deal
-  pub ranges : AreDeals deals
+  pub ranges : DealsInRange deals
   pub matching : Matching orders deals
   pub one_price : OnePrice deals
   pub greatest : GreatestUniform orders deals

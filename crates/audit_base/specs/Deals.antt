@@ -6,16 +6,16 @@ use Rattle.audit_base.specs.declared.orders.Deal.{Deal}
 use Rattle.audit_base.specs.Orders.{side_at}
 
 -- the deal names the order at this index
-abbrev pub names : ℕ → Deal → Bool
-names i d = (d.bid == i) || (d.ask == i)
+abbrev pub names_order : ℕ → Deal → Bool
+names_order i d = (d.bid == i) || (d.ask == i)
 
 -- the quantity of a deal that belongs to this order
-abbrev pub part_of : ℕ → Deal → ℕ
-part_of i d = if names i d then d.quantity else 0
+abbrev pub quantity_traded_by : ℕ → Deal → ℕ
+quantity_traded_by i d = if names_order i d then d.quantity else 0
 
 -- Traded: the quantities of the deals that name an order, added
 abbrev pub traded : List Deal → ℕ → ℕ
-traded deals i = sum_by (part_of i) deals
+traded deals i = sum_by (quantity_traded_by i) deals
 
 -- the numbers are what each order of the list trades in these deals
 pub record AreTotals (orders : List Order) (deals : List Deal) (totals : List ℕ) : Type 0 where
@@ -30,16 +30,16 @@ pair deals bid ask = sum_by (λ d. if (d.bid == bid) && (d.ask == ask) then d.qu
 abbrev pub volume : List Deal → ℕ
 volume deals = sum_by (λ d. d.quantity) deals
 
--- what stands for a deal past the end of a list, and the deal at an index
-abbrev pub missing_deal : Deal
-missing_deal = record { place = 0; bid = 0; ask = 0; quantity = 0; price = 0 }
+-- what is read past the end of a list of deals, and the deal at an index
+abbrev pub deal_past_end : Deal
+deal_past_end = record { place = 0; bid = 0; ask = 0; quantity = 0; price = 0 }
 
 abbrev pub deal_at : List Deal → ℕ → Deal
-deal_at deals k = slice_index_or deals k missing_deal
+deal_at deals k = slice_index_or deals k deal_past_end
 
 -- the price is from the limit of this ask to that of this bid
-abbrev pub is_within : Order → Order → Deal → Bool
-is_within bid ask d = nat_le ask.limit d.price && nat_le d.price bid.limit
+abbrev pub is_price_within : Order → Order → Deal → Bool
+is_price_within bid ask d = nat_le ask.limit d.price && nat_le d.price bid.limit
 
 -- the deal names a bid and an ask of the order list
 pub record NamesOrders (orders : List Order) (d : Deal) : Type 0 where
@@ -48,19 +48,19 @@ pub record NamesOrders (orders : List Order) (d : Deal) : Type 0 where
   pub buys : side_at orders d.bid ≡ Buy
   pub sells : side_at orders d.ask ≡ Sell
 
--- a list of deals over an order list: each names a bid and an ask, places rise strictly, and there are
--- fewer than 2^32
+-- a list of deals over an order list: each names a bid and an ask, places rise strictly,
+-- and there are fewer than 2^32
 pub record IsDealList (orders : List Order) (deals : List Deal) : Type 0 where
   pub named : All (NamesOrders orders) deals
   pub rising : AllPairs (λ d e. d.place < e.place) deals
   pub few : length deals < 2 ^ 32
 
 -- what the numbers of a deal may be: a quantity from 1 to 10^12, and a price from 0 to 10^18 - 1
-pub record IsDeal (d : Deal) : Type 0 where
+pub record DealInRange (d : Deal) : Type 0 where
   pub some : 0 < d.quantity
   pub most : d.quantity ≤ 10 ^ 12
   pub priced : d.price < 10 ^ 18
 
 -- each deal of the list has such numbers
-abbrev pub AreDeals : List Deal → Type 0
-AreDeals deals = All IsDeal deals
+abbrev pub DealsInRange : List Deal → Type 0
+DealsInRange deals = All DealInRange deals

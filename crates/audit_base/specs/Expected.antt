@@ -14,10 +14,10 @@ use Rattle.audit_base.specs.Least.{only_if}
 use Rattle.audit_base.specs.Sums.{sum_below}
 use Rattle.audit_base.specs.Orders.{order_at, place_at, side_at, limit_at, same_side, other_side}
 use Rattle.audit_base.specs.Priority.{better}
-use Rattle.audit_base.specs.Bounds.{IsBound}
-use Rattle.audit_base.specs.Continuous.{incoming, traded_before, size, left, rests}
+use Rattle.audit_base.specs.Bounds.{IsBoundPrice}
+use Rattle.audit_base.specs.Continuous.{incoming_order, traded_before, size_by_past, left_before_by_past, rests_before_by_past}
 use Rattle.audit_base.specs.Calls.{IsGreatestVolume, IsGreatestUniformVolume}
-use Rattle.audit_base.specs.Units.{uniform_units, maximum_units, of_standing}
+use Rattle.audit_base.specs.Units.{uniform_units, maximum_units, if_both_uncancelled}
 
 -- the deal of a bid and an ask, if its quantity is above 0
 abbrev pub pair_deal : (ℕ → ℕ → ℕ) → (ℕ → ℕ → ℕ) → ℕ → ℕ → Option Deal
@@ -34,20 +34,21 @@ pair_deals orders quantity price = let indices = range_with_len 0 (length orders
 -- `uniform`: with the greatest volume and its bound, the pairs of units at the price of the bound
 abbrev pub uniform_deals : List Order → ℕ → ℕ → List Deal
 uniform_deals orders v bound =
-    pair_deals orders (of_standing orders (uniform_units orders v)) (λ bid ask. bound)
+    pair_deals orders (if_both_uncancelled orders (uniform_units orders v)) (λ bid ask. bound)
 
 -- they are the Expected trades
 pub record IsExpectedUniform (orders : List Order) (deals : List Deal) : Type 0 where
   pub most : ℕ
   pub bound : ℕ
   pub greatest : IsGreatestUniformVolume orders most
-  pub is_bound : IsBound of_volume.Uniform orders most bound
+  pub is_bound : IsBoundPrice of_volume.Uniform orders most bound
   pub pairs : deals ≡ uniform_deals orders most bound
 
 -- `maximum`: with the greatest volume, the pairs of units at the ask's limit
 abbrev pub maximum_deals : List Order → ℕ → List Deal
 maximum_deals orders v =
-    pair_deals orders (of_standing orders (maximum_units orders v)) (λ bid ask. limit_at orders ask)
+    pair_deals orders (if_both_uncancelled orders (maximum_units orders v))
+    (λ bid ask. limit_at orders ask)
 
 -- they are the Expected trades
 pub record IsExpectedMaximum (orders : List Order) (deals : List Deal) : Type 0 where
@@ -61,34 +62,36 @@ limits_meet Buy a b = nat_le b a
 limits_meet Sell a b = nat_le a b
 
 -- two orders are of opposite sides and their limits meet
-abbrev pub meets : Order → Order → Bool
-meets o r = same_side (other_side o.side) r.side && limits_meet o.side o.limit r.limit
+abbrev pub orders_meet : Order → Order → Bool
+orders_meet o r = same_side (other_side o.side) r.side && limits_meet o.side o.limit r.limit
 
--- what the order at n finds of the one at r: its Left, where it is of the other side, meets n and rests
--- before the record of n
-unfoldable pub available : List Order → (ℕ → ℕ → ℕ) → ℕ → ℕ → ℕ
-available orders past n r =
-    if meets (order_at orders n) (order_at orders r) && rests orders past (place_at orders n) r
-    then left orders past (place_at orders n) r else 0
+-- what the order at n finds of the one at r: its Left, where it is of the other side,
+-- meets n and rests before the record of n
+unfoldable pub available_quantity : List Order → (ℕ → ℕ → ℕ) → ℕ → ℕ → ℕ
+available_quantity orders past n r =
+    if orders_meet (order_at orders n) (order_at orders r)
+    && rests_before_by_past orders past (place_at orders n) r
+    then left_before_by_past orders past (place_at orders n) r else 0
 
 -- what it finds of all orders that are better than the one at r
-abbrev pub available_ahead : List Order → (ℕ → ℕ → ℕ) → ℕ → ℕ → ℕ
-available_ahead orders past n r =
+abbrev pub available_quantity_ahead : List Order → (ℕ → ℕ → ℕ) → ℕ → ℕ → ℕ
+available_quantity_ahead orders past n r =
     sum_below (λ k. if better (order_at orders k) (order_at orders r)
-    then available orders past n k else 0) (length orders)
+    then available_quantity orders past n k else 0) (length orders)
 
--- what the two trade: the lesser of what n finds of r, and what the better ones leave of the Size of
--- n
-abbrev pub share : List Order → (ℕ → ℕ → ℕ) → ℕ → ℕ → ℕ
-share orders past n r =
-    min (available orders past n r) (size orders past n - available_ahead orders past n r)
+-- what the two trade: the smaller of what n finds of r, and what the better
+-- ones leave of the Size of n
+abbrev pub incoming_share : List Order → (ℕ → ℕ → ℕ) → ℕ → ℕ → ℕ
+incoming_share orders past n r =
+    min (available_quantity orders past n r)
+    (size_by_past orders past n - available_quantity_ahead orders past n r)
 
 -- the same of a bid and an ask, of which the later is the incoming one
 unfoldable pub pair_share : List Order → (ℕ → ℕ → ℕ) → ℕ → ℕ → ℕ
 pair_share orders past bid ask =
     if same_side (side_at orders bid) Buy && same_side (side_at orders ask) Sell
     then (if nat_lt (place_at orders bid) (place_at orders ask)
-    then share orders past ask bid else share orders past bid ask) else 0
+    then incoming_share orders past ask bid else incoming_share orders past bid ask) else 0
 
 -- the limit of the earlier of the two
 abbrev pub resting_limit : List Order → ℕ → ℕ → ℕ
@@ -97,7 +100,7 @@ resting_limit orders bid ask =
     then limit_at orders bid else limit_at orders ask
 
 -- `continuous`: each pair trades its share under these same deals, of which a share takes those of
--- lesser causes alone, at the limit of the resting order
+-- earlier causes alone, at the limit of the resting order
 abbrev pub IsExpectedContinuous : List Order → List Deal → Type 0
 IsExpectedContinuous orders deals = deals ≡
     pair_deals orders (pair_share orders (traded_before orders deals)) (resting_limit orders)
@@ -110,12 +113,12 @@ IsExpected rule.Continuous orders deals = IsExpectedContinuous orders deals
 IsExpected rule.Matching orders deals = ⊥
 IsExpected rule.Fair orders deals = ⊥
 
--- the trade record of a deal: the id is T and its number from 1, the time that of the later of its two
--- orders
+-- the trade record of a deal: the id is T and its number from 1,
+-- the time that of the later of its two orders
 abbrev pub trade_of_deal : List Order → List ℕ → ℕ → Deal → TradeRecord
 trade_of_deal orders symbol number d = record {
   trade = 84 ∷ decimal number;
-  time = (order_at orders (incoming orders d)).time;
+  time = (order_at orders (incoming_order orders d)).time;
   symbol = symbol;
   buy = (order_at orders d.bid).key;
   sell = (order_at orders d.ask).key;

@@ -17,55 +17,55 @@ use Rattle.audit_base.specs.declared.flaws.Evidence.{Evidence}
 use Rattle.audit_base.specs.declared.flaws.Evidence.TheVariants.{DuplicateId, TimeBack, UnknownTarget, Unpaired, DuplicateTrade, UnknownOrder, Inactive, Limit, UniformPrice, Quantity, Priority, Volume, Spread, InstantOrder}
 use Rattle.audit_base.specs.declared.flaws.Flaw.{Flaw}
 use Rattle.audit_base.specs.Orders.{order_at}
-use Rattle.audit_base.specs.Shows.{with_traded, show_place, priority_of}
+use Rattle.audit_base.specs.Shows.{with_traded_number, show_place, priority_property}
 
 -- the quantity finding of a side
-abbrev pub quantity_of : Side → Property
-quantity_of Buy = property.BuyQuantity
-quantity_of Sell = property.SellQuantity
+abbrev pub quantity_property : Side → Property
+quantity_property Buy = property.BuyQuantity
+quantity_property Sell = property.SellQuantity
 
 -- an order with what it has traded
 abbrev pub show_traded : List Order → TradedOrder → Option Shown
-show_traded orders t = Some (shown.Order (with_traded (order_at orders t.index) t.traded))
+show_traded orders t = Some (shown.Order (with_traded_number (order_at orders t.index) t.traded))
 
 -- a short order with its due
 abbrev pub show_due : List Order → DueOrder → Option Shown
 show_due orders d =
-    Some (shown.Due (with_traded (order_at orders d.order.index) d.order.traded) d.due)
+    Some (shown.Due (with_traded_number (order_at orders d.order.index) d.order.traded) d.due)
 
 -- the property that is broken
-abbrev pub property_of : Evidence → Property
-property_of (DuplicateId earlier) = property.DuplicateId
-property_of (TimeBack last) = property.TimeBack
-property_of UnknownTarget = property.UnknownTarget
-property_of (Unpaired first) = property.Unpaired
-property_of (DuplicateTrade earlier) = property.DuplicateTrade
-property_of (UnknownOrder side key) = property.UnknownOrder
-property_of (Inactive order) = property.Inactive
-property_of (Limit bid ask) = property.Limit
-property_of (UniformPrice first) = property.UniformPrice
-property_of (Quantity side order) = quantity_of side
-property_of (Priority side ahead own) = priority_of side
-property_of (Volume short bid ask) = property.Volume
-property_of (Spread bid ask) = property.Spread
-property_of InstantOrder = property.InstantOrder
+abbrev pub property_of_evidence : Evidence → Property
+property_of_evidence (DuplicateId earlier) = property.DuplicateId
+property_of_evidence (TimeBack last) = property.TimeBack
+property_of_evidence UnknownTarget = property.UnknownTarget
+property_of_evidence (Unpaired first) = property.Unpaired
+property_of_evidence (DuplicateTrade earlier) = property.DuplicateTrade
+property_of_evidence (UnknownOrder side key) = property.UnknownOrder
+property_of_evidence (Inactive order) = property.Inactive
+property_of_evidence (Limit bid ask) = property.Limit
+property_of_evidence (UniformPrice first) = property.UniformPrice
+property_of_evidence (Quantity side order) = quantity_property side
+property_of_evidence (Priority side ahead own) = priority_property side
+property_of_evidence (Volume short bid ask) = property.Volume
+property_of_evidence (Spread bid ask) = property.Spread
+property_of_evidence InstantOrder = property.InstantOrder
 
--- the log that its record stands in
-abbrev pub log_of : Evidence → Which
-log_of (DuplicateId earlier) = which.Orders
-log_of (TimeBack last) = which.Orders
-log_of UnknownTarget = which.Orders
-log_of (Unpaired first) = which.Trades
-log_of (DuplicateTrade earlier) = which.Trades
-log_of (UnknownOrder side key) = which.Trades
-log_of (Inactive order) = which.Trades
-log_of (Limit bid ask) = which.Trades
-log_of (UniformPrice first) = which.Trades
-log_of (Quantity side order) = which.Trades
-log_of (Priority side ahead own) = which.Trades
-log_of (Volume short bid ask) = which.Trades
-log_of (Spread bid ask) = which.Orders
-log_of InstantOrder = which.Orders
+-- the log that its record is in
+abbrev pub log_of_evidence : Evidence → Which
+log_of_evidence (DuplicateId earlier) = which.Orders
+log_of_evidence (TimeBack last) = which.Orders
+log_of_evidence UnknownTarget = which.Orders
+log_of_evidence (Unpaired first) = which.Trades
+log_of_evidence (DuplicateTrade earlier) = which.Trades
+log_of_evidence (UnknownOrder side key) = which.Trades
+log_of_evidence (Inactive order) = which.Trades
+log_of_evidence (Limit bid ask) = which.Trades
+log_of_evidence (UniformPrice first) = which.Trades
+log_of_evidence (Quantity side order) = which.Trades
+log_of_evidence (Priority side ahead own) = which.Trades
+log_of_evidence (Volume short bid ask) = which.Trades
+log_of_evidence (Spread bid ask) = which.Orders
+log_of_evidence InstantOrder = which.Orders
 
 -- what is shown first
 abbrev pub first_shown : List Order → Evidence → Option Shown
@@ -102,48 +102,48 @@ second_shown orders (Spread bid ask) = show_traded orders ask
 second_shown orders InstantOrder = None
 
 -- the volumes, of a volume that is below the greatest
-abbrev pub short_of : Evidence → Option Short
-short_of (Volume short bid ask) = Some short
-short_of (DuplicateId earlier) = None
-short_of (TimeBack last) = None
-short_of UnknownTarget = None
-short_of (Unpaired first) = None
-short_of (DuplicateTrade earlier) = None
-short_of (UnknownOrder side key) = None
-short_of (Inactive order) = None
-short_of (Limit bid ask) = None
-short_of (UniformPrice first) = None
-short_of (Quantity side order) = None
-short_of (Priority side ahead own) = None
-short_of (Spread bid ask) = None
-short_of InstantOrder = None
+abbrev pub short_volume_of : Evidence → Option Short
+short_volume_of (Volume short bid ask) = Some short
+short_volume_of (DuplicateId earlier) = None
+short_volume_of (TimeBack last) = None
+short_volume_of UnknownTarget = None
+short_volume_of (Unpaired first) = None
+short_volume_of (DuplicateTrade earlier) = None
+short_volume_of (UnknownOrder side key) = None
+short_volume_of (Inactive order) = None
+short_volume_of (Limit bid ask) = None
+short_volume_of (UniformPrice first) = None
+short_volume_of (Quantity side order) = None
+short_volume_of (Priority side ahead own) = None
+short_volume_of (Spread bid ask) = None
+short_volume_of InstantOrder = None
 
 -- the finding that a flaw is
 abbrev pub finding_of : List Order → Flaw → Finding
 finding_of orders flaw = record {
-  property = property_of flaw.evidence;
-  log = log_of flaw.evidence;
+  property = property_of_evidence flaw.evidence;
+  log = log_of_evidence flaw.evidence;
   place = flaw.place;
   first = first_shown orders flaw.evidence;
   second = second_shown orders flaw.evidence;
-  short = short_of flaw.evidence;
+  short = short_volume_of flaw.evidence;
 }
 
 -- the orders that an evidence names are in the list
-abbrev pub IsInside : List Order → Evidence → Type 0
-IsInside orders (DuplicateId earlier) = Unit {0}
-IsInside orders (TimeBack last) = Unit {0}
-IsInside orders UnknownTarget = Unit {0}
-IsInside orders (Unpaired first) = Unit {0}
-IsInside orders (DuplicateTrade earlier) = Unit {0}
-IsInside orders (UnknownOrder side key) = Unit {0}
-IsInside orders (Inactive order) = order.index < length orders
-IsInside orders (Limit bid ask) = (bid.index < length orders) × (ask.index < length orders)
-IsInside orders (UniformPrice first) = Unit {0}
-IsInside orders (Quantity side order) = order.index < length orders
-IsInside orders (Priority side ahead own) =
+abbrev pub IsEvidenceInside : List Order → Evidence → Type 0
+IsEvidenceInside orders (DuplicateId earlier) = Unit {0}
+IsEvidenceInside orders (TimeBack last) = Unit {0}
+IsEvidenceInside orders UnknownTarget = Unit {0}
+IsEvidenceInside orders (Unpaired first) = Unit {0}
+IsEvidenceInside orders (DuplicateTrade earlier) = Unit {0}
+IsEvidenceInside orders (UnknownOrder side key) = Unit {0}
+IsEvidenceInside orders (Inactive order) = order.index < length orders
+IsEvidenceInside orders (Limit bid ask) = (bid.index < length orders) × (ask.index < length orders)
+IsEvidenceInside orders (UniformPrice first) = Unit {0}
+IsEvidenceInside orders (Quantity side order) = order.index < length orders
+IsEvidenceInside orders (Priority side ahead own) =
     (ahead.index < length orders) × (own.index < length orders)
-IsInside orders (Volume short bid ask) = IfSome bid (λ d. d.order.index < length orders)
+IsEvidenceInside orders (Volume short bid ask) = IfSome bid (λ d. d.order.index < length orders)
     × IfSome ask (λ d. d.order.index < length orders)
-IsInside orders (Spread bid ask) = (bid.index < length orders) × (ask.index < length orders)
-IsInside orders InstantOrder = Unit {0}
+IsEvidenceInside orders (Spread bid ask) = (bid.index < length orders) × (ask.index < length orders)
+IsEvidenceInside orders InstantOrder = Unit {0}

@@ -1,5 +1,5 @@
--- The first of several: the least number with a property, and the first answer. Every "first", "least"
--- and "some" of the rules is said by these words.
+-- The first of several: the least number with a property, and the first answer.
+-- Every "first", "least" and "some" of the rules is said by these words.
 use Rattle.std.specs.Prelude.{◌<◌, ℕ, zero, suc, Bool, false, ◌||◌, List, [], ◌∷◌, Option, None, Some, if◌then◌else◌}
 use Rattle.std.specs.Option.{option_or}
 
@@ -23,9 +23,9 @@ any_below test zero = false
 any_below test (suc n) = any_below test n || test n
 
 -- the first of these answers that is there
-abbrev pub first_of : {A : Type 0} → List (Option A) → Option A
-first_of [] = None
-first_of (a ∷ rest) = option_or a (first_of rest)
+abbrev pub first_answer : {A : Type 0} → List (Option A) → Option A
+first_answer [] = None
+first_answer (a ∷ rest) = option_or a (first_answer rest)
 
 -- a value where the test holds, else nothing
 abbrev pub only_if : {A : Type 0} → Bool → A → Option A

@@ -1,4 +1,5 @@
--- What a reader must believe, in the order in which it is best read. The words used everywhere, orders and deals:
+-- What a reader must believe, in the order in which it is best read.
+-- The words used everywhere, orders and deals:
 pub mod Least
 pub mod Sums
 pub mod Orders

@@ -6,8 +6,8 @@ pub record Moment : Type 0 where
   pub second : ℕ
   pub nano : ℕ
 
--- every second of a stamp is below this: 10,000 years of 12 months of 31 days, each of its minutes with 61
--- seconds
+-- every second of a stamp is below this: 10,000 years of 12 months of 31 days,
+-- each of its minutes with 61 seconds
 abbrev pub end_of_time : ℕ
 end_of_time = 326764800000
 

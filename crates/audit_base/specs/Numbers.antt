@@ -20,52 +20,52 @@ price_with_fraction (Some whole) places None = None
 price_with_fraction (Some whole) places (Some fraction) =
     Some (whole * 10 ^ 8 + fraction * 10 ^ (8 - places))
 
-abbrev pub price_around : List ℕ → Option ℕ → Option ℕ
-price_around text None = whole_price (digits_form 10 text)
-price_around text (Some point) =
+abbrev pub price_by_point : List ℕ → Option ℕ → Option ℕ
+price_by_point text None = whole_price (digits_form 10 text)
+price_by_point text (Some point) =
     price_with_fraction (digits_form 10 (take point text)) (length (drop (point + 1) text))
     (digits_form 8 (drop (point + 1) text))
 
 -- a price in units of 10^-8: 1 to 10 digits, then optionally a point and 1 to 8 digits
 abbrev pub price_form : List ℕ → Option ℕ
-price_form text = price_around text (position is_point text)
+price_form text = price_by_point text (position is_point text)
 
 -- a market order takes any price: a bid the greatest, an ask the least
 abbrev pub market_price : Side → ℕ
 market_price Buy = 10 ^ 18 - 1
 market_price Sell = 0
 
-abbrev pub is_zero : ℕ → Bool
-is_zero b = b == 48
+abbrev pub is_zero_digit : ℕ → Bool
+is_zero_digit b = b == 48
 
 -- one or more zeros
-abbrev pub is_zeros : List ℕ → Bool
-is_zeros text = nat_le 1 (length text) && list_all is_zero text
+abbrev pub are_zero_digits : List ℕ → Bool
+are_zero_digits text = nat_le 1 (length text) && list_all is_zero_digit text
 
 -- a quantity is from 1 to 10^12
 abbrev pub is_quantity : ℕ → Bool
 is_quantity value = nat_lt 0 value && nat_le value (10 ^ 12)
 
-abbrev pub in_quantity : Option ℕ → Option ℕ
-in_quantity None = None
-in_quantity (Some value) = if is_quantity value then Some value else None
+abbrev pub quantity_in_range : Option ℕ → Option ℕ
+quantity_in_range None = None
+quantity_in_range (Some value) = if is_quantity value then Some value else None
 
-abbrev pub quantity_around : List ℕ → Option ℕ → Option ℕ
-quantity_around text None = in_quantity (digits_form 13 text)
-quantity_around text (Some point) =
-    if is_zeros (drop (point + 1) text)
-    then in_quantity (digits_form 13 (take point text)) else None
+abbrev pub quantity_by_point : List ℕ → Option ℕ → Option ℕ
+quantity_by_point text None = quantity_in_range (digits_form 13 text)
+quantity_by_point text (Some point) =
+    if are_zero_digits (drop (point + 1) text)
+    then quantity_in_range (digits_form 13 (take point text)) else None
 
 -- a quantity: 1 to 13 digits, then optionally a point and zeros, with a whole part from 1 to 10^12
 abbrev pub quantity_form : List ℕ → Option ℕ
-quantity_form text = quantity_around text (position is_point text)
+quantity_form text = quantity_by_point text (position is_point text)
 
 -- a fraction's digits with the point before them, or nothing
-abbrev pub after_point : List ℕ → List ℕ
-after_point [] = []
-after_point (digit ∷ digits) = 46 ∷ digit ∷ digits
+abbrev pub point_and_digits : List ℕ → List ℕ
+point_and_digits [] = []
+point_and_digits (digit ∷ digits) = 46 ∷ digit ∷ digits
 
 -- the canonical text of a price: its whole part, and its fraction without zeros at its end
 abbrev pub price_text : ℕ → List ℕ
 price_text units =
-    decimal (units / 10 ^ 8) ++ after_point (fraction_digits 8 (units % 10 ^ 8))
+    decimal (units / 10 ^ 8) ++ point_and_digits (fraction_digits 8 (units % 10 ^ 8))

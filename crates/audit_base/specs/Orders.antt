@@ -30,14 +30,14 @@ other_side Buy = Sell
 other_side Sell = Buy
 
 -- an order that is left over from its own record may wait for others
-abbrev pub is_rests : Life → Bool
-is_rests Rests = true
-is_rests Immediate = false
-is_rests Market = false
+abbrev pub may_rest : Life → Bool
+may_rest Rests = true
+may_rest Immediate = false
+may_rest Market = false
 
--- what stands for an order past the end of a list: it has quantity 0 and waits for nobody
-abbrev pub missing_order : Order
-missing_order = record {
+-- what is read past the end of an order list: an order of quantity 0 that does not rest
+abbrev pub order_past_end : Order
+order_past_end = record {
   place = 0;
   key = record { firm = []; id = [] };
   time = record { second = 0; nano = 0 };
@@ -51,7 +51,7 @@ missing_order = record {
 
 -- the order at an index
 abbrev pub order_at : List Order → ℕ → Order
-order_at orders i = slice_index_or orders i missing_order
+order_at orders i = slice_index_or orders i order_past_end
 
 -- its place, its side, its quantity and its limit
 abbrev pub place_at : List Order → ℕ → ℕ
@@ -66,8 +66,8 @@ quantity_at orders i = (order_at orders i).quantity
 abbrev pub limit_at : List Order → ℕ → ℕ
 limit_at orders i = (order_at orders i).limit
 
--- an order list: places rise strictly, there are fewer than 2^32 orders, each target is a lower index
--- of the same side, and the life of an order with a target is always Rests
+-- an order list: places rise strictly, there are fewer than 2^32 orders, each target is a lower
+-- index of the same side, and the life of an order with a target is always Rests
 pub record IsOrderList (orders : List Order) : Type 0 where
   pub rising : AllPairs (λ o p. o.place < p.place) orders
   pub few : length orders < 2 ^ 32
@@ -77,25 +77,25 @@ pub record IsOrderList (orders : List Order) : Type 0 where
       → (order_at orders i).life ≡ Rests
 
 -- an order of a side that no record cancels
-pub record Stands (orders : List Order) (side : Side) (i : ℕ) : Type 0 where
+pub record IsUncancelledOn (orders : List Order) (side : Side) (i : ℕ) : Type 0 where
   pub inside : i < length orders
   pub of_side : side_at orders i ≡ side
   pub uncancelled : (order_at orders i).cancelled ≡ None
 
 -- the same as a test of the order
-abbrev pub stands_on : Side → Order → Bool
-stands_on side o = is_none o.cancelled && same_side side o.side
+abbrev pub is_uncancelled_on : Side → Order → Bool
+is_uncancelled_on side o = is_none o.cancelled && same_side side o.side
 
 -- no two orders have one key
 abbrev pub HaveOwnKeys : List Order → Type 0
 HaveOwnKeys orders = AllPairs (λ o p. o.key ≢ p.key) orders
 
 -- the order that has a key, of either side and of one side
-abbrev pub with_key : List Order → Key → Option ℕ
-with_key orders key = least_with (λ i. same_key (order_at orders i).key key) (length orders)
+abbrev pub order_with_key : List Order → Key → Option ℕ
+order_with_key orders key = least_with (λ i. same_key (order_at orders i).key key) (length orders)
 
-abbrev pub on_side_with_key : List Order → Side → Key → Option ℕ
-on_side_with_key orders side key =
+abbrev pub order_on_side_with_key : List Order → Side → Key → Option ℕ
+order_on_side_with_key orders side key =
     least_with (λ i. same_side side (side_at orders i) && same_key (order_at orders i).key key)
     (length orders)
 
@@ -104,11 +104,11 @@ abbrev pub IsMarketPriced : Life → Side → ℕ → Type 0
 IsMarketPriced life side price = life ≡ Market → price ≡ market_price side
 
 -- what the numbers of an order may be: a quantity from 1 to 10^12, and a limit from 0 to 10^18 - 1
-pub record IsOrder (o : Order) : Type 0 where
+pub record OrderInRange (o : Order) : Type 0 where
   pub some : 0 < o.quantity
   pub most : o.quantity ≤ 10 ^ 12
   pub priced : o.limit < 10 ^ 18
 
 -- each order of the list has such numbers
-abbrev pub AreOrders : List Order → Type 0
-AreOrders orders = All IsOrder orders
+abbrev pub OrdersInRange : List Order → Type 0
+OrdersInRange orders = All OrderInRange orders

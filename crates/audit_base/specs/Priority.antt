@@ -4,14 +4,15 @@ use Rattle.audit_base.specs.declared.terms.Side.{Side}
 use Rattle.audit_base.specs.declared.terms.Side.TheVariants.{Buy, Sell}
 use Rattle.audit_base.specs.declared.orders.Order.{Order}
 use Rattle.audit_base.specs.Least.{least_with, any_below}
-use Rattle.audit_base.specs.Orders.{order_at, same_side, Stands}
+use Rattle.audit_base.specs.Orders.{order_at, same_side, IsUncancelledOn}
 
 -- a limit that is better: higher for a bid, lower for an ask
 abbrev pub better_limit : Side → ℕ → ℕ → Bool
 better_limit Buy a b = nat_lt b a
 better_limit Sell a b = nat_lt a b
 
--- of two orders of this side, the first has the better limit, or the same limit and the smaller place
+-- of two orders of this side, the first has the better limit,
+-- or the same limit and the smaller place
 abbrev pub outranks : Side → Order → Order → Bool
 outranks side o p =
     better_limit side o.limit p.limit || ((o.limit == p.limit) && nat_lt o.place p.place)
@@ -26,12 +27,12 @@ Better orders i j = IsTrue (better (order_at orders i) (order_at orders j))
 
 -- the orders of a side that no record cancels, each once, best first
 pub record IsRanked (orders : List Order) (side : Side) (ranks : List ℕ) : Type 0 where
-  pub only : All (Stands orders side) ranks
-  pub each : (i : ℕ) → Stands orders side i → Contains ranks i
+  pub only : All (IsUncancelledOn orders side) ranks
+  pub each : (i : ℕ) → IsUncancelledOn orders side i → Contains ranks i
   pub best_first : AllPairs (Better orders) ranks
 
 -- the best of the orders that pass a test of their index: it passes, and none that passes is better
-unfoldable pub best : List Order → (ℕ → Bool) → Option ℕ
-best orders test = least_with (λ i. test i
+unfoldable pub best_order : List Order → (ℕ → Bool) → Option ℕ
+best_order orders test = least_with (λ i. test i
     && not (any_below (λ j. test j && better (order_at orders j) (order_at orders i))
     (length orders))) (length orders)

@@ -10,11 +10,11 @@ pub record AreInRange (quantity price : ℕ) : Type 0 where
   pub priced : price < 10 ^ 18
 
 -- a new order and a replacement have such numbers; a cancel has none
-abbrev pub IsRecord : OrderRecord → Type 0
-IsRecord (New key time symbol side quantity price life) = AreInRange quantity price
-IsRecord (Cancel key time symbol target) = ⊤
-IsRecord (Replace key time symbol target side quantity price) = AreInRange quantity price
+abbrev pub RecordInRange : OrderRecord → Type 0
+RecordInRange (New key time symbol side quantity price life) = AreInRange quantity price
+RecordInRange (Cancel key time symbol target) = ⊤
+RecordInRange (Replace key time symbol target side quantity price) = AreInRange quantity price
 
 -- each record of the log has such numbers
-abbrev pub AreRecords : List OrderRecord → Type 0
-AreRecords entries = All IsRecord entries
+abbrev pub RecordsInRange : List OrderRecord → Type 0
+RecordsInRange entries = All RecordInRange entries

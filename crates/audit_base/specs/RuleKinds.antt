@@ -16,10 +16,10 @@ call_rule rule.Maximum = Some (call.Greatest of_volume.Maximum)
 call_rule rule.Continuous = None
 
 -- a rule of a call as one that asks for the greatest volume
-abbrev pub greatest_of : CallRule → Option VolumeRule
-greatest_of call.Matching = None
-greatest_of call.Fair = None
-greatest_of (call.Greatest the_rule) = Some the_rule
+abbrev pub volume_rule_of_call : CallRule → Option VolumeRule
+volume_rule_of_call call.Matching = None
+volume_rule_of_call call.Fair = None
+volume_rule_of_call (call.Greatest the_rule) = Some the_rule
 
 -- a rule that asks for the greatest volume, as one of the five
 abbrev pub rule_of_volume : VolumeRule → Rule
@@ -44,12 +44,12 @@ volume_rule rule.Continuous = None
 abbrev pub asks_for_greatest : Rule → Bool
 asks_for_greatest the_rule = is_some (volume_rule the_rule)
 
--- the rule determines quantities, so that a table can show them and trades can be expected: of a call where
--- it asks for the greatest volume, and of continuous trading
+-- the rule determines quantities, so that a table can show them and trades can be expected:
+-- of a call where it asks for the greatest volume, and of continuous trading
 abbrev pub has_table : Rule → Bool
 has_table the_rule = asks_for_greatest the_rule || is_none (call_rule the_rule)
 
--- a rule that asks for the greatest volume asks for one price too
+-- whether a rule that asks for the greatest volume asks for one price too
 abbrev pub asks_one_price : VolumeRule → Bool
 asks_one_price of_volume.Uniform = true
 asks_one_price of_volume.Maximum = false

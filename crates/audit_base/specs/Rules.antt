@@ -4,7 +4,7 @@ use Rattle.audit_base.specs.declared.terms.Rule.{Rule}
 use Rattle.audit_base.specs.declared.terms.Rule.TheVariants as rule
 use Rattle.audit_base.specs.declared.orders.Order.{Order}
 use Rattle.audit_base.specs.declared.orders.Deal.{Deal}
-use Rattle.audit_base.specs.Deals.{traded, pair, AreDeals}
+use Rattle.audit_base.specs.Deals.{traded, pair, DealsInRange}
 use Rattle.audit_base.specs.Calls.{Matching, ConformsFair, ConformsUniform, ConformsMaximum}
 use Rattle.audit_base.specs.ContinuousRules.{ConformsContinuous}
 
@@ -16,19 +16,19 @@ Conforms rule.Uniform orders deals = ConformsUniform orders deals
 Conforms rule.Maximum orders deals = ConformsMaximum orders deals
 Conforms rule.Continuous orders deals = ConformsContinuous orders deals
 
--- Only: there is a conforming list of deals, and in each conforming list the order at i trades n. This
--- n is the due of the order
+-- Only: there is a conforming list of deals, and in each conforming list the order at i trades n.
+-- This n is the due of the order
 pub record Only (the_rule : Rule) (orders : List Order) (i n : ℕ) : Type 0 where
   pub some : List Deal
-  pub ranges : AreDeals some
+  pub ranges : DealsInRange some
   pub conforms : Conforms the_rule orders some
-  pub each : (deals : List Deal) → AreDeals deals → Conforms the_rule orders deals
+  pub each : (deals : List Deal) → DealsInRange deals → Conforms the_rule orders deals
       → traded deals i ≡ n
 
 -- OnlyPair: the same of a bid and an ask
 pub record OnlyPair (the_rule : Rule) (orders : List Order) (bid ask n : ℕ) : Type 0 where
   pub some : List Deal
-  pub ranges : AreDeals some
+  pub ranges : DealsInRange some
   pub conforms : Conforms the_rule orders some
-  pub each : (deals : List Deal) → AreDeals deals → Conforms the_rule orders deals
+  pub each : (deals : List Deal) → DealsInRange deals → Conforms the_rule orders deals
       → pair deals bid ask ≡ n

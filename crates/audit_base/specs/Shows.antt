@@ -14,10 +14,10 @@ use Rattle.audit_base.specs.declared.findings.Shown.{Shown}
 use Rattle.audit_base.specs.declared.findings.Shown.TheVariants as shown
 use Rattle.audit_base.specs.Orders.{order_at}
 
--- a finding without volumes: a property, the place of the offending record in its log, and what shows
--- it
-abbrev pub found : Property → Which → ℕ → Option Shown → Option Shown → Finding
-found property log place first second = record {
+-- a finding without volumes: a property, the place of the offending record
+-- in its log, and what shows it
+abbrev pub finding_at_record : Property → Which → ℕ → Option Shown → Option Shown → Finding
+finding_at_record property log place first second = record {
   property = property;
   log = log;
   place = place;
@@ -27,12 +27,13 @@ found property log place first second = record {
 }
 
 -- such a finding at a trade, by its deal
-abbrev pub at_deal : Property → Deal → Option Shown → Option Shown → Finding
-at_deal property d first second = found property which.Trades d.place first second
+abbrev pub finding_at_trade : Property → Deal → Option Shown → Option Shown → Finding
+finding_at_trade property d first second =
+    finding_at_record property which.Trades d.place first second
 
 -- an order with a traded number
-abbrev pub with_traded : Order → ℕ → OrderLine
-with_traded o traded = record {
+abbrev pub with_traded_number : Order → ℕ → OrderLine
+with_traded_number o traded = record {
   place = o.place;
   side = o.side;
   key = o.key;
@@ -43,17 +44,17 @@ with_traded o traded = record {
 
 -- the order at an index, with its traded number
 abbrev pub show_order : List Order → (ℕ → ℕ) → ℕ → Option Shown
-show_order orders traded i = Some (shown.Order (with_traded (order_at orders i) (traded i)))
+show_order orders traded i = Some (shown.Order (with_traded_number (order_at orders i) (traded i)))
 
 -- the same of an order that was looked for, if it was found
-abbrev pub show_found : List Order → (ℕ → ℕ) → Option ℕ → Option Shown
-show_found orders traded i = option_and_then (show_order orders traded) i
+abbrev pub show_if_found : List Order → (ℕ → ℕ) → Option ℕ → Option Shown
+show_if_found orders traded i = option_and_then (show_order orders traded) i
 
 -- another record of a log
 abbrev pub show_place : Which → ℕ → Option Shown
 show_place log place = Some (shown.Place log place)
 
 -- the priority finding of a side
-abbrev pub priority_of : Side → Property
-priority_of Buy = property.BuyPriority
-priority_of Sell = property.SellPriority
+abbrev pub priority_property : Side → Property
+priority_property Buy = property.BuyPriority
+priority_property Sell = property.SellPriority

@@ -1,5 +1,6 @@
--- The written form of points in time, after FIX 4.4, UTCTimestamp: `YYYYMMDD-HH:MM:SS`, then optionally
--- a point and a fraction of three, six or nine digits. The codes of `-`, `.` and `:` are 45, 46, 58.
+-- The written form of points in time, after FIX 4.4, UTCTimestamp:
+-- `YYYYMMDD-HH:MM:SS`, then optionally a point and a fraction of three, six or nine digits.
+-- The codes of `-`, `.` and `:` are 45, 46, 58.
 use Rattle.std.specs.Prelude.{ℕ, ◌+◌, ◌-◌, ◌*◌, ◌/◌, ◌%◌, ◌^◌, ◌==◌, ◌&&◌, ◌||◌, nat_le, Option, Some, None, List, [], ◌∷◌, ◌++◌, length, slice_index, take, drop, if◌then◌else◌}
 use Rattle.audit_base.specs.Digits.{digits_between, digits_form, fixed_digits}
 use Rattle.audit_base.specs.Moments.{Moment}
@@ -32,15 +33,15 @@ clock_form text =
     (digits_between 2 0 59 (take 2 (drop 3 text))) (digits_between 2 0 60 (drop 6 text)) else None
 
 -- nine digits are nanoseconds, fewer are filled with zeros
-abbrev pub filled_to_nine : ℕ → Option ℕ → Option ℕ
-filled_to_nine places None = None
-filled_to_nine places (Some fraction) = Some (fraction * 10 ^ (9 - places))
+abbrev pub nano_of_fraction : ℕ → Option ℕ → Option ℕ
+nano_of_fraction places None = None
+nano_of_fraction places (Some fraction) = Some (fraction * 10 ^ (9 - places))
 
 -- three, six or nine digits
 abbrev pub fraction_of : List ℕ → Option ℕ
 fraction_of digits =
     if length digits == 3 || length digits == 6 || length digits == 9
-    then filled_to_nine (length digits) (digits_form 9 digits) else None
+    then nano_of_fraction (length digits) (digits_form 9 digits) else None
 
 -- nothing, or a point and a fraction
 abbrev pub fraction_form : List ℕ → Option ℕ

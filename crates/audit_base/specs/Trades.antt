@@ -1,5 +1,5 @@
--- Sound trades: those of the symbol have ids of their own, and each names a bid and an ask of the
--- history.
+-- Sound trades: those of the symbol have ids of their own, and each names a bid
+-- and an ask of the history.
 use Rattle.std.specs.Prelude.{◌≡◌, ◌<◌, ◌≤◌, ◌^◌, ℕ, All, List, [], Option, None, Some, is_none, option_map, filter, map, length, slice_index_or, unwrap_or}
 use Rattle.std.specs.Option.{option_or}
 use Rattle.std.specs.List.{enumerate_from}
@@ -12,81 +12,81 @@ use Rattle.audit_base.specs.declared.findings.Property.TheVariants as property
 use Rattle.audit_base.specs.declared.findings.Finding.{Finding}
 use Rattle.audit_base.specs.declared.findings.Shown.TheVariants as shown
 use Rattle.audit_base.specs.Least.{least_answer, least_with, only_if}
-use Rattle.audit_base.specs.Orders.{same_name, missing_order, on_side_with_key}
-use Rattle.audit_base.specs.Shows.{found, show_place}
+use Rattle.audit_base.specs.Orders.{same_name, order_past_end, order_on_side_with_key}
+use Rattle.audit_base.specs.Shows.{finding_at_record, show_place}
 
 -- the trades of a symbol, each with its place among the trades of the whole log, from 1
-unfoldable pub trades_of : List ℕ → List TradeRecord → List (ℕ × TradeRecord)
-trades_of symbol trades = filter (λ e. same_name e.1.symbol symbol) (enumerate_from 1 trades)
+unfoldable pub trades_of_symbol : List ℕ → List TradeRecord → List (ℕ × TradeRecord)
+trades_of_symbol symbol trades = filter (λ e. same_name e.1.symbol symbol) (enumerate_from 1 trades)
 
 -- the trade at an index of such a list, and its place
-abbrev pub missing_trade : ℕ × TradeRecord
-missing_trade = (
+abbrev pub trade_past_end : ℕ × TradeRecord
+trade_past_end = (
   0,
   record {
     trade = [];
-    time = missing_order.time;
+    time = order_past_end.time;
     symbol = [];
-    buy = missing_order.key;
-    sell = missing_order.key;
+    buy = order_past_end.key;
+    sell = order_past_end.key;
     quantity = 0;
     price = 0;
   },
 )
 
 abbrev pub trade_at : List (ℕ × TradeRecord) → ℕ → TradeRecord
-trade_at listed k = (slice_index_or listed k missing_trade).1
+trade_at listed k = (slice_index_or listed k trade_past_end).1
 
 abbrev pub trade_place : List (ℕ × TradeRecord) → ℕ → ℕ
-trade_place listed k = (slice_index_or listed k missing_trade).0
+trade_place listed k = (slice_index_or listed k trade_past_end).0
 
 -- what the numbers of a trade may be: a quantity from 1 to 10^12, and a price from 0 to 10^18 - 1
-pub record IsTrade (t : TradeRecord) : Type 0 where
+pub record TradeInRange (t : TradeRecord) : Type 0 where
   pub some : 0 < t.quantity
   pub most : t.quantity ≤ 10 ^ 12
   pub priced : t.price < 10 ^ 18
 
 -- each trade of the log has such numbers
-abbrev pub AreTrades : List TradeRecord → Type 0
-AreTrades trades = All IsTrade trades
+abbrev pub TradesInRange : List TradeRecord → Type 0
+TradesInRange trades = All TradeInRange trades
 
 -- 5: the trade id is that of an earlier trade of the symbol
 unfoldable pub duplicate_trade : List (ℕ × TradeRecord) → ℕ → Option Finding
 duplicate_trade listed k =
-    option_map (λ j. found property.DuplicateTrade which.Trades (trade_place listed k)
+    option_map (λ j. finding_at_record property.DuplicateTrade which.Trades (trade_place listed k)
     (show_place which.Trades (trade_place listed j)) None)
     (least_with (λ j. same_name (trade_at listed j).trade (trade_at listed k).trade) k)
 
 -- 6: the buy key is that of no bid, or else the sell key that of no ask
 unfoldable pub unknown_order : List Order → List (ℕ × TradeRecord) → ℕ → Option Finding
 unknown_order orders listed k = let t = trade_at listed k in
-    option_or (only_if (is_none (on_side_with_key orders Buy t.buy))
-    (found property.UnknownOrder which.Trades (trade_place listed k)
+    option_or (only_if (is_none (order_on_side_with_key orders Buy t.buy))
+    (finding_at_record property.UnknownOrder which.Trades (trade_place listed k)
     (Some (shown.Unknown Buy t.buy)) None))
-    (only_if (is_none (on_side_with_key orders Sell t.sell))
-    (found property.UnknownOrder which.Trades (trade_place listed k)
+    (only_if (is_none (order_on_side_with_key orders Sell t.sell))
+    (finding_at_record property.UnknownOrder which.Trades (trade_place listed k)
     (Some (shown.Unknown Sell t.sell)) None))
 
 -- the finding at the least trade of the symbol that fails 5 or 6, and at it 5 before 6
 unfoldable pub unsound_trade : List Order → List ℕ → List TradeRecord → Option Finding
-unsound_trade orders symbol trades = let listed = trades_of symbol trades in
+unsound_trade orders symbol trades = let listed = trades_of_symbol symbol trades in
     least_answer (λ k. option_or (duplicate_trade listed k) (unknown_order orders listed k))
     (length listed)
 
 -- Sound trades: no trade of the symbol fails
-abbrev pub Sound : List Order → List ℕ → List TradeRecord → Type 0
-Sound orders symbol trades = unsound_trade orders symbol trades ≡ None
+abbrev pub SoundTrades : List Order → List ℕ → List TradeRecord → Type 0
+SoundTrades orders symbol trades = unsound_trade orders symbol trades ≡ None
 
 -- the deal of a trade: its bid and its ask by their indices in the order list
-abbrev pub deal_of : List Order → ℕ × TradeRecord → Deal
-deal_of orders e = record {
+abbrev pub deal_of_trade : List Order → ℕ × TradeRecord → Deal
+deal_of_trade orders e = record {
   place = e.0;
-  bid = unwrap_or (on_side_with_key orders Buy e.1.buy) (length orders);
-  ask = unwrap_or (on_side_with_key orders Sell e.1.sell) (length orders);
+  bid = unwrap_or (order_on_side_with_key orders Buy e.1.buy) (length orders);
+  ask = unwrap_or (order_on_side_with_key orders Sell e.1.sell) (length orders);
   quantity = e.1.quantity;
   price = e.1.price;
 }
 
 -- the deals of the symbol's trades, in log order
-unfoldable pub deals_of : List Order → List ℕ → List TradeRecord → List Deal
-deals_of orders symbol trades = map (deal_of orders) (trades_of symbol trades)
+unfoldable pub deals_of_symbol : List Order → List ℕ → List TradeRecord → List Deal
+deals_of_symbol orders symbol trades = map (deal_of_trade orders) (trades_of_symbol symbol trades)

@@ -1,4 +1,4 @@
--- The verdict on two logs that have been read: the first phase with an answer decides.
+-- The verdict on two logs that have been read: the first stage with an answer decides.
 use Rattle.std.specs.Prelude.{◌≡◌, ℕ, List, [], ◌∷◌, Option, None, Some, Result, Ok, Err, length, MatchOption, option_and_then}
 use Rattle.audit_base.specs.declared.terms.Rule.{Rule}
 use Rattle.audit_base.specs.declared.records.OrderRecord.{OrderRecord}
@@ -6,20 +6,21 @@ use Rattle.audit_base.specs.declared.records.TradeRecord.{TradeRecord}
 use Rattle.audit_base.specs.declared.orders.Order.{Order}
 use Rattle.audit_base.specs.declared.orders.Deal.{Deal}
 use Rattle.audit_base.specs.declared.findings.Finding.{Finding}
-use Rattle.audit_base.specs.Least.{first_of}
+use Rattle.audit_base.specs.Least.{first_answer}
 use Rattle.audit_base.specs.Histories.{history_finding, order_list, instant_order}
-use Rattle.audit_base.specs.Trades.{unsound_trade, deals_of}
+use Rattle.audit_base.specs.Trades.{unsound_trade, deals_of_symbol}
 use Rattle.audit_base.specs.RuleKinds.{call_rule}
 use Rattle.audit_base.specs.Rules.{Conforms}
 use Rattle.audit_base.specs.CallOffences.{IsCallOffence}
 use Rattle.audit_base.specs.ContinuousOffences.{IsContinuousOffence}
 
 -- finding 16 is looked for under the four rules of a call
-abbrev pub call_finding : Rule → List Order → Option Finding
-call_finding the_rule orders = option_and_then (λ call. instant_order orders) (call_rule the_rule)
+abbrev pub instant_order_finding : Rule → List Order → Option Finding
+instant_order_finding the_rule orders =
+    option_and_then (λ call. instant_order orders) (call_rule the_rule)
 
--- finding 4: a trade log that has been read is its trades, or this finding where its reports don't
--- pair
+-- finding 4: a trade log that has been read is its trades, or this finding
+-- where its reports don't pair
 abbrev pub pairing_finding : Result (List TradeRecord) Finding → Option Finding
 pairing_finding (Ok trades) = None
 pairing_finding (Err finding) = Some finding
@@ -29,11 +30,12 @@ abbrev pub paired_trades : Result (List TradeRecord) Finding → List TradeRecor
 paired_trades (Ok trades) = trades
 paired_trades (Err finding) = []
 
--- the findings before those of the rule, in the order of the phases: 1 to 3, 16, 4, 5 and 6
+-- the findings before those of the rule, in the order of the stages: 1 to 3, 16, 4, 5 and 6
 abbrev pub log_finding : Rule → List ℕ → List OrderRecord → Result (List TradeRecord) Finding
     → Option Finding
 log_finding the_rule symbol entries trades =
-    first_of (history_finding symbol entries ∷ call_finding the_rule (order_list symbol entries)
+    first_answer (history_finding symbol entries
+    ∷ instant_order_finding the_rule (order_list symbol entries)
     ∷ pairing_finding trades
     ∷ unsound_trade (order_list symbol entries) symbol (paired_trades trades) ∷ [])
 
@@ -55,6 +57,6 @@ abbrev pub IsVerdict : Rule → List ℕ → List OrderRecord → Result (List T
 IsVerdict the_rule symbol entries trades verdict =
     let orders = order_list symbol entries in
     MatchOption (log_finding the_rule symbol entries trades)
-    (IsRuleVerdict the_rule orders (deals_of orders symbol (paired_trades trades))
+    (IsRuleVerdict the_rule orders (deals_of_symbol orders symbol (paired_trades trades))
     (length (paired_trades trades)) verdict)
     (λ finding. verdict ≡ Some finding)

@@ -6,8 +6,8 @@ ghost use Rattle.std.specs.Char.{is_ascii_digit};
 ghost use Rattle.std.specs.Str.Parse.{digits_value};
 ghost use Rattle.audit_base.specs.Digits as form;
 
-/// Whether each byte is a decimal digit. All are looked at, so that a known number of bytes are tested at
-/// once.
+/// Whether each byte is a decimal digit. All are looked at, so that a known number
+/// of bytes are tested at once.
 pub fn are_digits(text: &[u8]) -> bool
     ensures { result ≡ list_all is_ascii_digit text.now }
 {
@@ -33,10 +33,10 @@ pub fn value_of(text: &[u8]) -> u64
     value
 }
 
-/// The number that eight decimal digits write, all at once. In a word whose lowest byte is the first
-/// digit, a product with 10 * 256 + 1 puts ten times each digit and the next one into one byte, and no
-/// byte carries, since two digits are below 100. So the second byte and each second one from there on
-/// write two digits.
+/// The number that eight decimal digits write, all at once.
+/// In a word whose lowest byte is the first digit, a product with 10 * 256 + 1 puts ten times
+/// each digit and the next one into one byte, and no byte carries, since two digits are below 100.
+/// So the second byte and each second one from there on write two digits.
 fn value_of_eight(digits: &[u8]) -> u64
     requires size { length digits.now ≡ 8 }
     requires digits { IsTrue (list_all is_ascii_digit digits.now) }
@@ -65,8 +65,8 @@ pub fn read_nine(digits: &[u8]) -> Option<u64>
     }
 }
 
-/// The number that at most 19 decimal digits write, in one pass over them. None exactly where a byte is
-/// no digit.
+/// The number that at most 19 decimal digits write, in one pass over them.
+/// None exactly where a byte is no digit.
 fn number_of(text: &[u8]) -> Option<u64>
     requires { length text.now ≤ 19 }
     ensures value { result ≡ form.number_form text.now }
@@ -96,8 +96,8 @@ pub fn read_digits(text: &[u8], most: usize) -> Option<u64>
     number_of(text)
 }
 
-/// The number from `low` to `high` that a text of exactly `width` digits writes, at most 19, and of nothing
-/// else. None exactly where it writes another number.
+/// The number from `low` to `high` that a text of exactly `width` digits writes, at most 19,
+/// and of nothing else. None exactly where it writes another number.
 pub fn value_between(digits: &[u8], width: usize, low: u64, high: u64) -> Option<u64>
     requires digits { IsTrue (list_all is_ascii_digit digits.now) }
     requires width { (length digits.now ≡ width) × (width ≤ 19) }
@@ -112,8 +112,8 @@ pub fn value_between(digits: &[u8], width: usize, low: u64, high: u64) -> Option
     }
 }
 
-/// The number from `low` to `high` that exactly `width` digits write. None exactly where the text is
-/// anything else.
+/// The number from `low` to `high` that exactly `width` digits write.
+/// None exactly where the text is anything else.
 pub fn read_digits_between(text: &[u8], width: usize, low: u64, high: u64) -> Option<u64>
     requires { width ≤ 19 }
     ensures value { result ≡ form.digits_between width low high text.now }
@@ -180,8 +180,8 @@ pub fn append_digits(out: &mut Vec<u8>, width: usize, number: u64)
     }
 }
 
-/// Appends the digits of a fraction of this many places, without zeros at its end. Asks for no memory,
-/// since there is room.
+/// Appends the digits of a fraction of this many places, without zeros at its end.
+/// Asks for no memory, since there is room.
 pub fn append_fraction_digits(out: &mut Vec<u8>, places: usize, number: u64)
     requires { vec_len out.old + places ≤ vec_capacity out.old }
     ensures appended { out.new.items ≡ out.old.items ++ form.fraction_digits places number }

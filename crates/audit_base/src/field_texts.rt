@@ -1,5 +1,6 @@
-//! The text of a value as a field of a log holds it. It is the canonical one, in the form of a name, and is
-//! read again as the value. Each call also says the range of the value, which its type keeps.
+//! The text of a value as a field of a log holds it.
+//! It is the canonical one, in the form of a name, and is read again as the value.
+//! Each call also says the range of the value, which its type keeps.
 ghost use Rattle.std.specs.Prelude.{◌≡◌, ◌<◌, ◌^◌, IfOk, IsTrue, Some, decimal};
 ghost use Rattle.std.specs.List.{list_all};
 ghost use Rattle.audit_base.specs.Moments.{end_of_time};

@@ -42,11 +42,11 @@ pub struct Short {
 pub enum Property {
     /// A record has the key of an earlier one.
     DuplicateId,
-    /// A record has a lesser time than the one before it.
+    /// A record has an earlier time than the one before it.
     TimeBack,
     /// A cancel or a replacement names no earlier order of its firm (and side).
     UnknownTarget,
-    /// A trade report has no second that agrees with it.
+    /// A trade report has no second one, or is the second and does not agree with the first.
     Unpaired,
     /// A trade has the id of an earlier one.
     DuplicateTrade,
@@ -70,7 +70,7 @@ pub enum Property {
     Volume,
     /// A bid and an ask that meet are both left.
     Spread,
-    /// An immediate or market order stands in the history of a call.
+    /// An immediate or market order is in the history of a call.
     InstantOrder,
 }
 

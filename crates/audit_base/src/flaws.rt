@@ -1,9 +1,9 @@
-//! What is wrong with a record, by places, indices and numbers, and the finding that it is. A finding has
-//! hundreds of bytes, and most records have none: so a flaw is looked for and handed on in its place, and
-//! only the one finding that is answered is made, here.
+//! What is wrong with a record, by places, indices and numbers, and the finding that it is.
+//! A finding has hundreds of bytes, and most records have none: so a flaw is looked for and handed
+//! on in its place, and only the one finding that is answered is made, here.
 ghost use Rattle.std.specs.Prelude.{◌≡◌, ◌<◌, [], IfSome, length, option_and_then};
 ghost use Rattle.audit_base.specs.Flaws as spec;
-ghost use Rattle.audit_base.specs.Shows.{priority_of, show_place};
+ghost use Rattle.audit_base.specs.Shows.{priority_property, show_place};
 
 use super::findings::{Finding, Property, Short, Shown};
 use super::names::Key;
@@ -93,7 +93,7 @@ fn show_due<L: OrderLines>(orders: &L, short: Option<DueOrder>) -> Option<Shown>
 
 /// The property that a trade breaks where an order of the side trades too much.
 fn quantity_of(side: Side) -> Property
-    ensures { result ≡ spec.quantity_of side }
+    ensures { result ≡ spec.quantity_property side }
 {
     match side {
         Side::Buy => Property::BuyQuantity,
@@ -102,8 +102,8 @@ fn quantity_of(side: Side) -> Property
 }
 
 /// The property that a trade breaks where an order of the side is passed over.
-fn priority_of(side: Side) -> Property
-    ensures { result ≡ priority_of side }
+fn priority_property(side: Side) -> Property
+    ensures { result ≡ priority_property side }
 {
     match side {
         Side::Buy => Property::BuyPriority,
@@ -114,7 +114,7 @@ fn priority_of(side: Side) -> Property
 impl Evidence {
     /// The property that is broken.
     fn property(self) -> Property
-        ensures { result ≡ spec.property_of self }
+        ensures { result ≡ spec.property_of_evidence self }
     {
         match self {
             Evidence::DuplicateId(_) => Property::DuplicateId,
@@ -127,16 +127,16 @@ impl Evidence {
             Evidence::Limit(_, _) => Property::Limit,
             Evidence::UniformPrice(_) => Property::UniformPrice,
             Evidence::Quantity(side, _) => quantity_of(side),
-            Evidence::Priority(side, _, _) => priority_of(side),
+            Evidence::Priority(side, _, _) => priority_property(side),
             Evidence::Volume(_, _, _) => Property::Volume,
             Evidence::Spread(_, _) => Property::Spread,
             Evidence::InstantOrder => Property::InstantOrder,
         }
     }
 
-    /// The log that its record stands in.
+    /// The log that its record is in.
     fn log(self) -> Which
-        ensures { result ≡ spec.log_of self }
+        ensures { result ≡ spec.log_of_evidence self }
     {
         match self {
             Evidence::DuplicateId(_)
@@ -150,7 +150,7 @@ impl Evidence {
 
     /// What is shown first.
     fn first_shown<L: OrderLines>(self, orders: &L) -> Option<Shown>
-        requires { spec.IsInside (L.orders orders.now) self }
+        requires { spec.IsEvidenceInside (L.orders orders.now) self }
         ensures { result ≡ spec.first_shown (L.orders orders.now) self }
     {
         match self {
@@ -174,7 +174,7 @@ impl Evidence {
 
     /// What is shown second: the other order of two.
     fn second_shown<L: OrderLines>(self, orders: &L) -> Option<Shown>
-        requires { spec.IsInside (L.orders orders.now) self }
+        requires { spec.IsEvidenceInside (L.orders orders.now) self }
         ensures { result ≡ spec.second_shown (L.orders orders.now) self }
     {
         match self {
@@ -188,7 +188,7 @@ impl Evidence {
 
     /// The volumes, of a volume that is below the greatest.
     fn short(self) -> Option<Short>
-        ensures { result ≡ spec.short_of self }
+        ensures { result ≡ spec.short_volume_of self }
     {
         match self {
             Evidence::Volume(short, _, _) => Some(short),
@@ -198,18 +198,19 @@ impl Evidence {
 }
 
 impl Flaw {
-    /// The finding, of a flaw that names no order, as what is wrong with a record of a log by itself does.
+    /// The finding, of a flaw that names no order, as what is wrong
+    /// with a record of a log by itself does.
     pub fn finding(self) -> Finding
-        requires { spec.IsInside [] self.evidence }
+        requires { spec.IsEvidenceInside [] self.evidence }
         ensures { result ≡ spec.finding_of [] self }
     {
         self.finding_among(&NoOrders)
     }
 
-    /// The finding: property, log and place, with what shows it. The orders are those that the indices
-    /// are of.
+    /// The finding: property, log and place, with what shows it.
+    /// The orders are those that the indices are of.
     pub fn finding_among<L: OrderLines>(self, orders: &L) -> Finding
-        requires { spec.IsInside (L.orders orders.now) self.evidence }
+        requires { spec.IsEvidenceInside (L.orders orders.now) self.evidence }
         ensures { result ≡ spec.finding_of (L.orders orders.now) self }
     {
         Finding {

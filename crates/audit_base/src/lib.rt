@@ -1,6 +1,6 @@
 //! The words of a double auction: what an order and a trade are, the forms they are written in,
 //! and what a finding about them says. Every other crate speaks in these types, and the
-//! definitions of the auction rules stand in this crate's `specs/`.
+//! definitions of the auction rules are in this crate's `specs/`.
 #![tactic(auto)]
 
 pub mod columns;

@@ -20,15 +20,15 @@ impl Model for Name {
 
     ghost Value = { List ℕ };
 
-    ghost use Rattle.audit_base.specs.NameBlocks.{shown, packed, IsPacked, packed-shown};
+    ghost use Rattle.audit_base.specs.NameBlocks.{name_in_block, block_of_name, IsNameBlock, block-of-name-in-block};
 
-    ghost view = { shown };
+    ghost view = { name_in_block };
 
-    ghost invariant = { IsPacked };
+    ghost invariant = { IsNameBlock };
 
-    ghost inverse = { packed };
+    ghost inverse = { block_of_name };
 
-    ghost inverse_ok = { packed-shown };
+    ghost inverse_ok = { block-of-name-in-block };
 }
 
 impl Name {
@@ -152,8 +152,8 @@ fn is_name_byte(byte: u8) -> bool
     NAME_BYTES[byte as usize]
 }
 
-/// Whether a name may hold each of the bytes. All are looked at, since a way out of the loop would cost
-/// more than it saves.
+/// Whether a name may hold each of the bytes. All are looked at, since a way out of the loop
+/// would cost more than it saves.
 fn all_name_bytes(text: &[u8]) -> bool
     ensures { result ≡ list_all form.is_name_byte text.now }
 {
@@ -184,8 +184,8 @@ fn put_ends(block: &mut [u8], text: &[u8], width: usize)
     block[start..text.len()].copy_from_slice(&text[start..]);
 }
 
-/// Writes a text over the first bytes of a block. Most names have 4 to 16 bytes, and two copies of a
-/// known width cost less than one of any.
+/// Writes a text over the first bytes of a block. Most names have 4 to 16 bytes,
+/// and two copies of a known width cost less than one of any.
 #[inline(always)]
 fn put_first(block: &mut [u8], text: &[u8])
     requires { length text.now ≤ length block.old }
@@ -221,8 +221,8 @@ pub fn name_of(text: &[u8]) -> Name
     }
 }
 
-/// The name that the text writes, which is the text itself. None exactly where it is empty, has more
-/// than 64 bytes, or holds a byte outside 0x20 to 0x7E, a `,` or a `"`.
+/// The name that the text writes, which is the text itself. None exactly where it is empty,
+/// has more than 64 bytes, or holds a byte outside 0x20 to 0x7E, a `,` or a `"`.
 pub fn read_name(text: &[u8]) -> Option<Name>
     ensures { result ≡ form.name_form text.now }
 {
@@ -233,7 +233,8 @@ pub fn read_name(text: &[u8]) -> Option<Name>
     }
 }
 
-/// Whether a text is a name whose bytes are known to be such as a name may hold. Only its size is asked.
+/// Whether a text is a name whose bytes are known to be such as a name may
+/// hold. Only its size is asked.
 pub fn is_name_by_size(text: &[u8]) -> bool
     requires { IsTrue (list_all form.is_name_byte text.now) }
     ensures { result ≡ form.is_name text.now }
@@ -241,8 +242,8 @@ pub fn is_name_by_size(text: &[u8]) -> bool
     1 <= text.len() && text.len() <= 64
 }
 
-/// The name that a text writes whose bytes are known to be such as a name may hold. None exactly where
-/// it is empty or has more than 64 bytes.
+/// The name that a text writes whose bytes are known to be such as a name may hold.
+/// None exactly where it is empty or has more than 64 bytes.
 pub fn read_name_by_size(text: &[u8]) -> Option<Name>
     requires { IsTrue (list_all form.is_name_byte text.now) }
     ensures { result ≡ form.name_form text.now }

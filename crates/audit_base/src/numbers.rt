@@ -47,8 +47,8 @@ impl Price {
     }
 }
 
-/// The price of a market order of this side: 999,999,999,999,999,999 units of a bid, 0 of an ask. So
-/// it takes any price.
+/// The price of a market order of this side: 999,999,999,999,999,999 units of a bid,
+/// 0 of an ask. So it takes any price.
 pub fn market_price(side: Side) -> Price
     ensures { result ≡ form.market_price side }
 {
@@ -60,7 +60,7 @@ pub fn market_price(side: Side) -> Price
     }
 }
 
-/// A number of shares, from 1 to 1,000,000,000,000.
+/// A whole number of what is traded, from 1 to 1,000,000,000,000.
 #[derive(Clone, Copy, Debug, PartialEq, Eq, Hash, PartialOrd, Ord)]
 pub struct Quantity {
     value: u64,
@@ -157,22 +157,22 @@ pub fn read_price(text: &[u8]) -> Option<Price>
 }
 
 /// Whether each byte is a zero.
-fn all_zeros(text: &[u8]) -> bool
-    ensures { result ≡ list_all form.is_zero text.now }
+fn all_zero_digits(text: &[u8]) -> bool
+    ensures { result ≡ list_all form.is_zero_digit text.now }
 {
     text.iter().all(|byte| *byte == b'0')
 }
 
 /// Whether the text is one or more zeros.
-fn is_zeros(text: &[u8]) -> bool
-    ensures { result ≡ form.is_zeros text.now }
+fn are_zero_digits(text: &[u8]) -> bool
+    ensures { result ≡ form.are_zero_digits text.now }
 {
-    1 <= text.len() && all_zeros(text)
+    1 <= text.len() && all_zero_digits(text)
 }
 
 /// The number as a quantity.
-fn in_quantity(value: Option<u64>) -> Option<Quantity>
-    ensures { result ≡ form.in_quantity value }
+fn quantity_in_range(value: Option<u64>) -> Option<Quantity>
+    ensures { result ≡ form.quantity_in_range value }
 {
     Quantity::of(value?)
 }
@@ -182,10 +182,10 @@ fn read_around_point(text: &[u8]) -> Option<Quantity>
     ensures { result ≡ form.quantity_form text.now }
 {
     match point_in(text) {
-        None => in_quantity(read_digits(text, 13)),
+        None => quantity_in_range(read_digits(text, 13)),
         Some(point) => {
-            if is_zeros(&text[point + 1..]) {
-                in_quantity(read_digits(&text[..point], 13))
+            if are_zero_digits(&text[point + 1..]) {
+                quantity_in_range(read_digits(&text[..point], 13))
             } else {
                 None
             }
@@ -193,8 +193,8 @@ fn read_around_point(text: &[u8]) -> Option<Quantity>
     }
 }
 
-/// The quantity that the text writes: 1 to 13 digits, then optionally `.` and one or more zeros, with
-/// a whole part from 1 to 1,000,000,000,000. None exactly where it is not in this form.
+/// The quantity that the text writes: 1 to 13 digits, then optionally `.` and one or more zeros,
+/// with a whole part from 1 to 1,000,000,000,000. None exactly where it is not in this form.
 pub fn read_quantity(text: &[u8]) -> Option<Quantity>
     ensures { result ≡ form.quantity_form text.now }
 {

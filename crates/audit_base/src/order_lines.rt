@@ -2,7 +2,7 @@
 ghost use Rattle.std.specs.Prelude.{◌≡◌, ◌<◌, ◌≤◌, [], List, None, Some, length};
 ghost use Rattle.audit_base.specs.declared.orders.Order.{Order};
 ghost use Rattle.audit_base.specs.Orders.{order_at};
-ghost use Rattle.audit_base.specs.Shows.{with_traded};
+ghost use Rattle.audit_base.specs.Shows.{with_traded_number};
 
 use super::findings::OrderLine;
 
@@ -11,10 +11,11 @@ pub trait OrderLines {
     // The order list.
     ghost orders: { Self → List Order };
 
-    /// The line of the order at an index, where it has traded this much. None exactly where there is no order.
+    /// The line of the order at an index, where it has traded this much.
+    /// None exactly where there is no order.
     fn line_at(&self, index: usize, traded: u128) -> Option<OrderLine>
         ensures there { index < length (orders self.now)
-            → result ≡ Some (with_traded (order_at (orders self.now) index) traded) }
+            → result ≡ Some (with_traded_number (order_at (orders self.now) index) traded) }
         ensures none { length (orders self.now) ≤ index → result ≡ None };
 }
 

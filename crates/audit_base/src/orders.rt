@@ -4,10 +4,11 @@ use super::numbers::{Price, Quantity};
 use super::stamps::Stamp;
 use super::terms::{Life, Side};
 
-/// An order of a history: a new order or a replacement. A list of these is an order list where their
-/// places rise strictly, there are fewer than 2^32, and each target is a lower index of the same side.
-// The fields stand by their sizes behind the key, so that none of an order's bytes is a gap, and what the
-// audits read of an order, which is all but its key, lies together.
+/// An order of a history: a new order or a replacement.
+/// A list of these is an order list where their places rise strictly, there are fewer than 2^32,
+/// and each target is a lower index of the same side.
+// The fields are laid out by their sizes behind the key, so that none of an order's bytes is a gap,
+// and what the audits read of an order, which is all but its key, lies together.
 #[derive(Clone, Copy, Debug, PartialEq, Eq)]
 pub struct Order {
     pub key: Key,

@@ -1,14 +1,14 @@
-//! The ranges of the numbers of records, as facts. Nothing is computed here: the types keep the ranges, and
-//! reading a number tells a proof so.
-ghost use Rattle.audit_base.specs.Deals.{IsDeal, AreDeals};
-ghost use Rattle.audit_base.specs.Trades.{IsTrade, AreTrades};
+//! The ranges of the numbers of records, as facts. Nothing is computed here:
+//! the types keep the ranges, and reading a number gives it to a proof.
+ghost use Rattle.audit_base.specs.Deals.{DealInRange, DealsInRange};
+ghost use Rattle.audit_base.specs.Trades.{TradeInRange, TradesInRange};
 
 use super::orders::Deal;
 use super::records::TradeRecord;
 
 /// The numbers of a deal are in their ranges.
 pub fn deal_in_range(deal: &Deal)
-    ensures { IsDeal deal.now }
+    ensures { DealInRange deal.now }
 {
     let _quantity = deal.quantity.value();
     let _price = deal.price.units();
@@ -16,7 +16,7 @@ pub fn deal_in_range(deal: &Deal)
 
 /// The numbers of all deals are in their ranges.
 pub fn deals_in_range(deals: &[Deal])
-    ensures { AreDeals deals.now }
+    ensures { DealsInRange deals.now }
 {
     for deal in deals {
         deal_in_range(deal);
@@ -25,7 +25,7 @@ pub fn deals_in_range(deals: &[Deal])
 
 /// The numbers of a trade are in their ranges.
 pub fn trade_in_range(trade: &TradeRecord)
-    ensures { IsTrade trade.now }
+    ensures { TradeInRange trade.now }
 {
     let _quantity = trade.quantity.value();
     let _price = trade.price.units();
@@ -33,7 +33,7 @@ pub fn trade_in_range(trade: &TradeRecord)
 
 /// The numbers of all trades are in their ranges.
 pub fn trades_in_range(trades: &[TradeRecord])
-    ensures { AreTrades trades.now }
+    ensures { TradesInRange trades.now }
 {
     for trade in trades {
         trade_in_range(trade);

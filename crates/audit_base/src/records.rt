@@ -10,8 +10,8 @@ use super::terms::{Life, Side};
 /// A record of an order log: an instruction that the exchange accepted.
 #[derive(Clone, Copy, Debug, PartialEq, Eq)]
 pub enum OrderRecord {
-    /// A new order (FIX 4.4, message type D). A market order has the market price of its side as its
-    /// price: the greatest price for a bid, 0 for an ask.
+    /// A new order (FIX 4.4, message type D). A market order has the market price of its side
+    /// as its price: the greatest price for a bid, 0 for an ask.
     New {
         key: Key,
         time: Stamp,
@@ -53,7 +53,7 @@ impl OrderRecord {
         }
     }
 
-    /// When the exchange accepted it.
+    /// The time that the record has: in a FIX log TransactTime (tag 60), which the firm writes.
     pub fn time(&self) -> Stamp
         ensures { result ≡ history.time_of self.now }
     {
@@ -75,8 +75,8 @@ impl OrderRecord {
         }
     }
 
-    /// The key that a cancel or a replacement names: its own firm, and the target's id. None of a new
-    /// order.
+    /// The key that a cancel or a replacement names: its own firm,
+    /// and the target's id. None of a new order.
     pub fn target_key(&self) -> Option<Key>
         ensures { result ≡ history.target_key self.now }
     {
@@ -130,7 +130,7 @@ pub struct TradeRecord {
 }
 
 /// A record of a log, which is of one symbol.
-pub trait Traded: Copy + Drop {
+pub trait LogRecord: Copy + Drop {
     ghost symbol_of: { Self → List ℕ };
 
     /// The symbol that it trades.
@@ -138,7 +138,7 @@ pub trait Traded: Copy + Drop {
         ensures { result ≡ symbol_of self.now };
 }
 
-impl Traded for OrderRecord {
+impl LogRecord for OrderRecord {
     ghost symbol_of = { history.symbol_of };
 
     fn symbol(&self) -> Name {
@@ -150,7 +150,7 @@ impl Traded for OrderRecord {
     }
 }
 
-impl Traded for TradeRecord {
+impl LogRecord for TradeRecord {
     ghost symbol_of = { λ trade. trade.symbol };
 
     fn symbol(&self) -> Name {

@@ -6,7 +6,7 @@ ghost use Rattle.audit_base.specs.Stamps as form;
 use super::stamps::{Stamp, read_fraction, read_stamp};
 
 /// The point in time of a fraction of a second.
-fn in_second(second: u64, nano: Option<u64>) -> Option<Stamp>
+fn stamp_in_second(second: u64, nano: Option<u64>) -> Option<Stamp>
     requires second { second < end_of_time }
     requires nano { IfSome nano (λ n. n < 10 ^ 9) }
     ensures { result ≡ form.with_fraction (Some (record { second = second; nano = 0 })) nano }
@@ -27,8 +27,8 @@ fn clock_of(text: &[u8]) -> [u8; 17]
     clock
 }
 
-/// A reader of points in time. It keeps the text of the last date and clock that it read, and the second
-/// that they write, so that a text with the same ones is read from its fraction on.
+/// A reader of points in time. It keeps the text of the last date and clock that it read,
+/// and the second that they write, so that a text with the same ones is read from its fraction on.
 #[derive(Clone, Copy)]
 pub struct StampReader {
     clock: [u8; 17],
@@ -46,8 +46,8 @@ impl StampReader {
         }
     }
 
-    /// The point in time that a text writes, as `read_stamp` reads it. None exactly where the text is not
-    /// in its form.
+    /// The point in time that a text writes, as `read_stamp` reads it.
+    /// None exactly where the text is not in its form.
     pub fn read(&mut self, text: &[u8]) -> Option<Stamp>
         ensures { result ≡ form.stamp_form text.now }
     {
@@ -56,7 +56,7 @@ impl StampReader {
         }
         let (clock, fraction) = text.split_at(17);
         if clock == self.clock.as_slice() {
-            return in_second(self.second, read_fraction(fraction));
+            return stamp_in_second(self.second, read_fraction(fraction));
         }
         let stamp = read_stamp(text)?;
         *self = StampReader {

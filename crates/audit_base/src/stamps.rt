@@ -9,9 +9,9 @@ use super::digits::{
 use std::marker::Model;
 
 /// A point in time. `second` orders stamps and is no count of seconds: it is
-/// `((((year * 12 + month - 1) * 31 + day - 1) * 24 + hour) * 60 + minute) * 61 + second`, below
-/// 326,764,800,000. `nano` is the fraction, below 1,000,000,000. `is_before` orders stamps by `second`,
-/// then by `nano`, and each has exactly one canonical text (FIX 4.4, UTCTimestamp).
+/// `((((year * 12 + month - 1) * 31 + day - 1) * 24 + hour) * 60 + minute) * 61 + second`,
+/// below 326,764,800,000. `nano` is the fraction, below 1,000,000,000. `is_before` orders stamps
+/// by `second`, then by `nano`, and each has exactly one canonical text (FIX 4.4, UTCTimestamp).
 #[derive(Clone, Copy, Debug, PartialEq, Eq, Hash)]
 pub struct Stamp {
     pub second: u64,
@@ -73,9 +73,9 @@ fn read_clock(text: &[u8]) -> Option<u64>
 }
 
 /// A fraction of this many digits in nanoseconds.
-fn filled_to_nine(places: usize, fraction: Option<u64>) -> Option<u64>
+fn nano_of_fraction(places: usize, fraction: Option<u64>) -> Option<u64>
     requires { IfSome fraction (λ f. (places ≤ 9) × (f < 10 ^ places)) }
-    ensures value { result ≡ form.filled_to_nine places fraction }
+    ensures value { result ≡ form.nano_of_fraction places fraction }
     ensures in_range { IfSome result (λ n. n < 10 ^ 9) }
 {
     Some(scaled(fraction?, places, 9))
@@ -87,9 +87,9 @@ fn fraction_of(digits: &[u8]) -> Option<u64>
     ensures in_range { IfSome result (λ n. n < 10 ^ 9) }
 {
     if digits.len() == 9 {
-        filled_to_nine(9, read_nine(digits))
+        nano_of_fraction(9, read_nine(digits))
     } else if digits.len() == 3 || digits.len() == 6 {
-        filled_to_nine(digits.len(), read_digits(digits, 9))
+        nano_of_fraction(digits.len(), read_digits(digits, 9))
     } else {
         None
     }
@@ -112,10 +112,10 @@ pub(crate) fn read_fraction(text: &[u8]) -> Option<u64>
     }
 }
 
-/// The point in time that the text writes: `YYYYMMDD-HH:MM:SS`, then optionally `.` and 3, 6 or 9
-/// digits (FIX 4.4, UTCTimestamp). The month is from 01 to 12, the day from 01 to 31, the hour from 00
-/// to 23, the minute from 00 to 59 and the second from 00 to 60; no further calendar rule is tested.
-/// None exactly where the text is not in this form.
+/// The point in time that the text writes: `YYYYMMDD-HH:MM:SS`, then optionally `.` and 3,
+/// 6 or 9 digits (FIX 4.4, UTCTimestamp). The month is from 01 to 12, the day from 01 to 31,
+/// the hour from 00 to 23, the minute from 00 to 59 and the second from 00 to 60;
+/// no further calendar rule is tested. None exactly where the text is not in this form.
 pub fn read_stamp(text: &[u8]) -> Option<Stamp>
     ensures { result ≡ form.stamp_form text.now }
 {

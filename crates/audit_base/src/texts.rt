@@ -8,7 +8,7 @@ ghost use Rattle.std.specs.Vec.{vec_capacity};
 ghost use Rattle.std.specs.List.{list_all};
 ghost use Rattle.audit_base.specs.Names.{is_name_byte};
 ghost use Rattle.audit_base.specs.Digits.{fraction_digits};
-ghost use Rattle.audit_base.specs.Numbers.{after_point, is_quantity, price_form, price_text, quantity_form};
+ghost use Rattle.audit_base.specs.Numbers.{point_and_digits, is_quantity, price_form, price_text, quantity_form};
 ghost use Rattle.audit_base.specs.Stamps.{stamp_form, stamp_text, date_text, clock_text, nano_text};
 
 use super::digits::{append_byte, append_digits, append_fraction_digits};
@@ -30,10 +30,10 @@ pub fn write_number(_alloc: Global, number: u128, out: &mut Vec<u8>) -> Result<(
     Ok(())
 }
 
-/// Appends the canonical text of a price of this many units of 10^-8: its whole part without leading
-/// zeros, then, where there is a fraction, `.` and its digits without zeros at the end. `units` is at
-/// most 10^18, whose text `10000000000` is the one that is not read again. Out of memory, it leaves
-/// `out` as it was.
+/// Appends the canonical text of a price of this many units of 10^-8: its whole part without
+/// leading zeros, then, where there is a fraction, `.` and its digits without zeros at the end.
+/// `units` is at most 10^18, whose text `10000000000` is the one that is not read again.
+/// Out of memory, it leaves `out` as it was.
 pub fn write_price(_alloc: Global, units: u64, out: &mut Vec<u8>) -> Result<(), NoMemory>
     requires { units ≤ 10 ^ 18 }
     ensures appended { OnOk result (out.new.items ≡ out.old.items ++ price_text units) }
@@ -53,7 +53,7 @@ pub fn write_price(_alloc: Global, units: u64, out: &mut Vec<u8>) -> Result<(), 
 fn append_fraction(out: &mut Vec<u8>, fraction: u64)
     requires room { vec_len out.old + 9 ≤ vec_capacity out.old }
     requires below { fraction < 10 ^ 8 }
-    ensures { out.new.items ≡ out.old.items ++ after_point (fraction_digits 8 fraction) }
+    ensures { out.new.items ≡ out.old.items ++ point_and_digits (fraction_digits 8 fraction) }
 {
     if fraction > 0 {
         append_byte(out, b'.');

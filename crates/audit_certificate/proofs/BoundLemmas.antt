@@ -15,8 +15,8 @@ use Rattle.audit_base.specs.Numbers.{price_form, price_text}
 use Rattle.audit_base.specs.Orders.{order_at}
 use Rattle.audit_base.proofs.NumberLemmas.{price_again}
 use Rattle.audit_base.proofs.UnquotedLemmas.{price_is_unquoted}
-use Rattle.audit_certificate.specs.Agreement.{ShowsBound, IsBoundLine}
-use Rattle.audit_certificate.specs.Bounds.{above_if_short, above_short_bids, is_comma, take_upto, before_comma, price_or_above, price_of, named_price}
+use Rattle.audit_certificate.specs.Agreement.{ShowsNoGreaterVolume, IsBoundLine}
+use Rattle.audit_certificate.specs.Bounds.{above_if_short, above_short_bids, is_comma, take_upto, before_comma, price_or_above, price_in_text, named_price}
 use Rattle.audit_certificate.specs.Texts.{bound_text}
 
 -- the price above the short bids among the first n orders
@@ -39,10 +39,10 @@ above-more orders traded n price next o here o_is here_is here_most next_is so_f
       in_range = omega arith;
     }
 
-pub price-behind : (line : List ℕ) → 6 ≤ length line → price_of (before_comma (take (length line - 6) (drop 6 line))) ≡ named_price line
+pub price-behind : (line : List ℕ) → 6 ≤ length line → price_in_text (before_comma (take (length line - 6) (drop 6 line))) ≡ named_price line
 price-behind line long =
-    ap (λ (t : List ℕ). price_of (before_comma t)) (take_all (length line - 6) (drop 6 line) (omega (arith, length-drop 6 line)))
-    ∙ sym (cond-false (nat_lt (length line) 6) (10 ^ 18) (price_of (before_comma (drop 6 line))) (le-ltb (length line) 6 long))
+    ap (λ (t : List ℕ). price_in_text (before_comma t)) (take_all (length line - 6) (drop 6 line) (omega (arith, length-drop 6 line)))
+    ∙ sym (cond-false (nat_lt (length line) 6) (10 ^ 18) (price_in_text (before_comma (drop 6 line))) (le-ltb (length line) 6 long))
 
 -- the text of 10^18 is not read as a price
 above-unread : price_form (price_text (10 ^ 18)) ≡ None
@@ -73,12 +73,12 @@ field-again text rest are =
     let some : position is_comma (text ++ 44 ∷ rest) ≡ Some (length text) = cond-true _ _ _ within ∙ ap (λ (n : ℕ). Some n) at in
     ap (take_upto (text ++ 44 ∷ rest)) some ∙ take-append_seam text (44 ∷ rest)
 
-price-again : (price : ℕ) → price ≤ 10 ^ 18 → price_of (price_text price) ≡ price
+price-again : (price : ℕ) → price ≤ 10 ^ 18 → price_in_text (price_text price) ≡ price
 price-again price most = elim (cases_lt price (10 ^ 18)) [
   | inl below ↦ ap price_or_above (price_again price below)
   | inr above ↦
       let e : price ≡ 10 ^ 18 = omega arith in
-      ap (λ (p : ℕ). price_of (price_text p)) e ∙ ap price_or_above above-unread ∙ sym e
+      ap (λ (p : ℕ). price_in_text (price_text p)) e ∙ ap price_or_above above-unread ∙ sym e
 ]
 
 -- so the price that a line 2 has is the one that is read
@@ -87,17 +87,17 @@ price-named price reached line most line_is =
     let text : List ℕ = price_text price in
     let long : 6 ≤ length (bound_text price reached) = omega arith in
     ap named_price line_is
-    ∙ cond-false (nat_lt (length (bound_text price reached)) 6) (10 ^ 18) (price_of (before_comma (drop 6 (bound_text price reached)))) (le-ltb (length (bound_text price reached)) 6 long)
-    ∙ ap price_of (field-again text (decimal reached) (price_is_unquoted price most))
+    ∙ cond-false (nat_lt (length (bound_text price reached)) 6) (10 ^ 18) (price_in_text (before_comma (drop 6 (bound_text price reached)))) (le-ltb (length (bound_text price reached)) 6 long)
+    ∙ ap price_in_text (field-again text (decimal reached) (price_is_unquoted price most))
     ∙ price-again price most
 
 -- whether the line is a line 2
 pub tells-bound : (the_rule : VolumeRule) (orders : List Order) (reached price : ℕ) (line : List ℕ) (same shows : Bool) → price ≡ named_price line → price ≤ 10 ^ 18
-    → IsTrue same ↔ (line ≡ bound_text price reached) → same ≡ true → IsTrue shows ↔ ShowsBound the_rule orders reached price
+    → IsTrue same ↔ (line ≡ bound_text price reached) → same ≡ true → IsTrue shows ↔ ShowsNoGreaterVolume the_rule orders reached price
     → IsTrue shows ↔ IsBoundLine the_rule orders reached line
 tells-bound the_rule orders reached price line same shows price_is most tells_text text tells = (
   λ t. record { price = price; in_range = most; text_is = tells_text.0 text; shows = tells.0 t },
-  λ is. tells.1 (subst (ShowsBound the_rule orders reached) (sym (price-named is.price reached line is.in_range is.text_is) ∙ sym price_is) is.shows),
+  λ is. tells.1 (subst (ShowsNoGreaterVolume the_rule orders reached) (sym (price-named is.price reached line is.in_range is.text_is) ∙ sym price_is) is.shows),
 )
 
 pub tells-no_bound : (the_rule : VolumeRule) (orders : List Order) (reached price : ℕ) (line : List ℕ) (same : Bool) → price ≡ named_price line

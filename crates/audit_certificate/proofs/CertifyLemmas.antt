@@ -12,8 +12,8 @@ use Rattle.audit_base.specs.declared.terms.Side.TheVariants.{Buy, Sell}
 use Rattle.audit_base.specs.declared.orders.Order.{Order}
 use Rattle.audit_base.specs.declared.orders.Deal.{Deal}
 use Rattle.audit_base.specs.Names.{is_name}
-use Rattle.audit_base.specs.Orders.{place_at, IsOrderList, AreOrders}
-use Rattle.audit_base.specs.Deals.{traded, volume, AreDeals, AreTotals}
+use Rattle.audit_base.specs.Orders.{place_at, IsOrderList, OrdersInRange}
+use Rattle.audit_base.specs.Deals.{traded, volume, DealsInRange, AreTotals}
 use Rattle.audit_base.specs.Calls.{Matching, Fair}
 use Rattle.audit_base.specs.Rules.{Conforms}
 use Rattle.audit_base.specs.RuleKinds.{rule_of_volume, volume_rule}
@@ -23,13 +23,13 @@ use Rattle.call_laws.specs.Existence.{LeastCutExists}
 use Rattle.call_laws.proofs.ConformLemmas.{conforms-fair}
 use Rattle.audit_certificate.specs.declared.counting.Counts.{Counts}
 use Rattle.audit_certificate.specs.Laws.{CertificateCompleteness}
-use Rattle.audit_certificate.specs.Texts.{head_text, bound_text, last_text, order_text}
-use Rattle.audit_certificate.specs.Bounds.{above_short_bids, IsPriceOf}
+use Rattle.audit_certificate.specs.Texts.{head_text, bound_text, last_text, order_line_text}
+use Rattle.audit_certificate.specs.Bounds.{above_short_bids, IsCertificatePrice}
 use Rattle.audit_certificate.specs.Counting.{AreCounts}
 use Rattle.audit_certificate.specs.Certifying.{written_text}
 use Rattle.audit_certificate.specs.LastOrders.{last_trading}
-use Rattle.audit_certificate.specs.OrderLines.{lines_upto}
-use Rattle.audit_certificate.specs.Agreement.{IsLastOf, OnePriceIfUniform, IsLeastPrice, IsCertificate, IsCertificateUnder, Agrees, AgreesUnder, order_lines, certificate_text}
+use Rattle.audit_certificate.specs.OrderLines.{order_lines_upto}
+use Rattle.audit_certificate.specs.Agreement.{IsLastOf, OnePriceIfUniform, IsLeastPrice, IsCertificate, IsCertificateUnder, Agrees, AgreesUnder, order_lines_text, certificate_text}
 use Rattle.audit_certificate.proofs.LastLemmas.{last-is, fair-filled}
 use Rattle.audit_certificate.proofs.PriceLemmas.{least-is}
 use Rattle.audit_certificate.proofs.WrittenLemmas.{agrees-written}
@@ -41,8 +41,8 @@ one-price of_volume.Maximum orders deals conforms = tt
 -- The certificate of deals that conform.
 
 module _ (reaches : MaximumReachesLeastCut) (apart : ShortOrdersDoNotMeet) (the_rule : VolumeRule) (symbol : List ℕ) (orders : List Order) (deals : List Deal) (named : is_name symbol ≡ true)
-    (list : IsOrderList orders) (ranges : AreOrders orders) (deal_ranges : AreDeals deals) (conforms : Conforms (rule_of_volume the_rule) orders deals)
-    (traded_by : List ℕ) (totals : AreTotals orders deals traded_by) (price : ℕ) (price_is : IsPriceOf the_rule orders traded_by price) where
+    (list : IsOrderList orders) (ranges : OrdersInRange orders) (deal_ranges : DealsInRange deals) (conforms : Conforms (rule_of_volume the_rule) orders deals)
+    (traded_by : List ℕ) (totals : AreTotals orders deals traded_by) (price : ℕ) (price_is : IsCertificatePrice the_rule orders traded_by price) where
   both : Matching orders deals × Fair orders deals
   both = conforms-fair the_rule orders deals conforms
 
@@ -90,34 +90,34 @@ completeness reaches apart exists the_rule symbol orders deals named list ranges
       each = λ i lt. let e : 0 + i ≡ i = omega arith in get_or-map-range_with_len (traded deals) 0 (length orders) i i 0 lt e;
     }
 
-    price-exists : (r : VolumeRule) → (price : ℕ) × IsPriceOf r orders all price
+    price-exists : (r : VolumeRule) → (price : ℕ) × IsCertificatePrice r orders all price
     price-exists of_volume.Uniform = (above_short_bids orders all (length orders), refl)
     price-exists of_volume.Maximum = let c = exists orders in (c.0.price, record { volume = c.0.volume; least = c.1 })
 
-    found : (price : ℕ) × IsPriceOf the_rule orders all price
+    found : (price : ℕ) × IsCertificatePrice the_rule orders all price
     found = price-exists the_rule
 
 -- The text that is written.
 
 abbrev order_line : List Order → List Deal → ℕ → List ℕ
-order_line orders deals i = order_text (place_at orders i) (traded deals i) ++ 10 ∷ []
+order_line orders deals i = order_line_text (place_at orders i) (traded deals i) ++ 10 ∷ []
 
-order-snoc : (orders : List Order) (deals : List Deal) (from n : ℕ) → order_lines orders deals from (suc n) ≡ order_lines orders deals from n ++ order_line orders deals (from + n)
+order-snoc : (orders : List Order) (deals : List Deal) (from n : ℕ) → order_lines_text orders deals from (suc n) ≡ order_lines_text orders deals from n ++ order_line orders deals (from + n)
 order-snoc orders deals from zero = append-nil (order_line orders deals from) ∙ ap (order_line orders deals) (let e : from ≡ from + 0 = omega arith in e)
 order-snoc orders deals from (suc n) =
     let e : from + 1 + n ≡ from + suc n = omega arith in
     ap (λ (t : List ℕ). order_line orders deals from ++ t) (order-snoc orders deals (from + 1) n)
-    ∙ sym (append_assoc (order_line orders deals from) (order_lines orders deals (from + 1) n) (order_line orders deals (from + 1 + n)))
-    ∙ ap (λ (i : ℕ). order_lines orders deals from (suc n) ++ order_line orders deals i) e
+    ∙ sym (append_assoc (order_line orders deals from) (order_lines_text orders deals (from + 1) n) (order_line orders deals (from + 1 + n)))
+    ∙ ap (λ (i : ℕ). order_lines_text orders deals from (suc n) ++ order_line orders deals i) e
 
-lines-are : (orders : List Order) (deals : List Deal) (traded_by : List ℕ) → AreTotals orders deals traded_by → (n : ℕ) → n ≤ length orders → lines_upto orders traded_by n ≡ order_lines orders deals 0 n
-unfolding lines_upto
+lines-are : (orders : List Order) (deals : List Deal) (traded_by : List ℕ) → AreTotals orders deals traded_by → (n : ℕ) → n ≤ length orders → order_lines_upto orders traded_by n ≡ order_lines_text orders deals 0 n
+unfolding order_lines_upto
 lines-are orders deals traded_by totals zero le = refl
 lines-are orders deals traded_by totals (suc n) le =
     let e : n ≡ 0 + n = omega arith in
-    append_assoc (lines_upto orders traded_by n) (order_text (place_at orders n) (get_or traded_by n 0)) (10 ∷ [])
-    ∙ (λ i. lines-are orders deals traded_by totals n (omega arith) i ++ (order_text (place_at orders n) (totals.each n (omega arith) i) ++ 10 ∷ []))
-    ∙ ap (λ (i : ℕ). order_lines orders deals 0 n ++ order_line orders deals i) e
+    append_assoc (order_lines_upto orders traded_by n) (order_line_text (place_at orders n) (get_or traded_by n 0)) (10 ∷ [])
+    ∙ (λ i. lines-are orders deals traded_by totals n (omega arith) i ++ (order_line_text (place_at orders n) (totals.each n (omega arith) i) ++ 10 ∷ []))
+    ∙ ap (λ (i : ℕ). order_lines_text orders deals 0 n ++ order_line orders deals i) e
     ∙ sym (order-snoc orders deals 0 n)
 
 -- what is written is the certificate
@@ -150,7 +150,7 @@ pub record IsMade (rule : Rule) (symbol : List ℕ) (orders : List Order) (deals
   pub agrees : AgreesUnder rule symbol orders deals text
 
 pub made : MaximumReachesLeastCut → ShortOrdersDoNotMeet → (rule : Rule) (the_rule : VolumeRule) (symbol : List ℕ) (orders : List Order) (deals : List Deal) → volume_rule rule ≡ Some the_rule → is_name symbol ≡ true
-    → IsOrderList orders → AreOrders orders → AreDeals deals → Conforms rule orders deals → (counts : Counts) → AreCounts orders deals counts → (price : ℕ) → IsPriceOf the_rule orders counts.traded.items price
+    → IsOrderList orders → OrdersInRange orders → DealsInRange deals → Conforms rule orders deals → (counts : Counts) → AreCounts orders deals counts → (price : ℕ) → IsCertificatePrice the_rule orders counts.traded.items price
     → (text : List ℕ) → text ≡ written_text the_rule symbol orders counts price → IsMade rule symbol orders deals text
 made reaches apart rule the_rule symbol orders deals rule_is named list ranges deal_ranges conforms counts are price price_is text text_is =
     let same = text_is ∙ written-is the_rule symbol orders deals counts price are in

@@ -1,16 +1,17 @@
--- What the deals come to, one deal after another.
+-- What the deals add up to, one deal after another.
 use Rattle.std.proofs.Common.{◌≡◌, ◌∙◌, sym, ap, subst, ℕ, ◌+◌, ◌*◌, ◌^◌, ◌<◌, ◌≤◌, List, length, take, get_or, arith, All}
 use Rattle.std.specs.Prelude.{slice_set}
 use Rattle.std.proofs.lemmas.List.{length-set, get_or-set_other, take_all}
 use Rattle.audit_base.specs.declared.orders.Order.{Order}
 use Rattle.audit_base.specs.declared.orders.Deal.{Deal}
-use Rattle.audit_base.specs.Deals.{traded, volume, deal_at, missing_deal, AreTotals, NamesOrders, IsDeal}
+use Rattle.audit_base.specs.Deals.{traded, volume, deal_at, deal_past_end, AreTotals, NamesOrders, DealInRange}
 use Rattle.audit_base.proofs.TotalsLemmas.{AreTotalsSoFar, apart, totals-more}
 
--- one deal further in the words of the code: the deal that it reads, and the numbers after each of the two additions
-module _ (orders : List Order) (deals : List Deal) (k : ℕ) (lt : k < length deals) (named : All (NamesOrders orders) deals) (d : Deal) (d_is : d ≡ deal_at deals k) (so_far : List ℕ) (total quantity : ℕ) (is : AreTotalsSoFar orders deals k so_far total) (same : quantity ≡ d.quantity) (range : IsDeal d) where
+-- one deal further in the words of the code: the deal that it reads, and the numbers after each
+-- of the two additions
+module _ (orders : List Order) (deals : List Deal) (k : ℕ) (lt : k < length deals) (named : All (NamesOrders orders) deals) (d : Deal) (d_is : d ≡ deal_at deals k) (so_far : List ℕ) (total quantity : ℕ) (is : AreTotalsSoFar orders deals k so_far total) (same : quantity ≡ d.quantity) (range : DealInRange d) where
   named_here : NamesOrders orders d
-  named_here = subst (NamesOrders orders) (sym d_is) (named k missing_deal lt)
+  named_here = subst (NamesOrders orders) (sym d_is) (named k deal_past_end lt)
 
   pub bid-inside : d.bid < length so_far
   bid-inside = omega (arith, is.totals.count, named_here.bid_inside)
@@ -43,7 +44,7 @@ module _ (orders : List Order) (deals : List Deal) (k : ℕ) (lt : k < length de
       whole_is ∙ ap (λ (xs : List ℕ). slice_set xs d.ask (get_or xs d.ask 0 + quantity)) half_is ∙ ap (λ (n : ℕ). slice_set with_bid d.ask (n + quantity)) ask-stays in
       let P : Deal → Type 0 = λ e. AreTotalsSoFar orders deals (k + 1) (slice_set (slice_set so_far e.bid (get_or so_far e.bid 0 + quantity)) e.ask (get_or so_far e.ask 0 + quantity)) (total + quantity) in
       subst (λ (xs : List ℕ). AreTotalsSoFar orders deals (k + 1) xs (total + quantity)) (sym is_after)
-      (subst P (sym d_is) (totals-more orders deals k lt (named k missing_deal lt) so_far total quantity is (same ∙ ap (λ (e : Deal). e.quantity) d_is) most))
+      (subst P (sym d_is) (totals-more orders deals k lt (named k deal_past_end lt) so_far total quantity is (same ∙ ap (λ (e : Deal). e.quantity) d_is) most))
 
 -- after the last deal
 pub counts-all : (orders : List Order) (deals : List Deal) (k : ℕ) (so_far : List ℕ) (total : ℕ) → k ≡ length deals → AreTotalsSoFar orders deals k so_far total

@@ -5,7 +5,7 @@ use Rattle.std.proofs.lemmas.Bool.{cases_Bool, cases_eq, cases_lt, and_parts, an
 use Rattle.audit_base.specs.declared.terms.Side.{Side}
 use Rattle.audit_base.specs.declared.orders.Order.{Order}
 use Rattle.audit_base.specs.declared.orders.Deal.{Deal}
-use Rattle.audit_base.specs.Orders.{order_at, side_at, quantity_at, place_at, stands_on, Stands, IsOrderList}
+use Rattle.audit_base.specs.Orders.{order_at, side_at, quantity_at, place_at, is_uncancelled_on, IsUncancelledOn, IsOrderList}
 use Rattle.audit_base.specs.Priority.{better, Better}
 use Rattle.audit_base.specs.Deals as deals_of
 use Rattle.audit_base.specs.Calls.{Fair}
@@ -14,7 +14,7 @@ use Rattle.audit_base.proofs.PriorityLemmas.{Better-strict, Better-onward, Bette
 use Rattle.audit_base.specs.Deals.{AreTotals}
 use Rattle.audit_certificate.specs.Texts.{last_text}
 use Rattle.audit_certificate.specs.Agreement.{IsLastOf}
-use Rattle.audit_certificate.specs.LastOrders.{IsOn, trades_on, worse_of, later_of, last_trading, is_filled_ahead, AreFilledAhead, TellsLastLine}
+use Rattle.audit_certificate.specs.LastOrders.{IsOrderOn, trades_on, worse_of, later_of, last_trading, is_filled_ahead, AreFilledAhead, DecidesLastLine}
 
 abbrev traded_in : List Deal → ℕ → ℕ
 traded_in deals i = deals_of.traded deals i
@@ -22,13 +22,13 @@ traded_in deals i = deals_of.traded deals i
 -- the last of the first n orders that trades
 pub record IsLastSoFar (orders : List Order) (traded : List ℕ) (side : Side) (n : ℕ) (last : Option ℕ) : Type 0 where
   pub same : last ≡ last_trading orders traded side n
-  pub on : IfSome last (IsOn orders side)
+  pub on : IfSome last (IsOrderOn orders side)
 
 pub last-none : (orders : List Order) (traded : List ℕ) (side : Side) → IsLastSoFar orders traded side 0 None
 unfolding last_trading
 last-none orders traded side = record { same = refl; on = tt }
 
-pub last-more : (orders : List Order) (traded : List ℕ) (side : Side) (n : ℕ) (last next : Option ℕ) → next ≡ later_of orders traded side last n → IfSome next (IsOn orders side)
+pub last-more : (orders : List Order) (traded : List ℕ) (side : Side) (n : ℕ) (last next : Option ℕ) → next ≡ later_of orders traded side last n → IfSome next (IsOrderOn orders side)
     → IsLastSoFar orders traded side n last → IsLastSoFar orders traded side (n + 1) next
 unfolding last_trading
 last-more orders traded side n last next next_is on so_far = record {
@@ -53,7 +53,7 @@ module _ (orders : List Order) (traded : List ℕ) (side : Side) (list : IsOrder
   IsWorstUpto n (Some last) = IsWorst n last
 
   on-side : (i : ℕ) → i < length orders → trades_on orders traded side i ≡ true → side_at orders i ≡ side
-  on-side i lt t = (test-stands orders side i lt ((and_parts (stands_on side (order_at orders i)) _ t).0)).of_side
+  on-side i lt t = (test-stands orders side i lt ((and_parts (is_uncancelled_on side (order_at orders i)) _ t).0)).of_side
 
   worst-first : (n : ℕ) → trades_on orders traded side n ≡ true → ((i : ℕ) → i < n → trades_on orders traded side i ≡ false) → IsWorst (suc n) n
   worst-first n here none = record {
@@ -125,32 +125,32 @@ module _ (orders : List Order) (traded : List ℕ) (side : Side) (list : IsOrder
 
   -- The same in the words of the deals that the numbers are of.
   module _ (deals : List Deal) (totals : AreTotals orders deals traded) where
-    trading-test : (i : ℕ) → Stands orders side i → 0 < traded_in deals i → trades_on orders traded side i ≡ true
+    trading-test : (i : ℕ) → IsUncancelledOn orders side i → 0 < traded_in deals i → trades_on orders traded side i ≡ true
     trading-test i s some = and_from _ _ (stands-test orders side i s) (lt-ltb 0 (get_or traded i 0) (omega (arith, totals.each i s.inside)))
 
-    test-trading : (i : ℕ) → i < length orders → trades_on orders traded side i ≡ true → Stands orders side i × (0 < traded_in deals i)
+    test-trading : (i : ℕ) → i < length orders → trades_on orders traded side i ≡ true → IsUncancelledOn orders side i × (0 < traded_in deals i)
     test-trading i lt t =
-        let parts = and_parts (stands_on side (order_at orders i)) (nat_lt 0 (get_or traded i 0)) t in
+        let parts = and_parts (is_uncancelled_on side (order_at orders i)) (nat_lt 0 (get_or traded i 0)) t in
         let some = ltb-true 0 (get_or traded i 0) parts.1 in
         (test-stands orders side i lt parts.0, omega (arith, totals.each i lt))
 
-    none-trades : (i : ℕ) → Stands orders side i → trades_on orders traded side i ≡ false → traded_in deals i ≡ 0
+    none-trades : (i : ℕ) → IsUncancelledOn orders side i → trades_on orders traded side i ≡ false → traded_in deals i ≡ 0
     none-trades i s off = elim (cases_lt 0 (traded_in deals i)) [
       | inl some ↦ absurd (both_ways _ off (trading-test i s some))
       | inr none ↦ omega arith
     ]
 
-    filled-is : (last i : ℕ) → Stands orders side i → Better orders i last → is_filled_ahead orders traded side last i ≡ true → traded_in deals i ≡ quantity_at orders i
-    filled-is last i s over filled = elim (or_cases (not (stands_on side (order_at orders i) && better (order_at orders i) (order_at orders last))) (get_or traded i 0 == quantity_at orders i) filled) [
+    filled-is : (last i : ℕ) → IsUncancelledOn orders side i → Better orders i last → is_filled_ahead orders traded side last i ≡ true → traded_in deals i ≡ quantity_at orders i
+    filled-is last i s over filled = elim (or_cases (not (is_uncancelled_on side (order_at orders i) && better (order_at orders i) (order_at orders last))) (get_or traded i 0 == quantity_at orders i) filled) [
       | inl away ↦ absurd (both_ways _ (ap not (and_from _ _ (stands-test orders side i s) over)) away)
       | inr full ↦ sym (totals.each i s.inside) ∙ eqb-true (get_or traded i 0) (quantity_at orders i) full
     ]
 
-    is-filled : (last i : ℕ) → i < length orders → (Stands orders side i → Better orders i last → traded_in deals i ≡ quantity_at orders i) → is_filled_ahead orders traded side last i ≡ true
-    is-filled last i lt full = elim (cases_Bool (stands_on side (order_at orders i) && better (order_at orders i) (order_at orders last))) [
+    is-filled : (last i : ℕ) → i < length orders → (IsUncancelledOn orders side i → Better orders i last → traded_in deals i ≡ quantity_at orders i) → is_filled_ahead orders traded side last i ≡ true
+    is-filled last i lt full = elim (cases_Bool (is_uncancelled_on side (order_at orders i) && better (order_at orders i) (order_at orders last))) [
       | inr away ↦ or_left _ _ (ap not away)
       | inl ahead ↦
-          let parts = and_parts (stands_on side (order_at orders i)) (better (order_at orders i) (order_at orders last)) ahead in
+          let parts = and_parts (is_uncancelled_on side (order_at orders i)) (better (order_at orders i) (order_at orders last)) ahead in
           or_right _ _ (eq-eqb (get_or traded i 0) (quantity_at orders i) (totals.each i lt ∙ full (test-stands orders side i lt parts.0) parts.1))
     ]
 
@@ -201,8 +201,8 @@ module _ (orders : List Order) (traded : List ℕ) (side : Side) (list : IsOrder
 -- whether the line is that of the last order
 pub tells-last : (orders : List Order) (traded : List ℕ) (side : Side) (line : List ℕ) (l : Option ℕ) (place : Option ℕ) {E : Type 0} (result : Result Bool E) → l ≡ last_trading orders traded side (length orders)
     → place ≡ option_map (place_at orders) l → AreFilledAhead orders traded side l → IfOk result (λ same. IsTrue same ↔ (line ≡ last_text side place))
-    → IfOk result (TellsLastLine orders traded side line)
-tells-last orders traded side line l place result l_is place_is filled ok = if_ok-weaker result (λ same. IsTrue same ↔ (line ≡ last_text side place)) (TellsLastLine orders traded side line)
+    → IfOk result (DecidesLastLine orders traded side line)
+tells-last orders traded side line l place result l_is place_is filled ok = if_ok-weaker result (λ same. IsTrue same ↔ (line ≡ last_text side place)) (DecidesLastLine orders traded side line)
     (λ same tells deals list totals. (
       λ t. record { last = l; is_last = last-is orders traded side list deals totals l l_is filled; text_is = tells.0 t ∙ ap (last_text side) place_is },
       λ is. tells.1 (is.text_is ∙ ap (λ (k : Option ℕ). last_text side (option_map (place_at orders) k)) (last-once orders traded side list deals totals is.last is.is_last ∙ sym l_is) ∙ ap (last_text side) (sym place_is)),
@@ -210,7 +210,7 @@ tells-last orders traded side line l place result l_is place_is filled ok = if_o
 
 -- and where a better order is not filled no line is
 pub tells-none : (orders : List Order) (traded : List ℕ) (side : Side) (line : List ℕ) (l : Option ℕ) → l ≡ last_trading orders traded side (length orders)
-    → (AreFilledAhead orders traded side l → ⊥) → TellsLastLine orders traded side line false
+    → (AreFilledAhead orders traded side l → ⊥) → DecidesLastLine orders traded side line false
 tells-none orders traded side line l l_is unfilled deals list totals = (
   λ t. absurd (false≢true t),
   λ is. absurd (unfilled (subst (AreFilledAhead orders traded side) (last-once orders traded side list deals totals is.last is.is_last ∙ sym l_is) (last-filled orders traded side list deals totals is.last is.is_last))),

@@ -14,13 +14,13 @@ use Rattle.audit_base.specs.Orders.{order_at, place_at}
 use Rattle.audit_base.specs.RuleKinds.{rule_of_volume, volume_rule}
 use Rattle.audit_base.proofs.LeastLemmas.{one-least}
 use Rattle.audit_base.proofs.PriorityLemmas.{outranks-better, outranks-total}
-use Rattle.audit_certificate.specs.Agreement.{Agrees, IsLastOf, order_lines}
+use Rattle.audit_certificate.specs.Agreement.{Agrees, IsLastOf, order_lines_text}
 use Rattle.audit_certificate.specs.Lines.{behind_lines}
 use Rattle.audit_certificate.specs.OneAnswer.{AgreedRuleIsOne, CertificateIsOne, FirstRefusedIsOne}
 use Rattle.audit_certificate.specs.Texts.{bound_text, head_text, last_text}
 use Rattle.audit_certificate.proofs.VerifyLemmas.{one-rule}
 
--- the last order of a side that trades stands at one place
+-- the last order of a side that trades is at one place
 module _ (orders : List Order) (deals : List Deal) (side : Side) where
   one-last : (a b : Option ℕ) → IsLastOf orders deals side a → IsLastOf orders deals side b → option_map (place_at orders) a ≡ option_map (place_at orders) b
   one-last None None x y = refl
@@ -47,7 +47,7 @@ one-certificate the_rule symbol orders deals one other x y =
     let ask = one-last orders deals Sell x.ask y.ask x.last_ask y.last_ask in
     x.text_is
     ∙ (λ i. head_text the_rule symbol ++ 10 ∷ [] ++ (bound_text (price i) (volume deals) ++ 10 ∷ [])
-    ++ (last_text Buy (bid i) ++ 10 ∷ []) ++ (last_text Sell (ask i) ++ 10 ∷ []) ++ order_lines orders deals 0 (length orders))
+    ++ (last_text Buy (bid i) ++ 10 ∷ []) ++ (last_text Sell (ask i) ++ 10 ∷ []) ++ order_lines_text orders deals 0 (length orders))
     ∙ sym y.text_is
 
 -- a rule that asks for the greatest volume, as one of the five

@@ -6,8 +6,8 @@ use Rattle.audit_base.specs.declared.orders.Deal.{Deal}
 use Rattle.audit_base.specs.Deals.{AreTotals}
 use Rattle.audit_certificate.specs.Lines.{behind_line, behind_lines, BeginsWith}
 use Rattle.audit_base.specs.Orders.{order_at, place_at}
-use Rattle.audit_certificate.specs.Texts.{order_text}
-use Rattle.audit_certificate.specs.OrderLines.{lines_upto, TellsBehind, IsBehindOrder}
+use Rattle.audit_certificate.specs.Texts.{order_line_text}
+use Rattle.audit_certificate.specs.OrderLines.{order_lines_upto, IsBehindOrderOrNone, IsBehindOrder}
 use Rattle.audit_certificate.specs.Agreement.{IsOrderLine}
 
 -- the lines of the first n orders pass, and this is what is behind them
@@ -17,31 +17,31 @@ pub record AreOrderLinesUpto (orders : List Order) (traded : List ℕ) (bytes : 
   pub shorter : length rest + n ≤ length bytes
 
 -- one line after another is written
-pub lines-none : (orders : List Order) (traded out : List ℕ) → out ≡ out ++ lines_upto orders traded 0
-unfolding lines_upto
+pub lines-none : (orders : List Order) (traded out : List ℕ) → out ≡ out ++ order_lines_upto orders traded 0
+unfolding order_lines_upto
 lines-none orders traded out = sym (append-nil out)
 
 pub lines-more : (orders : List Order) (traded : List ℕ) (n : ℕ) (first before line after : List ℕ) (o : Order) → o ≡ order_at orders n
-    → before ≡ first ++ lines_upto orders traded n → line ≡ before ++ order_text o.place (get_or traded n 0) → after ≡ line ++ 10 ∷ []
-    → after ≡ first ++ lines_upto orders traded (n + 1)
-unfolding lines_upto
+    → before ≡ first ++ order_lines_upto orders traded n → line ≡ before ++ order_line_text o.place (get_or traded n 0) → after ≡ line ++ 10 ∷ []
+    → after ≡ first ++ order_lines_upto orders traded (n + 1)
+unfolding order_lines_upto
 lines-more orders traded n first before line after o o_is before_is line_is after_is =
-    let text : List ℕ = order_text (place_at orders n) (get_or traded n 0) in
-    after_is ∙ ap (λ (t : List ℕ). t ++ 10 ∷ []) (line_is ∙ (λ i. before_is i ++ order_text (o_is i).place (get_or traded n 0)))
-    ∙ ap (λ (t : List ℕ). t ++ 10 ∷ []) (append_assoc first (lines_upto orders traded n) text)
-    ∙ append_assoc first (lines_upto orders traded n ++ text) (10 ∷ [])
-    ∙ ap (λ (k : ℕ). first ++ lines_upto orders traded k) (sym (add-one n))
+    let text : List ℕ = order_line_text (place_at orders n) (get_or traded n 0) in
+    after_is ∙ ap (λ (t : List ℕ). t ++ 10 ∷ []) (line_is ∙ (λ i. before_is i ++ order_line_text (o_is i).place (get_or traded n 0)))
+    ∙ ap (λ (t : List ℕ). t ++ 10 ∷ []) (append_assoc first (order_lines_upto orders traded n) text)
+    ∙ append_assoc first (order_lines_upto orders traded n ++ text) (10 ∷ [])
+    ∙ ap (λ (k : ℕ). first ++ order_lines_upto orders traded k) (sym (add-one n))
 
 -- one line after another passes
 pub none-passed : (orders : List Order) (traded bytes : List ℕ) → AreOrderLinesUpto orders traded bytes 0 bytes
 unfolding behind_lines
 none-passed orders traded bytes = record { passed = λ deals totals i lt. absurd (omega arith); rest_is = refl; shorter = omega arith }
 
-pub one-passed : (orders : List Order) (traded bytes : List ℕ) (n : ℕ) (rest behind : List ℕ) (found : Option (List ℕ)) → TellsBehind orders traded n rest found → found ≡ Some behind
+pub one-passed : (orders : List Order) (traded bytes : List ℕ) (n : ℕ) (rest behind : List ℕ) (found : Option (List ℕ)) → IsBehindOrderOrNone orders traded n rest found → found ≡ Some behind
     → AreOrderLinesUpto orders traded bytes n rest → AreOrderLinesUpto orders traded bytes (n + 1) behind
 unfolding behind_lines
 one-passed orders traded bytes n rest behind found tells found_is so_far =
-    let is : IsBehindOrder orders traded n rest behind = subst (TellsBehind orders traded n rest) found_is tells in
+    let is : IsBehindOrder orders traded n rest behind = subst (IsBehindOrderOrNone orders traded n rest) found_is tells in
     let before = so_far.shorter in
     let here = is.shorter in
     record {

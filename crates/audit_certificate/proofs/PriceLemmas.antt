@@ -12,12 +12,12 @@ use Rattle.audit_base.specs.declared.orders.Order.{Order}
 use Rattle.audit_base.specs.declared.orders.Deal.{Deal}
 use Rattle.audit_base.specs.declared.orders.Cut.{Cut}
 use Rattle.audit_base.specs.Sums.{sum_below}
-use Rattle.audit_base.specs.Orders.{missing_order, order_at, side_at, quantity_at, limit_at, same_side, stands_on, Stands, IsOrderList, AreOrders}
+use Rattle.audit_base.specs.Orders.{order_past_end, order_at, side_at, quantity_at, limit_at, same_side, is_uncancelled_on, IsUncancelledOn, IsOrderList, OrdersInRange}
 use Rattle.audit_base.specs.Priority.{Better}
 use Rattle.audit_base.specs.RuleKinds.{rule_of_volume}
-use Rattle.audit_base.specs.Deals.{traded, volume, AreDeals, AreTotals}
+use Rattle.audit_base.specs.Deals.{traded, volume, DealsInRange, AreTotals}
 use Rattle.audit_base.specs.Calls.{Matching, Fair, ConformsMaximum}
-use Rattle.audit_base.specs.Bounds.{wanted, offered_below, demand, supply_below}
+use Rattle.audit_base.specs.Bounds.{demand_of_order, supply_below_of_order, demand, supply_below}
 use Rattle.audit_base.specs.Rules.{Conforms}
 use Rattle.audit_base.proofs.SumLemmas.{below-le, below-list}
 use Rattle.audit_base.proofs.OrderLemmas.{stands-test, test-stands, same_side-is}
@@ -29,11 +29,11 @@ use Rattle.call_laws.proofs.ConformLemmas.{conforms-fair}
 use Rattle.call_laws.proofs.FairLemmas.{trades-stands, side-volume, share, share-own}
 use Rattle.call_laws.proofs.ShortLemmas.{IsShort, is-short}
 use Rattle.audit_certificate.specs.Agreement.{IsLeastPrice}
-use Rattle.audit_certificate.specs.Bounds.{above_if_short, above_short_bids, IsLeastCutPrice, IsPriceOf}
+use Rattle.audit_certificate.specs.Bounds.{above_if_short, above_short_bids, IsLeastCutPrice, IsCertificatePrice}
 
 -- Under `maximum` it is the price of the least cut.
 
-least-maximum : MaximumReachesLeastCut → (orders : List Order) (deals : List Deal) (price : ℕ) → IsOrderList orders → AreOrders orders → ConformsMaximum orders deals → IsLeastCutPrice orders price
+least-maximum : MaximumReachesLeastCut → (orders : List Order) (deals : List Deal) (price : ℕ) → IsOrderList orders → OrdersInRange orders → ConformsMaximum orders deals → IsLeastCutPrice orders price
     → IsLeastPrice of_volume.Maximum orders (volume deals) price
 least-maximum reaches orders deals price list ranges conforms is =
     let c : Cut = record { price = price; volume = is.volume } in
@@ -63,7 +63,7 @@ below-lt f g (suc n) k inside le lt = elim (cases_eq k n) [
 ]
 
 indexed : (f : Order → ℕ) (orders : List Order) → sum_below (λ i. f (order_at orders i)) (length orders) ≡ sum_by f orders
-indexed f orders = below-list f orders missing_order (length orders) (omega arith) ∙ ap (sum_by f) (take_all (length orders) orders (omega arith))
+indexed f orders = below-list f orders order_past_end (length orders) (omega arith) ∙ ap (sum_by f) (take_all (length orders) orders (omega arith))
 
 zero-or : (b : Bool) (x y : ℕ) → (b ≡ true → x ≤ y) → cond b x 0 ≤ y
 zero-or true x y h = h refl
@@ -79,10 +79,10 @@ module _ (orders : List Order) (deals : List Deal) (traded_by : List ℕ) (total
   one-short i lt s = cond-true _ (limit_at orders i + 1) 0 (and_from _ _ (stands-test orders Buy i s.stands) (lt-ltb (get_or traded_by i 0) (quantity_at orders i) (omega (arith, totals.each i lt, s.below))))
 
   short-one : (i : ℕ) → i < length orders → (above_if_short (order_at orders i) (get_or traded_by i 0) ≡ 0) ⊎ (IsShort orders deals Buy i × (above_if_short (order_at orders i) (get_or traded_by i 0) ≡ limit_at orders i + 1))
-  short-one i lt = elim (cases_Bool (stands_on Buy (order_at orders i) && nat_lt (get_or traded_by i 0) (quantity_at orders i))) [
+  short-one i lt = elim (cases_Bool (is_uncancelled_on Buy (order_at orders i) && nat_lt (get_or traded_by i 0) (quantity_at orders i))) [
     | inr off ↦ inl (cond-false _ (limit_at orders i + 1) 0 off)
     | inl on ↦
-        let parts = and_parts (stands_on Buy (order_at orders i)) (nat_lt (get_or traded_by i 0) (quantity_at orders i)) on in
+        let parts = and_parts (is_uncancelled_on Buy (order_at orders i)) (nat_lt (get_or traded_by i 0) (quantity_at orders i)) on in
         let less = ltb-true (get_or traded_by i 0) (quantity_at orders i) parts.1 in
         inr (record { stands = test-stands orders Buy i lt parts.0; below = omega (arith, totals.each i lt, less) }, cond-true _ (limit_at orders i + 1) 0 on)
   ]
@@ -118,7 +118,7 @@ module _ (orders : List Order) (deals : List Deal) (traded_by : List ℕ) (total
         ];
       }
 
-  module _ (the_rule : VolumeRule) (apart : ShortOrdersDoNotMeet) (list : IsOrderList orders) (ranges : AreOrders orders) (deal_ranges : AreDeals deals) (conforms : Conforms (rule_of_volume the_rule) orders deals) where
+  module _ (the_rule : VolumeRule) (apart : ShortOrdersDoNotMeet) (list : IsOrderList orders) (ranges : OrdersInRange orders) (deal_ranges : DealsInRange deals) (conforms : Conforms (rule_of_volume the_rule) orders deals) where
     abbrev P : ℕ
     P = above_short_bids orders traded_by (length orders)
 
@@ -129,7 +129,7 @@ module _ (orders : List Order) (deals : List Deal) (traded_by : List ℕ) (total
     is-above = above-is (length orders) (omega arith)
 
     -- an order that is not short is fully traded
-    full : (side : Side) (i : ℕ) → Stands orders side i → (IsShort orders deals side i → ⊥) → quantity_at orders i ≤ traded deals i
+    full : (side : Side) (i : ℕ) → IsUncancelledOn orders side i → (IsShort orders deals side i → ⊥) → quantity_at orders i ≤ traded deals i
     full side i s not_short = elim (cases_lt (traded deals i) (quantity_at orders i)) [
       | inl less ↦ absurd (not_short (record { stands = s; below = less }))
       | inr ge ↦ ge
@@ -137,20 +137,20 @@ module _ (orders : List Order) (deals : List Deal) (traded_by : List ℕ) (total
 
     demand-most : demand orders P ≤ volume deals
     demand-most =
-        let le : sum_below (λ i. wanted P (order_at orders i)) (length orders) ≤ sum_below (share orders deals Buy) (length orders) =
-        below-le (λ i. wanted P (order_at orders i)) (share orders deals Buy) (length orders) (λ i lt. zero-or (stands_on Buy (order_at orders i) && nat_le P (limit_at orders i)) (quantity_at orders i) (share orders deals Buy i) (λ t.
-        let parts = and_parts (stands_on Buy (order_at orders i)) (nat_le P (limit_at orders i)) t in
+        let le : sum_below (λ i. demand_of_order P (order_at orders i)) (length orders) ≤ sum_below (share orders deals Buy) (length orders) =
+        below-le (λ i. demand_of_order P (order_at orders i)) (share orders deals Buy) (length orders) (λ i lt. zero-or (is_uncancelled_on Buy (order_at orders i) && nat_le P (limit_at orders i)) (quantity_at orders i) (share orders deals Buy i) (λ t.
+        let parts = and_parts (is_uncancelled_on Buy (order_at orders i)) (nat_le P (limit_at orders i)) t in
         let s = test-stands orders Buy i lt parts.0 in
         let high = leb-true P (limit_at orders i) parts.1 in
         let q = full Buy i s (λ short. let low = is-above.above i lt short in absurd (omega arith)) in
         omega (arith, share-own orders deals Buy i s.of_side))) in
-        omega (arith, le, indexed (wanted P) orders, side-volume orders deals both.0.kept Buy)
+        omega (arith, le, indexed (demand_of_order P) orders, side-volume orders deals both.0.kept Buy)
 
     supply-most : supply_below orders P ≤ volume deals
     supply-most =
-        let le : sum_below (λ i. offered_below P (order_at orders i)) (length orders) ≤ sum_below (share orders deals Sell) (length orders) =
-        below-le (λ i. offered_below P (order_at orders i)) (share orders deals Sell) (length orders) (λ i lt. zero-or (stands_on Sell (order_at orders i) && nat_lt (limit_at orders i) P) (quantity_at orders i) (share orders deals Sell i) (λ t.
-        let parts = and_parts (stands_on Sell (order_at orders i)) (nat_lt (limit_at orders i) P) t in
+        let le : sum_below (λ i. supply_below_of_order P (order_at orders i)) (length orders) ≤ sum_below (share orders deals Sell) (length orders) =
+        below-le (λ i. supply_below_of_order P (order_at orders i)) (share orders deals Sell) (length orders) (λ i lt. zero-or (is_uncancelled_on Sell (order_at orders i) && nat_lt (limit_at orders i) P) (quantity_at orders i) (share orders deals Sell i) (λ t.
+        let parts = and_parts (is_uncancelled_on Sell (order_at orders i)) (nat_lt (limit_at orders i) P) t in
         let s = test-stands orders Sell i lt parts.0 in
         let low = ltb-true (limit_at orders i) P parts.1 in
         let q = full Sell i s (λ short. elim is-above.reached [
@@ -158,12 +158,12 @@ module _ (orders : List Order) (deals : List Deal) (traded_by : List ℕ) (total
           | inr some ↦ let less = apart the_rule orders deals ranges deal_ranges conforms some.0 i (is-short orders deals Buy some.0 some.2) (is-short orders deals Sell i short) in let e = some.3 in absurd (omega arith)
         ]) in
         omega (arith, share-own orders deals Sell i s.of_side))) in
-        omega (arith, le, indexed (offered_below P) orders, side-volume orders deals both.0.kept Sell)
+        omega (arith, le, indexed (supply_below_of_order P) orders, side-volume orders deals both.0.kept Sell)
 
     -- up to the limit of a short bid the demand is above the volume
     demand-above : (q b : ℕ) → IsShort orders deals Buy b → q ≤ limit_at orders b → volume deals < demand orders q
     demand-above q b short low =
-        let each : (i : ℕ) → i < length orders → share orders deals Buy i ≤ wanted q (order_at orders i) = (λ i lt. elim (cases_lt 0 (share orders deals Buy i)) [
+        let each : (i : ℕ) → i < length orders → share orders deals Buy i ≤ demand_of_order q (order_at orders i) = (λ i lt. elim (cases_lt 0 (share orders deals Buy i)) [
           | inr none ↦ omega arith
           | inl some ↦
               let t = trading i some in
@@ -175,31 +175,31 @@ module _ (orders : List Order) (deals : List Deal) (traded_by : List ℕ) (total
                     let less = short.below in
                     absurd (omega arith)
                 | inr high ↦
-                    let is : wanted q (order_at orders i) ≡ quantity_at orders i = wanted-is q i s high in
+                    let is : demand_of_order q (order_at orders i) ≡ quantity_at orders i = wanted-is q i s high in
                     omega (arith, both.0.within i lt, share-own orders deals Buy i s.of_side)
               ]
         ]) in
-        let there : wanted q (order_at orders b) ≡ quantity_at orders b = wanted-is q b short.stands low in
-        let lt : sum_below (share orders deals Buy) (length orders) < sum_below (λ i. wanted q (order_at orders i)) (length orders) =
-        below-lt (share orders deals Buy) (λ i. wanted q (order_at orders i)) (length orders) b short.stands.inside each (omega (arith, share-own orders deals Buy b short.stands.of_side, short.below)) in
-        omega (arith, lt, indexed (wanted q) orders, side-volume orders deals both.0.kept Buy)
+        let there : demand_of_order q (order_at orders b) ≡ quantity_at orders b = wanted-is q b short.stands low in
+        let lt : sum_below (share orders deals Buy) (length orders) < sum_below (λ i. demand_of_order q (order_at orders i)) (length orders) =
+        below-lt (share orders deals Buy) (λ i. demand_of_order q (order_at orders i)) (length orders) b short.stands.inside each (omega (arith, share-own orders deals Buy b short.stands.of_side, short.below)) in
+        omega (arith, lt, indexed (demand_of_order q) orders, side-volume orders deals both.0.kept Buy)
       where
-        wanted-is : (q i : ℕ) → Stands orders Buy i → q ≤ limit_at orders i → wanted q (order_at orders i) ≡ quantity_at orders i
+        wanted-is : (q i : ℕ) → IsUncancelledOn orders Buy i → q ≤ limit_at orders i → demand_of_order q (order_at orders i) ≡ quantity_at orders i
         wanted-is q i s high = cond-true _ (quantity_at orders i) 0 (and_from _ _ (stands-test orders Buy i s) (le-leb q (limit_at orders i) high))
 
-        trading : (i : ℕ) → 0 < share orders deals Buy i → Stands orders Buy i × (0 < traded deals i)
+        trading : (i : ℕ) → 0 < share orders deals Buy i → IsUncancelledOn orders Buy i × (0 < traded deals i)
         trading i some = elim (cases_Bool (same_side Buy (side_at orders i))) [
           | inr off ↦ let none : share orders deals Buy i ≡ 0 = cond-false _ (traded deals i) 0 off in absurd (omega arith)
           | inl on ↦
               let sided : side_at orders i ≡ Buy = same_side-is Buy (side_at orders i) on in
               let trades : 0 < traded deals i = omega (arith, share-own orders deals Buy i sided) in
-              (subst (λ (side : Side). Stands orders side i) sided (trades-stands orders deals both.0.kept i trades), trades)
+              (subst (λ (side : Side). IsUncancelledOn orders side i) sided (trades-stands orders deals both.0.kept i trades), trades)
         ]
 
     in-range : P ≤ 10 ^ 18
     in-range = elim is-above.reached [
       | inl none ↦ omega arith
-      | inr some ↦ let priced = (ranges some.0 missing_order some.1).priced in let e = some.3 in omega arith
+      | inr some ↦ let priced = (ranges some.0 order_past_end some.1).priced in let e = some.3 in omega arith
     ]
 
     pub least-uniform : IsLeastPrice of_volume.Uniform orders (volume deals) P
@@ -213,7 +213,7 @@ module _ (orders : List Order) (deals : List Deal) (traded_by : List ℕ) (total
 
 -- the price that is written is the least
 pub least-is : MaximumReachesLeastCut → ShortOrdersDoNotMeet → (the_rule : VolumeRule) (orders : List Order) (deals : List Deal) (traded_by : List ℕ) (price : ℕ)
-    → IsOrderList orders → AreOrders orders → AreDeals deals → Conforms (rule_of_volume the_rule) orders deals → AreTotals orders deals traded_by → IsPriceOf the_rule orders traded_by price
+    → IsOrderList orders → OrdersInRange orders → DealsInRange deals → Conforms (rule_of_volume the_rule) orders deals → AreTotals orders deals traded_by → IsCertificatePrice the_rule orders traded_by price
     → IsLeastPrice the_rule orders (volume deals) price
 least-is reaches apart of_volume.Uniform orders deals traded_by price list ranges deal_ranges conforms totals is =
     subst (IsLeastPrice of_volume.Uniform orders (volume deals)) (sym is) (least-uniform orders deals traded_by totals of_volume.Uniform apart list ranges deal_ranges conforms)

@@ -8,7 +8,7 @@ use Rattle.audit_base.specs.declared.terms.Side.{Side}
 use Rattle.audit_base.specs.declared.terms.Side.TheVariants.{Buy, Sell}
 use Rattle.audit_base.specs.declared.orders.Order.{Order}
 use Rattle.audit_base.specs.declared.orders.Deal.{Deal}
-use Rattle.audit_base.specs.Orders.{quantity_at, Stands, IsOrderList}
+use Rattle.audit_base.specs.Orders.{quantity_at, IsUncancelledOn, IsOrderList}
 use Rattle.audit_base.specs.Priority.{Better}
 use Rattle.audit_base.specs.Deals.{traded, volume}
 use Rattle.audit_base.specs.Calls.{Matching, Fair, Greatest, GreatestUniform}
@@ -21,7 +21,7 @@ use Rattle.call_laws.specs.Optimum.{OnePriceIsBounded}
 use Rattle.volume_bound.specs.Laws.{CutBoundsVolume}
 use Rattle.audit_certificate.specs.Laws.{CertificateSoundness}
 use Rattle.audit_certificate.specs.Lines.{ended_line, behind_lines}
-use Rattle.audit_certificate.specs.Agreement.{IsHeadLine, IsBoundLine, IsLastLine, IsLastOf, IsOrderAt, IsOrderLine, OnePriceIfUniform, ShowsBound, Agrees}
+use Rattle.audit_certificate.specs.Agreement.{IsHeadLine, IsBoundLine, IsLastLine, IsLastOf, IsOrderLineOrEnd, IsOrderLine, OnePriceIfUniform, ShowsNoGreaterVolume, Agrees}
 
 begins-some : (Test : List ℕ → Type 0) (line : Option (List ℕ)) → IsSomeAnd line Test → (text : List ℕ) × Test text
 begins-some Test None begins = absurd begins
@@ -38,7 +38,7 @@ module _ (cuts : CutBoundsVolume) (bounded : OnePriceIsBounded) (the_rule : Volu
   last Buy = begins-some (IsLastLine orders deals Buy) (ended_line (behind_lines 2 bytes)) (agrees 3 (omega arith))
   last Sell = begins-some (IsLastLine orders deals Sell) (ended_line (behind_lines 3 bytes)) (agrees 4 (omega arith))
 
-  order-at : (i : ℕ) → i < length orders → IsOrderAt orders deals i (behind_lines (4 + i) bytes)
+  order-at : (i : ℕ) → i < length orders → IsOrderLineOrEnd orders deals i (behind_lines (4 + i) bytes)
   order-at i lt = agrees (suc (suc (suc (suc (suc i))))) (omega arith)
 
   matching : Matching orders deals
@@ -48,7 +48,7 @@ module _ (cuts : CutBoundsVolume) (bounded : OnePriceIsBounded) (the_rule : Volu
   }
 
   -- an order that is better than one that trades is better than the last one, or is ahead of it
-  filled : (side : Side) (l : Option ℕ) → IsLastOf orders deals side l → (i j : ℕ) → Stands orders side i → Stands orders side j → Better orders i j → 0 < traded deals j → traded deals i ≡ quantity_at orders i
+  filled : (side : Side) (l : Option ℕ) → IsLastOf orders deals side l → (i j : ℕ) → IsUncancelledOn orders side i → IsUncancelledOn orders side j → Better orders i j → 0 < traded deals j → traded deals i ≡ quantity_at orders i
   filled side None none i j s t over some = let nothing = none j t in absurd (omega arith)
   filled side (Some l) is i j s t over some = elim (cases_eq j l) [
     | inl e ↦ is.better i s (subst (Better orders i) e over)
@@ -73,7 +73,7 @@ module _ (cuts : CutBoundsVolume) (bounded : OnePriceIsBounded) (the_rule : Volu
       ]
 
 sound-by : (the_rule : VolumeRule) (orders : List Order) (deals : List Deal) (reached q : ℕ) → reached ≡ volume deals → Matching orders deals → Fair orders deals
-    → OnePriceIfUniform the_rule deals → ShowsBound the_rule orders reached q
+    → OnePriceIfUniform the_rule deals → ShowsNoGreaterVolume the_rule orders reached q
     → ((p : ℕ) → demand orders p + supply_below orders p ≡ volume deals → Greatest orders deals)
     → ((p : ℕ) → demand orders p ≤ volume deals → supply_below orders p ≤ volume deals → GreatestUniform orders deals)
     → Conforms (rule_of_volume the_rule) orders deals

@@ -15,10 +15,10 @@ use Rattle.audit_certificate.specs.declared.faults.VerifyFault.{VerifyFault}
 use Rattle.audit_certificate.specs.declared.faults.VerifyFault.TheVariants.{No, Memory}
 use Rattle.audit_certificate.specs.Texts.{head_text}
 use Rattle.audit_certificate.specs.Lines.{behind_line, behind_lines, BeginsWith, ended_line}
-use Rattle.audit_certificate.specs.Agreement.{IsHeadLine, IsBoundLine, IsLastLine, IsOrderAt, LinePasses, LinesPassBefore, Agrees, AgreesUnder, AgreesUnderNone, IsFirstRefused}
+use Rattle.audit_certificate.specs.Agreement.{IsHeadLine, IsBoundLine, IsLastLine, IsOrderLineOrEnd, LinePasses, LinesPassBefore, Agrees, AgreesUnder, AgreesUnderNone, IsFirstRefused}
 use Rattle.audit_certificate.specs.Answers.{IfRefused}
 use Rattle.audit_certificate.specs.Steps.{IsRefusedHead, IsRefusedBound, IsRefusedLast, IsBehindHead, IsBehindBound, IsBehindLast}
-use Rattle.audit_certificate.specs.OrderLines.{AllOrderLines, IsRefusedOrder}
+use Rattle.audit_certificate.specs.OrderLines.{AllOrderLinesPass, IsRefusedOrderLine}
 use Rattle.audit_certificate.proofs.LineLemmas.{behind-both}
 
 -- The rule of the lines, as one of the five.
@@ -185,18 +185,18 @@ module _ (symbol : List ℕ) (orders : List Order) (deals : List Deal) (bytes : 
               order-at : (k : ℕ) → behind_lines k rest4 ≡ behind_lines (4 + k) bytes
               order-at k = ap (behind_lines k) rest4-is ∙ behind-both 4 k bytes
 
-              order-passes : (k : ℕ) → IsOrderAt orders deals k (behind_lines k rest4) → LinePasses r symbol orders deals bytes (5 + k)
+              order-passes : (k : ℕ) → IsOrderLineOrEnd orders deals k (behind_lines k rest4) → LinePasses r symbol orders deals bytes (5 + k)
               order-passes k at =
                   let number : suc (suc (suc (suc (suc k)))) ≡ 5 + k = omega arith in
-                  subst (LinePasses r symbol orders deals bytes) number (subst (IsOrderAt orders deals k) (order-at k) at)
+                  subst (LinePasses r symbol orders deals bytes) number (subst (IsOrderLineOrEnd orders deals k) (order-at k) at)
 
-              passes-order : (k : ℕ) → LinePasses r symbol orders deals bytes (5 + k) → IsOrderAt orders deals k (behind_lines k rest4)
+              passes-order : (k : ℕ) → LinePasses r symbol orders deals bytes (5 + k) → IsOrderLineOrEnd orders deals k (behind_lines k rest4)
               passes-order k passes =
                   let number : 5 + k ≡ suc (suc (suc (suc (suc k)))) = omega arith in
                   let at : LinePasses r symbol orders deals bytes (suc (suc (suc (suc (suc k))))) = subst (LinePasses r symbol orders deals bytes) number passes in
-                  subst (IsOrderAt orders deals k) (sym (order-at k)) at
+                  subst (IsOrderLineOrEnd orders deals k) (sym (order-at k)) at
 
-              before-order : (n : ℕ) → ((k : ℕ) → k < n → IsOrderAt orders deals k (behind_lines k rest4)) → LinesPassBefore r symbol orders deals bytes (5 + n)
+              before-order : (n : ℕ) → ((k : ℕ) → k < n → IsOrderLineOrEnd orders deals k (behind_lines k rest4)) → LinesPassBefore r symbol orders deals bytes (5 + n)
               before-order n passed number lt = elim (cases_lt number 5) [
                 | inl low ↦ before5 number low
                 | inr high ↦
@@ -204,12 +204,12 @@ module _ (symbol : List ℕ) (orders : List Order) (deals : List Deal) (bytes : 
                     subst (LinePasses r symbol orders deals bytes) back (order-passes (number - 5) (passed (number - 5) (omega arith)))
               ]
 
-              pub refused-order : (number : ℕ) → IsRefusedOrder orders traded rest4 number → IsFirstRefused symbol orders deals bytes number
+              pub refused-order : (number : ℕ) → IsRefusedOrderLine orders traded rest4 number → IsFirstRefused symbol orders deals bytes number
               refused-order number refused =
                   let at = refused deals totals in
                   let inside = at.inside in
                   subst (IsFirstRefused symbol orders deals bytes) (sym at.number_is)
                   (refused-later (5 + at.index) (omega arith) (omega arith) (before-order at.index at.passed) (λ here. at.fails (passes-order at.index here)))
 
-              pub all-agree : AllOrderLines orders traded rest4 → Agrees r symbol orders deals bytes
+              pub all-agree : AllOrderLinesPass orders traded rest4 → Agrees r symbol orders deals bytes
               all-agree all number le = before-order (suc (length orders)) (λ k lt. all deals totals k (omega arith)) number (omega arith)

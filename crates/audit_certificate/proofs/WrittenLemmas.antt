@@ -21,9 +21,9 @@ use Rattle.audit_base.specs.Words.{rule_word}
 use Rattle.audit_base.specs.Orders.{place_at, quantity_at}
 use Rattle.audit_base.specs.Deals.{traded, volume}
 use Rattle.audit_base.proofs.UnquotedLemmas.{price_is_unquoted}
-use Rattle.audit_certificate.specs.Texts.{head_text, bound_text, last_words, place_or_none, last_text, order_text}
+use Rattle.audit_certificate.specs.Texts.{head_text, bound_text, last_words, place_or_none, last_text, order_line_text}
 use Rattle.audit_certificate.specs.Lines.{is_line_end, ended_line, behind_size, behind_line, behind_lines, BeginsWith}
-use Rattle.audit_certificate.specs.Agreement.{IsHeadLine, IsBoundLine, IsLastOf, IsLastLine, IsOrderLine, IsOrderAt, ShowsBound, Agrees, order_lines, certificate_text}
+use Rattle.audit_certificate.specs.Agreement.{IsHeadLine, IsBoundLine, IsLastOf, IsLastLine, IsOrderLine, IsOrderLineOrEnd, ShowsNoGreaterVolume, Agrees, order_lines_text, certificate_text}
 use Rattle.audit_certificate.proofs.LineLemmas.{behind-first, behind-both}
 
 -- Texts with no line end.
@@ -111,43 +111,43 @@ one-last side place = one-append (last_words side) (place_or_none place) (words 
     place_is None = refl
     place_is (Some n) = one-decimal n
 
-one-order : (place number : ℕ) → IsOneLine (order_text place number)
+one-order : (place number : ℕ) → IsOneLine (order_line_text place number)
 one-order place number = one-append (codes "order," ++ decimal place) (44 ∷ decimal number) (one-append (codes "order,") (decimal place) refl (one-decimal place)) (and_from _ _ refl (one-decimal number))
 
 -- The lines of the orders.
 
 order-cons : (orders : List Order) (deals : List Deal) (from count : ℕ)
-    → order_lines orders deals from (suc count) ≡ order_text (place_at orders from) (traded deals from) ++ 10 ∷ order_lines orders deals (from + 1) count
-order-cons orders deals from count = append_assoc (order_text (place_at orders from) (traded deals from)) (10 ∷ []) (order_lines orders deals (from + 1) count)
+    → order_lines_text orders deals from (suc count) ≡ order_line_text (place_at orders from) (traded deals from) ++ 10 ∷ order_lines_text orders deals (from + 1) count
+order-cons orders deals from count = append_assoc (order_line_text (place_at orders from) (traded deals from)) (10 ∷ []) (order_lines_text orders deals (from + 1) count)
 
 module _ (orders : List Order) (deals : List Deal) where
-  one-at : (i : ℕ) → IsOneLine (order_text (place_at orders i) (traded deals i))
+  one-at : (i : ℕ) → IsOneLine (order_line_text (place_at orders i) (traded deals i))
   one-at i = one-order (place_at orders i) (traded deals i)
 
   -- behind the first k of them are those from k on
-  behind-orders : (k n from : ℕ) → from + n ≤ length orders → k ≤ n → behind_lines k (order_lines orders deals from n) ≡ order_lines orders deals (from + k) (n - k)
+  behind-orders : (k n from : ℕ) → from + n ≤ length orders → k ≤ n → behind_lines k (order_lines_text orders deals from n) ≡ order_lines_text orders deals (from + k) (n - k)
   unfolding behind_lines
-  behind-orders zero n from inside le = let a : from ≡ from + 0 = omega arith in let b : n ≡ n - 0 = omega arith in (λ i. order_lines orders deals (a i) (b i))
+  behind-orders zero n from inside le = let a : from ≡ from + 0 = omega arith in let b : n ≡ n - 0 = omega arith in (λ i. order_lines_text orders deals (a i) (b i))
   behind-orders (suc k) zero from inside le = absurd (omega arith)
   behind-orders (suc k) (suc n) from inside le =
       let a : from + 1 + k ≡ from + suc k = omega arith in
       let b : n - k ≡ suc n - suc k = omega arith in
-      behind-first k (order_lines orders deals from (suc n))
-      ∙ ap (behind_lines k) (ap behind_line (order-cons orders deals from n) ∙ line-behind (order_text (place_at orders from) (traded deals from)) (order_lines orders deals (from + 1) n) (one-at from))
+      behind-first k (order_lines_text orders deals from (suc n))
+      ∙ ap (behind_lines k) (ap behind_line (order-cons orders deals from n) ∙ line-behind (order_line_text (place_at orders from) (traded deals from)) (order_lines_text orders deals (from + 1) n) (one-at from))
       ∙ behind-orders k n (from + 1) (omega arith) (omega arith)
-      ∙ (λ i. order_lines orders deals (a i) (b i))
+      ∙ (λ i. order_lines_text orders deals (a i) (b i))
 
-  order-passes : ((i : ℕ) → i < length orders → traded deals i ≤ quantity_at orders i) → (k : ℕ) → k ≤ length orders → (rest : List ℕ) → rest ≡ behind_lines k (order_lines orders deals 0 (length orders)) → IsOrderAt orders deals k rest
+  order-passes : ((i : ℕ) → i < length orders → traded deals i ≤ quantity_at orders i) → (k : ℕ) → k ≤ length orders → (rest : List ℕ) → rest ≡ behind_lines k (order_lines_text orders deals 0 (length orders)) → IsOrderLineOrEnd orders deals k rest
   order-passes within k le rest rest_is =
       let zero_k : 0 + k ≡ k = omega arith in
-      let at : rest ≡ order_lines orders deals k (length orders - k) = rest_is ∙ behind-orders k (length orders) 0 (omega arith) le ∙ ap (λ (i : ℕ). order_lines orders deals i (length orders - k)) zero_k in
+      let at : rest ≡ order_lines_text orders deals k (length orders - k) = rest_is ∙ behind-orders k (length orders) 0 (omega arith) le ∙ ap (λ (i : ℕ). order_lines_text orders deals i (length orders - k)) zero_k in
       record {
         line = λ lt.
             let more : length orders - k ≡ suc (length orders - k - 1) = omega arith in
-            begins-written (IsOrderLine orders deals k) (order_text (place_at orders k) (traded deals k)) (order_lines orders deals (k + 1) (length orders - k - 1)) rest (one-at k)
-            (at ∙ ap (order_lines orders deals k) more ∙ order-cons orders deals k (length orders - k - 1))
+            begins-written (IsOrderLine orders deals k) (order_line_text (place_at orders k) (traded deals k)) (order_lines_text orders deals (k + 1) (length orders - k - 1)) rest (one-at k)
+            (at ∙ ap (order_lines_text orders deals k) more ∙ order-cons orders deals k (length orders - k - 1))
             (record { within = within k lt; text_is = refl });
-        no_more = λ e. let none : length orders - k ≡ 0 = omega arith in at ∙ ap (order_lines orders deals k) none;
+        no_more = λ e. let none : length orders - k ≡ 0 = omega arith in at ∙ ap (order_lines_text orders deals k) none;
       }
 
 -- The whole text.
@@ -168,7 +168,7 @@ pub record IsAgreeable (the_rule : VolumeRule) (symbol : List ℕ) (orders : Lis
   pub named : is_name symbol ≡ true
   pub head : IsHeadLine the_rule symbol orders deals (head_text the_rule symbol)
   pub in_range : price ≤ 10 ^ 18
-  pub shows : ShowsBound the_rule orders (volume deals) price
+  pub shows : ShowsNoGreaterVolume the_rule orders (volume deals) price
   pub last_bid : IsLastOf orders deals Buy bid
   pub last_ask : IsLastOf orders deals Sell ask
   pub within : (i : ℕ) → i < length orders → traded deals i ≤ quantity_at orders i
@@ -190,7 +190,7 @@ module _ (the_rule : VolumeRule) (symbol : List ℕ) (orders : List Order) (deal
   ask_line = last_text Sell (option_map (place_at orders) ask)
 
   abbrev rest : List ℕ
-  rest = order_lines orders deals 0 (length orders)
+  rest = order_lines_text orders deals 0 (length orders)
 
   whole : bytes ≡ head_line ++ 10 ∷ (bound_line ++ 10 ∷ (bid_line ++ 10 ∷ (ask_line ++ 10 ∷ rest)))
   whole = four-lines head_line bound_line bid_line ask_line rest

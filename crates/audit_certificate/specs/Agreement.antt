@@ -1,5 +1,5 @@
--- When a certificate agrees with an order list and deals: what each of its lines has to meet. An order
--- takes part where no record cancels it.
+-- When a certificate agrees with an order list and deals: what each of its lines has to meet. An
+-- order takes part where no record cancels it.
 use Rattle.std.specs.Prelude.{◌≡◌, ◌≤◌, ◌<◌, ◌+◌, ◌^◌, ℕ, zero, suc, List, [], ◌∷◌, ◌++◌, Option, None, Some, All, IsSomeAnd, ⊤, length, option_map}
 use Rattle.std.specs.List.{flat_map, range_with_len}
 use Rattle.audit_base.specs.declared.terms.Rule.{Rule}
@@ -10,13 +10,13 @@ use Rattle.audit_base.specs.declared.terms.Side.TheVariants.{Buy, Sell}
 use Rattle.audit_base.specs.declared.orders.Order.{Order}
 use Rattle.audit_base.specs.declared.orders.Deal.{Deal}
 use Rattle.audit_base.specs.Least.{IsLeast}
-use Rattle.audit_base.specs.Orders.{place_at, quantity_at, Stands}
+use Rattle.audit_base.specs.Orders.{place_at, quantity_at, IsUncancelledOn}
 use Rattle.audit_base.specs.Priority.{Better}
 use Rattle.audit_base.specs.Deals.{traded, volume}
-use Rattle.audit_base.specs.Calls.{Keeps, OnePrice}
+use Rattle.audit_base.specs.Calls.{IsMatchingDeal, OnePrice}
 use Rattle.audit_base.specs.Bounds.{demand, supply_below}
 use Rattle.audit_base.specs.RuleKinds.{volume_rule}
-use Rattle.audit_certificate.specs.Texts.{head_text, bound_text, last_text, order_text}
+use Rattle.audit_certificate.specs.Texts.{head_text, bound_text, last_text, order_line_text}
 use Rattle.audit_certificate.specs.Lines.{behind_lines, BeginsWith}
 
 -- Line 1.
@@ -31,17 +31,17 @@ OnePriceIfUniform of_volume.Maximum deals = ⊤
 pub record IsHeadLine (the_rule : VolumeRule) (symbol : List ℕ) (orders : List Order)
     (deals : List Deal) (text : List ℕ) : Type 0 where
   pub text_is : text ≡ head_text the_rule symbol
-  pub kept : All (Keeps orders) deals
+  pub kept : All (IsMatchingDeal orders) deals
   pub one_price : OnePriceIfUniform the_rule deals
 
 -- Line 2.
 
--- a price shows that no volume is greater: under `maximum` the demand there and the asks below it are
--- together this volume, under `uniform` neither of the two is above it
-abbrev pub ShowsBound : VolumeRule → List Order → ℕ → ℕ → Type 0
-ShowsBound of_volume.Maximum orders reached price =
+-- a price shows that no volume is greater: under `maximum` the demand there and the asks below it
+-- are together this volume, under `uniform` neither of the two is above it
+abbrev pub ShowsNoGreaterVolume : VolumeRule → List Order → ℕ → ℕ → Type 0
+ShowsNoGreaterVolume of_volume.Maximum orders reached price =
     demand orders price + supply_below orders price ≡ reached
-ShowsBound of_volume.Uniform orders reached price =
+ShowsNoGreaterVolume of_volume.Uniform orders reached price =
     (demand orders price ≤ reached) × (supply_below orders price ≤ reached)
 
 -- the line has the volume, and a price from 0 to 10^18 that shows it
@@ -50,23 +50,24 @@ pub record IsBoundLine (the_rule : VolumeRule) (orders : List Order) (reached : 
   pub price : ℕ
   pub in_range : price ≤ 10 ^ 18
   pub text_is : text ≡ bound_text price reached
-  pub shows : ShowsBound the_rule orders reached price
+  pub shows : ShowsNoGreaterVolume the_rule orders reached price
 
 -- Lines 3 and 4.
 
--- the order is the last of its side that trades: each better one is fully traded, each worse trades 0
+-- the order is the last of its side that trades: each better one is fully traded,
+-- each worse trades 0
 pub record IsLastTrading (orders : List Order) (deals : List Deal) (side : Side)
     (last : ℕ) : Type 0 where
-  pub stands : Stands orders side last
+  pub stands : IsUncancelledOn orders side last
   pub trades : 0 < traded deals last
-  pub better : (i : ℕ) → Stands orders side i → Better orders i last
+  pub better : (i : ℕ) → IsUncancelledOn orders side i → Better orders i last
       → traded deals i ≡ quantity_at orders i
-  pub worse : (i : ℕ) → Stands orders side i → Better orders last i → traded deals i ≡ 0
+  pub worse : (i : ℕ) → IsUncancelledOn orders side i → Better orders last i → traded deals i ≡ 0
 
 -- there is such an order, or no order of the side trades
 abbrev pub IsLastOf : List Order → List Deal → Side → Option ℕ → Type 0
 IsLastOf orders deals side (Some last) = IsLastTrading orders deals side last
-IsLastOf orders deals side None = (i : ℕ) → Stands orders side i → traded deals i ≡ 0
+IsLastOf orders deals side None = (i : ℕ) → IsUncancelledOn orders side i → traded deals i ≡ 0
 
 -- the line has the place of that order, or `none`
 pub record IsLastLine (orders : List Order) (deals : List Deal) (side : Side)
@@ -82,10 +83,11 @@ pub record IsLastLine (orders : List Order) (deals : List Deal) (side : Side)
 pub record IsOrderLine (orders : List Order) (deals : List Deal) (index : ℕ)
     (text : List ℕ) : Type 0 where
   pub within : traded deals index ≤ quantity_at orders index
-  pub text_is : text ≡ order_text (place_at orders index) (traded deals index)
+  pub text_is : text ≡ order_line_text (place_at orders index) (traded deals index)
 
--- behind the first four lines there is the line of each order, and behind them no byte
-pub record IsOrderAt (orders : List Order) (deals : List Deal) (index : ℕ)
+-- two tests in one: at the index of an order the text begins with the line of this order, and at
+-- the index behind the last order there is no byte
+pub record IsOrderLineOrEnd (orders : List Order) (deals : List Deal) (index : ℕ)
     (rest : List ℕ) : Type 0 where
   pub line : index < length orders → BeginsWith (IsOrderLine orders deals index) rest
   pub no_more : index ≡ length orders → rest ≡ []
@@ -105,7 +107,7 @@ LinePasses the_rule symbol orders deals bytes (suc (suc (suc zero))) =
 LinePasses the_rule symbol orders deals bytes (suc (suc (suc (suc zero)))) =
     BeginsWith (IsLastLine orders deals Sell) (behind_lines 3 bytes)
 LinePasses the_rule symbol orders deals bytes (suc (suc (suc (suc (suc index))))) =
-    IsOrderAt orders deals index (behind_lines (4 + index) bytes)
+    IsOrderLineOrEnd orders deals index (behind_lines (4 + index) bytes)
 
 -- Agrees: each line passes, and there are no more and no fewer
 abbrev pub Agrees : VolumeRule → List ℕ → List Order → List Deal → List ℕ → Type 0
@@ -113,7 +115,8 @@ Agrees the_rule symbol orders deals bytes =
     (number : ℕ) → number ≤ 5 + length orders
     → LinePasses the_rule symbol orders deals bytes number
 
--- the same of one of the five rules, which has to be one that asks for the greatest volume
+-- the certificate agrees under one of the five rules, which has to be one that asks for
+-- the greatest volume
 abbrev pub AgreesUnder : Rule → List ℕ → List Order → List Deal → List ℕ → Type 0
 AgreesUnder the_rule symbol orders deals bytes =
     IsSomeAnd (volume_rule the_rule) (λ r. Agrees r symbol orders deals bytes)
@@ -128,8 +131,8 @@ abbrev pub LinesPassBefore : VolumeRule → List ℕ → List Order → List Dea
 LinesPassBefore the_rule symbol orders deals bytes number =
     (before : ℕ) → before < number → LinePasses the_rule symbol orders deals bytes before
 
--- the first line that is missing, not ended, too many, or fails its test: those before it pass under
--- some rule, and under each rule under which they do this one does not
+-- the first line that is missing, not ended, too many, or fails its test: those before it pass
+-- under some rule, and under each rule under which they do this one does not
 pub record IsFirstRefused (symbol : List ℕ) (orders : List Order) (deals : List Deal)
     (bytes : List ℕ) (number : ℕ) : Type 0 where
   pub some : VolumeRule
@@ -141,9 +144,9 @@ pub record IsFirstRefused (symbol : List ℕ) (orders : List Order) (deals : Lis
 -- The text that is written.
 
 -- the lines of n orders, from an index on
-abbrev pub order_lines : List Order → List Deal → ℕ → ℕ → List ℕ
-order_lines orders deals from count =
-    flat_map (λ i. order_text (place_at orders i) (traded deals i) ++ 10 ∷ [])
+abbrev pub order_lines_text : List Order → List Deal → ℕ → ℕ → List ℕ
+order_lines_text orders deals from count =
+    flat_map (λ i. order_line_text (place_at orders i) (traded deals i) ++ 10 ∷ [])
     (range_with_len from count)
 
 -- all lines of a certificate, of a price and the last orders of both sides that trade
@@ -154,12 +157,12 @@ certificate_text the_rule symbol orders deals price bid ask =
     ++ (bound_text price (volume deals) ++ 10 ∷ [])
     ++ (last_text Buy (option_map (place_at orders) bid) ++ 10 ∷ [])
     ++ (last_text Sell (option_map (place_at orders) ask) ++ 10 ∷ [])
-    ++ order_lines orders deals 0 (length orders)
+    ++ order_lines_text orders deals 0 (length orders)
 
 -- a price from 0 to 10^18 that passes line 2, and none below it does
 abbrev pub IsLeastPrice : VolumeRule → List Order → ℕ → ℕ → Type 0
 IsLeastPrice the_rule orders reached price =
-    IsLeast (λ q. (q ≤ 10 ^ 18) × ShowsBound the_rule orders reached q) price
+    IsLeast (λ q. (q ≤ 10 ^ 18) × ShowsNoGreaterVolume the_rule orders reached q) price
 
 -- the certificate of these orders and deals: it has the least price
 pub record IsCertificate (the_rule : VolumeRule) (symbol : List ℕ) (orders : List Order)
@@ -172,7 +175,8 @@ pub record IsCertificate (the_rule : VolumeRule) (symbol : List ℕ) (orders : L
   pub last_ask : IsLastOf orders deals Sell ask
   pub text_is : text ≡ certificate_text the_rule symbol orders deals price bid ask
 
--- the same of one of the five rules, which has to be one that asks for the greatest volume
+-- the certificate under one of the five rules, which has to be one that asks for
+-- the greatest volume
 abbrev pub IsCertificateUnder : Rule → List ℕ → List Order → List Deal → List ℕ → Type 0
 IsCertificateUnder the_rule symbol orders deals text =
     IsSomeAnd (volume_rule the_rule) (λ r. IsCertificate r symbol orders deals text)

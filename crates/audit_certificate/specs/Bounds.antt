@@ -6,7 +6,7 @@ use Rattle.audit_base.specs.declared.terms.VolumeRule.TheVariants as of_volume
 use Rattle.audit_base.specs.declared.terms.Side.TheVariants.{Buy}
 use Rattle.audit_base.specs.declared.orders.Order.{Order}
 use Rattle.audit_base.specs.Numbers.{price_form}
-use Rattle.audit_base.specs.Orders.{order_at, stands_on}
+use Rattle.audit_base.specs.Orders.{order_at, is_uncancelled_on}
 use Rattle.audit_base.specs.Bounds.{IsLeastCut}
 
 abbrev pub is_comma : ℕ → Bool
@@ -25,17 +25,18 @@ abbrev pub price_or_above : Option ℕ → ℕ
 price_or_above None = 10 ^ 18
 price_or_above (Some price) = price
 
-abbrev pub price_of : List ℕ → ℕ
-price_of text = price_or_above (price_form text)
+abbrev pub price_in_text : List ℕ → ℕ
+price_in_text text = price_or_above (price_form text)
 
 -- the price behind the six bytes `bound,`
 abbrev pub named_price : List ℕ → ℕ
-named_price line = if nat_lt (length line) 6 then 10 ^ 18 else price_of (before_comma (drop 6 line))
+named_price line =
+    if nat_lt (length line) 6 then 10 ^ 18 else price_in_text (before_comma (drop 6 line))
 
 -- one unit above the limit of a bid that takes part and trades less than its quantity; else 0
 abbrev pub above_if_short : Order → ℕ → ℕ
 above_if_short o traded =
-    if stands_on Buy o && nat_lt traded o.quantity then o.limit + 1 else 0
+    if is_uncancelled_on Buy o && nat_lt traded o.quantity then o.limit + 1 else 0
 
 -- the greatest of these over the first n orders
 unfoldable pub above_short_bids : List Order → List ℕ → ℕ → ℕ
@@ -50,7 +51,7 @@ pub record IsLeastCutPrice (orders : List Order) (price : ℕ) : Type 0 where
   pub least : IsLeastCut orders (record { price = price; volume = volume })
 
 -- under `maximum` the price of the least cut, under `uniform` that above the short bids
-abbrev pub IsPriceOf : VolumeRule → List Order → List ℕ → ℕ → Type 0
-IsPriceOf of_volume.Maximum orders traded price = IsLeastCutPrice orders price
-IsPriceOf of_volume.Uniform orders traded price =
+abbrev pub IsCertificatePrice : VolumeRule → List Order → List ℕ → ℕ → Type 0
+IsCertificatePrice of_volume.Maximum orders traded price = IsLeastCutPrice orders price
+IsCertificatePrice of_volume.Uniform orders traded price =
     price ≡ above_short_bids orders traded (length orders)

@@ -4,8 +4,8 @@ use Rattle.audit_base.specs.declared.terms.VolumeRule.{VolumeRule}
 use Rattle.audit_base.specs.declared.orders.Order.{Order}
 use Rattle.audit_base.specs.declared.orders.Deal.{Deal}
 use Rattle.audit_base.specs.Names.{is_name}
-use Rattle.audit_base.specs.Orders.{IsOrderList, AreOrders}
-use Rattle.audit_base.specs.Deals.{AreDeals}
+use Rattle.audit_base.specs.Orders.{IsOrderList, OrdersInRange}
+use Rattle.audit_base.specs.Deals.{DealsInRange}
 use Rattle.audit_base.specs.Rules.{Conforms}
 use Rattle.audit_base.specs.RuleKinds.{rule_of_volume}
 use Rattle.audit_certificate.specs.Agreement.{Agrees, IsCertificate}
@@ -20,7 +20,7 @@ CertificateSoundness = (the_rule : VolumeRule) (symbol : List ℕ) (orders : Lis
 -- agrees
 abbrev pub CertificateCompleteness : Type 0
 CertificateCompleteness = (the_rule : VolumeRule) (symbol : List ℕ) (orders : List Order)
-    (deals : List Deal) → IsTrue (is_name symbol) → IsOrderList orders → AreOrders orders
-    → AreDeals deals → Conforms (rule_of_volume the_rule) orders deals
+    (deals : List Deal) → IsTrue (is_name symbol) → IsOrderList orders → OrdersInRange orders
+    → DealsInRange deals → Conforms (rule_of_volume the_rule) orders deals
     → (text : List ℕ) × IsCertificate the_rule symbol orders deals text
     × Agrees the_rule symbol orders deals text

@@ -1,5 +1,5 @@
--- How a text is cut into lines. A line is what an LF (10) ends; bytes behind the last LF are one more
--- line, which is not ended.
+-- How a text is cut into lines. A line is what an LF (10) ends; bytes behind the last LF are one
+-- more line, which is not ended.
 use Rattle.std.specs.Prelude.{ℕ, zero, suc, ◌+◌, ◌==◌, Bool, List, [], Option, None, Some, IsSomeAnd, option_map, take, drop}
 use Rattle.std.specs.List.{position}
 

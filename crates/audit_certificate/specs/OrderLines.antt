@@ -4,34 +4,36 @@ use Rattle.audit_base.specs.declared.orders.Order.{Order}
 use Rattle.audit_base.specs.declared.orders.Deal.{Deal}
 use Rattle.audit_base.specs.Orders.{place_at}
 use Rattle.audit_base.specs.Deals.{AreTotals}
-use Rattle.audit_certificate.specs.Texts.{order_text}
+use Rattle.audit_certificate.specs.Texts.{order_line_text}
 use Rattle.audit_certificate.specs.Lines.{behind_line, behind_lines, BeginsWith}
-use Rattle.audit_certificate.specs.Agreement.{IsOrderLine, IsOrderAt}
+use Rattle.audit_certificate.specs.Agreement.{IsOrderLine, IsOrderLineOrEnd}
 
 -- the lines of the first n orders
-unfoldable pub lines_upto : List Order → List ℕ → ℕ → List ℕ
-lines_upto orders traded zero = []
-lines_upto orders traded (suc n) =
-    lines_upto orders traded n ++ order_text (place_at orders n) (slice_index traded n) ++ 10 ∷ []
+unfoldable pub order_lines_upto : List Order → List ℕ → ℕ → List ℕ
+order_lines_upto orders traded zero = []
+order_lines_upto orders traded (suc n) =
+    order_lines_upto orders traded n
+    ++ order_line_text (place_at orders n) (slice_index traded n) ++ 10 ∷ []
 
 -- all order lines pass, and nothing is behind them
-abbrev pub AllOrderLines : List Order → List ℕ → List ℕ → Type 0
-AllOrderLines orders traded bytes = (deals : List Deal) → AreTotals orders deals traded
-    → (index : ℕ) → index ≤ length orders → IsOrderAt orders deals index (behind_lines index bytes)
+abbrev pub AllOrderLinesPass : List Order → List ℕ → List ℕ → Type 0
+AllOrderLinesPass orders traded bytes = (deals : List Deal) → AreTotals orders deals traded
+    → (index : ℕ) → index ≤ length orders
+    → IsOrderLineOrEnd orders deals index (behind_lines index bytes)
 
 -- the first order line that is refused, or the one too many, by its number in the certificate
-pub record IsRefusedAt (orders : List Order) (deals : List Deal) (bytes : List ℕ)
+pub record IsRefusedLineAt (orders : List Order) (deals : List Deal) (bytes : List ℕ)
     (number : ℕ) : Type 0 where
   pub index : ℕ
   pub number_is : number ≡ 5 + index
   pub inside : index ≤ length orders
   pub passed : (before : ℕ) → before < index
-      → IsOrderAt orders deals before (behind_lines before bytes)
-  pub fails : IsOrderAt orders deals index (behind_lines index bytes) → ⊥
+      → IsOrderLineOrEnd orders deals before (behind_lines before bytes)
+  pub fails : IsOrderLineOrEnd orders deals index (behind_lines index bytes) → ⊥
 
-abbrev pub IsRefusedOrder : List Order → List ℕ → List ℕ → ℕ → Type 0
-IsRefusedOrder orders traded bytes number = (deals : List Deal) → AreTotals orders deals traded
-    → IsRefusedAt orders deals bytes number
+abbrev pub IsRefusedOrderLine : List Order → List ℕ → List ℕ → ℕ → Type 0
+IsRefusedOrderLine orders traded bytes number = (deals : List Deal) → AreTotals orders deals traded
+    → IsRefusedLineAt orders deals bytes number
 
 -- whether a text begins with the line of the order at an index, and what is then behind it
 pub record IsBehindOrder (orders : List Order) (traded : List ℕ) (index : ℕ)
@@ -41,7 +43,9 @@ pub record IsBehindOrder (orders : List Order) (traded : List ℕ) (index : ℕ)
   pub behind_is : behind ≡ behind_line rest
   pub shorter : length behind + 1 ≤ length rest
 
-abbrev pub TellsBehind : List Order → List ℕ → ℕ → List ℕ → Option (List ℕ) → Type 0
-TellsBehind orders traded index rest (Some behind) = IsBehindOrder orders traded index rest behind
-TellsBehind orders traded index rest None = (deals : List Deal) → AreTotals orders deals traded
+abbrev pub IsBehindOrderOrNone : List Order → List ℕ → ℕ → List ℕ → Option (List ℕ) → Type 0
+IsBehindOrderOrNone orders traded index rest (Some behind) =
+    IsBehindOrder orders traded index rest behind
+IsBehindOrderOrNone orders traded index rest None = (deals : List Deal)
+    → AreTotals orders deals traded
     → BeginsWith (IsOrderLine orders deals index) rest → ⊥

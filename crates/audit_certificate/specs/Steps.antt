@@ -16,7 +16,7 @@ pub record IsBehind (Test : List ℕ → Type 0) (bytes rest : List ℕ) : Type 
   pub rest_is : rest ≡ behind_line bytes
   pub shorter : length rest ≤ length bytes
 
--- line 1 passes under this rule, or under none
+-- line 1 passes under this rule, or is refused under each
 abbrev pub IsBehindHead : List ℕ → List Order → List Deal → List ℕ → VolumeRule → List ℕ → Type 0
 IsBehindHead symbol orders deals bytes the_rule rest =
     IsBehind (IsHeadLine the_rule symbol orders deals) bytes rest
@@ -27,7 +27,7 @@ pub record IsRefusedHead (symbol : List ℕ) (orders : List Order) (deals : List
   pub fails : (the_rule : VolumeRule)
       → BeginsWith (IsHeadLine the_rule symbol orders deals) bytes → ⊥
 
--- line 2 passes, or not
+-- line 2 passes, or is refused
 abbrev pub IsBehindBound : VolumeRule → List Order → ℕ → List ℕ → List ℕ → Type 0
 IsBehindBound the_rule orders reached bytes rest =
     IsBehind (IsBoundLine the_rule orders reached) bytes rest
@@ -38,9 +38,9 @@ pub record IsRefusedBound (the_rule : VolumeRule) (orders : List Order) (reached
   pub fails : BeginsWith (IsBoundLine the_rule orders reached) bytes → ⊥
 
 -- the numbers of the lines of last orders
-abbrev pub last_number : Side → ℕ
-last_number Buy = 3
-last_number Sell = 4
+abbrev pub last_line_number : Side → ℕ
+last_line_number Buy = 3
+last_line_number Sell = 4
 
 -- line 3 or 4 passes, or not, whichever deals the numbers are of
 abbrev pub IsBehindLast : List Order → List ℕ → Side → List ℕ → List ℕ → Type 0
@@ -49,6 +49,6 @@ IsBehindLast orders traded side bytes rest = (deals : List Deal) → IsOrderList
 
 pub record IsRefusedLast (orders : List Order) (traded : List ℕ) (side : Side)
     (bytes : List ℕ) (number : ℕ) : Type 0 where
-  pub number_is : number ≡ last_number side
+  pub number_is : number ≡ last_line_number side
   pub fails : (deals : List Deal) → IsOrderList orders → AreTotals orders deals traded
       → BeginsWith (IsLastLine orders deals side) bytes → ⊥

@@ -29,5 +29,5 @@ abbrev pub last_text : Side → Option ℕ → List ℕ
 last_text side place = last_words side ++ place_or_none place
 
 -- a line of an order: `order,PLACE,TRADED`
-abbrev pub order_text : ℕ → ℕ → List ℕ
-order_text place traded = codes "order," ++ decimal place ++ 44 ∷ decimal traded
+abbrev pub order_line_text : ℕ → ℕ → List ℕ
+order_line_text place traded = codes "order," ++ decimal place ++ 44 ∷ decimal traded

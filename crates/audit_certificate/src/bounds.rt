@@ -1,7 +1,7 @@
 //! Line 2: a price that shows the volume to be the greatest.
 ghost use Rattle.std.specs.Prelude.{◌≡◌, ◌<◌, ◌≤◌, ◌↔◌, ◌^◌, ℕ, List, IfOk, IsTrue, length};
 ghost use Rattle.std.specs.List.{position};
-ghost use Rattle.audit_certificate.specs.Agreement.{IsBoundLine, ShowsBound};
+ghost use Rattle.audit_certificate.specs.Agreement.{IsBoundLine, ShowsNoGreaterVolume};
 ghost use Rattle.audit_certificate.specs.Bounds as bound;
 ghost use Rattle.audit_certificate.specs.Texts.{bound_text};
 
@@ -15,13 +15,18 @@ use std::alloc::Global;
 use volume_bound::direct::{demand_at, supply_below};
 use volume_bound::extremes::least_cut;
 
-/// One more than the greatest price. The bound may stand here, since nobody bids as much.
+/// One more than the greatest price. The bound may be this price, since nobody bids as much.
 const ABOVE_ALL_PRICES: u64 = 1_000_000_000_000_000_000;
 
 /// Whether the price shows that no volume is greater than this one.
-fn shows_bound(rule: VolumeRule, orders: &OrderList<'_>, volume: u128, price: u64) -> bool
+fn shows_no_greater_volume(
+    rule: VolumeRule,
+    orders: &OrderList<'_>,
+    volume: u128,
+    price: u64,
+) -> bool
     requires { length orders.now < 2 ^ 32 }
-    ensures { IsTrue result ↔ ShowsBound rule orders.now volume price }
+    ensures { IsTrue result ↔ ShowsNoGreaterVolume rule orders.now volume price }
 {
     let demand = demand_at(orders, price);
     let below = supply_below(orders, price);
@@ -38,7 +43,7 @@ fn comma_in(text: &[u8]) -> Option<usize>
     text.iter().position(|byte| *byte == b',')
 }
 
-/// What stands before the first comma.
+/// What is before the first comma.
 fn before_comma(text: &[u8]) -> &[u8]
     ensures { result.now ≡ bound.before_comma text.now }
 {
@@ -49,8 +54,8 @@ fn before_comma(text: &[u8]) -> &[u8]
 }
 
 /// The price that the text writes; where it writes none, the one whose text is not read as a price.
-fn price_of(text: &[u8]) -> u64
-    ensures same { result ≡ bound.price_of text.now }
+fn price_in_text(text: &[u8]) -> u64
+    ensures same { result ≡ bound.price_in_text text.now }
     ensures in_range { result ≤ 10 ^ 18 }
 {
     match read_price(text) {
@@ -67,7 +72,7 @@ fn named_price(line: &[u8]) -> u64
     if line.len() < 6 {
         return ABOVE_ALL_PRICES;
     }
-    price_of(before_comma(&line[6..]))
+    price_in_text(before_comma(&line[6..]))
 }
 
 /// Whether the line is the canonical one of the price and the volume.
@@ -86,8 +91,8 @@ fn is_bound_text(
     Ok(text.as_slice() == line)
 }
 
-/// Whether the line is a line 2 of this volume with a price that shows it. `text` is a buffer that each
-/// call uses anew.
+/// Whether the line is a line 2 of this volume with a price that shows it. `text` is a buffer that
+/// each call uses anew.
 pub fn is_bound_line(
     alloc: Global,
     rule: VolumeRule,
@@ -103,7 +108,7 @@ pub fn is_bound_line(
     if !is_bound_text(alloc, price, volume, line, text)? {
         return Ok(false);
     }
-    Ok(shows_bound(rule, orders, volume, price))
+    Ok(shows_no_greater_volume(rule, orders, volume, price))
 }
 
 /// One unit above the limit of an order, if it is a bid that takes part and trades less than its
@@ -133,9 +138,9 @@ fn above_short_bids(orders: &OrderList<'_>, traded: &[u128]) -> u64
     price
 }
 
-/// The least price that passes line 2, where the deals that trade this conform. Under `maximum` it is that of
-/// the least cut. Under `uniform` it is one unit above the best bid that is not fully traded: up to its
-/// limit the demand is above the volume. Err only out of memory.
+/// The least price that passes line 2, where the deals that trade this conform. Under `maximum` it
+/// is that of the least cut. Under `uniform` it is one unit above the best bid that is not fully
+/// traded: up to its limit the demand is above the volume. Err only out of memory.
 pub fn least_price(
     alloc: Global,
     rule: VolumeRule,
@@ -144,7 +149,7 @@ pub fn least_price(
 ) -> Result<u64, NoMemory>
     requires few { length orders.now < 2 ^ 32 }
     requires count { length traded.now ≡ length orders.now }
-    ensures price { IfOk result (bound.IsPriceOf rule orders.now traded.now) }
+    ensures price { IfOk result (bound.IsCertificatePrice rule orders.now traded.now) }
     ensures in_range { IfOk result (λ price. price ≤ 10 ^ 18) }
 {
     match rule {

@@ -32,7 +32,7 @@ fn append_last_line(
 ) -> Result<(), NoMemory>
     requires { length traded.now ≡ length orders.now }
     ensures { OnOk result (out.new.items
-        ≡ out.old.items ++ spec.last_line orders.now traded.now side) }
+        ≡ out.old.items ++ spec.last_trading_line orders.now traded.now side) }
 {
     let last = last_trading(orders, traded, side);
     append_last(alloc, side, place_of(orders, last), out)?;
@@ -80,8 +80,8 @@ fn certificate_of(
     Ok(out)
 }
 
-/// The certificate of deals that conform to `uniform` or `maximum`, with the least price that passes its
-/// line 2. It agrees, so `verify` accepts it. Err only out of memory.
+/// The certificate of deals that conform to `uniform` or `maximum`, with the least price that
+/// passes its line 2. It agrees, so `verify` accepts it. Err only out of memory.
 pub fn certify(
     alloc: Global,
     rule: Rule,
@@ -101,7 +101,7 @@ pub fn certify(
     // Laws that the answer rests on. They compute nothing.
     greatest_matching_reaches_the_least_cut();
     short_orders_do_not_meet();
-    // These calls tell the proof the ranges of the numbers and the form that a name keeps.
+    // These calls give the proof the ranges of the numbers and the form that a name keeps.
     orders.in_range();
     deals_in_range(deals);
     let _ = symbol.bytes();

@@ -9,7 +9,7 @@ use audit_base::ranges::deals_in_range;
 use order_list::lists::OrderList;
 use std::alloc::Global;
 
-/// What deals come to.
+/// What each order trades in deals, and their volume.
 #[derive(Debug, Drop)]
 pub struct Counts {
     /// What each order trades, by its index.

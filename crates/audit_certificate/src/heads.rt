@@ -1,7 +1,7 @@
 //! Line 1: the rule and the symbol, and deals that keep what every matching keeps.
 ghost use Rattle.std.specs.Prelude.{◌≡◌, ◌<◌, ◌↔◌, All, IfOk, IsTrue, length};
 ghost use Rattle.audit_base.specs.Deals.{IsDealList};
-ghost use Rattle.audit_base.specs.Calls.{Keeps, OnePrice};
+ghost use Rattle.audit_base.specs.Calls.{IsMatchingDeal, OnePrice};
 ghost use Rattle.audit_certificate.specs.Agreement.{OnePriceIfUniform};
 ghost use Rattle.audit_certificate.specs.Answers.{IsNamedRule, IsHeadAnswer};
 ghost use Rattle.audit_certificate.specs.Texts.{head_text};
@@ -16,11 +16,12 @@ use order_list::listed::is_within;
 use order_list::lists::OrderList;
 use std::alloc::Global;
 
-/// Whether a deal is between a bid and an ask that no record cancels, at a price within both limits.
+/// Whether a deal is between a bid and an ask that no record cancels, at a price
+/// within both limits.
 fn keeps(orders: &OrderList<'_>, deal: &Deal) -> bool
     requires bid { deal.now.bid < length orders.now }
     requires ask { deal.now.ask < length orders.now }
-    ensures { IsTrue result ↔ Keeps orders.now deal.now }
+    ensures { IsTrue result ↔ IsMatchingDeal orders.now deal.now }
 {
     let bid = orders.at(deal.bid);
     let ask = orders.at(deal.ask);
@@ -30,7 +31,7 @@ fn keeps(orders: &OrderList<'_>, deal: &Deal) -> bool
 /// Whether all deals are such ones.
 fn all_keep(orders: &OrderList<'_>, deals: &[Deal]) -> bool
     requires { IsDealList orders.now deals.now }
-    ensures { IsTrue result ↔ All (Keeps orders.now) deals.now }
+    ensures { IsTrue result ↔ All (IsMatchingDeal orders.now) deals.now }
 {
     deals.iter().all(|deal| keeps(orders, deal))
 }
@@ -52,7 +53,8 @@ fn have_one_price(deals: &[Deal]) -> bool
     }
 }
 
-/// Whether the line is that of the rule and the symbol. `text` is a buffer that each call uses anew.
+/// Whether the line is that of the rule and the symbol. `text` is a buffer that
+/// each call uses anew.
 fn names_rule(
     rule: VolumeRule,
     symbol: &Name,

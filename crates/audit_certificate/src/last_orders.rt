@@ -49,9 +49,9 @@ fn later_of(
 ) -> Option<usize>
     requires inside { index < length orders.now }
     requires count { length traded.now ≡ length orders.now }
-    requires last { IfSome last (λ l. spec.IsOn orders.now side l) }
+    requires last { IfSome last (λ l. spec.IsOrderOn orders.now side l) }
     ensures same { result ≡ spec.later_of orders.now traded.now side last index }
-    ensures on { IfSome result (λ l. spec.IsOn orders.now side l) }
+    ensures on { IfSome result (λ l. spec.IsOrderOn orders.now side l) }
 {
     if trades_on(orders, traded, side, index) {
         Some(worse_of(orders, last, index))
@@ -64,7 +64,7 @@ fn later_of(
 pub fn last_trading(orders: &OrderList<'_>, traded: &[u128], side: Side) -> Option<usize>
     requires { length traded.now ≡ length orders.now }
     ensures same { result ≡ spec.last_trading orders.now traded.now side (length orders.now) }
-    ensures on { IfSome result (λ l. spec.IsOn orders.now side l) }
+    ensures on { IfSome result (λ l. spec.IsOrderOn orders.now side l) }
 {
     let mut last = None;
     for index in 0..orders.len() {
@@ -73,8 +73,8 @@ pub fn last_trading(orders: &OrderList<'_>, traded: &[u128], side: Side) -> Opti
     last
 }
 
-/// Whether the order at this index is fully traded, if it takes part on the side and is better than the
-/// last.
+/// Whether the order at this index is fully traded, if it takes part on the side and is
+/// better than the last.
 fn is_filled_ahead(
     orders: &OrderList<'_>,
     traded: &[u128],
@@ -84,7 +84,7 @@ fn is_filled_ahead(
 ) -> bool
     requires inside { index < length orders.now }
     requires count { length traded.now ≡ length orders.now }
-    requires last { spec.IsOn orders.now side last }
+    requires last { spec.IsOrderOn orders.now side last }
     ensures { result ≡ spec.is_filled_ahead orders.now traded.now side last index }
 {
     let order = orders.at(index);
@@ -105,7 +105,7 @@ fn all_filled_ahead(
     last: Option<usize>,
 ) -> bool
     requires count { length traded.now ≡ length orders.now }
-    requires last { IfSome last (λ l. spec.IsOn orders.now side l) }
+    requires last { IfSome last (λ l. spec.IsOrderOn orders.now side l) }
     ensures { IsTrue result ↔ spec.AreFilledAhead orders.now traded.now side last }
 {
     let Some(last) = last else {
@@ -155,7 +155,7 @@ pub fn is_last_line(
     text: &mut Vec<u8>,
 ) -> Result<bool, NoMemory>
     requires { length traded.now ≡ length orders.now }
-    ensures { IfOk result (spec.TellsLastLine orders.now traded.now side line.now) }
+    ensures { IfOk result (spec.DecidesLastLine orders.now traded.now side line.now) }
 {
     let last = last_trading(orders, traded, side);
     if !all_filled_ahead(orders, traded, side, last) {

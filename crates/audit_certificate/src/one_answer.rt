@@ -1,8 +1,9 @@
-//! That deals have one certificate, and that a text gets one answer, of every order list and all deals.
+//! That deals have one certificate, and that a text gets one answer, of every order
+//! list and all deals.
 ghost use Rattle.audit_certificate.specs.OneAnswer.{AgreedRuleIsOne, CertificateIsOne, FirstRefusedIsOne};
 
-/// Under a rule deals have at most one certificate: it has the least price that shows the volume, and the last
-/// orders that trade.
+/// Under a rule deals have at most one certificate: it has the least price that shows the volume,
+/// and the last orders that trade.
 pub fn one_certificate()
     ensures { CertificateIsOne }
 {}

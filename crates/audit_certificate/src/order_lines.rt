@@ -3,9 +3,9 @@ ghost use Rattle.std.specs.Prelude.{◌≡◌, ◌<◌, ◌≤◌, ◌↔◌, �
 ghost use Rattle.audit_base.specs.Orders.{place_at};
 ghost use Rattle.audit_base.specs.Sizes.{longest_log};
 ghost use Rattle.audit_certificate.specs.Answers.{IfRefused};
-ghost use Rattle.audit_certificate.specs.LastOrders.{TellsOrderLine};
+ghost use Rattle.audit_certificate.specs.LastOrders.{DecidesOrderLine};
 ghost use Rattle.audit_certificate.specs.OrderLines as spec;
-ghost use Rattle.audit_certificate.specs.Texts.{order_text};
+ghost use Rattle.audit_certificate.specs.Texts.{order_line_text};
 
 use super::faults::VerifyFault;
 use super::lines::{behind_line, first_line};
@@ -22,7 +22,7 @@ fn is_order_text(
     line: &[u8],
     text: &mut Vec<u8>,
 ) -> Result<bool, NoMemory>
-    ensures { IfOk result (λ same. IsTrue same ↔ (line.now ≡ order_text place traded)) }
+    ensures { IfOk result (λ same. IsTrue same ↔ (line.now ≡ order_line_text place traded)) }
 {
     text.clear();
     append_order(alloc, place, traded, text)?;
@@ -40,7 +40,7 @@ fn is_order_line(
 ) -> Result<bool, NoMemory>
     requires inside { index < length orders.now }
     requires count { length traded.now ≡ length orders.now }
-    ensures { IfOk result (TellsOrderLine orders.now traded.now index line.now) }
+    ensures { IfOk result (DecidesOrderLine orders.now traded.now index line.now) }
 {
     let order = orders.at(index);
     if u128::from(order.quantity().value()) < traded[index] {
@@ -61,7 +61,7 @@ fn behind_order<'a>(
     requires inside { index < length orders.now }
     requires count { length traded.now ≡ length orders.now }
     ensures { IfOk result (λ behind. let found = option_map (λ b. b.now) behind in
-        spec.TellsBehind orders.now traded.now index rest.now found) }
+        spec.IsBehindOrderOrNone orders.now traded.now index rest.now found) }
 {
     let Some(line) = first_line(rest) else {
         return Ok(None);
@@ -73,8 +73,8 @@ fn behind_order<'a>(
     }
 }
 
-/// The lines of the orders, from the number 5 on, and nothing behind them. Err(No) has the first line
-/// that is missing, not ended, too many, or fails its test.
+/// The lines of the orders, from the number 5 on, and nothing behind them. Err(No) has the first
+/// line that is missing, not ended, too many, or fails its test.
 pub fn check_order_lines(
     alloc: Global,
     orders: &OrderList<'_>,
@@ -84,8 +84,8 @@ pub fn check_order_lines(
 ) -> Result<(), VerifyFault>
     requires count { length traded.now ≡ length orders.now }
     requires small { length bytes.now ≤ longest_log }
-    ensures passed { OnOk result (spec.AllOrderLines orders.now traded.now bytes.now) }
-    ensures refused { IfRefused result (spec.IsRefusedOrder orders.now traded.now bytes.now) }
+    ensures passed { OnOk result (spec.AllOrderLinesPass orders.now traded.now bytes.now) }
+    ensures refused { IfRefused result (spec.IsRefusedOrderLine orders.now traded.now bytes.now) }
 {
     let mut rest = bytes;
     for index in 0..orders.len() {
@@ -110,7 +110,7 @@ pub fn append_order_lines(
 ) -> Result<(), NoMemory>
     requires { length traded.now ≡ length orders.now }
     ensures { OnOk result (out.new.items
-        ≡ out.old.items ++ spec.lines_upto orders.now traded.now (length orders.now)) }
+        ≡ out.old.items ++ spec.order_lines_upto orders.now traded.now (length orders.now)) }
 {
     for index in 0..orders.len() {
         append_order(alloc, orders.at(index).place(), traded[index], out)?;

@@ -86,7 +86,7 @@ pub fn append_order(
     traded: u128,
     out: &mut Vec<u8>,
 ) -> Result<(), NoMemory>
-    ensures { OnOk result (out.new.items ≡ out.old.items ++ text.order_text place traded) }
+    ensures { OnOk result (out.new.items ≡ out.old.items ++ text.order_line_text place traded) }
 {
     append(b"order,", out)?;
     write_number(alloc, u128::from(place), out)?;

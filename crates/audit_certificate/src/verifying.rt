@@ -1,5 +1,5 @@
-//! The verification of a certificate, line by line. Each step takes what is left of the text and gives
-//! what is behind the line that passed.
+//! The verification of a certificate, line by line. Each step takes what is left of the text and
+//! gives what is behind the line that passed.
 ghost use Rattle.std.specs.Prelude.{◌≡◌, ◌<◌, ◌≤◌, ◌^◌, IfOk, IsTrue, length};
 ghost use Rattle.audit_base.specs.Deals.{IsDealList};
 ghost use Rattle.audit_base.specs.Orders.{IsOrderList};
@@ -73,8 +73,8 @@ fn check_bound<'a>(
 }
 
 /// The number of the line of a side's last order that trades.
-fn last_number(side: Side) -> u32
-    ensures { result ≡ step.last_number side }
+fn last_line_number(side: Side) -> u32
+    ensures { result ≡ step.last_line_number side }
 {
     match side {
         Side::Buy => 3,
@@ -96,7 +96,7 @@ fn check_last<'a>(
         step.IsBehindLast orders.now traded.now side bytes.now rest.now) }
     ensures refused { IfRefused result (step.IsRefusedLast orders.now traded.now side bytes.now) }
 {
-    let number = last_number(side);
+    let number = last_line_number(side);
     let Some(line) = first_line(bytes) else {
         return Err(VerifyFault::No(number));
     };
@@ -131,11 +131,11 @@ fn check_lines(
     Ok(rule)
 }
 
-/// Whether the text is a certificate of these orders and deals: Ok exactly with the rule under which it
-/// agrees, and No exactly with the number of the first line that is missing, not ended, one too many,
-/// or fails its test, out of memory aside. Where it agrees, the deals conform to that rule. The text has
-/// at most 67,108,864 bytes. It is read once, and orders and deals are gone over a fixed number of
-/// times; nothing is sorted and no matching is made.
+/// Whether the text is a certificate of these orders and deals: Ok exactly with the rule under
+/// which it agrees, and No exactly with the number of the first line that is missing, not ended,
+/// one too many, or fails its test, out of memory aside. Where it agrees, the deals conform to that
+/// rule. The text has at most 67,108,864 bytes. It is read once, and orders and deals are looked at
+/// a fixed number of times; nothing is sorted and no matching is made.
 pub fn verify(
     alloc: Global,
     symbol: &Name,

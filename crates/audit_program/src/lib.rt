@@ -1,12 +1,15 @@
-//! What the program `auditor` does with what its machine gives it: words, files, standard output and a random seed
-//! are handed to `run_seeded`, and the number of the status is what the process ends with. Where it is above 1, one line
-//! on standard error says why (`run_notes`).
+//! What the program `auditor` does with what its machine gives it: the arguments, files,
+//! standard output and a random seed are handed to `run_seeded`, and the number of the status
+//! is what the process ends with. Where it is above 1, one line on standard error says why
+//! (`run_notes`).
 #![tactic(auto)]
 
 ghost use Rattle.std.specs.Prelude.{◌≡◌};
 ghost use Rattle.std.specs.Process.{exit_status};
-ghost use Rattle.audit_program.specs.Answers.{AnswersWords, AnswersOver, AnswersUntold, EndsAsAnswer};
+ghost use Rattle.audit_program.specs.Answers.{AuditorAnswers, AuditorBegins, AuditorBeginsUnknown};
 ghost use Rattle.audit_report.specs.Statuses.{status_number};
+ghost use Rattle.audit_report.specs.declared.statuses.Status.TheVariants as status;
+ghost use Rattle.run_notes.specs.ProgramAnswers.{AnswersCommandLine, AnswersFrom, AnswersUnknownWords, EndsAsAnswer};
 
 use audit_report::statuses::Status;
 use audit_run::running::run_seeded;
@@ -18,11 +21,11 @@ use log_source::shelf::Shelf;
 use log_source::sink::Sink;
 use log_source::std_sink::StdSink;
 use run_notes::command_line::CommandLine;
-use run_notes::log_notes::tell_log_fault;
+use run_notes::log_notes::print_log_fault;
 use run_notes::noted_shelf::NotedShelf;
 use run_notes::noted_sink::NotedSink;
 use run_notes::program_ends::{noted_files, noted_output};
-use run_notes::usage_notes::tell_auditor_usage;
+use run_notes::usage_notes::print_auditor_usage;
 use std::io;
 use std::process::ExitCode;
 use std::random::RandomSource;
@@ -33,8 +36,9 @@ fn answer_words<R: CommandLine + AllocGlobal + RandomSource, F: Shelf, K: Sink>(
     shelf: &mut F,
     out: &mut K,
 ) -> Status
-    ensures { AnswersWords (R.told rt.now) F.Shelf shelf.old shelf.new
-        (K.state out.old) (K.state out.new) result }
+    ensures { AnswersCommandLine (AuditorAnswers F.Shelf) status.Memory (R.told rt.now)
+        (record { shelf = shelf.old; sink = K.state out.old })
+        (record { shelf = shelf.new; sink = K.state out.new }) result }
 {
     match rt.words() {
         Ok(words) => run_seeded(rt.alloc(), seed_of(rt), &words, shelf, out),
@@ -42,7 +46,8 @@ fn answer_words<R: CommandLine + AllocGlobal + RandomSource, F: Shelf, K: Sink>(
     }
 }
 
-/// What a run leaves: its status, the files that it read and the output that it wrote, with what was noted of both.
+/// What a run leaves: its status, the files that it read and the output that it wrote, with
+/// what was noted of both.
 #[derive(Drop)]
 struct Ran<S: FileSystem, W> {
     status: Status,
@@ -58,8 +63,9 @@ fn run_over<R: CommandLine + AllocGlobal + RandomSource, S: FileSystem + Drop, W
 ) -> Ran<S, W>
     ensures { let shelf = ⟦<NotedShelf<FileShelf<S>> as Shelf>⟧ in
         let state = ⟦<NotedSink<StdSink<W>> as Sink>⟧.state in
-        AnswersOver (R.told rt.now) shelf (S.tells files) (S.file_at files) (W.contents output)
-        result.shelf (state result.out) result.status }
+        AnswersFrom (AuditorAnswers shelf) status.Memory (R.told rt.now)
+        (AuditorBegins shelf (S.tells files) (S.file_at files) (W.contents output))
+        (record { shelf = result.shelf; sink = state result.out }) result.status }
 {
     let mut shelf = noted_files(rt.alloc(), files);
     let mut out = noted_output(rt.alloc(), output);
@@ -67,12 +73,12 @@ fn run_over<R: CommandLine + AllocGlobal + RandomSource, S: FileSystem + Drop, W
     Ran { status, shelf, out }
 }
 
-/// Tells on standard error why a run ended above 1.
+/// Says on standard error why a run ended above 1.
 fn tell<F: Shelf>(rt: &HostRuntime, status: Status, shelf: &NotedShelf<F>, last: &[u8]) {
     match status {
         Status::Usage => {
             if let Ok(words) = rt.words() {
-                tell_auditor_usage(rt, &words);
+                print_auditor_usage(rt, &words);
             }
         }
         Status::Memory => {
@@ -82,7 +88,7 @@ fn tell<F: Shelf>(rt: &HostRuntime, status: Status, shelf: &NotedShelf<F>, last:
             let _told = eprintln!(rt; "auditor: standard output could not be written");
         }
         Status::Malformed | Status::ReadFault | Status::TooLong => {
-            tell_log_fault(rt, "auditor", shelf, last);
+            print_log_fault(rt, "auditor", shelf, last);
         }
         Status::Accepted | Status::Rejected => {}
     }
@@ -90,7 +96,8 @@ fn tell<F: Shelf>(rt: &HostRuntime, status: Status, shelf: &NotedShelf<F>, last:
 
 /// Runs the command over files and standard output.
 fn answer(rt: HostRuntime) -> Status
-    ensures { AnswersUntold ⟦<NotedShelf<FileShelf<HostRuntime>> as Shelf>⟧ result }
+    ensures { let shelf = ⟦<NotedShelf<FileShelf<HostRuntime>> as Shelf>⟧ in
+        AnswersUnknownWords (AuditorAnswers shelf) status.Memory (AuditorBeginsUnknown shelf) result }
 {
     let Ok(files) = rt.clone() else {
         return Status::Memory;
@@ -100,16 +107,18 @@ fn answer(rt: HostRuntime) -> Status
     status
 }
 
-/// What a process ends with whose status this is: its number.
+/// The exit code of a status: its number.
 fn exit_code(status: Status) -> ExitCode
     ensures { exit_status result ≡ status_number status }
 {
     ExitCode::from(status.number())
 }
 
-/// Does what the program does, and gives what its process ends with.
+/// Runs the program, and gives the exit code of its process.
 pub fn run_auditor(rt: HostRuntime) -> ExitCode
-    ensures { EndsAsAnswer ⟦<NotedShelf<FileShelf<HostRuntime>> as Shelf>⟧ result }
+    ensures { let shelf = ⟦<NotedShelf<FileShelf<HostRuntime>> as Shelf>⟧ in
+        EndsAsAnswer (AuditorAnswers shelf) status.Memory status_number
+        (AuditorBeginsUnknown shelf) result }
 {
     exit_code(answer(rt))
 }

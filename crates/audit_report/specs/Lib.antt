@@ -1,6 +1,6 @@
--- What a reader must believe, in the order in which it is read: the status and the text of a verdict, the
--- lines of a text, of a summary and of what came of a certificate, and how the reason of a bad place is
--- written.
+-- What a reader must believe, in the order in which it is read: the status and the text
+-- of a verdict, the lines of a text, of a summary and of what came of a certificate,
+-- and how the reason of a bad place is written.
 pub mod Statuses
 pub mod Texts
 pub mod Lines

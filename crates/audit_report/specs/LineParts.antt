@@ -14,5 +14,5 @@ part_text (Named kind name) = kind.now ++ 58 ∷ name.now
 part_text (Numbered kind number) = kind.now ++ 58 ∷ decimal number
 
 -- the parts of a line after its first, each with a comma before it
-abbrev pub rest_text : List (List ℕ) → List ℕ
-rest_text parts = flat_map (λ part. 44 ∷ part) parts
+abbrev pub later_parts_text : List (List ℕ) → List ℕ
+later_parts_text parts = flat_map (λ part. 44 ∷ part) parts

@@ -1,5 +1,5 @@
--- The lines of reports. A line is its parts joined by commas, and ends with LF. Names hold no comma and no
--- quote, so nothing is quoted. The codes of `,` and LF are 44 and 10.
+-- The lines of reports. A line is its parts joined by commas, and ends with LF.
+-- Names hold no comma and no quote, so nothing is quoted. The codes of `,` and LF are 44 and 10.
 use Rattle.std.specs.Prelude.{ℕ, List, [], ◌∷◌, ◌++◌, codes, decimal}
 use Rattle.std.specs.List.{join_with_byte}
 use Rattle.audit_base.specs.Numbers.{price_text}
@@ -41,7 +41,8 @@ accepted_line rule symbol = line_text (codes "accepted" ∷ rule_word rule ∷ s
 
 -- `totals,ORDERS,TRADES,VOLUME`
 abbrev pub totals_line : ℕ → ℕ → ℕ → List ℕ
-totals_line orders trades volume = line_text (codes "totals" ∷ decimal orders ∷ decimal trades ∷ decimal volume ∷ [])
+totals_line orders trades volume =
+    line_text (codes "totals" ∷ decimal orders ∷ decimal trades ∷ decimal volume ∷ [])
 
 -- `bound,PRICE,VOLUME`
 abbrev pub bound_line : Cut → List ℕ
@@ -63,7 +64,8 @@ due_line o due = line_text (order_parts o ++ decimal due ∷ [])
 
 -- `pair,BUYPLACE,SELLPLACE,QUANTITY`
 abbrev pub pair_line : ℕ → ℕ → ℕ → List ℕ
-pair_line bid ask quantity = line_text (codes "pair" ∷ decimal bid ∷ decimal ask ∷ decimal quantity ∷ [])
+pair_line bid ask quantity =
+    line_text (codes "pair" ∷ decimal bid ∷ decimal ask ∷ decimal quantity ∷ [])
 
 -- a line of a table
 abbrev pub table_line : Line → List ℕ
@@ -72,7 +74,9 @@ table_line (row.Pair bid ask quantity) = pair_line bid ask quantity
 
 -- `rejected,PROPERTY,LOG,PLACE`
 abbrev pub rejected_line : Finding → List ℕ
-rejected_line f = line_text (codes "rejected" ∷ property_word f.property ∷ log_word f.log ∷ decimal f.place ∷ [])
+rejected_line f =
+    line_text (codes "rejected" ∷ property_word f.property ∷ log_word f.log ∷ decimal f.place
+    ∷ [])
 
 -- `volume,REACHED,GREATEST`
 abbrev pub volume_line : Short → List ℕ
@@ -108,9 +112,10 @@ abbrev pub too_long_line : Which → List ℕ
 too_long_line log = line_text (codes "toolong" ∷ log_word log ∷ [])
 
 -- how the command line is used
-abbrev pub usage_line : List ℕ
-usage_line =
+abbrev pub auditor_usage_line : List ℕ
+auditor_usage_line =
     codes "usage: audit RULE SYMBOL ORDERS TRADES" ++ codes " | expect RULE SYMBOL ORDERS"
     ++ codes " | convert orders|trades csv|fix PATH" ++ codes " | generate START COUNT"
     ++ codes " | certify RULE SYMBOL ORDERS TRADES"
-    ++ codes " | verify SYMBOL ORDERS TRADES CERTIFICATE" ++ codes " | session SYMBOL PHASES ORDERS TRADES" ++ 10 ∷ []
+    ++ codes " | verify SYMBOL ORDERS TRADES CERTIFICATE"
+    ++ codes " | session SYMBOL PHASES ORDERS TRADES" ++ 10 ∷ []

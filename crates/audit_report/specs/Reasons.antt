@@ -5,8 +5,8 @@ use Rattle.audit_base.specs.declared.terms.Which.{Which}
 use Rattle.audit_base.specs.declared.faults.Reason.{Reason}
 use Rattle.audit_base.specs.declared.faults.Reason.TheVariants.{Header, Break, Columns, Column, Begin, Length, Truncated, Trailer, Checksum, Field, MsgType, Missing, Repeated, Value, Unsupported}
 
--- a word that says what is wrong, and, where it is said of a column, a byte or a tag, a colon and
--- this
+-- a word that says what is wrong, and, where it is said of a column,
+-- a byte or a tag, a colon and this
 abbrev pub reason_text : Which → Reason → List ℕ
 reason_text log Header = codes "header"
 reason_text log Break = codes "break"

@@ -11,7 +11,8 @@ use Rattle.audit_report.specs.Lines.{line_text}
 abbrev pub generated_line : ℕ → ℕ → List ℕ
 generated_line start count = line_text (codes "generated" ∷ decimal start ∷ decimal count ∷ [])
 
--- `RULE,TRADES,VOLUME,PRICE`: of a call how many Expected trades there are, their volume, and its bound
+-- `RULE,TRADES,VOLUME,PRICE`: of a call how many Expected trades there are,
+-- their volume, and its bound
 abbrev pub call_line : Rule → ℕ → Cut → List ℕ
 call_line the_rule trades cut =
     line_text (rule_word the_rule ∷ decimal trades ∷ decimal cut.volume ∷ price_text cut.price ∷ [])

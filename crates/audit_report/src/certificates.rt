@@ -1,5 +1,5 @@
-//! The lines that say what came of a certificate, each appended by a function of its own. After `NoMemory`
-//! nothing is known of `out`.
+//! The lines that say what came of a certificate, each appended by a function of its own.
+//! After `NoMemory` nothing is known of `out`.
 ghost use Rattle.std.specs.Prelude.{◌≡◌, ◌++◌, OnOk};
 ghost use Rattle.audit_report.specs.Certificates as text;
 

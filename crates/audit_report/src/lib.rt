@@ -1,5 +1,5 @@
-//! Verdicts and how they are written: the text that a desk reads, line by line, and the status that the
-//! program ends with. The definitions in `specs/` say each line as a function of its parts.
+//! Verdicts and how they are written: the text that a desk reads, line by line, and the status that
+//! the program ends with. The definitions in `specs/` say each line as a function of its parts.
 #![tactic(auto)]
 
 pub mod certificates;

@@ -1,9 +1,9 @@
-//! Lines and their parts. A line is its parts joined by commas, and ends with LF. Lines are appended
-//! to one vector, and no part is made apart.
+//! Lines and their parts. A line is its parts joined by commas, and ends with LF.
+//! Lines are appended to one vector, and no part is made apart.
 ghost use Rattle.std.specs.Prelude.{◌≡◌, ◌++◌, ◌∷◌, [], OnOk, map, decimal};
 ghost use Rattle.std.specs.List.{join_with_byte};
 ghost use Rattle.audit_report.specs.Lines.{line_text};
-ghost use Rattle.audit_report.specs.LineParts.{part_text, rest_text};
+ghost use Rattle.audit_report.specs.LineParts.{part_text, later_parts_text};
 
 use audit_base::faults::NoMemory;
 use audit_base::numbers::Price;
@@ -56,7 +56,8 @@ pub fn append_joined(
 
 /// Appends the parts, each with a comma before it.
 pub fn append_rest(alloc: Global, parts: &[Part<'_>], out: &mut Vec<u8>) -> Result<(), NoMemory>
-    ensures { OnOk result (out.new.items ≡ out.old.items ++ rest_text (map part_text parts.now)) }
+    ensures { OnOk result
+        (out.new.items ≡ out.old.items ++ later_parts_text (map part_text parts.now)) }
 {
     for part in parts {
         append_after_comma(alloc, part, out)?;

@@ -8,8 +8,8 @@ use audit_base::columns::column_name;
 use audit_base::faults::Reason;
 use audit_base::terms::Which;
 
-/// The reason as the last part of a malformed line: a word, and, where it is said of a column, a byte
-/// or a tag, a colon and this.
+/// The reason as the last part of a malformed line: a word, and, where it is said of a column,
+/// a byte or a tag, a colon and this.
 pub fn reason_part(log: Which, reason: Reason) -> Part<'static>
     ensures { part_text result ≡ reason_text log reason }
 {

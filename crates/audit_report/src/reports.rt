@@ -1,4 +1,4 @@
-//! The text of a verdict, and the lines that tell of no verdict.
+//! The text of a verdict, and the lines of a run that has no verdict.
 ghost use Rattle.std.specs.Prelude.{◌≡◌, ◌++◌, OnOk, IfOk};
 ghost use Rattle.std.specs.Option.{ForSome};
 ghost use Rattle.std.specs.List.{flat_map};
@@ -17,9 +17,10 @@ use audit_base::orders::Cut;
 use audit_base::terms::Which;
 use std::alloc::Global;
 
-/// The text of the verdict. The bound line stands there where there is a bound, the volume line where
-/// the finding has one, and the lines of the table as they stand. The price of a bound is at most 10^18
-/// units. A column that a reason names is from 1 to 9; any other has no name in the text.
+/// The text of the verdict. The bound line is there where there is a bound,
+/// the volume line where the finding has one, and the lines of the table are in their order.
+/// The price of a bound is at most 10^18 units. A column that a reason names is from 1 to 9;
+/// any other has no name in the text.
 pub fn report_text(alloc: Global, verdict: &Verdict) -> Result<Vec<u8>, NoMemory>
     requires { IsVerdictInRange verdict.now }
     ensures { IfOk result (λ text. text.items ≡ verdict_text verdict.now) }
@@ -129,7 +130,7 @@ pub fn too_long_text(log: Which) -> &'static [u8]
 
 /// The line that says how the command line is used.
 pub fn usage_text() -> &'static [u8]
-    ensures { result.now ≡ text.usage_line }
+    ensures { result.now ≡ text.auditor_usage_line }
 {
     b"usage: audit RULE SYMBOL ORDERS TRADES \
       | expect RULE SYMBOL ORDERS \

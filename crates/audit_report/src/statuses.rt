@@ -7,7 +7,7 @@ ghost use Rattle.audit_report.specs.Statuses.{status_number};
 pub enum Status {
     /// The command was done in full; for an audit, the log conforms.
     Accepted,
-    /// There is a finding.
+    /// There is a finding; for `verify`, a line of the certificate does not agree.
     Rejected,
     /// The words of the command line are not well-formed.
     Usage,

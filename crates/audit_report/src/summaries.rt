@@ -1,5 +1,5 @@
-//! The lines of the summary of a generated log, each appended by a function of its own. After `NoMemory`
-//! nothing is known of `out`.
+//! The lines of the summary of a generated log, each appended by a function of its own.
+//! After `NoMemory` nothing is known of `out`.
 ghost use Rattle.std.specs.Prelude.{◌≡◌, ◌++◌, OnOk};
 ghost use Rattle.audit_report.specs.Summaries as text;
 ghost use Rattle.audit_report.specs.Texts.{IsBoundInRange};
@@ -27,8 +27,8 @@ pub fn append_generated_line(
     append_line(alloc, b"generated", &parts, out)
 }
 
-/// `RULE,TRADES,VOLUME,PRICE`, with the volume and the price of a bound. The price may be 10^18 units,
-/// which no part of a line can be.
+/// `RULE,TRADES,VOLUME,PRICE`, with the volume and the price of a bound.
+/// The price may be 10^18 units, which no part of a line can be.
 pub fn append_call_line(
     alloc: Global,
     rule: Rule,

@@ -9,7 +9,8 @@ use std::marker::Model;
 pub enum Line {
     /// Of a call: an order with what it has traded.
     Order(OrderLine),
-    /// Of continuous trading: the places of a bid and an ask, and what they traded with one another.
+    /// Of continuous trading: the places of a bid and an ask,
+    /// and what they traded with one another.
     Pair { bid: u32, ask: u32, quantity: u128 },
 }
 

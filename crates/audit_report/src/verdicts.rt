@@ -31,9 +31,10 @@ pub struct Accepted {
 pub enum Verdict {
     /// The log conforms to the rule.
     Accepted(Accepted),
-    /// It does not, and this is the first offence.
+    /// It does not conform, and this is the one finding: of a log,
+    /// or the first offence under the rule.
     Rejected(Finding),
-    /// A log cannot be read, and this is its first bad place.
+    /// A log is not in its grammar, and this is its first bad place.
     Malformed { log: Which, bad: BadPlace },
 }
 

@@ -20,18 +20,18 @@ use Rattle.log_verdict.specs.LogVerdicts.{log_in, order_log, trade_log, OfLogs}
 use Rattle.audit_run.specs.Reporting.{IsReportStatus}
 use Rattle.audit_run.specs.Requests.{log_at, next_log, IsReport}
 use Rattle.audit_run.specs.Runs.{IsText, ReportsLogs, StopsAtLog}
-use Rattle.log_verdict.specs.Steps.{Reading, Step, IsRead, IsReadFault, IsTooLong, Lead, NeverFall, with_slot}
+use Rattle.log_verdict.specs.Steps.{Reading, LogStep, IsRead, IsReadFault, IsTooLong, StepsLead, FaultsNeverFall, with_slot}
 use Rattle.audit_run.proofs.ReportLemmas.{text-of}
 
-module _ (r : Reading) (later : NeverFall r) (orders trades : Source) (request : Request) (starts : StartsBoth request orders trades) where
-  abbrev first_step : Step
+module _ (r : Reading) (later : FaultsNeverFall r) (orders trades : Source) (request : Request) (starts : StartsBoth request orders trades) where
+  abbrev first_step : LogStep
   first_step = step_of r Orders orders.name.now
 
-  abbrev second_step : Step
+  abbrev second_step : LogStep
   second_step = step_of r Trades trades.name.now
 
   -- the order log alone was started
-  one_leads : r.after Trades ≡ r.before Trades → Lead r.before (first_step ∷ []) r.after
+  one_leads : r.after Trades ≡ r.before Trades → StepsLead r.before (first_step ∷ []) r.after
   one_leads same = (record { at = refl; later = later Orders }, ends)
     where
       ends : (log : Which) → r.after log ≡ with_slot r.before Orders (r.after Orders) log
@@ -39,7 +39,7 @@ module _ (r : Reading) (later : NeverFall r) (orders trades : Source) (request :
       ends Trades = same
 
   -- both logs were started
-  both_lead : Lead r.before (first_step ∷ second_step ∷ []) r.after
+  both_lead : StepsLead r.before (first_step ∷ second_step ∷ []) r.after
   both_lead = (record { at = refl; later = later Orders }, (record { at = refl; later = later Trades }, ends))
     where
       ends : (log : Which) → r.after log ≡ with_slot (with_slot r.before Orders (r.after Orders)) Trades (r.after Trades) log
@@ -85,7 +85,7 @@ module _ (r : Reading) (later : NeverFall r) (orders trades : Source) (request :
         let whole = both_reports is.bytes is.read (order_log orders.form is.bytes) refl is.holds in
         text-of r request the_status text (answers whole.logs whole.report) whole
 
-  stops_at : (why : Reading → Step → Type 0) (line : Which → List ℕ) (log : Which) → IsStarted r orders log → why r (step_of r log (source_of orders trades log).name.now)
+  stops_at : (why : Reading → LogStep → Type 0) (line : Which → List ℕ) (log : Which) → IsStarted r orders log → why r (step_of r log (source_of orders trades log).name.now)
       → StopsAtLog why line r request (line log)
   stops_at why line Orders untouched cause = record {
     steps = [];

@@ -9,10 +9,10 @@ use Rattle.audit_base.specs.declared.records.TradeRecord.{TradeRecord}
 use Rattle.audit_base.specs.declared.terms.Rule.{Rule}
 use Rattle.audit_base.specs.declared.terms.Rule.TheVariants as rule
 use Rattle.audit_base.specs.Histories.{history_finding, order_list}
-use Rattle.audit_base.specs.Least.{first_of}
-use Rattle.audit_base.specs.Trades.{deals_of, unsound_trade}
+use Rattle.audit_base.specs.Least.{first_answer}
+use Rattle.audit_base.specs.Trades.{deals_of_symbol, unsound_trade}
 use Rattle.record_verdict.specs.Scopes.{call_scope, early_finding}
-use Rattle.audit_base.specs.Verdicts.{call_finding, log_finding, paired_trades, pairing_finding, IsRuleVerdict}
+use Rattle.audit_base.specs.Verdicts.{instant_order_finding, log_finding, paired_trades, pairing_finding, IsRuleVerdict}
 use Rattle.audit_certificate.specs.Agreement.{AgreesUnder}
 use Rattle.audit_report.specs.declared.statuses.Status.{Status}
 use Rattle.audit_report.specs.declared.statuses.Status.TheVariants as status
@@ -21,12 +21,12 @@ use Rattle.audit_report.specs.declared.verdicts.Verdict.{Verdict}
 use Rattle.audit_report.specs.declared.verdicts.Verdict.TheVariants as verdict
 use Rattle.record_verdict.specs.declared.questions.Question.{Question}
 use Rattle.audit_run.specs.Certificates.{IsCertificateOf, ReportsWith, Verifies, VerifiesRecords}
-use Rattle.record_verdict.specs.Judgements.{IsJudged, IsOutcome}
+use Rattle.record_verdict.specs.Judgements.{IsJudged, IsVerdictOfFinding}
 use Rattle.audit_run.specs.Laws.{CertifiedIsVerified}
 use Rattle.log_verdict.specs.LogVerdicts.{IsLogVerdict, Log}
 
 -- the rules of certificates admit the same orders
-same_call : (the_rule : Rule) (symbol : List ℕ) (orders : List Order) (deals : List Deal) (text : List ℕ) → AgreesUnder the_rule symbol orders deals text → call_finding the_rule orders ≡ call_finding rule.Uniform orders
+same_call : (the_rule : Rule) (symbol : List ℕ) (orders : List Order) (deals : List Deal) (text : List ℕ) → AgreesUnder the_rule symbol orders deals text → instant_order_finding the_rule orders ≡ instant_order_finding rule.Uniform orders
 same_call rule.Uniform symbol orders deals text is = refl
 same_call rule.Maximum symbol orders deals text is = refl
 same_call rule.Matching symbol orders deals text is = absurd is
@@ -42,16 +42,16 @@ none_before q entries paired a is = of_before (log_finding q.rule q.symbol entri
     orders = order_list q.symbol entries
 
     deals : List Deal
-    deals = deals_of orders q.symbol (paired_trades paired)
+    deals = deals_of_symbol orders q.symbol (paired_trades paired)
 
     apart : (finding : Finding) → verdict.Accepted a ≡ verdict.Rejected finding → ⊥
     apart finding e = cc
 
     of_before : (before found : Option Finding) → MatchOption before (IsRuleVerdict q.rule orders deals (length (paired_trades paired)) found) (λ finding. found ≡ Some finding)
-        → IsOutcome q orders deals found (verdict.Accepted a) → before ≡ None
+        → IsVerdictOfFinding q orders deals found (verdict.Accepted a) → before ≡ None
     of_before None found rules outcome = refl
     of_before (Some finding) found rules outcome =
-        absurd (apart finding (subst (λ (o : Option Finding). IsOutcome q orders deals o (verdict.Accepted a)) rules outcome))
+        absurd (apart finding (subst (λ (o : Option Finding). IsVerdictOfFinding q orders deals o (verdict.Accepted a)) rules outcome))
 
 module _ (q : Question) (orders trades : Log) (certificate text : List ℕ) (the_status : Status) where
   -- what was written agrees, so that it is not refused
@@ -62,8 +62,8 @@ module _ (q : Question) (orders trades : Log) (certificate text : List ℕ) (the
       let none : log_finding q.rule q.symbol is.entries is.paired ≡ None = none_before q is.entries is.paired a judged in
       let admits = same_call q.rule q.symbol (order_list q.symbol is.entries) _ certificate is.agrees in
       let same : early_finding (call_scope q.symbol) is.entries is.paired ≡ None =
-      ap (λ (i : Option Finding). first_of (history_finding q.symbol is.entries ∷ i ∷ pairing_finding is.paired ∷ unsound_trade (order_list q.symbol is.entries) q.symbol (paired_trades is.paired) ∷ [])) (sym admits) ∙ none in
-      let came : Verifies q.symbol (order_list q.symbol is.entries) (deals_of (order_list q.symbol is.entries) q.symbol (paired_trades is.paired)) certificate the_status text = rw same at verified in
+      ap (λ (i : Option Finding). first_answer (history_finding q.symbol is.entries ∷ i ∷ pairing_finding is.paired ∷ unsound_trade (order_list q.symbol is.entries) q.symbol (paired_trades is.paired) ∷ [])) (sym admits) ∙ none in
+      let came : Verifies q.symbol (order_list q.symbol is.entries) (deals_of_symbol (order_list q.symbol is.entries) q.symbol (paired_trades is.paired)) certificate the_status text = rw same at verified in
       ⊎_elim (λ verified. verified.status_is) (λ disproved. absurd (disproved.none q.rule is.agrees)) came
 
   of_verdict : (v : Verdict) → IsLogVerdict q orders trades v → ReportsWith (IsCertificateOf q orders trades) v status.Accepted certificate

@@ -26,7 +26,7 @@ use Rattle.log_verdict.specs.LogVerdicts.{log_in, order_log, trade_log}
 use Rattle.audit_run.specs.Reporting.{DecidesLog, SaysReport}
 use Rattle.audit_run.specs.Requests.{next_log}
 use Rattle.audit_run.specs.Runs.{IsText, ReadsOn, StopsAtLog}
-use Rattle.log_verdict.specs.Steps.{Reading, Step, IsRead, IsReadFault, IsTooLong, Lead, NeverFall, with_slot}
+use Rattle.log_verdict.specs.Steps.{Reading, LogStep, IsRead, IsReadFault, IsTooLong, StepsLead, FaultsNeverFall, with_slot}
 use Rattle.record_verdict.specs.BeforeRule.{is_malformed, IsBeforeRule}
 use Rattle.audit_run.proofs.ReportLemmas.{text-of, verify-status}
 use Rattle.audit_run.specs.Deciding.{verify_of, DecidesReport, IsStop}
@@ -90,7 +90,7 @@ pub record Continues (first second : Reading) : Type 0 where
   pub logs : (log : Which) (name : List ℕ) → second.log_of log name ≡ first.log_of log name
   pub slots : (log : Which) → second.before log ≡ first.after log
 
-module _ (first second : Reading) (after : Continues first second) (later : NeverFall first) (only : TouchesOnly second Trades) (symbol : List ℕ) (orders trades : Source) (certificate : List ℕ) where
+module _ (first second : Reading) (after : Continues first second) (later : FaultsNeverFall first) (only : TouchesOnly second Trades) (symbol : List ℕ) (orders trades : Source) (certificate : List ℕ) where
   abbrev whole : Reading
   whole = joined first second
 
@@ -100,23 +100,23 @@ module _ (first second : Reading) (after : Continues first second) (later : Neve
   abbrev request : Request
   request = verify_of symbol orders trades certificate
 
-  abbrev first_step : Step
+  abbrev first_step : LogStep
   first_step = step_of first Orders orders.name.now
 
-  abbrev second_step : Step
+  abbrev second_step : LogStep
   second_step = step_of first Trades trades.name.now
 
-  abbrev third_step : Step
+  abbrev third_step : LogStep
   third_step = step_of second Trades certificate
 
-  three_lead : Lead whole.before (first_step ∷ second_step ∷ third_step ∷ []) whole.after
+  three_lead : StepsLead whole.before (first_step ∷ second_step ∷ third_step ∷ []) whole.after
   three_lead = (record { at = refl; later = later Orders }, (record { at = refl; later = later Trades }, (record { at = after.slots Trades; later = only.later }, ends)))
     where
       ends : (log : Which) → whole.after log ≡ with_slot (with_slot (with_slot whole.before Orders (first.after Orders)) Trades (first.after Trades)) Trades (second.after Trades) log
       ends Orders = only.other ∙ after.slots Orders
       ends Trades = refl
 
-  read_first : (step : Step) (bytes : List ℕ) → IsRead first step bytes → IsRead whole step bytes
+  read_first : (step : LogStep) (bytes : List ℕ) → IsRead first step bytes → IsRead whole step bytes
   read_first step bytes is = record { once = is.once; started = is.started; at_end = is.at_end; within = is.within; taken = is.taken; known = is.known }
 
   read_third : (bytes : List ℕ) → IsRead second third_step bytes → IsRead whole third_step bytes
@@ -164,7 +164,7 @@ module _ (first second : Reading) (after : Continues first second) (later : Neve
           report = verified;
         })
 
-    stops_third : (why : Reading → Step → Type 0) (line : Which → List ℕ) → why whole third_step → StopsAtLog why line whole request (line Trades)
+    stops_third : (why : Reading → LogStep → Type 0) (line : Which → List ℕ) → why whole third_step → StopsAtLog why line whole request (line Trades)
     stops_third why line cause = record {
       steps = first_step ∷ second_step ∷ [];
       logs = both.one ∷ both.two ∷ [];
@@ -205,7 +205,7 @@ module _ (first second : Reading) (after : Continues first second) (later : Neve
   at_most : (a b c : ℕ) → a ≤ b → b ≤ c → a ≤ c
   at_most a b c x y = omega arith
 
-  pub later_certificate : NeverFall whole
+  pub later_certificate : FaultsNeverFall whole
   later_certificate Orders = subst (λ (s : Slot). (first.before Orders).faults ≤ s.faults) (sym (only.other ∙ after.slots Orders)) (later Orders)
   later_certificate Trades =
       at_most (first.before Trades).faults (first.after Trades).faults (second.after Trades).faults (later Trades)

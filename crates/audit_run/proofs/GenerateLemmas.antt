@@ -6,11 +6,11 @@ use Rattle.audit_base.specs.declared.orders.Deal.{Deal}
 use Rattle.audit_base.specs.declared.orders.Cut.{Cut}
 use Rattle.audit_base.specs.declared.terms.Rule.TheVariants as rule
 use Rattle.audit_base.specs.declared.terms.VolumeRule.TheVariants as of_volume
-use Rattle.audit_base.specs.Bounds.{IsBestUniform, IsBound}
+use Rattle.audit_base.specs.Bounds.{IsGreatestExecutableVolume, IsBoundPrice}
 use Rattle.audit_base.specs.Calls.{IsGreatestUniformVolume}
 use Rattle.audit_base.specs.Deals.{volume}
 use Rattle.audit_base.specs.Least.{IsLeast}
-use Rattle.audit_base.specs.Orders.{AreOrders, IsOrderList}
+use Rattle.audit_base.specs.Orders.{OrdersInRange, IsOrderList}
 use Rattle.audit_base.specs.Expected.{uniform_deals, IsExpectedUniform}
 use Rattle.call_laws.specs.Optimum.{UniformOptimum, UniformTradesAreExpected}
 use Rattle.audit_report.specs.Summaries.{call_line}
@@ -31,18 +31,18 @@ one-uniform orders v w x y =
     let a = x.reached in let b = y.reached in
     omega arith
 
-module _ (orders : List Order) (deals : List Deal) (c : Cut) (list : IsOrderList orders) (numbers : AreOrders orders) where
+module _ (orders : List Order) (deals : List Deal) (c : Cut) (list : IsOrderList orders) (numbers : OrdersInRange orders) where
   -- the Expected trades of `uniform` have the greatest executable volume
-  pub uniform_volume : UniformOptimum → UniformTradesAreExpected → IsBestUniform orders c → IsExpectedUniform orders deals → c.volume ≡ volume deals
+  pub uniform_volume : UniformOptimum → UniformTradesAreExpected → IsGreatestExecutableVolume orders c → IsExpectedUniform orders deals → c.volume ≡ volume deals
   uniform_volume optimum expected best is =
       let known = expected orders c list numbers best in
       let most : is.most ≡ c.volume = one-uniform orders is.most c.volume is.greatest known.1 in
-      let bound : is.bound ≡ c.price = one-least _ is.bound c.price (subst (λ (v : ℕ). IsBound of_volume.Uniform orders v is.bound) most is.is_bound) known.2 in
+      let bound : is.bound ≡ c.price = one-least _ is.bound c.price (subst (λ (v : ℕ). IsBoundPrice of_volume.Uniform orders v is.bound) most is.is_bound) known.2 in
       let same : deals ≡ uniform_deals orders c.volume c.price = is.pairs ∙ ap (λ (v : ℕ). uniform_deals orders v is.bound) most ∙ ap (λ (p : ℕ). uniform_deals orders c.volume p) bound in
       sym (ap volume same ∙ (optimum orders c list numbers best).1)
 
   -- so the line with as many trades is that of the Expected trades
-  pub uniform-adds : UniformOptimum → UniformTradesAreExpected → IsBestUniform orders c → IsExpectedUniform orders deals → (trades : ℕ) → trades ≡ length deals
+  pub uniform-adds : UniformOptimum → UniformTradesAreExpected → IsGreatestExecutableVolume orders c → IsExpectedUniform orders deals → (trades : ℕ) → trades ≡ length deals
       → (old new : List ℕ) → new ≡ old ++ call_line rule.Uniform trades c → AddsLine (IsCallLine of_volume.Uniform orders) old new
   uniform-adds optimum expected best is trades count old new added =
       let reached = uniform_volume optimum expected best is in
@@ -53,7 +53,7 @@ module _ (orders : List Order) (deals : List Deal) (c : Cut) (list : IsOrderList
           expected = is;
           bound = c;
           volume_is = reached;
-          shows = subst (λ (v : ℕ). IsBound of_volume.Uniform orders v c.price) reached (expected orders c list numbers best).2;
+          shows = subst (λ (v : ℕ). IsBoundPrice of_volume.Uniform orders v c.price) reached (expected orders c list numbers best).2;
           line_is = ap (λ (t : ℕ). call_line rule.Uniform t c) count;
         };
         added = added;

@@ -22,7 +22,7 @@ use Rattle.record_verdict.specs.declared.before_rule.BeforeRule.TheVariants as u
 use Rattle.record_verdict.specs.declared.questions.Question.{Question}
 use Rattle.audit_run.specs.declared.reports.Report.{Report}
 use Rattle.audit_run.specs.Certificates.{IsCertificateOf, ReportsWith}
-use Rattle.record_verdict.specs.Judgements.{IsJudged, IsOutcome}
+use Rattle.record_verdict.specs.Judgements.{IsJudged, IsVerdictOfFinding}
 use Rattle.audit_run.specs.JudgedReports.{IsCertified, IsDealsCertificate, LogsComeTo, ReportsCertify}
 use Rattle.log_verdict.specs.LogVerdicts.{order_log, trade_log, HaveRecords, IsLogVerdict, Log, OfLogs}
 use Rattle.record_verdict.specs.Scopes.{scope_of}
@@ -126,6 +126,6 @@ accepted_conforms q orders deals count a is = by_finding is.found is.by_the_rule
     apart : (finding : Finding) → verdict.Accepted a ≡ verdict.Rejected finding → ⊥
     apart finding e = cc
 
-    by_finding : (found : Option Finding) → IsRuleVerdict q.rule orders deals count found → IsOutcome q orders deals found (verdict.Accepted a) → Conforms q.rule orders deals
+    by_finding : (found : Option Finding) → IsRuleVerdict q.rule orders deals count found → IsVerdictOfFinding q orders deals found (verdict.Accepted a) → Conforms q.rule orders deals
     by_finding None conforms outcome = conforms
     by_finding (Some finding) offence outcome = absurd (apart finding outcome)

@@ -7,7 +7,7 @@ use Rattle.audit_report.specs.declared.statuses.Status.TheVariants as status
 use Rattle.log_source.specs.declared.quiet_shelf.QuietShelf.{QuietShelf}
 use Rattle.log_source.specs.MemorySinks.{sure_room}
 use Rattle.log_source.specs.QuietShelves.{quiet_log, quiet_slot}
-use Rattle.log_source.specs.Sinks.{SinkState, Stays}
+use Rattle.log_source.specs.Sinks.{SinkState, SinkStays}
 use Rattle.log_source.specs.Sources.{Rose, longest_log}
 use Rattle.command_words.specs.declared.requests.Request.{Request}
 use Rattle.audit_run.specs.InMemory.{ReportsInRoom}
@@ -53,7 +53,7 @@ no_fails fails room none = rw none refl
 
 -- where the sink has room for the report, it is written
 pub in_room : (asked : Option Request) (old new : QuietShelf) (before after : SinkState) (written fails : List ℕ) (room : ℕ) (result : Status) → before.wrote ≡ Some written → before.sure ≡ sure_room fails room
-    → Stays before after → fails ≡ [] → Runs asked (quiet_reading old new) before after result
+    → SinkStays before after → fails ≡ [] → Runs asked (quiet_reading old new) before after result
     → ReportsInRoom asked (quiet_reading old new) (length written) room before after result
 in_room None old new before after written fails room result wrote sure stays none runs = tt
 in_room (Some request) old new before after written fails room result wrote sure stays none runs = λ logs ready.

@@ -15,13 +15,13 @@ use Rattle.audit_base.specs.declared.terms.VolumeRule.{VolumeRule}
 use Rattle.audit_base.specs.declared.terms.VolumeRule.TheVariants as of_volume
 use Rattle.audit_base.specs.declared.terms.Which.{Which}
 use Rattle.audit_base.specs.declared.terms.Which.TheVariants.{Orders, Trades}
-use Rattle.audit_base.specs.Bounds.{IsBound}
+use Rattle.audit_base.specs.Bounds.{IsBoundPrice}
 use Rattle.audit_base.specs.Deals.{volume}
 use Rattle.audit_base.specs.Expected.{trades_of_deals}
 use Rattle.audit_base.specs.Histories.{history_finding, order_list}
-use Rattle.audit_base.specs.Least.{first_of}
+use Rattle.audit_base.specs.Least.{first_answer}
 use Rattle.audit_base.specs.RuleKinds.{rule_of_volume, volume_rule}
-use Rattle.audit_base.specs.Trades.{AreTrades, deals_of, unsound_trade}
+use Rattle.audit_base.specs.Trades.{TradesInRange, deals_of_symbol, unsound_trade}
 use Rattle.audit_base.specs.Verdicts.{paired_trades, pairing_finding}
 use Rattle.audit_base.proofs.HistoryLemmas.{order_list-rising}
 use Rattle.audit_base.proofs.LeastLemmas.{option_or-parts}
@@ -38,7 +38,7 @@ use Rattle.audit_report.specs.Statuses.{verdict_status}
 use Rattle.audit_report.specs.Summaries.{call_line, continuous_line, generated_line}
 use Rattle.audit_report.specs.Texts.{verdict_text}
 use Rattle.command_words.specs.declared.requests.Request.TheVariants.{Audit, Expect, Convert, Generate, Certify, Verify, Session}
-use Rattle.csv_logs.specs.Written.{orders_text, trades_text}
+use Rattle.csv_logs.specs.Written.{csv_orders_text, csv_trades_text}
 use Rattle.log_maker.specs.Generator.{generated_records, generated_symbol}
 use Rattle.log_verdict.specs.Laws.{OneVerdict}
 use Rattle.log_verdict.specs.LogVerdicts.{HaveRecords, IsLogVerdict, Log, OfLogs, log_in, order_log, trade_log}
@@ -119,15 +119,15 @@ reports-one is_text one (Malformed log bad) s t a b x y = refused-one (Malformed
 -- `convert`
 convert-one : (which : Which) (log : Log) (s t : Status) (a b : List ℕ) → IsConvertReport which log s a → IsConvertReport which log t b → Same s t a b
 convert-one Orders log s t a b x y =
-    by-result (order_log log.form log.bytes) (λ entries. IsDone (λ written. written ≡ orders_text entries) s a) (λ entries. IsDone (λ written. written ≡ orders_text entries) t b)
+    by-result (order_log log.form log.bytes) (λ entries. IsDone (λ written. written ≡ csv_orders_text entries) s a) (λ entries. IsDone (λ written. written ≡ csv_orders_text entries) t b)
     (λ bad. IsRefused (Malformed Orders bad) s a) (λ bad. IsRefused (Malformed Orders bad) t b) (Same s t a b)
-    (λ entries is. done-one (λ written. written ≡ orders_text entries) (text-one (orders_text entries)) s t a b) (λ bad. refused-one (Malformed Orders bad) s t a b) x y
+    (λ entries is. done-one (λ written. written ≡ csv_orders_text entries) (text-one (csv_orders_text entries)) s t a b) (λ bad. refused-one (Malformed Orders bad) s t a b) x y
 convert-one Trades log s t a b x y =
     by-result (trade_log log.form log.bytes) (λ paired. ConvertsTrades paired s a) (λ paired. ConvertsTrades paired t b)
     (λ bad. IsRefused (Malformed Trades bad) s a) (λ bad. IsRefused (Malformed Trades bad) t b) (Same s t a b)
-    (λ paired is p q. by-result paired (λ trades. IsDone (λ written. written ≡ trades_text trades) s a) (λ trades. IsDone (λ written. written ≡ trades_text trades) t b)
+    (λ paired is p q. by-result paired (λ trades. IsDone (λ written. written ≡ csv_trades_text trades) s a) (λ trades. IsDone (λ written. written ≡ csv_trades_text trades) t b)
     (λ finding. IsRefused (Rejected finding) s a) (λ finding. IsRefused (Rejected finding) t b) (Same s t a b)
-    (λ trades same. done-one (λ written. written ≡ trades_text trades) (text-one (trades_text trades)) s t a b) (λ finding. refused-one (Rejected finding) s t a b) p q)
+    (λ trades same. done-one (λ written. written ≡ csv_trades_text trades) (text-one (csv_trades_text trades)) s t a b) (λ finding. refused-one (Rejected finding) s t a b) p q)
     (λ bad. refused-one (Malformed Trades bad) s t a b) x y
 
 module _ (laws : Laws) where
@@ -143,10 +143,10 @@ module _ (laws : Laws) where
   certificate-one q orders trades a b x y =
       let entries : x.entries ≡ y.entries = ok-same x.entries y.entries (sym x.logs.records ∙ y.logs.records) in
       let paired : x.paired ≡ y.paired = ok-same x.paired y.paired (sym x.logs.trades_are ∙ y.logs.trades_are) in
-      let here : IsCertificateUnder q.rule q.symbol (order_list q.symbol y.entries) (deals_of (order_list q.symbol y.entries) q.symbol (paired_trades y.paired)) a =
-      subst (λ (p : Result (List TradeRecord) Finding). IsCertificateUnder q.rule q.symbol (order_list q.symbol y.entries) (deals_of (order_list q.symbol y.entries) q.symbol (paired_trades p)) a) paired
-      (subst (λ (es : List OrderRecord). IsCertificateUnder q.rule q.symbol (order_list q.symbol es) (deals_of (order_list q.symbol es) q.symbol (paired_trades x.paired)) a) entries x.certificate) in
-      under (order_list q.symbol y.entries) (deals_of (order_list q.symbol y.entries) q.symbol (paired_trades y.paired)) here y.certificate
+      let here : IsCertificateUnder q.rule q.symbol (order_list q.symbol y.entries) (deals_of_symbol (order_list q.symbol y.entries) q.symbol (paired_trades y.paired)) a =
+      subst (λ (p : Result (List TradeRecord) Finding). IsCertificateUnder q.rule q.symbol (order_list q.symbol y.entries) (deals_of_symbol (order_list q.symbol y.entries) q.symbol (paired_trades p)) a) paired
+      (subst (λ (es : List OrderRecord). IsCertificateUnder q.rule q.symbol (order_list q.symbol es) (deals_of_symbol (order_list q.symbol es) q.symbol (paired_trades x.paired)) a) entries x.certificate) in
+      under (order_list q.symbol y.entries) (deals_of_symbol (order_list q.symbol y.entries) q.symbol (paired_trades y.paired)) here y.certificate
     where
       under : (history : List Order) (deals : List Deal) → IsCertificateUnder q.rule q.symbol history deals a → IsCertificateUnder q.rule q.symbol history deals b → a ≡ b
       under history deals p r = by-some (volume_rule q.rule) (λ v. IsCertificate v q.symbol history deals a) (λ v. IsCertificate v q.symbol history deals b) (a ≡ b)
@@ -175,7 +175,7 @@ module _ (laws : Laws) where
       (λ log bad. IsRefused (Malformed log bad) s a) (λ log bad. IsRefused (Malformed log bad) t b) (Same s t a b)
       (λ entries paired have p q.
       let history : List Order = order_list symbol entries in
-      let deals : List Deal = deals_of history symbol (paired_trades paired) in
+      let deals : List Deal = deals_of_symbol history symbol (paired_trades paired) in
       by-option (early_finding (call_scope symbol) entries paired) (Verifies symbol history deals certificate s a) (Verifies symbol history deals certificate t b)
       (λ finding. IsRefused (Rejected finding) s a) (λ finding. IsRefused (Rejected finding) t b) (Same s t a b)
       (λ none. verifies-one symbol history deals certificate s t a b) (λ finding. refused-one (Rejected finding) s t a b) p q)
@@ -191,13 +191,13 @@ module _ (laws : Laws) where
       let whole : x.totals.1 ≡ y.totals.1 = x.conforms.volume_is ∙ sym y.conforms.volume_is in
       x.text_is ∙ (λ i. day_text symbol phases orders (listed i, whole i) (length deals) table) ∙ sym y.text_is
 
-  module _ (symbol : List ℕ) (phases : List Phase) (table : Bool) (entries : List OrderRecord) (paired : Result (List TradeRecord) Finding) (ranges : AreTrades (paired_trades paired))
+  module _ (symbol : List ℕ) (phases : List Phase) (table : Bool) (entries : List OrderRecord) (paired : Result (List TradeRecord) Finding) (ranges : TradesInRange (paired_trades paired))
       (s t : Status) (a b : List ℕ) where
     abbrev history : List Order
     history = order_list symbol entries
 
     abbrev deals : List Deal
-    deals = deals_of history symbol (paired_trades paired)
+    deals = deals_of_symbol history symbol (paired_trades paired)
 
     abbrev count : ℕ
     count = length (paired_trades paired)
@@ -206,9 +206,9 @@ module _ (laws : Laws) where
     sound none =
         let last = unsound_trade history symbol (paired_trades paired) in
         let admitted = unadmitted_order (day_scope symbol).admission history in
-        let first = option_or-parts (history_finding symbol entries) (first_of (admitted ∷ pairing_finding paired ∷ last ∷ [])) none in
-        let second = option_or-parts admitted (first_of (pairing_finding paired ∷ last ∷ [])) first.1 in
-        let third = option_or-parts (pairing_finding paired) (first_of (last ∷ [])) second.1 in
+        let first = option_or-parts (history_finding symbol entries) (first_answer (admitted ∷ pairing_finding paired ∷ last ∷ [])) none in
+        let second = option_or-parts admitted (first_answer (pairing_finding paired ∷ last ∷ [])) first.1 in
+        let third = option_or-parts (pairing_finding paired) (first_answer (last ∷ [])) second.1 in
         (option_or-parts last None third.1).0
 
     judged-one : early_finding (day_scope symbol) entries paired ≡ None → JudgesDay symbol phases table history deals count s a → JudgesDay symbol phases table history deals count t b → Same s t a b
@@ -229,14 +229,14 @@ module _ (laws : Laws) where
   session-one symbol phases table orders trades s t a b x y =
       of-logs orders trades (λ entries paired. JudgesDayOf symbol phases table entries paired s a) (λ entries paired. JudgesDayOf symbol phases table entries paired t b)
       (λ log bad. IsRefused (Malformed log bad) s a) (λ log bad. IsRefused (Malformed log bad) t b) (Same s t a b)
-      (λ entries paired have. day-one symbol phases table entries paired (known (trade_log trades.form trades.bytes) (λ p. AreTrades (paired_trades p)) paired (laws.ranges trades.form trades.bytes) have.trades_are) s t a b)
+      (λ entries paired have. day-one symbol phases table entries paired (known (trade_log trades.form trades.bytes) (λ p. TradesInRange (paired_trades p)) paired (laws.ranges trades.form trades.bytes) have.trades_are) s t a b)
       (λ log bad. refused-one (Malformed log bad) s t a b) x y
 
   -- `expect`
   expected-log-one : (the_rule : Rule) (symbol : List ℕ) (entries : List OrderRecord) (a b : List ℕ) → IsExpectedLog the_rule symbol entries a → IsExpectedLog the_rule symbol entries b → a ≡ b
   expected-log-one the_rule symbol entries a b x y =
       let same = laws.expected the_rule symbol entries x.deals y.deals x.expected y.expected in
-      x.text_is ∙ ap (λ (ds : List Deal). trades_text (trades_of_deals (order_list symbol entries) symbol ds)) same ∙ sym y.text_is
+      x.text_is ∙ ap (λ (ds : List Deal). csv_trades_text (trades_of_deals (order_list symbol entries) symbol ds)) same ∙ sym y.text_is
 
   expect-one : (the_rule : Rule) (symbol : List ℕ) (orders : Log) (s t : Status) (a b : List ℕ) → IsExpectReport the_rule symbol orders s a → IsExpectReport the_rule symbol orders t b → Same s t a b
   expect-one the_rule symbol orders s t a b x y =
@@ -252,7 +252,7 @@ module _ (laws : Laws) where
   call-line-one r entries a b x y =
       let orders : List Order = order_list generated_symbol entries in
       let same = laws.expected (rule_of_volume r) generated_symbol entries x.deals y.deals x.expected y.expected in
-      let price = one-bound r orders (volume y.deals) x.bound.price y.bound.price (subst (λ (ds : List Deal). IsBound r orders (volume ds) x.bound.price) same x.shows) y.shows in
+      let price = one-bound r orders (volume y.deals) x.bound.price y.bound.price (subst (λ (ds : List Deal). IsBoundPrice r orders (volume ds) x.bound.price) same x.shows) y.shows in
       let whole : x.bound.volume ≡ y.bound.volume = x.volume_is ∙ ap volume same ∙ sym y.volume_is in
       x.line_is ∙ (λ i. call_line (rule_of_volume r) (length (same i)) (record { price = price i; volume = whole i })) ∙ sym y.line_is
 

@@ -4,7 +4,7 @@ use Rattle.std.specs.Prelude.{IsSomeAnd}
 use Rattle.audit_base.specs.declared.terms.Which.{Which}
 use Rattle.audit_report.specs.declared.statuses.Status.{Status}
 use Rattle.audit_report.specs.declared.statuses.Status.TheVariants as status
-use Rattle.log_source.specs.Sinks.{SinkState, Stays}
+use Rattle.log_source.specs.Sinks.{SinkState, SinkStays}
 use Rattle.log_source.specs.Sources.{Rose}
 use Rattle.command_words.specs.declared.requests.Request.{Request}
 use Rattle.audit_run.specs.InMemory.{HasRoomForReport}
@@ -73,7 +73,7 @@ module _ (r : Reading) (request : Request) (logs : List (List ℕ)) (tells : r.t
   fits written room ready status.WriteFault text is = absurd is
   fits written room ready status.Memory text is = absurd is
 
-  pub report_in_room : (old new : SinkState) (before : List ℕ) (room : ℕ) (result : Status) → old.wrote ≡ Some before → old.sure ≡ room → Stays old new → HasRoomForReport r request logs (length before) room
+  pub report_in_room : (old new : SinkState) (before : List ℕ) (room : ℕ) (result : Status) → old.wrote ≡ Some before → old.sure ≡ room → SinkStays old new → HasRoomForReport r request logs (length before) room
       → Answers r request old new result → WritesReport request logs old new result
   report_in_room old new before room result wrote sure stays ready is =
       report_unless r request logs tells ready.held quiet old new result

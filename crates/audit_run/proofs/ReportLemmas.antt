@@ -11,9 +11,9 @@ use Rattle.audit_base.specs.declared.terms.Rule.{Rule}
 use Rattle.audit_base.specs.declared.terms.Which.{Which}
 use Rattle.audit_base.specs.declared.terms.Which.TheVariants.{Orders, Trades}
 use Rattle.audit_base.specs.Histories.{history_finding, order_list, WellFormed}
-use Rattle.audit_base.specs.Trades.{deals_of}
+use Rattle.audit_base.specs.Trades.{deals_of_symbol}
 use Rattle.record_verdict.specs.Scopes.{call_scope, day_scope, early_finding}
-use Rattle.audit_base.specs.Verdicts.{call_finding, paired_trades}
+use Rattle.audit_base.specs.Verdicts.{instant_order_finding, paired_trades}
 use Rattle.audit_report.specs.declared.statuses.Status.{Status}
 use Rattle.audit_report.specs.declared.statuses.Status.TheVariants as status
 use Rattle.audit_report.specs.declared.verdicts.Verdict.{Verdict}
@@ -22,7 +22,7 @@ use Rattle.audit_report.specs.Lines.{read_fault_line, too_long_line}
 use Rattle.audit_report.specs.Statuses.{verdict_status}
 use Rattle.audit_report.specs.Texts.{verdict_text}
 use Rattle.log_source.specs.declared.shelf.Shelf.{Ghosts as Shelf}
-use Rattle.log_source.specs.Sources.{longest_log, other_of}
+use Rattle.log_source.specs.Sources.{longest_log, other_log}
 use Rattle.log_verdict.specs.declared.reading.Unread.{Unread}
 use Rattle.log_verdict.specs.declared.reading.Unread.TheVariants as unread
 use Rattle.audit_run.specs.declared.reports.Report.{Report}
@@ -33,7 +33,7 @@ use Rattle.record_verdict.specs.declared.questions.Question.{Question}
 use Rattle.audit_run.specs.Certificates.{IsCertificateOf, IsCertifyReport, IsVerifyReport, ReportsWith, Verifies, VerifiesRecords}
 use Rattle.log_verdict.specs.BothLogs.{StaysWithin, StaysWithinAt}
 use Rattle.log_verdict.specs.Collecting.{step_of, IsUnread, TouchesOnly}
-use Rattle.csv_logs.specs.Written.{orders_text, trades_text}
+use Rattle.csv_logs.specs.Written.{csv_orders_text, csv_trades_text}
 use Rattle.session_audit.specs.declared.phases.Phase.{Phase}
 use Rattle.audit_run.specs.Sessions.{IsDayText, IsSessionReport, JudgesDay, JudgesDayOf}
 use Rattle.log_verdict.specs.LogVerdicts.{Log, order_log, trade_log}
@@ -42,7 +42,7 @@ use Rattle.audit_run.specs.Reporting.{DecidesLog, IsReportStatus, IsWithoutLog, 
 use Rattle.audit_run.specs.Requests.{next_log, IsReport, ReportsVerdict}
 use Rattle.audit_run.specs.Runs.{IsText, ReportsLogs, StopsAtLog}
 use Rattle.log_verdict.specs.declared.sources.Source.{Source}
-use Rattle.log_verdict.specs.Steps.{Reading, Step, IsReadFault, IsTooLong, BeginsWithin, Lead, NeverFall, with_slot, reading, reading_by, reading_within}
+use Rattle.log_verdict.specs.Steps.{Reading, LogStep, IsReadFault, IsTooLong, BeginsWithin, StepsLead, FaultsNeverFall, with_slot, reading, reading_by, reading_within}
 use Rattle.audit_run.specs.Deciding.{DecidesReport, IsReportOf}
 
 -- The statuses that a report may have.
@@ -82,7 +82,7 @@ verify-status symbol orders trades certificate s text is = of_said (order_log or
         → MatchResult first (λ entries. MatchResult second (λ paired. VerifiesRecords symbol certificate entries paired s text) (λ bad. IsRefused (verdict.Malformed Trades bad) s text))
         (λ bad. IsRefused (verdict.Malformed Orders bad) s text) → IsReportStatus s
     of_said (Ok entries) (Ok paired) is =
-        verifies-status symbol (order_list symbol entries) (deals_of (order_list symbol entries) symbol (paired_trades paired)) certificate (early_finding (call_scope symbol) entries paired) s text is
+        verifies-status symbol (order_list symbol entries) (deals_of_symbol (order_list symbol entries) symbol (paired_trades paired)) certificate (early_finding (call_scope symbol) entries paired) s text is
     of_said (Ok entries) (Err bad) is = refused-status (verdict.Malformed Trades bad) s text is
     of_said (Err bad) second is = refused-status (verdict.Malformed Orders bad) s text is
 
@@ -99,7 +99,7 @@ session-status symbol phases table orders trades s text is = of_said (order_log 
         → MatchResult first (λ entries. MatchResult second (λ paired. JudgesDayOf symbol phases table entries paired s text) (λ bad. IsRefused (verdict.Malformed Trades bad) s text))
         (λ bad. IsRefused (verdict.Malformed Orders bad) s text) → IsReportStatus s
     of_said (Ok entries) (Ok paired) is =
-        days-status symbol phases table (order_list symbol entries) (deals_of (order_list symbol entries) symbol (paired_trades paired)) (length (paired_trades paired))
+        days-status symbol phases table (order_list symbol entries) (deals_of_symbol (order_list symbol entries) symbol (paired_trades paired)) (length (paired_trades paired))
         (early_finding (day_scope symbol) entries paired) s text is
     of_said (Ok entries) (Err bad) is = refused-status (verdict.Malformed Trades bad) s text is
     of_said (Err bad) second is = refused-status (verdict.Malformed Orders bad) s text is
@@ -115,12 +115,12 @@ expect-status the_rule symbol (Ok entries) s text is = expects-status the_rule s
 expect-status the_rule symbol (Err bad) s text is = refused-status _ s text is
 
 converts-status : (paired : Result (List TradeRecord) Finding) (s : Status) (text : List ℕ) → ConvertsTrades paired s text → IsReportStatus s
-converts-status (Ok trades) s text is = done-status (λ written. written ≡ trades_text trades) s text is
+converts-status (Ok trades) s text is = done-status (λ written. written ≡ csv_trades_text trades) s text is
 converts-status (Err finding) s text is = refused-status (verdict.Rejected finding) s text is
 
 orders-status : (said : Result (List OrderRecord) BadPlace) (s : Status) (text : List ℕ)
-    → MatchResult said (λ entries. IsDone (λ written. written ≡ orders_text entries) s text) (λ bad. IsRefused (verdict.Malformed Orders bad) s text) → IsReportStatus s
-orders-status (Ok entries) s text is = done-status (λ written. written ≡ orders_text entries) s text is
+    → MatchResult said (λ entries. IsDone (λ written. written ≡ csv_orders_text entries) s text) (λ bad. IsRefused (verdict.Malformed Orders bad) s text) → IsReportStatus s
+orders-status (Ok entries) s text is = done-status (λ written. written ≡ csv_orders_text entries) s text is
 orders-status (Err bad) s text is = refused-status (verdict.Malformed Orders bad) s text is
 
 trades-status : (said : Result (Result (List TradeRecord) Finding) BadPlace) (s : Status) (text : List ℕ)
@@ -169,22 +169,22 @@ module _ (r : Reading) (request : Request) where
   text-of status.Memory text answers is = absurd answers
 
   module _ (log : Which) (name : List ℕ) (only : TouchesOnly r log) where
-    abbrev one_step : Step
+    abbrev one_step : LogStep
     one_step = step_of r log name
 
-    one-leads : Lead r.before (one_step ∷ []) r.after
+    one-leads : StepsLead r.before (one_step ∷ []) r.after
     one-leads = (record { at = refl; later = only.later }, ends log only.other)
       where
-        ends : (log : Which) → r.after (other_of log) ≡ r.before (other_of log) → (which : Which) → r.after which ≡ with_slot r.before log (r.after log) which
+        ends : (log : Which) → r.after (other_log log) ≡ r.before (other_log log) → (which : Which) → r.after which ≡ with_slot r.before log (r.after log) which
         ends Orders same Orders = refl
         ends Orders same Trades = same
         ends Trades same Orders = same
         ends Trades same Trades = refl
 
-    pub one-later : NeverFall r
+    pub one-later : FaultsNeverFall r
     one-later = falls log only.later only.other
       where
-        falls : (log : Which) → (r.before log).faults ≤ (r.after log).faults → r.after (other_of log) ≡ r.before (other_of log) → NeverFall r
+        falls : (log : Which) → (r.before log).faults ≤ (r.after log).faults → r.after (other_log log) ≡ r.before (other_log log) → FaultsNeverFall r
         falls Orders own same Orders = own
         falls Orders own same Trades = rw same (at_most _)
           where
@@ -199,13 +199,13 @@ module _ (r : Reading) (request : Request) where
     pub one-within : (result : Result Report Stop) → ((r.before log).taken ≤ r.limit → StaysWithinAt r log result) → StaysWithin r result
     one-within result within begins = ⊎_elim (λ stop. inl stop) (λ own. inr (ends log own only.other begins)) (within (begins log))
       where
-        ends : (log : Which) → (r.after log).taken ≤ r.limit → r.after (other_of log) ≡ r.before (other_of log) → BeginsWithin r → (which : Which) → (r.after which).taken ≤ r.limit
+        ends : (log : Which) → (r.after log).taken ≤ r.limit → r.after (other_log log) ≡ r.before (other_log log) → BeginsWithin r → (which : Which) → (r.after which).taken ≤ r.limit
         ends Orders own same begins Orders = own
         ends Orders own same begins Trades = rw same (begins Trades)
         ends Trades own same begins Orders = rw same (begins Orders)
         ends Trades own same begins Trades = own
 
-    one-stops : (why : Reading → Step → Type 0) (line : Which → List ℕ) → next_log request [] ≡ Some (log, name) → why r one_step → StopsAtLog why line r request (line log)
+    one-stops : (why : Reading → LogStep → Type 0) (line : Which → List ℕ) → next_log request [] ≡ Some (log, name) → why r one_step → StopsAtLog why line r request (line log)
     one-stops why line first cause = record {
       steps = [];
       logs = [];
@@ -254,17 +254,17 @@ pub expects-history : (the_rule : Rule) (symbol : List ℕ) (entries : List Orde
 expects-history the_rule symbol entries finding report found made = expects-found the_rule symbol entries finding report (rw found refl) made
 
 expects-order : (the_rule : Rule) (symbol : List ℕ) (entries : List OrderRecord) (finding : Finding) (report : Report) → WellFormed symbol entries
-    → call_finding the_rule (order_list symbol entries) ≡ Some finding → IsReportOf (verdict.Rejected finding) report → SaysReport (ExpectsOf the_rule symbol entries) report
+    → instant_order_finding the_rule (order_list symbol entries) ≡ Some finding → IsReportOf (verdict.Rejected finding) report → SaysReport (ExpectsOf the_rule symbol entries) report
 expects-order the_rule symbol entries finding report formed found made = expects-found the_rule symbol entries finding report (rw (formed, found) refl) made
 
 -- as before, of orders that are those of the records, for a symbol that is the history's own
 pub expects-named : (the_rule : Rule) (symbol own : List ℕ) (entries : List OrderRecord) (orders : List Order) (finding : Finding) (report : Report) → symbol ≡ own → WellFormed own entries
-    → orders ≡ order_list own entries → call_finding the_rule orders ≡ Some finding → IsReportOf (verdict.Rejected finding) report → SaysReport (ExpectsOf the_rule symbol entries) report
+    → orders ≡ order_list own entries → instant_order_finding the_rule orders ≡ Some finding → IsReportOf (verdict.Rejected finding) report → SaysReport (ExpectsOf the_rule symbol entries) report
 expects-named the_rule symbol own entries orders finding report same formed listed found made =
     subst (λ (s : List ℕ). SaysReport (ExpectsOf the_rule s entries) report) (sym same)
-    (expects-order the_rule own entries finding report formed (subst (λ (l : List Order). call_finding the_rule l ≡ Some finding) listed found) made)
+    (expects-order the_rule own entries finding report formed (subst (λ (l : List Order). instant_order_finding the_rule l ≡ Some finding) listed found) made)
 
-pub expects-done : (the_rule : Rule) (symbol : List ℕ) (entries : List OrderRecord) (report : Report) → WellFormed symbol entries → call_finding the_rule (order_list symbol entries) ≡ None
+pub expects-done : (the_rule : Rule) (symbol : List ℕ) (entries : List OrderRecord) (report : Report) → WellFormed symbol entries → instant_order_finding the_rule (order_list symbol entries) ≡ None
     → report.status ≡ status.Accepted → IsExpectedLog the_rule symbol entries report.text.items → SaysReport (ExpectsOf the_rule symbol entries) report
 expects-done the_rule symbol entries report formed admits done is = rw none (record { done = done; is = is })
   where

@@ -4,8 +4,8 @@ use Rattle.std.specs.Prelude.{IfSome}
 use Rattle.std.specs.Io.KnownBytes.{Appends}
 use Rattle.audit_report.specs.declared.statuses.Status.{Status}
 use Rattle.audit_report.specs.declared.statuses.Status.TheVariants as status
-use Rattle.audit_report.specs.Lines.{usage_line}
-use Rattle.log_source.specs.Sinks.{SinkState, Stays}
+use Rattle.audit_report.specs.Lines.{auditor_usage_line}
+use Rattle.log_source.specs.Sinks.{SinkState, SinkStays}
 use Rattle.command_words.specs.declared.requests.Request.{Request}
 use Rattle.audit_run.specs.Corollaries.{HasRoomForText}
 use Rattle.audit_run.specs.Runs.{IsSomeText, Runs, WritesPart}
@@ -21,7 +21,7 @@ never_part before (Some bytes) text count sure room short part same reached with
     omega arith
 
 -- a text that has room isn't cut
-pub never_cut : (is_text : List ℕ → Type 0) (old new : SinkState) (before : List ℕ) (room : ℕ) → old.wrote ≡ Some before → old.sure ≡ room → Stays old new
+pub never_cut : (is_text : List ℕ → Type 0) (old new : SinkState) (before : List ℕ) (room : ℕ) → old.wrote ≡ Some before → old.sure ≡ room → SinkStays old new
     → ((text : List ℕ) → is_text text → length before + length text ≤ room) → WritesPart is_text old new → ⊥
 never_cut is_text old new before room wrote sure stays fits part =
     never_part before new.wrote part.text part.wrote.count new.sure room part.wrote.short
@@ -29,9 +29,9 @@ never_cut is_text old new before room wrote sure stays fits part =
     (fits part.text part.is)
 
 -- where every text has room, none is cut
-pub never_full : (asked : Option Request) (r : Reading) (old new : SinkState) (before : List ℕ) (room : ℕ) (result : Status) → old.wrote ≡ Some before → old.sure ≡ room → Stays old new
+pub never_full : (asked : Option Request) (r : Reading) (old new : SinkState) (before : List ℕ) (room : ℕ) (result : Status) → old.wrote ≡ Some before → old.sure ≡ room → SinkStays old new
     → HasRoomForText asked r (length before) room → Runs asked r old new result → result ≡ status.WriteFault → ⊥
-never_full None r old new before room status.WriteFault wrote sure stays fits runs e = never_cut (λ text. text ≡ usage_line) old new before room wrote sure stays fits runs.0
+never_full None r old new before room status.WriteFault wrote sure stays fits runs e = never_cut (λ text. text ≡ auditor_usage_line) old new before room wrote sure stays fits runs.0
 never_full (Some request) r old new before room status.WriteFault wrote sure stays fits runs e = never_cut (IsSomeText r request) old new before room wrote sure stays fits runs
 never_full asked r old new before room status.Accepted wrote sure stays fits runs e = cc
 never_full asked r old new before room status.Rejected wrote sure stays fits runs e = cc

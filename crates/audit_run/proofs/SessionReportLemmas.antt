@@ -8,7 +8,7 @@ use Rattle.audit_base.specs.declared.records.OrderRecord.{OrderRecord}
 use Rattle.audit_base.specs.declared.records.TradeRecord.{TradeRecord}
 use Rattle.audit_base.specs.declared.terms.Which.{Which}
 use Rattle.audit_base.specs.Histories.{order_list}
-use Rattle.audit_base.specs.Trades.{deals_of}
+use Rattle.audit_base.specs.Trades.{deals_of_symbol}
 use Rattle.audit_base.specs.Verdicts.{paired_trades}
 use Rattle.audit_report.specs.declared.verdicts.Verdict.{Verdict}
 use Rattle.audit_report.specs.declared.verdicts.Verdict.TheVariants as verdict
@@ -64,6 +64,6 @@ module _ (symbol : List ℕ) (phases : List Phase) (table : Bool) (report : Repo
       of_sound entries paired sound =
           let history : List Order = order_list symbol entries in
           rw sound.none
-          (subst (λ (n : ℕ). JudgesDay symbol phases table history (deals_of history symbol (paired_trades paired)) n report.status report.text.items) sound.count
+          (subst (λ (n : ℕ). JudgesDay symbol phases table history (deals_of_symbol history symbol (paired_trades paired)) n report.status report.text.items) sound.count
           (subst (λ (ds : List Deal). JudgesDay symbol phases table history ds resolved.count report.status report.text.items) sound.deals
           (subst (λ (os : List Order). JudgesDay symbol phases table os resolved.deals.items resolved.count report.status report.text.items) sound.orders is)))

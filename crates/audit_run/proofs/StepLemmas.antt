@@ -6,7 +6,7 @@ use Rattle.log_source.specs.Sources.{Slot, Rose}
 use Rattle.command_words.specs.declared.requests.Request.{Request}
 use Rattle.audit_run.specs.Requests.{next_log}
 use Rattle.audit_run.specs.Runs.{ReadsNext, ReadsOn, Holds, HoldsLogs}
-use Rattle.log_verdict.specs.Steps.{Reading, Step, Lead, with_slot}
+use Rattle.log_verdict.specs.Steps.{Reading, LogStep, StepsLead, with_slot}
 
 -- what stands in a slot after it was changed
 with_slot-same : (slots : Which → Slot) (log : Which) (slot : Slot) → with_slot slots log slot log ≡ slot
@@ -26,7 +26,7 @@ rose-earlier a b c le (inl lt) = inl (omega arith)
 rose-earlier a b c le (inr top) = inr top
 
 -- faults that rise at the last step rise in the call
-pub rose-in : (slots : Which → Slot) (steps : List Step) (last : Step) (after : Which → Slot) → Lead slots (steps ++ last ∷ []) after
+pub rose-in : (slots : Which → Slot) (steps : List LogStep) (last : LogStep) (after : Which → Slot) → StepsLead slots (steps ++ last ∷ []) after
     → Rose last.before.faults last.after.faults → Rose (slots last.log).faults (after last.log).faults
 rose-in slots [] last after lead rose =
     let ends : after last.log ≡ last.after = lead.1 last.log ∙ with_slot-same slots last.log last.after in
@@ -45,14 +45,14 @@ same-bytes : (log : Option (List ℕ)) (a b : List ℕ) → log ≡ Some a → l
 same-bytes log a b x y = cc
 
 -- the log that is held is the log that was read
-held-read : (r : Reading) (request : Request) (read : List (List ℕ)) (step : Step) (bytes held : List ℕ) → r.tells ≡ true → ReadsNext r request read step bytes
+held-read : (r : Reading) (request : Request) (read : List (List ℕ)) (step : LogStep) (bytes held : List ℕ) → r.tells ≡ true → ReadsNext r request read step bytes
     → Holds r (next_log request read) held → bytes ≡ held
 held-read r request read step bytes held tells reads holds =
     let there = subst (λ (o : Option (Which × List ℕ)). Holds r o held) reads.next holds in
     same-bytes (r.log_of step.log step.name) bytes held (reads.read.known tells) there.0
 
 -- after logs that were read the shelf holds those that the command needs still
-pub held-after : (r : Reading) (request : Request) (read : List (List ℕ)) (steps : List Step) (logs held : List (List ℕ)) → r.tells ≡ true
+pub held-after : (r : Reading) (request : Request) (read : List (List ℕ)) (steps : List LogStep) (logs held : List (List ℕ)) → r.tells ≡ true
     → ReadsOn r request read steps logs → HoldsLogs r request read held → (next : Which × List ℕ) → next_log request logs ≡ Some next
     → (rest : List (List ℕ)) × HoldsLogs r request logs rest
 held-after r request read [] logs held tells reads holds next is =
@@ -72,7 +72,7 @@ held-next r request logs (bytes ∷ rest) next is holds =
     let there = subst (λ (o : Option (Which × List ℕ)). Holds r o bytes) is holds.0 in (bytes, there.0, there.1)
 
 -- the logs that were read are those that the shelf holds
-pub held-all : (r : Reading) (request : Request) (read : List (List ℕ)) (steps : List Step) (logs held : List (List ℕ)) → r.tells ≡ true
+pub held-all : (r : Reading) (request : Request) (read : List (List ℕ)) (steps : List LogStep) (logs held : List (List ℕ)) → r.tells ≡ true
     → ReadsOn r request read steps logs → next_log request logs ≡ None → HoldsLogs r request read held → logs ≡ read ++ held
 held-all r request read [] logs [] tells reads all holds = reads ∙ sym (append-nil read)
 held-all r request read [] logs (bytes ∷ held) tells reads all holds =

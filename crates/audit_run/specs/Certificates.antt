@@ -9,7 +9,7 @@ use Rattle.audit_base.specs.declared.terms.Rule.{Rule}
 use Rattle.audit_base.specs.Deals.{volume}
 use Rattle.audit_base.specs.Histories.{order_list}
 use Rattle.audit_base.specs.Rules.{Conforms}
-use Rattle.audit_base.specs.Trades.{deals_of}
+use Rattle.audit_base.specs.Trades.{deals_of_symbol}
 use Rattle.record_verdict.specs.Scopes.{early_finding, call_scope}
 use Rattle.audit_base.specs.Verdicts.{paired_trades}
 use Rattle.audit_certificate.specs.Agreement.{AgreesUnder, AgreesUnderNone, IsCertificateUnder, IsFirstRefused}
@@ -28,9 +28,9 @@ pub record IsCertificateOf (q : Question) (orders trades : Log) (text : List ℕ
   pub paired : Result (List TradeRecord) Finding
   pub logs : HaveRecords orders trades entries paired
   pub certificate : let history = order_list q.symbol entries in
-      IsCertificateUnder q.rule q.symbol history (deals_of history q.symbol (paired_trades paired)) text
+      IsCertificateUnder q.rule q.symbol history (deals_of_symbol history q.symbol (paired_trades paired)) text
   pub agrees : let history = order_list q.symbol entries in
-      AgreesUnder q.rule q.symbol history (deals_of history q.symbol (paired_trades paired)) text
+      AgreesUnder q.rule q.symbol history (deals_of_symbol history q.symbol (paired_trades paired)) text
 
 -- what `audit` reports of a verdict, with a text of this kind in the place of the accepted text
 abbrev pub ReportsWith : (List ℕ → Type 0) → Verdict → Status → List ℕ → Type 0
@@ -76,7 +76,7 @@ abbrev pub VerifiesRecords : List ℕ → List ℕ → List OrderRecord
 VerifiesRecords symbol certificate entries paired the_status text =
     let orders = order_list symbol entries in
     MatchOption (early_finding (call_scope symbol) entries paired)
-    (Verifies symbol orders (deals_of orders symbol (paired_trades paired)) certificate the_status text)
+    (Verifies symbol orders (deals_of_symbol orders symbol (paired_trades paired)) certificate the_status text)
     (λ finding. IsRefused (Rejected finding) the_status text)
 
 -- `verify`: logs out of their grammar are refused; else what their records and the certificate come to is reported

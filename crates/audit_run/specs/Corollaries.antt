@@ -1,6 +1,6 @@
 -- What follows from the contract of `run` where the shelf or the sink is one in memory.
 use Rattle.std.specs.Prelude.{◌≡◌, ◌+◌, ◌≤◌, ℕ, List, length, Option, None, Some}
-use Rattle.audit_report.specs.Lines.{usage_line}
+use Rattle.audit_report.specs.Lines.{auditor_usage_line}
 use Rattle.command_words.specs.declared.requests.Request.{Request}
 use Rattle.audit_run.specs.Runs.{IsSomeText}
 use Rattle.log_verdict.specs.Steps.{Reading}
@@ -8,7 +8,7 @@ use Rattle.log_verdict.specs.Steps.{Reading}
 -- a text that a call may write: a report on the logs or the line of the log at which reading stopped; on
 -- words that are not well-formed the usage line
 abbrev pub MayBeWritten : Option Request → Reading → List ℕ → Type 0
-MayBeWritten None r text = text ≡ usage_line
+MayBeWritten None r text = text ≡ auditor_usage_line
 MayBeWritten (Some request) r text = IsSomeText r request text
 
 -- what was written leaves as many bytes free as any text has that the call may write

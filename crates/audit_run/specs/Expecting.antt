@@ -8,9 +8,9 @@ use Rattle.audit_base.specs.Deals.{IsDealList}
 use Rattle.audit_base.specs.Expected.{IsExpected, trades_of_deals}
 use Rattle.audit_base.specs.Histories.{order_list, WellFormed}
 use Rattle.audit_base.specs.Rules.{Conforms}
-use Rattle.audit_base.specs.Trades.{AreTrades}
-use Rattle.csv_logs.specs.Logs.{trade_log}
-use Rattle.csv_logs.specs.Written.{trades_text}
+use Rattle.audit_base.specs.Trades.{TradesInRange}
+use Rattle.csv_logs.specs.Logs.{csv_trade_log}
+use Rattle.csv_logs.specs.Written.{csv_trades_text}
 use Rattle.audit_run.specs.OtherTexts.{IsExpectedLog}
 
 -- The text is the CSV log of the Expected trades of these orders, which conform, and it says these trades.
@@ -20,9 +20,9 @@ pub record IsConformingLog (the_rule : Rule) (symbol : List ℕ) (orders : List 
   pub expected : IsExpected the_rule orders deals
   pub conforms : Conforms the_rule orders deals
   pub deal_list : IsDealList orders deals
-  pub ranges : AreTrades (trades_of_deals orders symbol deals)
-  pub text_is : text ≡ trades_text (trades_of_deals orders symbol deals)
-  pub says : trade_log text ≡ Ok (trades_of_deals orders symbol deals)
+  pub ranges : TradesInRange (trades_of_deals orders symbol deals)
+  pub text_is : text ≡ csv_trades_text (trades_of_deals orders symbol deals)
+  pub says : csv_trade_log text ≡ Ok (trades_of_deals orders symbol deals)
 
 -- the text is the log of the Expected trades of whatever well-formed records have these orders
 abbrev pub IsLogOfOrders : Rule → List ℕ → List Order → List ℕ → Type 0

@@ -14,13 +14,13 @@ use Rattle.audit_base.specs.declared.terms.Which.{Which}
 use Rattle.audit_base.specs.declared.terms.Which.TheVariants.{Orders, Trades}
 use Rattle.audit_base.specs.declared.terms.VolumeRule.{VolumeRule}
 use Rattle.audit_base.specs.declared.terms.VolumeRule.TheVariants as of_volume
-use Rattle.audit_base.specs.Bounds.{IsBound}
+use Rattle.audit_base.specs.Bounds.{IsBoundPrice}
 use Rattle.audit_base.specs.RuleKinds.{rule_of_volume}
 use Rattle.audit_base.specs.Deals.{volume}
 use Rattle.audit_base.specs.Expected.{IsExpected, trades_of_deals}
 use Rattle.audit_base.specs.Histories.{history_finding, order_list}
-use Rattle.audit_base.specs.Least.{first_of}
-use Rattle.audit_base.specs.Verdicts.{call_finding}
+use Rattle.audit_base.specs.Least.{first_answer}
+use Rattle.audit_base.specs.Verdicts.{instant_order_finding}
 use Rattle.audit_report.specs.declared.statuses.Status.{Status}
 use Rattle.audit_report.specs.declared.statuses.Status.TheVariants.{Accepted}
 use Rattle.audit_report.specs.declared.verdicts.Accepted.{Accepted as AcceptedLog}
@@ -30,7 +30,7 @@ use Rattle.audit_report.specs.declared.verdicts.Verdict.TheVariants.{Rejected, M
 use Rattle.audit_report.specs.Summaries.{generated_line, call_line, continuous_line}
 use Rattle.audit_report.specs.Statuses.{verdict_status}
 use Rattle.audit_report.specs.Texts.{verdict_text}
-use Rattle.csv_logs.specs.Written.{orders_text, trades_text}
+use Rattle.csv_logs.specs.Written.{csv_orders_text, csv_trades_text}
 use Rattle.log_maker.specs.Generator.{generated_orders, generated_records}
 use Rattle.record_verdict.specs.declared.questions.Question.{Question}
 use Rattle.record_verdict.specs.Judgements.{question, IsJudged}
@@ -50,7 +50,7 @@ pub record IsDone (is_text : List ℕ → Type 0) (status : Status) (text : List
 -- rule does not admit
 abbrev pub orders_finding : Rule → List ℕ → List OrderRecord → Option Finding
 orders_finding the_rule symbol entries =
-    first_of (history_finding symbol entries ∷ call_finding the_rule (order_list symbol entries) ∷ [])
+    first_answer (history_finding symbol entries ∷ instant_order_finding the_rule (order_list symbol entries) ∷ [])
 
 -- What a trade log says is accepted beside these records of orders.
 pub record IsAcceptedBeside (q : Question) (entries : List OrderRecord)
@@ -65,7 +65,7 @@ pub record IsExpectedLog (the_rule : Rule) (symbol : List ℕ) (entries : List O
     (text : List ℕ) : Type 0 where
   pub deals : List Deal
   pub expected : IsExpected the_rule (order_list symbol entries) deals
-  pub text_is : text ≡ trades_text (trades_of_deals (order_list symbol entries) symbol deals)
+  pub text_is : text ≡ csv_trades_text (trades_of_deals (order_list symbol entries) symbol deals)
   pub accepted : (table : Bool)
       → IsAcceptedBeside (question the_rule symbol table) entries (trade_log Csv text)
 
@@ -87,7 +87,7 @@ IsExpectReport the_rule symbol orders status text =
 abbrev pub ConvertsTrades : Result (List TradeRecord) Finding → Status → List ℕ → Type 0
 ConvertsTrades paired status text =
     MatchResult paired
-    (λ trades. IsDone (λ written. written ≡ trades_text trades) status text)
+    (λ trades. IsDone (λ written. written ≡ csv_trades_text trades) status text)
     (λ finding. IsRefused (Rejected finding) status text)
 
 -- `convert`: a log out of its grammar is refused, and so is a trade log whose reports do not pair; else all
@@ -95,7 +95,7 @@ ConvertsTrades paired status text =
 abbrev pub IsConvertReport : Which → Log → Status → List ℕ → Type 0
 IsConvertReport Orders log status text =
     MatchResult (order_log log.form log.bytes)
-    (λ entries. IsDone (λ written. written ≡ orders_text entries) status text)
+    (λ entries. IsDone (λ written. written ≡ csv_orders_text entries) status text)
     (λ bad. IsRefused (Malformed Orders bad) status text)
 IsConvertReport Trades log status text =
     MatchResult (trade_log log.form log.bytes)
@@ -109,7 +109,7 @@ pub record IsCallLine (the_rule : VolumeRule) (orders : List Order)
   pub expected : IsExpected (rule_of_volume the_rule) orders deals
   pub bound : Cut
   pub volume_is : bound.volume ≡ volume deals
-  pub shows : IsBound the_rule orders (volume deals) bound.price
+  pub shows : IsBoundPrice the_rule orders (volume deals) bound.price
   pub line_is : line ≡ call_line (rule_of_volume the_rule) (length deals) bound
 
 -- The line says of the Expected trades of continuous trading how many there are, and their volume.

@@ -4,22 +4,22 @@ use Rattle.std.specs.Io.KnownBytes.{Appends}
 use Rattle.audit_base.specs.declared.terms.Which.{Which}
 use Rattle.audit_report.specs.declared.statuses.Status.{Status}
 use Rattle.audit_report.specs.declared.statuses.Status.TheVariants.{Accepted, Rejected, Usage, Malformed, ReadFault, WriteFault, TooLong, Memory}
-use Rattle.audit_report.specs.Lines.{usage_line, read_fault_line, too_long_line}
-use Rattle.log_source.specs.Sinks.{SinkState, AppendsPart, MayFail}
+use Rattle.audit_report.specs.Lines.{auditor_usage_line, read_fault_line, too_long_line}
+use Rattle.log_source.specs.Sinks.{SinkState, AppendsPart, HasFailureCause}
 use Rattle.log_source.specs.Sources.{Rose}
 use Rattle.command_words.specs.declared.requests.Request.{Request}
 use Rattle.audit_run.specs.Requests.{next_log, IsReport}
-use Rattle.log_verdict.specs.Steps.{Reading, Step, IsRead, IsReadFault, IsTooLong, Lead, BeginsWithin, EndsWithin}
+use Rattle.log_verdict.specs.Steps.{Reading, LogStep, IsRead, IsReadFault, IsTooLong, StepsLead, BeginsWithin, EndsWithin}
 
 -- The next log that the command needs is this one, which was started, read to its end, and has these bytes.
-pub record ReadsNext (r : Reading) (request : Request) (earlier : List (List ℕ)) (step : Step)
+pub record ReadsNext (r : Reading) (request : Request) (earlier : List (List ℕ)) (step : LogStep)
     (bytes : List ℕ) : Type 0 where
   pub next : next_log request earlier ≡ Some (step.log, step.name)
   pub read : IsRead r step bytes
 
 -- these steps read, one after another, the logs that the command needs: `earlier` are the bytes of those
 -- read before, `logs` of all
-abbrev pub ReadsOn : Reading → Request → List (List ℕ) → List Step → List (List ℕ) → Type 0
+abbrev pub ReadsOn : Reading → Request → List (List ℕ) → List LogStep → List (List ℕ) → Type 0
 ReadsOn r request earlier [] logs = logs ≡ earlier
 ReadsOn r request earlier (step ∷ steps) logs = (bytes : List ℕ)
     × ReadsNext r request earlier step bytes × ReadsOn r request (earlier ++ bytes ∷ []) steps logs
@@ -28,20 +28,20 @@ ReadsOn r request earlier (step ∷ steps) logs = (bytes : List ℕ)
 -- it reports of them.
 pub record ReportsLogs (r : Reading) (request : Request) (status : Status)
     (text : List ℕ) : Type 0 where
-  pub steps : List Step
+  pub steps : List LogStep
   pub logs : List (List ℕ)
-  pub lead : Lead r.before steps r.after
+  pub lead : StepsLead r.before steps r.after
   pub read : ReadsOn r request [] steps logs
   pub all : next_log request logs ≡ None
   pub report : IsReport request logs status text
 
 -- The next log that the command needs was started, and reading stopped there for a cause, which the line tells.
-pub record StopsAtLog (why : Reading → Step → Type 0) (line : Which → List ℕ) (r : Reading)
+pub record StopsAtLog (why : Reading → LogStep → Type 0) (line : Which → List ℕ) (r : Reading)
     (request : Request) (text : List ℕ) : Type 0 where
-  pub steps : List Step
+  pub steps : List LogStep
   pub logs : List (List ℕ)
-  pub last : Step
-  pub lead : Lead r.before (steps ++ last ∷ []) r.after
+  pub last : LogStep
+  pub lead : StepsLead r.before (steps ++ last ∷ []) r.after
   pub read : ReadsOn r request [] steps logs
   pub next : next_log request logs ≡ Some (last.log, last.name)
   pub cause : why r last
@@ -69,7 +69,7 @@ pub record WritesPart (is_text : List ℕ → Type 0) (old new : SinkState) : Ty
   pub text : List ℕ
   pub is : is_text text
   pub wrote : AppendsPart old.wrote new.wrote text
-  pub cause : MayFail old new
+  pub cause : HasFailureCause old new
 
 -- a text with some status
 abbrev pub IsSomeText : Reading → Request → List ℕ → Type 0
@@ -88,8 +88,8 @@ Answers r request old new Usage = ⊥
 
 -- on words that are not well-formed: the usage line, unless the sink fails
 abbrev pub AnswersUsage : SinkState → SinkState → Status → Type 0
-AnswersUsage old new Usage = WritesText (λ text. text ≡ usage_line) old new
-AnswersUsage old new WriteFault = WritesPart (λ text. text ≡ usage_line) old new
+AnswersUsage old new Usage = WritesText (λ text. text ≡ auditor_usage_line) old new
+AnswersUsage old new WriteFault = WritesPart (λ text. text ≡ auditor_usage_line) old new
 AnswersUsage old new Accepted = ⊥
 AnswersUsage old new Rejected = ⊥
 AnswersUsage old new Malformed = ⊥

@@ -5,9 +5,9 @@ use Rattle.audit_base.specs.declared.orders.Deal.{Deal}
 use Rattle.audit_base.specs.declared.orders.Order.{Order}
 use Rattle.audit_base.specs.declared.records.OrderRecord.{OrderRecord}
 use Rattle.audit_base.specs.declared.records.TradeRecord.{TradeRecord}
-use Rattle.audit_base.specs.Deals.{AreDeals}
+use Rattle.audit_base.specs.Deals.{DealsInRange}
 use Rattle.audit_base.specs.Histories.{order_list}
-use Rattle.audit_base.specs.Trades.{deals_of}
+use Rattle.audit_base.specs.Trades.{deals_of_symbol}
 use Rattle.record_verdict.specs.Scopes.{early_finding, day_scope}
 use Rattle.audit_base.specs.Verdicts.{paired_trades}
 use Rattle.audit_report.specs.declared.statuses.Status.{Status}
@@ -24,7 +24,7 @@ use Rattle.audit_run.specs.OtherTexts.{IsDone, IsRefused}
 -- day conforms have it
 abbrev pub AreOnlyOfDay : List Phase → List Order → List Deal → Type 0
 AreOnlyOfDay phases orders deals =
-    (others : List Deal) → AreDeals others → ConformsDay phases orders others
+    (others : List Deal) → DealsInRange others → ConformsDay phases orders others
     → (k : ℕ) → k < length phases → (i : ℕ)
     → traded_in_phase phases orders others k i ≡ traded_in_phase phases orders deals k i
 
@@ -58,7 +58,7 @@ abbrev pub JudgesDayOf : List ℕ → List Phase → Bool → List OrderRecord
 JudgesDayOf symbol phases table entries paired status text =
     let orders = order_list symbol entries in
     MatchOption (early_finding (day_scope symbol) entries paired)
-    (JudgesDay symbol phases table orders (deals_of orders symbol (paired_trades paired))
+    (JudgesDay symbol phases table orders (deals_of_symbol orders symbol (paired_trades paired))
     (length (paired_trades paired)) status text)
     (λ finding. IsRefused (Rejected finding) status text)
 

@@ -2,10 +2,10 @@
 use Rattle.std.specs.Prelude.{Option}
 use Rattle.audit_report.specs.declared.statuses.Status.{Status}
 use Rattle.log_source.specs.declared.shelf.Shelf.{Ghosts as Shelf}
-use Rattle.log_source.specs.Sinks.{SinkState, Stays}
+use Rattle.log_source.specs.Sinks.{SinkState, SinkStays}
 use Rattle.command_words.specs.declared.requests.Request.{Request}
 use Rattle.audit_run.specs.Runs.{AnswersLength, ReportsHeldLogs, Runs}
-use Rattle.log_verdict.specs.Steps.{reading, KeepsLogs, NeverFall}
+use Rattle.log_verdict.specs.Steps.{reading, KeepsShelfLogs, FaultsNeverFall}
 
 -- A call that was asked for this, where the words are well-formed: the headline; each status with its cause
 -- and with what was written; too long a log is answered as such; the shelf has what it had; no count of
@@ -15,6 +15,6 @@ pub record IsRun {S : Type 0} (shelf : Shelf S) (asked : Option Request) (old ne
   pub headline : ReportsHeldLogs asked (reading shelf old new) sink_old sink_new status
   pub runs : Runs asked (reading shelf old new) sink_old sink_new status
   pub length : AnswersLength (reading shelf old new) status
-  pub logs : KeepsLogs shelf old new
-  pub later : NeverFall (reading shelf old new)
-  pub sink : Stays sink_old sink_new
+  pub logs : KeepsShelfLogs shelf old new
+  pub later : FaultsNeverFall (reading shelf old new)
+  pub sink : SinkStays sink_old sink_new

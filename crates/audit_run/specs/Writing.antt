@@ -4,7 +4,7 @@ use Rattle.std.specs.Io.KnownBytes.{Appends}
 use Rattle.audit_report.specs.declared.statuses.Status.{Status}
 use Rattle.audit_report.specs.declared.statuses.Status.TheVariants as status
 use Rattle.audit_report.specs.Lines.{read_fault_line, too_long_line}
-use Rattle.log_source.specs.Sinks.{SinkState, AppendsPart, MayFail}
+use Rattle.log_source.specs.Sinks.{SinkState, AppendsPart, HasFailureCause}
 use Rattle.log_verdict.specs.declared.stops.Stop.{Stop}
 use Rattle.log_verdict.specs.declared.stops.Stop.TheVariants as stop
 
@@ -18,7 +18,7 @@ pub record WritesAll (old new : SinkState) (the_status : Status) (text : List �
 pub record WritesFront (old new : SinkState) (text : List ℕ) (result : Status) : Type 0 where
   pub answer_is : result ≡ status.WriteFault
   pub wrote : AppendsPart old.wrote new.wrote text
-  pub cause : MayFail old new
+  pub cause : HasFailureCause old new
 
 abbrev pub Writes : SinkState → SinkState → Status → List ℕ → Status → Type 0
 Writes old new the_status text result =

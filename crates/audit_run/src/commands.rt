@@ -5,7 +5,7 @@ ghost use Rattle.log_source.specs.Sources.{longest_log};
 ghost use Rattle.log_verdict.specs.BothLogs.{HaveOneLimit, StaysWithin};
 ghost use Rattle.audit_run.specs.Deciding.{audit_of, certify_of, DecidesReport};
 ghost use Rattle.command_words.specs.Words.{MayBeAsked};
-ghost use Rattle.log_verdict.specs.Steps.{reading, reading_by, KeepsLogs, NeverFall};
+ghost use Rattle.log_verdict.specs.Steps.{reading, reading_by, KeepsShelfLogs, FaultsNeverFall};
 
 use super::converting::report_convert;
 use super::expecting::report_expect;
@@ -36,8 +36,8 @@ fn report_audit<F: Shelf>(
     trades: &Source<'_>,
 ) -> Result<Report, Stop>
     requires limit { HaveOneLimit orders.now trades.now }
-    ensures logs { KeepsLogs F.Shelf shelf.old shelf.new }
-    ensures later { NeverFall (reading_by orders.now F.Shelf shelf.old shelf.new) }
+    ensures logs { KeepsShelfLogs F.Shelf shelf.old shelf.new }
+    ensures later { FaultsNeverFall (reading_by orders.now F.Shelf shelf.old shelf.new) }
     ensures decides { DecidesReport (reading_by orders.now F.Shelf shelf.old shelf.new)
         (audit_of question.now orders.now trades.now) result }
     ensures within { StaysWithin (reading_by orders.now F.Shelf shelf.old shelf.new) result }
@@ -60,8 +60,8 @@ fn report_certify<F: Shelf>(
 ) -> Result<Report, Stop>
     requires rule { IsTrue (asks_for_greatest rule) }
     requires limit { HaveOneLimit orders.now trades.now }
-    ensures logs { KeepsLogs F.Shelf shelf.old shelf.new }
-    ensures later { NeverFall (reading_by orders.now F.Shelf shelf.old shelf.new) }
+    ensures logs { KeepsShelfLogs F.Shelf shelf.old shelf.new }
+    ensures later { FaultsNeverFall (reading_by orders.now F.Shelf shelf.old shelf.new) }
     ensures decides { DecidesReport (reading_by orders.now F.Shelf shelf.old shelf.new)
         (certify_of rule symbol.now orders.now trades.now) result }
     ensures within { StaysWithin (reading_by orders.now F.Shelf shelf.old shelf.new) result }
@@ -95,8 +95,8 @@ pub(crate) fn report_on<F: Shelf>(
     request: &Request,
 ) -> Result<Report, Stop>
     requires { MayBeAsked request.now }
-    ensures logs { KeepsLogs F.Shelf shelf.old shelf.new }
-    ensures later { NeverFall (reading F.Shelf shelf.old shelf.new) }
+    ensures logs { KeepsShelfLogs F.Shelf shelf.old shelf.new }
+    ensures later { FaultsNeverFall (reading F.Shelf shelf.old shelf.new) }
     ensures decides { DecidesReport (reading F.Shelf shelf.old shelf.new) request.now result }
     ensures within { StaysWithin (reading F.Shelf shelf.old shelf.new) result }
 {

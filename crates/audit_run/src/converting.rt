@@ -7,7 +7,7 @@ ghost use Rattle.log_verdict.specs.Collecting.{TouchesOnly};
 ghost use Rattle.log_verdict.specs.LogVerdicts.{log_in};
 ghost use Rattle.audit_run.specs.OtherTexts.{IsConvertReport};
 ghost use Rattle.audit_run.specs.Reporting.{DecidesLog};
-ghost use Rattle.log_verdict.specs.Steps.{reading_by, KeepsLogs};
+ghost use Rattle.log_verdict.specs.Steps.{reading_by, KeepsShelfLogs};
 
 use super::reports::{Report, done_report, finding_report, report_without};
 use audit_base::records::{OrderRecord, TradeRecord};
@@ -26,7 +26,7 @@ fn convert_orders<F: Shelf>(
     source: &Source<'_>,
 ) -> Result<Report, Stop>
     requires limit { source.now.limit ≤ longest_read }
-    ensures logs { KeepsLogs F.Shelf shelf.old shelf.new }
+    ensures logs { KeepsShelfLogs F.Shelf shelf.old shelf.new }
     ensures only { TouchesOnly (reading_by source.now F.Shelf shelf.old shelf.new) Which.Orders }
     ensures decides { DecidesLog (reading_by source.now F.Shelf shelf.old shelf.new) Which.Orders
         source.now.name.now
@@ -48,7 +48,7 @@ fn convert_trades<F: Shelf>(
     source: &Source<'_>,
 ) -> Result<Report, Stop>
     requires limit { source.now.limit ≤ longest_read }
-    ensures logs { KeepsLogs F.Shelf shelf.old shelf.new }
+    ensures logs { KeepsShelfLogs F.Shelf shelf.old shelf.new }
     ensures only { TouchesOnly (reading_by source.now F.Shelf shelf.old shelf.new) Which.Trades }
     ensures decides { DecidesLog (reading_by source.now F.Shelf shelf.old shelf.new) Which.Trades
         source.now.name.now
@@ -73,7 +73,7 @@ pub(crate) fn report_convert<F: Shelf>(
     source: &Source<'_>,
 ) -> Result<Report, Stop>
     requires limit { source.now.limit ≤ longest_read }
-    ensures logs { KeepsLogs F.Shelf shelf.old shelf.new }
+    ensures logs { KeepsShelfLogs F.Shelf shelf.old shelf.new }
     ensures only { TouchesOnly (reading_by source.now F.Shelf shelf.old shelf.new) log }
     ensures decides { DecidesLog (reading_by source.now F.Shelf shelf.old shelf.new) log source.now.name.now
         (λ bytes. IsConvertReport log (log_in source.now.form bytes)) result }

@@ -1,8 +1,8 @@
 //! What follows from the contract of `run` where the shelf or the sink is one in memory.
 ghost use Rattle.std.specs.Prelude.{◌≡◌, ◌≢◌, [], Option};
 ghost use Rattle.audit_report.specs.declared.statuses.Status.{Status};
-ghost use Rattle.log_source.specs.MemorySinks.{failing_writes, length_of, memory_state, room_of};
-ghost use Rattle.log_source.specs.Sinks.{SinkState, Stays};
+ghost use Rattle.log_source.specs.MemorySinks.{failing_writes, sink_length, memory_sink_state, sink_room};
+ghost use Rattle.log_source.specs.Sinks.{SinkState, SinkStays};
 ghost use Rattle.log_source.specs.declared.memory_sink.MemorySink.{MemorySink};
 ghost use Rattle.log_source.specs.declared.quiet_shelf.QuietShelf.{QuietShelf};
 ghost use Rattle.command_words.specs.declared.requests.Request.{Request};
@@ -24,8 +24,8 @@ pub fn a_quiet_shelf_is_read()
 /// may write, the answer is never `WriteFault`, whatever the words and the shelf.
 pub fn a_sink_with_room_is_written()
     ensures { (asked : Option Request) (r : Reading) (old new : MemorySink) (answer : Status)
-        → failing_writes old ≡ [] → HasRoomForText asked r (length_of old) (room_of old)
-        → Stays (memory_state old) (memory_state new)
-        → Runs asked r (memory_state old) (memory_state new) answer
+        → failing_writes old ≡ [] → HasRoomForText asked r (sink_length old) (sink_room old)
+        → SinkStays (memory_sink_state old) (memory_sink_state new)
+        → Runs asked r (memory_sink_state old) (memory_sink_state new) answer
         → answer ≢ Status.WriteFault }
 {}

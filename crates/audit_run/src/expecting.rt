@@ -6,7 +6,7 @@ ghost use Rattle.audit_base.specs.Deals.{IsDealList};
 ghost use Rattle.audit_base.specs.Expected.{IsExpected};
 ghost use Rattle.audit_base.specs.RuleKinds.{has_table};
 ghost use Rattle.audit_base.specs.Histories.{Regular};
-ghost use Rattle.audit_base.specs.Orders.{AreOrders, HaveOwnKeys, IsOrderList};
+ghost use Rattle.audit_base.specs.Orders.{OrdersInRange, HaveOwnKeys, IsOrderList};
 ghost use Rattle.audit_base.specs.Rules.{Conforms};
 ghost use Rattle.audit_base.specs.Verdicts as spec;
 ghost use Rattle.instruction_history.specs.HistoryDraft.{IsHistoryDraft};
@@ -18,7 +18,7 @@ ghost use Rattle.log_verdict.specs.LogVerdicts.{log_in};
 ghost use Rattle.audit_run.specs.Expecting.{IsConformingLog, IsLogOfOrders};
 ghost use Rattle.audit_run.specs.OtherTexts.{ExpectsOf, IsExpectReport};
 ghost use Rattle.audit_run.specs.Reporting.{DecidesLog, SaysReport};
-ghost use Rattle.log_verdict.specs.Steps.{reading_by, KeepsLogs};
+ghost use Rattle.log_verdict.specs.Steps.{reading_by, KeepsShelfLogs};
 
 use super::reports::{Report, done_report, finding_report, report_without};
 use audit_base::faults::NoMemory;
@@ -93,9 +93,9 @@ fn expected_log(
     requires rule { IsTrue (has_table rule) }
     requires order_list { IsOrderList orders.now }
     requires regular { Regular orders.now }
-    requires numbers { AreOrders orders.now }
+    requires numbers { OrdersInRange orders.now }
     requires keys { HaveOwnKeys orders.now }
-    requires admits { spec.call_finding rule orders.now ≡ None }
+    requires admits { spec.instant_order_finding rule orders.now ≡ None }
     ensures { IfOk result (λ text. IsLogOfOrders rule symbol.now orders.now text.items) }
 {
     // Laws that the answer rests on. They compute nothing.
@@ -144,7 +144,7 @@ fn report_about<S: AuditedSymbol, F: Shelf>(
     requires rule { IsTrue (has_table rule) }
     requires limit { orders.now.limit ≤ longest_read }
     requires symbol { symbol.now ≡ S.symbol }
-    ensures logs { KeepsLogs F.Shelf shelf.old shelf.new }
+    ensures logs { KeepsShelfLogs F.Shelf shelf.old shelf.new }
     ensures only { TouchesOnly (reading_by orders.now F.Shelf shelf.old shelf.new) Which.Orders }
     ensures decides { DecidesLog (reading_by orders.now F.Shelf shelf.old shelf.new) Which.Orders
         orders.now.name.now
@@ -169,7 +169,7 @@ pub(crate) fn report_expect<F: Shelf>(
 ) -> Result<Report, Stop>
     requires rule { IsTrue (has_table rule) }
     requires limit { orders.now.limit ≤ longest_read }
-    ensures logs { KeepsLogs F.Shelf shelf.old shelf.new }
+    ensures logs { KeepsShelfLogs F.Shelf shelf.old shelf.new }
     ensures only { TouchesOnly (reading_by orders.now F.Shelf shelf.old shelf.new) Which.Orders }
     ensures decides { DecidesLog (reading_by orders.now F.Shelf shelf.old shelf.new) Which.Orders
         orders.now.name.now

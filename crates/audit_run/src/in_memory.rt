@@ -1,7 +1,7 @@
 //! A run over logs in memory, into a sink in memory.
 ghost use Rattle.std.specs.Prelude.{◌≡◌, ◌≢◌, [], map};
 ghost use Rattle.std.specs.String.{string_bytes};
-ghost use Rattle.log_source.specs.MemorySinks.{failing_writes, length_of, memory_state, room_of};
+ghost use Rattle.log_source.specs.MemorySinks.{failing_writes, sink_length, memory_sink_state, sink_room};
 ghost use Rattle.audit_run.specs.InMemory.{ReportsInRoom};
 ghost use Rattle.log_verdict.specs.Steps.{reading};
 ghost use Rattle.audit_run.specs.TopCall.{IsRun};
@@ -27,12 +27,12 @@ pub fn run_in_memory(
 ) -> Status
     ensures run { let asked = request_of (map string_bytes words.now) in
         IsRun ⟦<QuietShelf as Shelf>⟧ asked shelf.old shelf.new
-        (memory_state out.old) (memory_state out.new) result }
+        (memory_sink_state out.old) (memory_sink_state out.new) result }
     ensures read { result ≢ Status.ReadFault }
     ensures report { failing_writes out.old ≡ []
         → ReportsInRoom (request_of (map string_bytes words.now))
-        (reading ⟦<QuietShelf as Shelf>⟧ shelf.old shelf.new) (length_of out.old) (room_of out.old)
-        (memory_state out.old) (memory_state out.new) result }
+        (reading ⟦<QuietShelf as Shelf>⟧ shelf.old shelf.new) (sink_length out.old) (sink_room out.old)
+        (memory_sink_state out.old) (memory_sink_state out.new) result }
 {
     run(alloc, words, shelf, out)
 }

@@ -1,10 +1,10 @@
 //! The top call: from the words of a command line to the report and the status.
 ghost use Rattle.std.specs.Prelude.{map};
 ghost use Rattle.std.specs.String.{string_bytes};
-ghost use Rattle.log_source.specs.Sinks.{Stays};
+ghost use Rattle.log_source.specs.Sinks.{SinkStays};
 ghost use Rattle.command_words.specs.Words.{MayBeAsked};
 ghost use Rattle.audit_run.specs.Runs.{Answers, AnswersLength};
-ghost use Rattle.log_verdict.specs.Steps.{reading, KeepsLogs, NeverFall};
+ghost use Rattle.log_verdict.specs.Steps.{reading, KeepsShelfLogs, FaultsNeverFall};
 ghost use Rattle.audit_run.specs.TopCall.{IsRun};
 ghost use Rattle.command_words.specs.Words.{request_of};
 
@@ -27,9 +27,9 @@ fn answer<F: Shelf, K: Sink>(
     request: &Request,
 ) -> Status
     requires { MayBeAsked request.now }
-    ensures logs { KeepsLogs F.Shelf shelf.old shelf.new }
-    ensures later { NeverFall (reading F.Shelf shelf.old shelf.new) }
-    ensures stays { Stays (K.state out.old) (K.state out.new) }
+    ensures logs { KeepsShelfLogs F.Shelf shelf.old shelf.new }
+    ensures later { FaultsNeverFall (reading F.Shelf shelf.old shelf.new) }
+    ensures stays { SinkStays (K.state out.old) (K.state out.new) }
     ensures answers { Answers (reading F.Shelf shelf.old shelf.new) request.now
         (K.state out.old) (K.state out.new) result }
     ensures length { AnswersLength (reading F.Shelf shelf.old shelf.new) result }

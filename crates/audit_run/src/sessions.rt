@@ -1,6 +1,6 @@
 //! The command `session`: what a day of phases comes to over two logs.
 ghost use Rattle.std.specs.Prelude.{IfOk};
-ghost use Rattle.audit_base.specs.Deals.{AreDeals};
+ghost use Rattle.audit_base.specs.Deals.{DealsInRange};
 ghost use Rattle.audit_base.specs.Histories.{Regular};
 ghost use Rattle.audit_base.specs.Orders.{IsOrderList};
 ghost use Rattle.log_verdict.specs.BothLogs.{HaveOneLimit, StaysWithin};
@@ -8,7 +8,7 @@ ghost use Rattle.audit_run.specs.Deciding.{session_of, DecidesReport};
 ghost use Rattle.audit_run.specs.JudgedReports.{ReportsDay};
 ghost use Rattle.audit_run.specs.Reporting.{SaysReport};
 ghost use Rattle.audit_run.specs.Sessions.{AreOnlyOfDay, JudgesDay};
-ghost use Rattle.log_verdict.specs.Steps.{reading_by, KeepsLogs, NeverFall};
+ghost use Rattle.log_verdict.specs.Steps.{reading_by, KeepsShelfLogs, FaultsNeverFall};
 ghost use Rattle.record_verdict.specs.BeforeRule.{AreJudgeable, IsJudgeable};
 ghost use Rattle.session_audit.specs.Days.{ConformsDay};
 ghost use Rattle.session_audit.specs.Phases.{ArePhases};
@@ -36,7 +36,7 @@ use std::alloc::Global;
 fn only_of_day(orders: &OrderList<'_>, phases: &[Phase], deals: &[Deal])
     requires order_list { IsOrderList orders.now }
     requires regular { Regular orders.now }
-    requires numbers { AreDeals deals.now }
+    requires numbers { DealsInRange deals.now }
     requires conforms { ConformsDay phases.now orders.now deals.now }
     ensures { AreOnlyOfDay phases.now orders.now deals.now }
 {
@@ -101,8 +101,8 @@ pub(crate) fn report_session<F: Shelf>(
 ) -> Result<Report, Stop>
     requires phases { ArePhases phases.now }
     requires limit { HaveOneLimit orders.now trades.now }
-    ensures logs { KeepsLogs F.Shelf shelf.old shelf.new }
-    ensures later { NeverFall (reading_by orders.now F.Shelf shelf.old shelf.new) }
+    ensures logs { KeepsShelfLogs F.Shelf shelf.old shelf.new }
+    ensures later { FaultsNeverFall (reading_by orders.now F.Shelf shelf.old shelf.new) }
     ensures decides { DecidesReport (reading_by orders.now F.Shelf shelf.old shelf.new)
         (session_of symbol.now phases.now table orders.now trades.now) result }
     ensures within { StaysWithin (reading_by orders.now F.Shelf shelf.old shelf.new) result }

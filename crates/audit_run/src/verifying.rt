@@ -10,7 +10,7 @@ ghost use Rattle.log_verdict.specs.Collecting.{TouchesOnly};
 ghost use Rattle.audit_run.specs.Deciding.{verify_of, DecidesReport};
 ghost use Rattle.audit_run.specs.JudgedReports.{IsLineReport, VerifiesAs};
 ghost use Rattle.audit_run.specs.Reporting.{DecidesLog, SaysReport};
-ghost use Rattle.log_verdict.specs.Steps.{reading_by, reading_within, KeepsLogs, NeverFall};
+ghost use Rattle.log_verdict.specs.Steps.{reading_by, reading_within, KeepsShelfLogs, FaultsNeverFall};
 ghost use Rattle.record_verdict.specs.BeforeRule.{AreJudgeable, IsJudgeable};
 
 use super::reports::{Report, done_report, finding_report, malformed_report, report_without};
@@ -110,7 +110,7 @@ fn report_certificate<F: Shelf>(
 ) -> Result<Report, Stop>
     requires limit { limit ≤ longest_log }
     requires judgeable { IsJudgeable reached.now }
-    ensures logs { KeepsLogs F.Shelf shelf.old shelf.new }
+    ensures logs { KeepsShelfLogs F.Shelf shelf.old shelf.new }
     ensures only { TouchesOnly (reading_within limit F.Shelf shelf.old shelf.new) Which.Trades }
     ensures decides { DecidesLog (reading_within limit F.Shelf shelf.old shelf.new) Which.Trades name.now
         (VerifiesAs symbol.now reached.now) result }
@@ -134,8 +134,8 @@ pub(crate) fn report_verify<F: Shelf>(
 ) -> Result<Report, Stop>
     requires limit { HaveOneLimit orders.now trades.now }
     requires small { orders.now.limit ≤ longest_log }
-    ensures logs { KeepsLogs F.Shelf shelf.old shelf.new }
-    ensures later { NeverFall (reading_by orders.now F.Shelf shelf.old shelf.new) }
+    ensures logs { KeepsShelfLogs F.Shelf shelf.old shelf.new }
+    ensures later { FaultsNeverFall (reading_by orders.now F.Shelf shelf.old shelf.new) }
     ensures decides { DecidesReport (reading_by orders.now F.Shelf shelf.old shelf.new)
         (verify_of symbol.now orders.now trades.now certificate.now) result }
     ensures within { StaysWithin (reading_by orders.now F.Shelf shelf.old shelf.new) result }

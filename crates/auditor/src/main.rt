@@ -1,5 +1,5 @@
-//! The program `auditor`. What it does is `run_auditor` of `audit_program`, which the gate runs a second time over
-//! logs that are rejected (`auditor_rejects`).
+//! The program `auditor`. What it does is `run_auditor` of `audit_program`, which the gate runs
+//! a second time over logs that are rejected (`auditor_rejects`).
 #![tactic(auto)]
 
 use audit_program::run_auditor;

@@ -1,5 +1,5 @@
-//! A program of the gate: what `auditor` does, over logs that are rejected, with status 1. The stored run of `auditor`
-//! itself is of logs that are accepted, and a program has one.
+//! A program of the gate: what `auditor` does, over logs that are rejected, with status 1. The
+//! stored run of `auditor` itself is of logs that are accepted, and a program has one.
 #![tactic(auto)]
 
 use audit_program::run_auditor;

@@ -13,8 +13,8 @@ use Rattle.audit_base.specs.declared.flaws.DueOrder.{DueOrder}
 use Rattle.audit_base.specs.declared.flaws.Evidence.TheVariants.{Volume}
 use Rattle.audit_base.specs.RuleKinds.{asks_one_price}
 use Rattle.audit_base.specs.Orders.{IsOrderList}
-use Rattle.audit_base.specs.Deals.{volume, NamesOrders, AreDeals, AreTotals}
-use Rattle.audit_base.specs.Bounds.{IsBound}
+use Rattle.audit_base.specs.Deals.{volume, NamesOrders, DealsInRange, AreTotals}
+use Rattle.audit_base.specs.Bounds.{IsBoundPrice}
 use Rattle.audit_base.specs.Units.{due_by_rank}
 use Rattle.audit_base.specs.Flaws.{finding_of}
 use Rattle.audit_base.specs.CallOffences.{best_short, IsGreatestUnder, IsCallOffence}
@@ -25,41 +25,41 @@ use Rattle.call_laws.proofs.VolumeLemmas.{reached, due_order, below, early-offen
 use Rattle.matching_core.specs.declared.outcomes.Outcome.{Outcome}
 use Rattle.matching_core.specs.declared.outcomes.Outcome.TheVariants as outcome
 use Rattle.call_auction.specs.FairMatchings.{IsFairMatching, IsFairMatchingOffence}
-use Rattle.call_auction.specs.Audits.{IsGreatestOf, IsBroken, IsAudited}
-use Rattle.call_auction.specs.Dues.{with_due}
-use Rattle.call_auction.specs.Outcomes.{short_of, IsShortOf, IsVolumeFinding, IsOutcome}
+use Rattle.call_auction.specs.Audits.{IsGreatestOf, IsOffendingCall, IsAuditedCall}
+use Rattle.call_auction.specs.Dues.{order_with_due}
+use Rattle.call_auction.specs.Outcomes.{best_short_with_due, IsBestShortWithDue, IsVolumeFinding, IsVolumeOutcome}
 
--- what is told of the best short orders is what the finding of the volume shows
+-- what is said of the best short orders is what the finding of the volume shows
 module _ (orders : List Order) (known : List ℕ × ℕ) (count most : ℕ) where
   pub volume-finding : (traded : List ℕ) (v : ℕ) (bid ask : Option DueOrder) (finding : Finding) → traded ≡ known.0 → v ≡ known.1
-      → IsShortOf orders traded most Buy bid → IsShortOf orders traded most Sell ask
+      → IsBestShortWithDue orders traded most Buy bid → IsBestShortWithDue orders traded most Sell ask
       → finding ≡ finding_of orders (record { place = count + 1; evidence = Volume (record { reached = v; greatest = most }) bid ask }) → IsVolumeFinding orders known count most finding
   volume-finding traded v bid ask finding traded_is v_is short_bid short_ask is deals totals =
       let are = subst (AreTotals orders deals) (sym traded_is) totals in
-      let first = short_bid deals are ∙ ap (λ (t : List ℕ). short_of orders deals t most Buy) traded_is in
-      let second = short_ask deals are ∙ ap (λ (t : List ℕ). short_of orders deals t most Sell) traded_is in
+      let first = short_bid deals are ∙ ap (λ (t : List ℕ). best_short_with_due orders deals t most Buy) traded_is in
+      let second = short_ask deals are ∙ ap (λ (t : List ℕ). best_short_with_due orders deals t most Sell) traded_is in
       is ∙ (λ j. finding_of orders (record { place = count + 1; evidence = Volume (record { reached = v_is j; greatest = most }) (first j) (second j) }))
 
 -- a first offence, which no deals that conform have
-broken : (r : VolumeRule) (orders : List Order) (deals : List Deal) (count : ℕ) (finding : Finding) → AreDeals deals → IsCallOffence (call.Greatest r) orders deals count finding → IsBroken r orders deals count finding
+broken : (r : VolumeRule) (orders : List Order) (deals : List Deal) (count : ℕ) (finding : Finding) → DealsInRange deals → IsCallOffence (call.Greatest r) orders deals count finding → IsOffendingCall r orders deals count finding
 broken r orders deals count finding ranges offence = record { offence = offence; fails = call_offence-fails (call.Greatest r) orders deals count finding ranges offence }
 
 -- a finding before the volume is the first offence
-pub broken_early : (r : VolumeRule) (orders : List Order) (deals : List Deal) (count : ℕ) (finding : Finding) → AreDeals deals
-    → IsFairMatchingOffence (asks_one_price r) orders deals finding → IsBroken r orders deals count finding
+pub broken_early : (r : VolumeRule) (orders : List Order) (deals : List Deal) (count : ℕ) (finding : Finding) → DealsInRange deals
+    → IsFairMatchingOffence (asks_one_price r) orders deals finding → IsOffendingCall r orders deals count finding
 broken_early r orders deals count finding ranges some = broken r orders deals count finding ranges (early-offence (call.Greatest r) orders deals count finding some)
 
 -- the best short order of a side, with its due of the greatest volume
 short-due : (orders : List Order) (deals : List Deal) (totals : List ℕ) (side : Side) (most v i : ℕ) → AreTotals orders deals totals → most ≡ v → best_short orders deals side ≡ Some i
-    → short_of orders deals totals most side ≡ Some (due_order orders deals side v i)
+    → best_short_with_due orders deals totals most side ≡ Some (due_order orders deals side v i)
 short-due orders deals totals side most v i are same e =
     let s = best-stands orders deals side i e in
-    ap (option_map (with_due orders totals most)) e
+    ap (option_map (order_with_due orders totals most)) e
     ∙ (λ j. Some (record { order = record { index = i; traded = are.each i s.inside j }; due = due_by_rank orders (s.of_side j) (same j) i }))
 
--- what is told of the volume of a fair matching is the answer of the audit
-pub audited : (r : VolumeRule) (orders : List Order) (deals : List Deal) (count : ℕ) (most : Cut) (known : List ℕ × ℕ) (result : Outcome) → IsOrderList orders → All (NamesOrders orders) deals → AreDeals deals
-    → IsGreatestOf r orders most → IsFairMatching (asks_one_price r) orders deals known → IsOutcome orders known count most result → IsAudited r orders deals count result
+-- what is said of the volume of a fair matching is the answer of the audit
+pub audited : (r : VolumeRule) (orders : List Order) (deals : List Deal) (count : ℕ) (most : Cut) (known : List ℕ × ℕ) (result : Outcome) → IsOrderList orders → All (NamesOrders orders) deals → DealsInRange deals
+    → IsGreatestOf r orders most → IsFairMatching (asks_one_price r) orders deals known → IsVolumeOutcome orders known count most result → IsAuditedCall r orders deals count result
 audited r orders deals count most known (outcome.Broken finding) list named ranges g f (lt, is) =
     let less : volume deals < volume g.some = subst (λ v. v < volume g.some) f.volume_is (subst (λ v. known.1 < v) (sym g.reached) lt) in
     let n = (conforms-fair r orders g.some g.conforms).0 in
@@ -77,6 +77,6 @@ audited r orders deals count most known (outcome.Conforms reached_is) list named
       conforms = c;
       totals = f.totals;
       volume_is = f.volume_is;
-      bound_is = record { volume_is = same; shows = subst (λ v. IsBound r orders v most.price) same g.bound };
+      bound_is = record { volume_is = same; shows = subst (λ v. IsBoundPrice r orders v most.price) same g.bound };
       only = λ i lt. only-quantities r orders deals list ranges c i;
     })

@@ -6,8 +6,8 @@ use Rattle.audit_base.specs.declared.orders.Order.{Order}
 use Rattle.audit_base.specs.declared.orders.Deal.{Deal}
 use Rattle.audit_base.specs.declared.orders.Cut.{Cut}
 use Rattle.audit_base.specs.declared.findings.Finding.{Finding}
-use Rattle.audit_base.specs.Deals.{traded, volume, AreDeals, AreTotals}
-use Rattle.audit_base.specs.Bounds.{IsBound}
+use Rattle.audit_base.specs.Deals.{traded, volume, DealsInRange, AreTotals}
+use Rattle.audit_base.specs.Bounds.{IsBoundPrice}
 use Rattle.audit_base.specs.RuleKinds.{rule_of_volume}
 use Rattle.audit_base.specs.Rules.{Conforms, Only}
 use Rattle.audit_base.specs.CallOffences.{IsCallOffence}
@@ -15,42 +15,43 @@ use Rattle.matching_core.specs.declared.outcomes.Reached.{Reached}
 use Rattle.matching_core.specs.declared.outcomes.Outcome.{Outcome}
 use Rattle.matching_core.specs.declared.outcomes.Outcome.TheVariants as outcome
 
--- a greatest volume of the rule with its bound: some conforming list of deals has this volume, and the price
--- is the least that shows it
+-- a greatest volume of the rule with its bound: some conforming list of deals has this volume, and
+-- the price is the least that shows it
 pub record IsGreatestOf (the_rule : VolumeRule) (orders : List Order) (most : Cut) : Type 0 where
   pub some : List Deal
-  pub ranges : AreDeals some
+  pub ranges : DealsInRange some
   pub conforms : Conforms (rule_of_volume the_rule) orders some
   pub reached : volume some ≡ most.volume
-  pub bound : IsBound the_rule orders most.volume most.price
+  pub bound : IsBoundPrice the_rule orders most.volume most.price
 
 -- a bound of this volume under the rule
-pub record IsBoundOf (the_rule : VolumeRule) (orders : List Order) (reached : ℕ)
+pub record IsReachedBound (the_rule : VolumeRule) (orders : List Order) (reached : ℕ)
     (bound : Cut) : Type 0 where
   pub volume_is : bound.volume ≡ reached
-  pub shows : IsBound the_rule orders reached bound.price
+  pub shows : IsBoundPrice the_rule orders reached bound.price
 
--- the deals conform, with what each order traded (in every conforming list of deals the same), the volume
--- and the bound
-pub record IsConforming (the_rule : VolumeRule) (orders : List Order) (deals : List Deal)
+-- the deals conform, with what each order traded (in every conforming list of deals the same), the
+-- volume and the bound
+pub record IsConformingCall (the_rule : VolumeRule) (orders : List Order) (deals : List Deal)
     (reached : Reached) : Type 0 where
   pub conforms : Conforms (rule_of_volume the_rule) orders deals
   pub totals : AreTotals orders deals reached.traded.0
   pub volume_is : reached.traded.1 ≡ volume deals
-  pub bound_is : IsSomeAnd reached.bound (IsBoundOf the_rule orders (volume deals))
+  pub bound_is : IsSomeAnd reached.bound (IsReachedBound the_rule orders (volume deals))
   pub only : (i : ℕ) → i < length orders
       → Only (rule_of_volume the_rule) orders i (traded deals i)
 
 -- the deals don't conform, and this is the first offence
-pub record IsBroken (the_rule : VolumeRule) (orders : List Order) (deals : List Deal) (count : ℕ)
+pub record IsOffendingCall (the_rule : VolumeRule) (orders : List Order) (deals : List Deal)
+    (count : ℕ)
     (finding : Finding) : Type 0 where
   pub offence : IsCallOffence (call.Greatest the_rule) orders deals count finding
   pub fails : Conforms (rule_of_volume the_rule) orders deals → ⊥
 
--- what an audit answers: that the deals conform, or their first offence. `count` is the number of trades of
--- the whole log
-abbrev pub IsAudited : VolumeRule → List Order → List Deal → ℕ → Outcome → Type 0
-IsAudited the_rule orders deals count (outcome.Conforms reached) =
-    IsConforming the_rule orders deals reached
-IsAudited the_rule orders deals count (outcome.Broken finding) =
-    IsBroken the_rule orders deals count finding
+-- what an audit answers: that the deals conform, or their first offence. `count` is the number of
+-- trades of the whole log
+abbrev pub IsAuditedCall : VolumeRule → List Order → List Deal → ℕ → Outcome → Type 0
+IsAuditedCall the_rule orders deals count (outcome.Conforms reached) =
+    IsConformingCall the_rule orders deals reached
+IsAuditedCall the_rule orders deals count (outcome.Broken finding) =
+    IsOffendingCall the_rule orders deals count finding

@@ -14,13 +14,13 @@ abbrev pub fair_matching_offence : Bool → List Order → List Deal → Option 
 fair_matching_offence uniform orders deals =
     option_or (matching_offence uniform orders deals) (fair_offence orders deals)
 
--- the finding is this offence
+-- the finding is the offence of the first two parts
 abbrev pub IsFairMatchingOffence : Bool → List Order → List Deal → Finding → Type 0
 IsFairMatchingOffence uniform orders deals finding =
     fair_matching_offence uniform orders deals ≡ Some finding
 
--- the deals are a fair matching (of one price, where that is asked for), with what each order traded and
--- the volume
+-- the deals are a fair matching (of one price, where that is asked for), with what each order
+-- traded and the volume
 pub record IsFairMatching (uniform : Bool) (orders : List Order) (deals : List Deal)
     (known : List ℕ × ℕ) : Type 0 where
   pub matching : Matching orders deals

@@ -1,10 +1,10 @@
-//! The audit of a rule that asks for the greatest volume: a fair matching, and whether its volume is
-//! the greatest.
+//! The audit of a rule that asks for the greatest volume: a fair matching, and whether its
+//! volume is the greatest.
 ghost use Rattle.std.specs.Prelude.{◌≡◌, ◌<◌, ◌-◌, ◌^◌, IfOk, IfSome, length};
 ghost use Rattle.audit_base.specs.Orders.{IsOrderList};
 ghost use Rattle.audit_base.specs.Deals.{IsDealList};
-ghost use Rattle.call_auction.specs.Audits.{IsGreatestOf, IsAudited};
-ghost use Rattle.call_auction.specs.Outcomes.{IsShortOf, IsVolumeFinding, IsOutcome};
+ghost use Rattle.call_auction.specs.Audits.{IsGreatestOf, IsAuditedCall};
+ghost use Rattle.call_auction.specs.Outcomes.{IsBestShortWithDue, IsVolumeFinding, IsVolumeOutcome};
 
 use super::dues::due_of;
 use super::fair_matchings::fair_matching;
@@ -28,7 +28,7 @@ fn short_with_due(
 ) -> Option<DueOrder>
     requires order_list { IsOrderList orders.now }
     requires count { length traded.now ≡ length orders.now }
-    ensures short { IsShortOf orders.now traded.now greatest side result }
+    ensures short { IsBestShortWithDue orders.now traded.now greatest side result }
     ensures inside { IfSome result (λ short. short.order.index < length orders.now) }
 {
     let index = best_short_on(orders, traded, side)?;
@@ -41,8 +41,8 @@ fn short_with_due(
     })
 }
 
-/// Finding 14: the volume is below the greatest. It stands behind the last trade of the log, and shows
-/// the best short order of both sides with their dues.
+/// Finding 14: the volume is below the greatest. Its place is behind the last trade of the log, and
+/// it shows the best short order of both sides with their dues.
 fn volume_finding(orders: &OrderList<'_>, totals: &Totals, count: u32, greatest: u128) -> Finding
     requires order_list { IsOrderList orders.now }
     requires totals { length totals.now.0 ≡ length orders.now }
@@ -60,12 +60,12 @@ fn volume_finding(orders: &OrderList<'_>, totals: &Totals, count: u32, greatest:
     orders.finding(flaw)
 }
 
-/// What a fair matching comes to: whether its volume is the greatest.
+/// The outcome of a fair matching, by whether its volume is the greatest.
 fn outcome_of(orders: &OrderList<'_>, totals: Totals, count: u32, most: Cut) -> Outcome
     requires order_list { IsOrderList orders.now }
     requires totals { length totals.0 ≡ length orders.now }
     requires count { count < 2 ^ 32 - 1 }
-    ensures { IsOutcome orders.now totals count most result }
+    ensures { IsVolumeOutcome orders.now totals count most result }
 {
     if totals.volume() < most.volume {
         return Outcome::Broken(volume_finding(orders, &totals, count, most.volume));
@@ -76,10 +76,11 @@ fn outcome_of(orders: &OrderList<'_>, totals: Totals, count: u32, most: Cut) -> 
     })
 }
 
-/// The audit of a rule that asks for the greatest volume, against the greatest volume that it allows, with
-/// its bound. Conforms exactly where the rule holds, out of memory aside: with what each order traded,
-/// which is then the same in every list of deals that conforms. Else Broken has the first offence. The
-/// number of trades of the whole log is `count`, behind which the finding of the volume stands.
+/// The audit of a rule that asks for the greatest volume, against the greatest volume that it
+/// allows, with its bound. Conforms exactly where the rule holds, out of memory aside: with what
+/// each order traded, which is then the same in every list of deals that conforms. Else Broken has
+/// the first offence. The number of trades of the whole log is `count`, behind which the finding of
+/// the volume has its place.
 pub fn audit_call(
     alloc: Global,
     rule: VolumeRule,
@@ -92,7 +93,7 @@ pub fn audit_call(
     requires deal_list { IsDealList orders.now deals.now }
     requires count { count < 2 ^ 32 - 1 }
     requires most { IsGreatestOf rule orders.now most }
-    ensures { IfOk result (IsAudited rule orders.now deals.now count) }
+    ensures { IfOk result (IsAuditedCall rule orders.now deals.now count) }
 {
     match fair_matching(alloc, orders, deals, rule.asks_one_price()) {
         Ok(totals) => Ok(outcome_of(orders, totals, count, most)),

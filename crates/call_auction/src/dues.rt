@@ -21,7 +21,7 @@ fn is_ahead(order: &ListedOrder<'_>, other: &ListedOrder<'_>) -> bool
 
 /// The quantity of the order, if it is ahead of the other.
 fn quantity_ahead(order: &ListedOrder<'_>, other: &ListedOrder<'_>) -> u64
-    ensures { result ≡ units.quantity_ahead other.now.side order.now other.now }
+    ensures { result ≡ units.quantity_if_ahead other.now.side order.now other.now }
 {
     if is_ahead(order, other) {
         order.quantity().value()
@@ -34,7 +34,7 @@ fn quantity_ahead(order: &ListedOrder<'_>, other: &ListedOrder<'_>) -> u64
 fn ahead_of(orders: &OrderList<'_>, index: usize) -> u128
     requires few { length orders.now < 2 ^ 32 }
     requires inside { index < length orders.now }
-    ensures { result ≡ units.ahead orders.now (order_at orders.now index).side index }
+    ensures { result ≡ units.total_quantity_ahead orders.now (order_at orders.now index).side index }
 {
     let other = orders.at(index);
     let mut sum: u128 = 0;
@@ -45,7 +45,7 @@ fn ahead_of(orders: &OrderList<'_>, index: usize) -> u128
 }
 
 /// What the order at this index trades where the volume fills the orders of its side by rank: the
-/// lesser of its quantity and what the better ones leave of the volume.
+/// smaller of its quantity and what the better ones leave of the volume.
 pub(crate) fn due_of(orders: &OrderList<'_>, index: usize, volume: u128) -> u128
     requires few { length orders.now < 2 ^ 32 }
     requires inside { index < length orders.now }

@@ -9,28 +9,28 @@ use Rattle.audit_base.specs.declared.terms.Side.{Side}
 use Rattle.audit_base.specs.declared.terms.Side.TheVariants.{Buy, Sell}
 use Rattle.audit_base.specs.declared.orders.Order.{Order}
 use Rattle.audit_base.specs.Sums.{sum_below}
-use Rattle.audit_base.specs.Orders.{order_at, quantity_at, limit_at, stands_on, Stands, IsOrderList}
+use Rattle.audit_base.specs.Orders.{order_at, quantity_at, limit_at, is_uncancelled_on, IsUncancelledOn, IsOrderList}
 use Rattle.audit_base.specs.Priority.{outranks, Better}
-use Rattle.audit_base.specs.Bounds.{wanted, offered, offered_below, demand, supply, supply_below}
-use Rattle.audit_base.specs.Units.{ahead}
+use Rattle.audit_base.specs.Bounds.{demand_of_order, supply_of_order, supply_below_of_order, demand, supply, supply_below}
+use Rattle.audit_base.specs.Units.{total_quantity_ahead}
 use Rattle.audit_base.proofs.SumLemmas.{AllPairs-head, AllPairs-tail, sum_by-none, sum_by-same, below-le, below-add, below-single}
 use Rattle.audit_base.proofs.OrderLemmas.{stands-test}
 use Rattle.audit_base.proofs.PriorityLemmas.{outranks-strict, outranks-onward, better-outranks}
 use Rattle.call_laws.proofs.RankedLemmas.{ranked, ranked-is, ranked-sum, indexed}
 
--- the quantity of an order, where it stands on the side and outranks another
+-- the quantity of an order, where no record cancels it, it is of the side, and it outranks another
 abbrev pub part_ahead : List Order → Side → ℕ → ℕ → ℕ
-part_ahead orders side i k = cond (stands_on side (order_at orders k) && outranks side (order_at orders k) (order_at orders i)) (quantity_at orders k) 0
+part_ahead orders side i k = cond (is_uncancelled_on side (order_at orders k) && outranks side (order_at orders k) (order_at orders i)) (quantity_at orders k) 0
 
 -- what is ahead is a sum over the indices
-pub ahead-indices : (orders : List Order) (side : Side) (i : ℕ) → sum_below (part_ahead orders side i) (length orders) ≡ ahead orders side i
-ahead-indices orders side i = indexed orders (λ o. cond (stands_on side o && outranks side o (order_at orders i)) o.quantity 0)
+pub ahead-indices : (orders : List Order) (side : Side) (i : ℕ) → sum_below (part_ahead orders side i) (length orders) ≡ total_quantity_ahead orders side i
+ahead-indices orders side i = indexed orders (λ o. cond (is_uncancelled_on side o && outranks side o (order_at orders i)) o.quantity 0)
 
 -- of two standing orders of a side, the better one outranks the other, and not the other way round
-pub better-over : (orders : List Order) (side : Side) (i j : ℕ) → Stands orders side i → Better orders i j → outranks side (order_at orders i) (order_at orders j) ≡ true
+pub better-over : (orders : List Order) (side : Side) (i j : ℕ) → IsUncancelledOn orders side i → Better orders i j → outranks side (order_at orders i) (order_at orders j) ≡ true
 better-over orders side i j s b = subst (λ t. outranks t (order_at orders i) (order_at orders j) ≡ true) s.of_side (better-outranks (order_at orders i) (order_at orders j) b)
 
-pub worse-under : (orders : List Order) (side : Side) (i j : ℕ) → Stands orders side i → Better orders i j → outranks side (order_at orders j) (order_at orders i) ≡ false
+pub worse-under : (orders : List Order) (side : Side) (i j : ℕ) → IsUncancelledOn orders side i → Better orders i j → outranks side (order_at orders j) (order_at orders i) ≡ false
 worse-under orders side i j s b = false_from_ne_true _ (λ t. both_ways _ (outranks-strict side (order_at orders j))
     (outranks-onward side (order_at orders j) (order_at orders i) (order_at orders j) t (better-over orders side i j s b)))
 
@@ -39,14 +39,14 @@ cond-and true b x = refl
 cond-and false b x = refl
 
 -- what is ahead is a sum over the ranks
-pub ahead-ranks : (orders : List Order) (side : Side) (i : ℕ) → sum_by (λ j. cond (outranks side (order_at orders j) (order_at orders i)) (quantity_at orders j) 0) (ranked orders side) ≡ ahead orders side i
+pub ahead-ranks : (orders : List Order) (side : Side) (i : ℕ) → sum_by (λ j. cond (outranks side (order_at orders j) (order_at orders i)) (quantity_at orders j) 0) (ranked orders side) ≡ total_quantity_ahead orders side i
 ahead-ranks orders side i =
     ranked-sum orders side (λ o. cond (outranks side o (order_at orders i)) o.quantity 0)
-    ∙ sum_by-same _ _ orders (λ k d lt. let o = get_or orders k d in sym (cond-and (stands_on side o) (outranks side o (order_at orders i)) o.quantity))
+    ∙ sum_by-same _ _ orders (λ k d lt. let o = get_or orders k d in sym (cond-and (is_uncancelled_on side o) (outranks side o (order_at orders i)) o.quantity))
 
 -- what is ahead of the order at a rank is the quantity of the ranks before it
 pub ahead-at : (orders : List Order) (side : Side) → IsOrderList orders → (r d : ℕ) → r < length (ranked orders side)
-    → ahead orders side (get_or (ranked orders side) r d) ≡ sum_by (quantity_at orders) (take r (ranked orders side))
+    → total_quantity_ahead orders side (get_or (ranked orders side) r d) ≡ sum_by (quantity_at orders) (take r (ranked orders side))
 ahead-at orders side list r d lt =
     let ranks = ranked orders side in
     let is = ranked-is orders side list in
@@ -76,20 +76,20 @@ and-le true a b x f = cond-le a b x f
 and-le false a b x f = omega arith
 
 -- all the demand at a price above a bid's limit is ahead of it
-pub ahead-demand : (orders : List Order) (i p : ℕ) → limit_at orders i < p → demand orders p ≤ ahead orders Buy i
-ahead-demand orders i p low = sum_by-le-sum_by (wanted p) (λ o. cond (stands_on Buy o && outranks Buy o (order_at orders i)) o.quantity 0) orders
-    (λ o. and-le (stands_on Buy o) (leb p o.limit) (outranks Buy o (order_at orders i)) o.quantity
+pub ahead-demand : (orders : List Order) (i p : ℕ) → limit_at orders i < p → demand orders p ≤ total_quantity_ahead orders Buy i
+ahead-demand orders i p low = sum_by-le-sum_by (demand_of_order p) (λ o. cond (is_uncancelled_on Buy o && outranks Buy o (order_at orders i)) o.quantity 0) orders
+    (λ o. and-le (is_uncancelled_on Buy o) (leb p o.limit) (outranks Buy o (order_at orders i)) o.quantity
     (λ t. let le = leb-true p o.limit t in or_left _ _ (lt-ltb (limit_at orders i) o.limit (omega arith))))
 
 -- all the supply at a price below an ask's limit is ahead of it, and so is what lies below the limit
-pub ahead-supply : (orders : List Order) (i p : ℕ) → p < limit_at orders i → supply orders p ≤ ahead orders Sell i
-ahead-supply orders i p high = sum_by-le-sum_by (offered p) (λ o. cond (stands_on Sell o && outranks Sell o (order_at orders i)) o.quantity 0) orders
-    (λ o. and-le (stands_on Sell o) (leb o.limit p) (outranks Sell o (order_at orders i)) o.quantity
+pub ahead-supply : (orders : List Order) (i p : ℕ) → p < limit_at orders i → supply orders p ≤ total_quantity_ahead orders Sell i
+ahead-supply orders i p high = sum_by-le-sum_by (supply_of_order p) (λ o. cond (is_uncancelled_on Sell o && outranks Sell o (order_at orders i)) o.quantity 0) orders
+    (λ o. and-le (is_uncancelled_on Sell o) (leb o.limit p) (outranks Sell o (order_at orders i)) o.quantity
     (λ t. let le = leb-true o.limit p t in or_left _ _ (lt-ltb o.limit (limit_at orders i) (omega arith))))
 
-pub ahead-below : (orders : List Order) (i p : ℕ) → p ≤ limit_at orders i → supply_below orders p ≤ ahead orders Sell i
-ahead-below orders i p high = sum_by-le-sum_by (offered_below p) (λ o. cond (stands_on Sell o && outranks Sell o (order_at orders i)) o.quantity 0) orders
-    (λ o. and-le (stands_on Sell o) (ltb o.limit p) (outranks Sell o (order_at orders i)) o.quantity
+pub ahead-below : (orders : List Order) (i p : ℕ) → p ≤ limit_at orders i → supply_below orders p ≤ total_quantity_ahead orders Sell i
+ahead-below orders i p high = sum_by-le-sum_by (supply_below_of_order p) (λ o. cond (is_uncancelled_on Sell o && outranks Sell o (order_at orders i)) o.quantity 0) orders
+    (λ o. and-le (is_uncancelled_on Sell o) (ltb o.limit p) (outranks Sell o (order_at orders i)) o.quantity
     (λ t. let lt = ltb-true o.limit p t in or_left _ _ (lt-ltb o.limit (limit_at orders i) (omega arith))))
 
 -- a number counted at one index alone
@@ -99,9 +99,9 @@ only_at i n k = cond (eqb k i) n 0
 pub below-only : (i n count : ℕ) → i < count → sum_below (only_at i n) count ≡ n
 below-only i n count lt = below-single (only_at i n) count i lt (λ k _ ne. cond-false (eqb k i) n 0 (ne_eqb k i ne)) ∙ cond-true (eqb i i) n 0 (eq-eqb i i refl)
 
--- an order and what is ahead of it stand together ahead of each worse order
-pub ahead-better : (orders : List Order) (side : Side) (i j : ℕ) → Stands orders side i → Better orders i j
-    → ahead orders side i + quantity_at orders i ≤ ahead orders side j
+-- an order and what is ahead of it are together ahead of each worse order
+pub ahead-better : (orders : List Order) (side : Side) (i j : ℕ) → IsUncancelledOn orders side i → Better orders i j
+    → total_quantity_ahead orders side i + quantity_at orders i ≤ total_quantity_ahead orders side j
 ahead-better orders side i j s b =
     let over = better-over orders side i j s b in
     let le : sum_below (λ k. part_ahead orders side i k + only_at i (quantity_at orders i) k) (length orders) ≤ sum_below (part_ahead orders side j) (length orders) =
@@ -111,7 +111,7 @@ ahead-better orders side i j s b =
       | inr ne ↦ omega (
         arith,
         cond-false (eqb k i) (quantity_at orders i) 0 (ne_eqb k i ne),
-        and-le (stands_on side (order_at orders k)) (outranks side (order_at orders k) (order_at orders i)) (outranks side (order_at orders k) (order_at orders j)) (quantity_at orders k)
+        and-le (is_uncancelled_on side (order_at orders k)) (outranks side (order_at orders k) (order_at orders i)) (outranks side (order_at orders k) (order_at orders j)) (quantity_at orders k)
             (λ t. outranks-onward side (order_at orders k) (order_at orders i) (order_at orders j) t over),
       )
     ]) in
@@ -150,11 +150,11 @@ overlaps-total b q a lo hi (x ∷ xs) from pairs self at =
 
 -- the overlaps of the intervals of a side with one interval are together an overlap
 pub ranks-overlap : (orders : List Order) (side : Side) → IsOrderList orders → (lo hi : ℕ)
-    → sum_by (λ k. min hi (ahead orders side k + quantity_at orders k) - max lo (ahead orders side k)) (ranked orders side) ≡ min hi (sum_by (quantity_at orders) (ranked orders side)) - lo
+    → sum_by (λ k. min hi (total_quantity_ahead orders side k + quantity_at orders k) - max lo (total_quantity_ahead orders side k)) (ranked orders side) ≡ min hi (sum_by (quantity_at orders) (ranked orders side)) - lo
 ranks-overlap orders side list lo hi =
     let r = ranked-is orders side list in
     let ranks = ranked orders side in
-    let whole = overlaps-total (λ i j. outranks side (order_at orders i) (order_at orders j)) (quantity_at orders) (ahead orders side) lo hi ranks 0
+    let whole = overlaps-total (λ i j. outranks side (order_at orders i) (order_at orders j)) (quantity_at orders) (total_quantity_ahead orders side) lo hi ranks 0
     (λ i j d lt below. let s = r.only i d (omega arith) in let over = r.best_first i j d lt below in
     (better-over orders side (get_or ranks i d) (get_or ranks j d) s over, worse-under orders side (get_or ranks i d) (get_or ranks j d) s over))
     (λ n d lt. outranks-strict side (order_at orders (get_or ranks n d)))

@@ -5,7 +5,7 @@ use Rattle.audit_base.specs.declared.terms.VolumeRule.TheVariants as of_volume
 use Rattle.audit_base.specs.RuleKinds.{rule_of_volume}
 use Rattle.audit_base.specs.declared.orders.Order.{Order}
 use Rattle.audit_base.specs.declared.orders.Deal.{Deal}
-use Rattle.audit_base.specs.Deals.{volume, AreDeals}
+use Rattle.audit_base.specs.Deals.{volume, DealsInRange}
 use Rattle.audit_base.specs.Calls.{Matching, Fair}
 use Rattle.audit_base.specs.Rules.{Conforms, Only}
 use Rattle.audit_base.specs.CallOffences.{IsGreatestUnder}
@@ -17,7 +17,7 @@ conforms-fair of_volume.Uniform orders deals c = (c.matching, c.fair)
 conforms-fair of_volume.Maximum orders deals c = (c.matching, c.fair)
 
 -- what conforms has the greatest volume that the rule allows
-pub conforms-greatest : (r : VolumeRule) (orders : List Order) (deals : List Deal) (v : ℕ) → AreDeals deals → Conforms (rule_of_volume r) orders deals → IsGreatestUnder r orders v → volume deals ≡ v
+pub conforms-greatest : (r : VolumeRule) (orders : List Order) (deals : List Deal) (v : ℕ) → DealsInRange deals → Conforms (rule_of_volume r) orders deals → IsGreatestUnder r orders v → volume deals ≡ v
 conforms-greatest of_volume.Uniform orders deals v ranges c g =
     let le = c.greatest g.deals g.ranges g.matching g.one_price in
     let ge = g.greatest deals ranges c.matching c.one_price in
@@ -30,7 +30,7 @@ conforms-greatest of_volume.Maximum orders deals v ranges c g =
     omega arith
 
 -- and the other way round its volume is that greatest one
-pub greatest-conforms : (r : VolumeRule) (orders : List Order) (deals : List Deal) → AreDeals deals → Conforms (rule_of_volume r) orders deals → IsGreatestUnder r orders (volume deals)
+pub greatest-conforms : (r : VolumeRule) (orders : List Order) (deals : List Deal) → DealsInRange deals → Conforms (rule_of_volume r) orders deals → IsGreatestUnder r orders (volume deals)
 greatest-conforms of_volume.Uniform orders deals ranges c = record { deals = deals; ranges = ranges; matching = c.matching; one_price = c.one_price; greatest = c.greatest; reached = refl }
 greatest-conforms of_volume.Maximum orders deals ranges c = record { deals = deals; ranges = ranges; matching = c.matching; greatest = c.greatest; reached = refl }
 

@@ -9,14 +9,14 @@ use Rattle.audit_base.specs.RuleKinds.{rule_of_call, asks_one_price}
 use Rattle.audit_base.specs.declared.orders.Order.{Order}
 use Rattle.audit_base.specs.declared.orders.Deal.{Deal}
 use Rattle.audit_base.specs.declared.findings.Finding.{Finding}
-use Rattle.audit_base.specs.Orders.{IsOrderList, AreOrders}
+use Rattle.audit_base.specs.Orders.{IsOrderList, OrdersInRange}
 use Rattle.audit_base.specs.Deals.{NamesOrders, traded, volume}
-use Rattle.audit_base.specs.CallOffences.{matching_offence, fair_offence, early_offence}
+use Rattle.audit_base.specs.CallOffences.{matching_offence, fair_offence, offence_before_volume}
 use Rattle.audit_base.specs.Flaws.{finding_of}
 use Rattle.audit_base.specs.Verdicts.{IsRuleVerdict}
 use Rattle.audit_base.proofs.LeastLemmas.{cases_Option, option_or-parts}
 use Rattle.audit_base.proofs.OffenceLemmas.{no_offence-matching, no_offence-fair}
-use Rattle.call_laws.specs.Existence.{ConformingListExists, ExpectedTradesExist, DuesExist, RuleVerdictExists}
+use Rattle.call_laws.specs.Existence.{CallConformingListExists, ExpectedTradesExist, DuesExist, CallVerdictExists}
 use Rattle.call_laws.proofs.ConformLemmas.{conforms-fair, only-quantities}
 use Rattle.call_laws.proofs.ExtremeLemmas.{least-cut, greatest-executable}
 use Rattle.call_laws.proofs.OptimumLemmas.{uniform-conforms, uniform-expected, uniform-ranges, maximum-conforms, maximum-expected, maximum-ranges}
@@ -24,7 +24,7 @@ use Rattle.call_laws.proofs.ShortLemmas.{lesser-best}
 use Rattle.call_laws.proofs.VolumeLemmas.{reached, volume_flaw, below, early-offence, late-offence, first-of_call}
 
 -- some list of deals conforms
-pub conforming : ConformingListExists
+pub conforming : CallConformingListExists
 conforming call.Matching orders list ranges =
     let c = least-cut orders in
     let m = maximum-conforms orders c.0 list ranges c.1 in
@@ -51,7 +51,7 @@ dues-exist the_rule orders list ranges i =
     (traded c.0 i, only-quantities the_rule orders c.0 list c.1 c.2 i)
 
 -- where nothing is found before the volume, the deals conform or their volume is the first offence
-late_verdict : (r : CallRule) (orders : List Order) (deals : List Deal) (count : ℕ) → early_offence r orders deals ≡ None → IsOrderList orders → AreOrders orders → All (NamesOrders orders) deals
+late_verdict : (r : CallRule) (orders : List Order) (deals : List Deal) (count : ℕ) → offence_before_volume r orders deals ≡ None → IsOrderList orders → OrdersInRange orders → All (NamesOrders orders) deals
     → (v : Option Finding) × IsRuleVerdict (rule_of_call r) orders deals count v
 late_verdict call.Matching orders deals count none list ranges named = (None, no_offence-matching false orders deals named none)
 late_verdict call.Fair orders deals count none list ranges named =
@@ -73,8 +73,8 @@ late_verdict (call.Greatest r) orders deals count none list ranges named =
     ]
 
 -- each list of deals conforms or has a first offence
-pub verdict : RuleVerdictExists
-verdict r orders deals count list ranges named range = elim (cases_Option (early_offence r orders deals)) [
+pub verdict : CallVerdictExists
+verdict r orders deals count list ranges named range = elim (cases_Option (offence_before_volume r orders deals)) [
   | inr (f, some) ↦ (Some f, first-of_call r orders deals count f (early-offence r orders deals count f some))
   | inl none ↦ late_verdict r orders deals count none list ranges named
 ]

@@ -6,11 +6,11 @@ use Rattle.std.proofs.lemmas.List.Elements.{All-head}
 use Rattle.audit_base.specs.declared.orders.Order.{Order}
 use Rattle.audit_base.specs.declared.orders.Deal.{Deal}
 use Rattle.audit_base.specs.declared.orders.Cut.{Cut}
-use Rattle.audit_base.specs.Orders.{missing_order, limit_at, IsOrderList, AreOrders}
-use Rattle.audit_base.specs.Deals.{volume, AreDeals}
-use Rattle.audit_base.specs.Calls.{Keeps, Matching, OnePrice, ConformsUniform, ConformsMaximum, IsGreatestVolume, IsGreatestUniformVolume}
-use Rattle.audit_base.specs.Bounds.{executable_volume, IsLeastCut, IsBestUniform}
-use Rattle.audit_base.specs.Units.{uniform_units, maximum_units, of_standing}
+use Rattle.audit_base.specs.Orders.{order_past_end, limit_at, IsOrderList, OrdersInRange}
+use Rattle.audit_base.specs.Deals.{volume, DealsInRange}
+use Rattle.audit_base.specs.Calls.{IsMatchingDeal, Matching, OnePrice, ConformsUniform, ConformsMaximum, IsGreatestVolume, IsGreatestUniformVolume}
+use Rattle.audit_base.specs.Bounds.{executable_volume, IsLeastCut, IsGreatestExecutableVolume}
+use Rattle.audit_base.specs.Units.{uniform_units, maximum_units, if_both_uncancelled}
 use Rattle.audit_base.specs.Expected.{uniform_deals, IsExpectedUniform, maximum_deals, IsExpectedMaximum}
 use Rattle.audit_base.proofs.PairDealLemmas.{pair_deals-are}
 use Rattle.audit_base.proofs.VolumeLemmas.{volume-le-demand, volume-le-supply, cut-greatest}
@@ -22,8 +22,8 @@ use Rattle.call_laws.proofs.MaximumLemmas.{maximum-fills}
 pub volume-le-uniform : (orders : List Order) (deals : List Deal) (p : ℕ) → Matching orders deals → All (λ d. d.price ≡ p) deals → volume deals ≤ executable_volume orders p
 volume-le-uniform orders deals p m one = omega (arith, volume-le-demand orders deals m p one, volume-le-supply orders deals m p one)
 
-module _ (orders : List Order) (c : Cut) (list : IsOrderList orders) (ranges : AreOrders orders) where
-  module _ (best : IsBestUniform orders c) where
+module _ (orders : List Order) (c : Cut) (list : IsOrderList orders) (ranges : OrdersInRange orders) where
+  module _ (best : IsGreatestExecutableVolume orders c) where
     abbrev uniform : List Deal
     uniform = uniform_deals orders c.volume c.price
 
@@ -36,16 +36,16 @@ module _ (orders : List Order) (c : Cut) (list : IsOrderList orders) (ranges : A
     one_price-most : (others : List Deal) → Matching orders others → OnePrice others → volume others ≤ c.volume
     one_price-most [] m one = omega arith
     one_price-most (d ∷ ds) m one =
-        let k = All-head (Keeps orders) d ds m.kept in
+        let k = All-head (IsMatchingDeal orders) d ds m.kept in
         let price : d.price ≡ one.price = All-head (λ e. e.price ≡ one.price) d ds one.each in
-        let under : limit_at orders d.bid < 10 ^ 18 = (ranges d.bid missing_order k.bid_stands.inside).priced in
+        let under : limit_at orders d.bid < 10 ^ 18 = (ranges d.bid order_past_end k.bid_stands.inside).priced in
         omega (arith, volume-le-uniform orders (d ∷ ds) one.price m one.each, best.greatest one.price (omega (arith, k.most)))
 
     pub uniform-conforms : ConformsUniform orders uniform
     uniform-conforms = record {
       matching = uniform-reaches.matching;
       fair = uniform-reaches.fair;
-      one_price = record { price = c.price; each = λ n e lt. ((pair_deals-are orders (of_standing orders (uniform_units orders c.volume)) (λ bid ask. c.price)).each n e lt).at };
+      one_price = record { price = c.price; each = λ n e lt. ((pair_deals-are orders (if_both_uncancelled orders (uniform_units orders c.volume)) (λ bid ask. c.price)).each n e lt).at };
       greatest = λ others r m one. omega (arith, uniform-reaches.reached, one_price-most others m one);
     }
 
@@ -55,7 +55,7 @@ module _ (orders : List Order) (c : Cut) (list : IsOrderList orders) (ranges : A
     pub uniform-expected : IsExpectedUniform orders uniform
     uniform-expected = record { most = c.volume; bound = c.price; greatest = uniform-greatest; is_bound = best.reached; pairs = refl }
 
-    pub uniform-ranges : AreDeals uniform
+    pub uniform-ranges : DealsInRange uniform
     uniform-ranges = uniform-reaches.ranges ranges
 
   module _ (least : IsLeastCut orders c) where
@@ -78,5 +78,5 @@ module _ (orders : List Order) (c : Cut) (list : IsOrderList orders) (ranges : A
     pub maximum-expected : IsExpectedMaximum orders maximum
     maximum-expected = record { most = c.volume; greatest = maximum-greatest; pairs = refl }
 
-    pub maximum-ranges : AreDeals maximum
+    pub maximum-ranges : DealsInRange maximum
     maximum-ranges = maximum-reaches.ranges ranges

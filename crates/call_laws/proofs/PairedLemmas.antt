@@ -4,7 +4,7 @@ use Rattle.std.specs.Prelude.{◌||◌, ◌==◌, nat_lt}
 use Rattle.std.proofs.lemmas.Bool.{cases_eq, or_from, or_left, or_right, ne_eqb, eq-eqb, cond-true, cond-false}
 use Rattle.audit_base.specs.declared.orders.Order.{Order}
 use Rattle.audit_base.specs.Sums.{sum_below}
-use Rattle.audit_base.specs.Deals.{part_of, traded, volume}
+use Rattle.audit_base.specs.Deals.{quantity_traded_by, traded, volume}
 use Rattle.audit_base.specs.Expected.{pair_deals}
 use Rattle.audit_base.proofs.SumLemmas.{below-same, below-none, below-single}
 use Rattle.audit_base.proofs.PairDealLemmas.{pair_deals-sum}
@@ -28,7 +28,7 @@ module _ (orders : List Order) (quantity price : ℕ → ℕ → ℕ) where
 
   pairs-traded : (i : ℕ) → traded (pair_deals orders quantity price) i ≡ sum_below (λ bid. sum_below (part i bid) count) count
   pairs-traded i =
-      pair_deals-sum orders quantity price (part_of i) (λ d n. refl)
+      pair_deals-sum orders quantity price (quantity_traded_by i) (λ d n. refl)
       ∙ below-same _ _ count (λ bid lt. below-same _ (part i bid) count (λ ask below. counted (quantity bid ask) ((bid == i) || (ask == i))))
 
   pub pairs-volume : volume (pair_deals orders quantity price) ≡ sum_below (λ bid. sum_below (quantity bid) count) count

@@ -13,22 +13,22 @@ use Rattle.audit_base.specs.RuleKinds.{rule_of_volume}
 use Rattle.audit_base.specs.declared.orders.Order.{Order}
 use Rattle.audit_base.specs.declared.orders.Deal.{Deal}
 use Rattle.audit_base.specs.Sums.{sum_below}
-use Rattle.audit_base.specs.Orders.{missing_order, order_at, side_at, quantity_at, limit_at, same_side, stands_on, Stands, AreOrders}
+use Rattle.audit_base.specs.Orders.{order_past_end, order_at, side_at, quantity_at, limit_at, same_side, is_uncancelled_on, IsUncancelledOn, OrdersInRange}
 use Rattle.audit_base.specs.Priority.{Better}
-use Rattle.audit_base.specs.Deals.{part_of, traded, volume, IsDeal, AreDeals}
-use Rattle.audit_base.specs.Calls.{Keeps, Matching, Fair, OnePrice, Greatest, GreatestUniform}
+use Rattle.audit_base.specs.Deals.{quantity_traded_by, traded, volume, DealInRange, DealsInRange}
+use Rattle.audit_base.specs.Calls.{IsMatchingDeal, Matching, Fair, OnePrice, Greatest, GreatestUniform}
 use Rattle.audit_base.specs.Rules.{Conforms}
 use Rattle.audit_base.specs.CallOffences.{is_short, best_short}
 use Rattle.audit_base.proofs.LeastLemmas.{none_some}
 use Rattle.audit_base.proofs.OrderLemmas.{same_side-is, test-stands, stands-test}
 use Rattle.audit_base.proofs.PriorityLemmas.{outranks-better, best-exists, best-is}
 use Rattle.audit_base.proofs.DealLemmas.{part-bid, part-ask}
-use Rattle.call_laws.specs.Laws.{ShortOrdersDoNotMeet, LesserVolumeLeavesShortOrders}
+use Rattle.call_laws.specs.Laws.{ShortOrdersDoNotMeet, LowVolumeLeavesShortOrders}
 use Rattle.call_laws.proofs.FairLemmas.{trades-stands, side-volume, share, share-own}
 
 -- what the test on a short order says
 pub record IsShort (orders : List Order) (deals : List Deal) (side : Side) (i : ℕ) : Type 0 where
-  pub stands : Stands orders side i
+  pub stands : IsUncancelledOn orders side i
   pub below : traded deals i < quantity_at orders i
 
 none-past : (orders : List Order) (i : ℕ) → length orders ≤ i → quantity_at orders i ≡ 0
@@ -38,7 +38,7 @@ none-past (o ∷ os) (suc i) h = none-past os i (omega arith)
 
 pub short-is : (orders : List Order) (deals : List Deal) (side : Side) (i : ℕ) → is_short orders deals side i ≡ true → IsShort orders deals side i
 short-is orders deals side i t =
-    let parts = and_parts (stands_on side (order_at orders i)) (ltb (traded deals i) (quantity_at orders i)) t in
+    let parts = and_parts (is_uncancelled_on side (order_at orders i)) (ltb (traded deals i) (quantity_at orders i)) t in
     let below = ltb-true (traded deals i) (quantity_at orders i) parts.1 in
     elim (cases_lt i (length orders)) [
       | inl lt ↦ record { stands = test-stands orders side i lt parts.0; below = below }
@@ -60,7 +60,7 @@ cond-most true x = omega arith
 cond-most false x = omega arith
 
 -- Where a short bid meets a short ask, one more unit can trade, with all deals at the limit of this ask.
-module _ (orders : List Order) (deals : List Deal) (m : Matching orders deals) (fair : Fair orders deals) (orders_range : AreOrders orders) (ranges : AreDeals deals)
+module _ (orders : List Order) (deals : List Deal) (m : Matching orders deals) (fair : Fair orders deals) (orders_range : OrdersInRange orders) (ranges : DealsInRange deals)
     (i k : ℕ) (bid : IsShort orders deals Buy i) (ask : IsShort orders deals Sell k) (meet : limit_at orders k ≤ limit_at orders i) where
   abbrev one_more : Deal
   one_more = record { place = length deals + 1; bid = i; ask = k; quantity = 1; price = limit_at orders k }
@@ -74,10 +74,10 @@ module _ (orders : List Order) (deals : List Deal) (m : Matching orders deals) (
   both-trade : (n : ℕ) (e : Deal) → n < length deals → (0 < traded deals (get_or deals n e).bid) × (0 < traded deals (get_or deals n e).ask)
   both-trade n e lt =
       let d = get_or deals n e in let some = (ranges n e lt).some in
-      (omega (arith, get_or-le-sum_by (part_of d.bid) deals n e lt, part-bid d), omega (arith, get_or-le-sum_by (part_of d.ask) deals n e lt, part-ask d))
+      (omega (arith, get_or-le-sum_by (quantity_traded_by d.bid) deals n e lt, part-bid d), omega (arith, get_or-le-sum_by (quantity_traded_by d.ask) deals n e lt, part-ask d))
 
   -- fairness: no bid that trades is below the short one, and no ask above it
-  still-keeps : All (λ d. Keeps orders (at_price (limit_at orders k) d)) deals
+  still-keeps : All (λ d. IsMatchingDeal orders (at_price (limit_at orders k) d)) deals
   still-keeps = λ n e lt.
       let d = get_or deals n e in let kept = m.kept n e lt in let s = both-trade n e lt in
       let low : limit_at orders d.ask ≤ limit_at orders k = elim (cases_lt (limit_at orders k) (limit_at orders d.ask)) [
@@ -95,11 +95,11 @@ module _ (orders : List Order) (deals : List Deal) (m : Matching orders deals) (
       record { bid_stands = kept.bid_stands; ask_stands = kept.ask_stands; least = low; most = omega arith }
 
   more-traded : (j : ℕ) → traded more j ≡ traded deals j + cond (eqb i j || eqb k j) 1 0
-  more-traded j = sum_by_push (part_of j) same_price one_more ∙ ap (λ x. x + cond (eqb i j || eqb k j) 1 0) (sum_by-map (part_of j) (at_price (limit_at orders k)) deals)
+  more-traded j = sum_by_push (quantity_traded_by j) same_price one_more ∙ ap (λ x. x + cond (eqb i j || eqb k j) 1 0) (sum_by-map (quantity_traded_by j) (at_price (limit_at orders k)) deals)
 
   more-matching : Matching orders more
   more-matching = record {
-    kept = All-push (Keeps orders) same_price one_more (All-map (Keeps orders) (at_price (limit_at orders k)) deals still-keeps)
+    kept = All-push (IsMatchingDeal orders) same_price one_more (All-map (IsMatchingDeal orders) (at_price (limit_at orders k)) deals still-keeps)
         (record { bid_stands = bid.stands; ask_stands = ask.stands; least = omega arith; most = meet });
     within = λ j lt.
         let e = more-traded j in
@@ -121,11 +121,11 @@ module _ (orders : List Order) (deals : List Deal) (m : Matching orders deals) (
   more-volume : volume more ≡ volume deals + 1
   more-volume = sum_by_push (λ d. d.quantity) same_price one_more ∙ ap (λ x. x + 1) (sum_by-map (λ d. d.quantity) (at_price (limit_at orders k)) deals)
 
-  more-ranges : AreDeals more
+  more-ranges : DealsInRange more
   more-ranges =
-      let priced : limit_at orders k < 10 ^ 18 = (orders_range k missing_order ask.stands.inside).priced in
-      All-push IsDeal same_price one_more
-      (All-map IsDeal (at_price (limit_at orders k)) deals (λ n e lt. let r = ranges n e lt in record { some = r.some; most = r.most; priced = priced }))
+      let priced : limit_at orders k < 10 ^ 18 = (orders_range k order_past_end ask.stands.inside).priced in
+      All-push DealInRange same_price one_more
+      (All-map DealInRange (at_price (limit_at orders k)) deals (λ n e lt. let r = ranges n e lt in record { some = r.some; most = r.most; priced = priced }))
       (record { some = omega arith; most = omega arith; priced = priced })
 
   not-greatest : Greatest orders deals → ⊥
@@ -168,11 +168,11 @@ lesser-short orders deals others m n lt side =
           let theirs = share-own orders others side k sided in
           let less : traded deals k < traded others k = omega (arith, r.2) in
           let most = n.within k r.1 in
-          (k, record { stands = subst (λ s. Stands orders s k) sided (trades-stands orders others n.kept k (omega arith)); below = omega arith })
+          (k, record { stands = subst (λ s. IsUncancelledOn orders s k) sided (trades-stands orders others n.kept k (omega arith)); below = omega arith })
     ]
 
--- the best short order of a side stands on it
-pub best-stands : (orders : List Order) (deals : List Deal) (side : Side) (i : ℕ) → best_short orders deals side ≡ Some i → Stands orders side i
+-- the best short order of a side is on it, and no record cancels it
+pub best-stands : (orders : List Order) (deals : List Deal) (side : Side) (i : ℕ) → best_short orders deals side ≡ Some i → IsUncancelledOn orders side i
 unfolding best_short
 best-stands orders deals side i e =
     let b = best-is orders (is_short orders deals side) i e in
@@ -186,5 +186,5 @@ lesser-best orders deals others m n lt side =
     let r = lesser-short orders deals others m n lt side in
     best-exists orders (is_short orders deals side) r.0 r.1.stands.inside (is-short orders deals side r.0 r.1)
 
-pub lesser-leaves : LesserVolumeLeavesShortOrders
+pub lesser-leaves : LowVolumeLeavesShortOrders
 lesser-leaves orders deals others m n lt side e = let best = lesser-best orders deals others m n lt side in none_some _ best.0 e best.1

@@ -5,9 +5,9 @@ use Rattle.std.proofs.lemmas.List.Sums.{sum_by-le-sum_by}
 use Rattle.std.proofs.lemmas.Bool.{cases_lt}
 use Rattle.audit_base.specs.declared.terms.Side.TheVariants.{Buy, Sell}
 use Rattle.audit_base.specs.declared.orders.Order.{Order}
-use Rattle.audit_base.specs.Orders.{quantity_at, limit_at, stands_on, IsOrderList}
-use Rattle.audit_base.specs.Bounds.{wanted, offered, demand, supply}
-use Rattle.audit_base.specs.Units.{ahead, uniform_units}
+use Rattle.audit_base.specs.Orders.{quantity_at, limit_at, is_uncancelled_on, IsOrderList}
+use Rattle.audit_base.specs.Bounds.{demand_of_order, supply_of_order, demand, supply}
+use Rattle.audit_base.specs.Units.{total_quantity_ahead, uniform_units}
 use Rattle.audit_base.proofs.SumLemmas.{sum_by-same}
 use Rattle.call_laws.proofs.UnitLemmas.{uniform-overlap}
 use Rattle.call_laws.proofs.RankedLemmas.{ranked, ranked-sum}
@@ -24,14 +24,14 @@ pub demand-most : (orders : List Order) (p : ℕ) → demand orders p ≤ sum_by
 demand-most orders p = omega (
   arith,
   ranked-sum orders Buy (λ o. o.quantity),
-  sum_by-le-sum_by (wanted p) (λ o. cond (stands_on Buy o) o.quantity 0) orders (λ o. under-both (stands_on Buy o) (nat_le p o.limit) o.quantity),
+  sum_by-le-sum_by (demand_of_order p) (λ o. cond (is_uncancelled_on Buy o) o.quantity 0) orders (λ o. under-both (is_uncancelled_on Buy o) (nat_le p o.limit) o.quantity),
 )
 
 pub supply-most : (orders : List Order) (p : ℕ) → supply orders p ≤ sum_by (quantity_at orders) (ranked orders Sell)
 supply-most orders p = omega (
   arith,
   ranked-sum orders Sell (λ o. o.quantity),
-  sum_by-le-sum_by (offered p) (λ o. cond (stands_on Sell o) o.quantity 0) orders (λ o. under-both (stands_on Sell o) (nat_le o.limit p) o.quantity),
+  sum_by-le-sum_by (supply_of_order p) (λ o. cond (is_uncancelled_on Sell o) o.quantity 0) orders (λ o. under-both (is_uncancelled_on Sell o) (nat_le o.limit p) o.quantity),
 )
 
 pub uniform-fills : (orders : List Order) → IsOrderList orders → (p total : ℕ) → total ≤ demand orders p → total ≤ supply orders p
@@ -41,22 +41,22 @@ uniform-fills orders list p total d s =
     let most_asks = supply-most orders p in
     record {
       bids = λ i st.
-          let a = ahead orders Buy i in let q = quantity_at orders i in
-          let part = λ (k : ℕ). min (min total (a + q)) (ahead orders Sell k + quantity_at orders k) - max a (ahead orders Sell k) in
+          let a = total_quantity_ahead orders Buy i in let q = quantity_at orders i in
+          let part = λ (k : ℕ). min (min total (a + q)) (total_quantity_ahead orders Sell k + quantity_at orders k) - max a (total_quantity_ahead orders Sell k) in
           let same : sum_by (uniform_units orders total i) (ranked orders Sell) ≡ sum_by part (ranked orders Sell) = sum_by-same (uniform_units orders total i) part (ranked orders Sell)
           (λ n e lt. let u = uniform-overlap orders total i (get_or (ranked orders Sell) n e) in omega arith) in
           omega (arith, same, ranks-overlap orders Sell list a (min total (a + q)), most_asks);
       asks = λ k st.
-          let a = ahead orders Sell k in let q = quantity_at orders k in
-          let part = λ (i : ℕ). min (min total (a + q)) (ahead orders Buy i + quantity_at orders i) - max a (ahead orders Buy i) in
+          let a = total_quantity_ahead orders Sell k in let q = quantity_at orders k in
+          let part = λ (i : ℕ). min (min total (a + q)) (total_quantity_ahead orders Buy i + quantity_at orders i) - max a (total_quantity_ahead orders Buy i) in
           let same : sum_by (λ i. uniform_units orders total i k) (ranked orders Buy) ≡ sum_by part (ranked orders Buy) = sum_by-same (λ i. uniform_units orders total i k) part (ranked orders Buy)
           (λ n e lt. let u = uniform-overlap orders total (get_or (ranked orders Buy) n e) k in omega arith) in
           omega (arith, same, ranks-overlap orders Buy list a (min total (a + q)), most_bids);
       most = λ i k. omega (arith, uniform-overlap orders total i k);
       meet = λ i k si sk some.
           let u = uniform-overlap orders total i k in
-          let bid_in : ahead orders Buy i < total = omega (arith, u, some) in
-          let ask_in : ahead orders Sell k < total = omega (arith, u, some) in
+          let bid_in : total_quantity_ahead orders Buy i < total = omega (arith, u, some) in
+          let ask_in : total_quantity_ahead orders Sell k < total = omega (arith, u, some) in
           let low : limit_at orders k ≤ p = elim (cases_lt p (limit_at orders k)) [ inl lt ↦ absurd (omega (arith, ahead-supply orders k p lt)) | inr le ↦ le ] in
           let high : p ≤ limit_at orders i = elim (cases_lt (limit_at orders i) p) [ inl lt ↦ absurd (omega (arith, ahead-demand orders i p lt)) | inr le ↦ le ] in
           (low, high);

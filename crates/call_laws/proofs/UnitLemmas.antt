@@ -6,7 +6,7 @@ use Rattle.audit_base.specs.declared.terms.Side.TheVariants.{Buy, Sell}
 use Rattle.audit_base.specs.declared.orders.Order.{Order}
 use Rattle.audit_base.specs.Sums.{count_upto, one_if}
 use Rattle.audit_base.specs.Orders.{quantity_at}
-use Rattle.audit_base.specs.Units.{ahead, has_unit, uniform_units, maximum_units}
+use Rattle.audit_base.specs.Units.{total_quantity_ahead, has_unit, uniform_units, maximum_units}
 
 -- of the numbers from 1 to n, those above lo and up to hi
 pub count-interval : (test : ℕ → Bool) (lo hi n : ℕ) → ((k : ℕ) → k < n → test (k + 1) ≡ (nat_le lo k && nat_lt k hi)) → count_upto test n ≡ min n hi - lo
@@ -47,14 +47,14 @@ mirrored-in v lo hi from to k lt = rw (mirrored-above v lo k lt, mirrored-upto v
 
 -- under `uniform`, of v units: the overlap of the intervals of the bid and of the ask
 pub uniform-overlap : (orders : List Order) (v bid ask : ℕ) → uniform_units orders v bid ask
-    ≡ min v (min (ahead orders Buy bid + quantity_at orders bid) (ahead orders Sell ask + quantity_at orders ask)) - max (ahead orders Buy bid) (ahead orders Sell ask)
+    ≡ min v (min (total_quantity_ahead orders Buy bid + quantity_at orders bid) (total_quantity_ahead orders Sell ask + quantity_at orders ask)) - max (total_quantity_ahead orders Buy bid) (total_quantity_ahead orders Sell ask)
 uniform-overlap orders v bid ask =
-    let lo = ahead orders Buy bid in let from = ahead orders Sell ask in let hi = lo + quantity_at orders bid in let to = from + quantity_at orders ask in
+    let lo = total_quantity_ahead orders Buy bid in let from = total_quantity_ahead orders Sell ask in let hi = lo + quantity_at orders bid in let to = from + quantity_at orders ask in
     count-interval (λ j. has_unit orders Buy bid j && has_unit orders Sell ask j) (max lo from) (min hi to) v (λ k lt. both-in lo hi from to k)
 
 -- under `maximum`: the same, with the bid's interval counted from v down
 pub maximum-overlap : (orders : List Order) (v bid ask : ℕ) → maximum_units orders v bid ask
-    ≡ min v (min (v - ahead orders Buy bid) (ahead orders Sell ask + quantity_at orders ask)) - max (v - (ahead orders Buy bid + quantity_at orders bid)) (ahead orders Sell ask)
+    ≡ min v (min (v - total_quantity_ahead orders Buy bid) (total_quantity_ahead orders Sell ask + quantity_at orders ask)) - max (v - (total_quantity_ahead orders Buy bid + quantity_at orders bid)) (total_quantity_ahead orders Sell ask)
 maximum-overlap orders v bid ask =
-    let lo = ahead orders Buy bid in let from = ahead orders Sell ask in let hi = lo + quantity_at orders bid in let to = from + quantity_at orders ask in
+    let lo = total_quantity_ahead orders Buy bid in let from = total_quantity_ahead orders Sell ask in let hi = lo + quantity_at orders bid in let to = from + quantity_at orders ask in
     count-interval (λ j. has_unit orders Buy bid (v + 1 - j) && has_unit orders Sell ask j) (max (v - hi) from) (min (v - lo) to) v (λ k lt. mirrored-in v lo hi from to k lt)

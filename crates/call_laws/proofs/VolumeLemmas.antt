@@ -13,13 +13,13 @@ use Rattle.audit_base.specs.declared.findings.Finding.{Finding}
 use Rattle.audit_base.specs.declared.flaws.DueOrder.{DueOrder}
 use Rattle.audit_base.specs.declared.flaws.Evidence.TheVariants.{Volume}
 use Rattle.audit_base.specs.declared.flaws.Flaw.{Flaw}
-use Rattle.audit_base.specs.RuleKinds.{rule_of_volume, rule_of_call, greatest_of}
+use Rattle.audit_base.specs.RuleKinds.{rule_of_volume, rule_of_call, volume_rule_of_call}
 use Rattle.audit_base.specs.Orders.{IsOrderList}
-use Rattle.audit_base.specs.Deals.{NamesOrders, traded, volume, AreDeals}
+use Rattle.audit_base.specs.Deals.{NamesOrders, traded, volume, DealsInRange}
 use Rattle.audit_base.specs.Rules.{Conforms}
 use Rattle.audit_base.specs.Units.{due_by_rank}
 use Rattle.audit_base.specs.Flaws.{finding_of}
-use Rattle.audit_base.specs.CallOffences.{best_short, matching_offence, fair_offence, early_offence, IsVolumeOffence, IsCallOffence}
+use Rattle.audit_base.specs.CallOffences.{best_short, matching_offence, fair_offence, offence_before_volume, IsVolumeOffence, IsCallOffence}
 use Rattle.audit_base.specs.Verdicts.{IsFirstOffence}
 use Rattle.audit_base.proofs.LeastLemmas.{option_or-parts}
 use Rattle.audit_base.proofs.OffenceLemmas.{no_offence-matching, no_offence-one_price, no_offence-fair}
@@ -27,7 +27,7 @@ use Rattle.call_laws.proofs.ConformLemmas.{greatest-conforms, due-by_rank}
 use Rattle.call_laws.proofs.ShortLemmas.{best-stands}
 
 -- nothing is found before the volume, which is not below that of a list that conforms
-pub reached : (r : VolumeRule) (orders : List Order) (deals others : List Deal) → All (NamesOrders orders) deals → early_offence (call.Greatest r) orders deals ≡ None
+pub reached : (r : VolumeRule) (orders : List Order) (deals others : List Deal) → All (NamesOrders orders) deals → offence_before_volume (call.Greatest r) orders deals ≡ None
     → Conforms (rule_of_volume r) orders others → volume others ≤ volume deals → Conforms (rule_of_volume r) orders deals
 reached of_volume.Uniform orders deals others named none c most =
     let parts = option_or-parts (matching_offence true orders deals) (fair_offence orders deals) none in
@@ -60,7 +60,7 @@ volume_flaw orders deals count most bid ask = record {
 
 -- and that is what a volume offence shows
 pub below : (r : VolumeRule) (orders : List Order) (deals others : List Deal) (count bid ask : ℕ) (f : Finding) → IsOrderList orders
-    → AreDeals others → Conforms (rule_of_volume r) orders others → volume deals < volume others
+    → DealsInRange others → Conforms (rule_of_volume r) orders others → volume deals < volume others
     → best_short orders deals Buy ≡ Some bid → best_short orders deals Sell ≡ Some ask → f ≡ finding_of orders (volume_flaw orders deals count (volume others) bid ask)
     → IsVolumeOffence r orders deals count f
 below r orders deals others count bid ask f list ranges c lt short_bid short_ask shows = record {
@@ -80,13 +80,13 @@ below r orders deals others count bid ask f list ranges c lt short_bid short_ask
 
 -- a first offence, given what the parts before the volume find
 abbrev IsFirst : CallRule → List Order → List Deal → ℕ → Finding → Option Finding → Type 0
-IsFirst r orders deals count f early = MatchOption early (IsSomeAnd (greatest_of r) (λ v. IsVolumeOffence v orders deals count f)) (λ g. f ≡ g)
+IsFirst r orders deals count f early = MatchOption early (IsSomeAnd (volume_rule_of_call r) (λ v. IsVolumeOffence v orders deals count f)) (λ g. f ≡ g)
 
 -- a finding before the volume is the first offence, and where there is none, that of the volume is
-pub early-offence : (r : CallRule) (orders : List Order) (deals : List Deal) (count : ℕ) (f : Finding) → early_offence r orders deals ≡ Some f → IsCallOffence r orders deals count f
+pub early-offence : (r : CallRule) (orders : List Order) (deals : List Deal) (count : ℕ) (f : Finding) → offence_before_volume r orders deals ≡ Some f → IsCallOffence r orders deals count f
 early-offence r orders deals count f some = subst (IsFirst r orders deals count f) (sym some) refl
 
-pub late-offence : (r : VolumeRule) (orders : List Order) (deals : List Deal) (count : ℕ) (f : Finding) → early_offence (call.Greatest r) orders deals ≡ None
+pub late-offence : (r : VolumeRule) (orders : List Order) (deals : List Deal) (count : ℕ) (f : Finding) → offence_before_volume (call.Greatest r) orders deals ≡ None
     → IsVolumeOffence r orders deals count f → IsCallOffence (call.Greatest r) orders deals count f
 late-offence r orders deals count f none late = subst (IsFirst (call.Greatest r) orders deals count f) (sym none) late
 

@@ -12,18 +12,18 @@ use Rattle.std.proofs.lemmas.List.{take_all, length-map}
 use Rattle.std.proofs.lemmas.List.Folds.{fold-map}
 use Rattle.audit_base.proofs.SumLemmas.{AllPairs-head, AllPairs-tail, AllPairs-cons}
 use Rattle.audit_base.specs.declared.orders.Deal.{Deal}
-use Rattle.audit_base.specs.Deals.{AreDeals}
-use Rattle.canonical_form.specs.declared.parts.Part.{Part}
+use Rattle.audit_base.specs.Deals.{DealsInRange}
+use Rattle.canonical_form.specs.declared.parts.DealPart.{DealPart}
 use Rattle.canonical_form.specs.declared.shares.Share.{Share}
-use Rattle.canonical_form.specs.Parts.{part_cmp, part_of_pair, share_of_pair, share_of, is_of_pair, next_share, shares_before, missing_part, part_at, AreMade, AreMerged, AreParts, IsPartOfDeal, part_of_deal}
-use Rattle.canonical_form.specs.Shares.{StandsBefore}
+use Rattle.canonical_form.specs.Parts.{part_cmp, part_of_pair, share_of_pair, share_of_part, is_of_pair, next_share, finished_shares, part_past_end, part_at, AreSharesSoFar, AreMergedShares, AreParts, IsPartOfDeal, part_of_deal}
+use Rattle.canonical_form.specs.Shares.{ShareBefore}
 
 -- the pair of one part, and the pair of a later one, in order
-weak : IsStrictWeakOrder (λ (p q : Part). is_lt (part_cmp p q))
-weak = ranks_by (then_total (on_total (λ (p : Part). p.bid) nat_cmp_total) (then_total (on_total (λ (p : Part). p.ask) nat_cmp_total) (on_total (λ (p : Part). p.quantity) nat_cmp_total))) (λ (p : Part). p)
+weak : IsStrictWeakOrder (λ (p q : DealPart). is_lt (part_cmp p q))
+weak = ranks_by (then_total (on_total (λ (p : DealPart). p.bid) nat_cmp_total) (then_total (on_total (λ (p : DealPart). p.ask) nat_cmp_total) (on_total (λ (p : DealPart). p.quantity) nat_cmp_total))) (λ (p : DealPart). p)
 
 -- the share of the pair of p, and a later part of another pair
-apart : (s : Share) (p q : Part) → s.bid ≡ p.bid → s.ask ≡ p.ask → is_lt (part_cmp q p) ≡ false → is_of_pair s q ≡ false → StandsBefore s (share_of q)
+apart : (s : Share) (p q : DealPart) → s.bid ≡ p.bid → s.ask ≡ p.ask → is_lt (part_cmp q p) ≡ false → is_of_pair s q ≡ false → ShareBefore s (share_of_part q)
 apart s p q b a late other = elim (cases_lt s.bid q.bid) [
   | inl less ↦ inl less
   | inr ge ↦
@@ -41,19 +41,19 @@ apart s p q b a late other = elim (cases_lt s.bid q.bid) [
       )
 ]
 
-onward : (r s t : Share) → StandsBefore r s → StandsBefore s t → StandsBefore r t
+onward : (r s t : Share) → ShareBefore r s → ShareBefore s t → ShareBefore r t
 onward r s t (inl a) (inl b) = inl (omega arith)
 onward r s t (inl a) (inr b) = let e = b.0 in inl (omega arith)
 onward r s t (inr a) (inl b) = let e = a.0 in inl (omega arith)
 onward r s t (inr a) (inr b) = let d = a.0 in let e = b.0 in let x = a.1 in let y = b.1 in inr (omega arith, omega arith)
 
-push : (xs : List Share) (y : Share) → AllPairs StandsBefore xs → All (λ s. StandsBefore s y) xs → AllPairs StandsBefore (xs ++ y ∷ [])
+push : (xs : List Share) (y : Share) → AllPairs ShareBefore xs → All (λ s. ShareBefore s y) xs → AllPairs ShareBefore (xs ++ y ∷ [])
 push [] y up under = λ i j d lt below. absurd (omega arith)
-push (x ∷ xs) y up under = AllPairs-cons StandsBefore x (xs ++ y ∷ [])
-    (All-push (StandsBefore x) xs y (AllPairs-head StandsBefore x xs up) (All-head (λ (s : Share). StandsBefore s y) x xs under))
-    (push xs y (AllPairs-tail StandsBefore x xs up) (All-tail (λ (s : Share). StandsBefore s y) x xs under))
+push (x ∷ xs) y up under = AllPairs-cons ShareBefore x (xs ++ y ∷ [])
+    (All-push (ShareBefore x) xs y (AllPairs-head ShareBefore x xs up) (All-head (λ (s : Share). ShareBefore s y) x xs under))
+    (push xs y (AllPairs-tail ShareBefore x xs up) (All-tail (λ (s : Share). ShareBefore s y) x xs under))
 
-same-pair : (bid ask : ℕ) (s : Share) (q : Part) → is_of_pair s q ≡ true → share_of_pair bid ask (record s { quantity = s.quantity + q.quantity }) ≡ share_of_pair bid ask s + part_of_pair bid ask q
+same-pair : (bid ask : ℕ) (s : Share) (q : DealPart) → is_of_pair s q ≡ true → share_of_pair bid ask (record s { quantity = s.quantity + q.quantity }) ≡ share_of_pair bid ask s + part_of_pair bid ask q
 same-pair bid ask s q t =
     let two = and_parts (s.bid == q.bid) (s.ask == q.ask) t in
     let b : s.bid ≡ q.bid = eqb-true s.bid q.bid two.0 in
@@ -66,24 +66,24 @@ same-pair bid ask s q t =
     added false m n = refl
 
 -- with one part more
-module _ (parts : List Part) (each : All IsPartOfDeal parts) (in_order : IsSorted part_cmp parts) (at : ℕ) (from : 1 ≤ at) (inside : at < length parts) where
-  abbrev q : Part
+module _ (parts : List DealPart) (each : All IsPartOfDeal parts) (in_order : IsSorted part_cmp parts) (at : ℕ) (from : 1 ≤ at) (inside : at < length parts) where
+  abbrev q : DealPart
   q = part_at parts at
 
   deal : IsPartOfDeal q
-  deal = each at missing_part inside
+  deal = each at part_past_end inside
 
   late : is_lt (part_cmp q (part_at parts (at - 1))) ≡ false
-  late = sorted_far (λ (r s : Part). is_lt (part_cmp r s)) weak parts in_order (at - 1) at missing_part (omega arith) inside
+  late = sorted_far (λ (r s : DealPart). is_lt (part_cmp r s)) weak parts in_order (at - 1) at part_past_end (omega arith) inside
 
   step : (bid ask : ℕ) → sum_by (part_of_pair bid ask) (take (at + 1) parts) ≡ sum_by (part_of_pair bid ask) (take at parts) + part_of_pair bid ask q
-  step bid ask = sum_by_more (part_of_pair bid ask) parts at missing_part inside
+  step bid ask = sum_by_more (part_of_pair bid ask) parts at part_past_end inside
 
   last : (i : ℕ) → i + 1 ≡ at + 1 → i ≡ at
   last i e = omega arith
 
-  made-next : (b : Bool) (shares : List Share) (s : Share) → is_of_pair s q ≡ b → AreMade parts at shares s
-      → AreMade parts (at + 1) (cond b shares (shares ++ s ∷ [])) (cond b (record s { quantity = s.quantity + q.quantity }) (share_of q))
+  made-next : (b : Bool) (shares : List Share) (s : Share) → is_of_pair s q ≡ b → AreSharesSoFar parts at shares s
+      → AreSharesSoFar parts (at + 1) (cond b shares (shares ++ s ∷ [])) (cond b (record s { quantity = s.quantity + q.quantity }) (share_of_part q))
   made-next true shares s t made =
       let two = and_parts (s.bid == q.bid) (s.ask == q.ask) t in
       let fits = made.fits in
@@ -96,7 +96,7 @@ module _ (parts : List Part) (each : All IsPartOfDeal parts) (in_order : IsSorte
         some = made.some;
         some_here = omega arith;
         ascending = made.ascending;
-        under = All-weaker (λ (t : Share). StandsBefore t s) (λ (t : Share). StandsBefore t (record s { quantity = s.quantity + q.quantity })) (λ t h. h) shares made.under;
+        under = All-weaker (λ (t : Share). ShareBefore t s) (λ (t : Share). ShareBefore t (record s { quantity = s.quantity + q.quantity })) (λ t h. h) shares made.under;
         fits = omega arith;
       }
   made-next false shares s f made =
@@ -110,25 +110,25 @@ module _ (parts : List Part) (each : All IsPartOfDeal parts) (in_order : IsSorte
         some = All-push (λ (t : Share). 0 < t.quantity) shares s made.some made.some_here;
         some_here = deal.some;
         ascending = push shares s made.ascending made.under;
-        under = All-push (λ (t : Share). StandsBefore t (share_of q)) shares s (All-weaker (λ (t : Share). StandsBefore t s) (λ (t : Share). StandsBefore t (share_of q)) (λ t h. onward t s (share_of q) h here) shares made.under) here;
+        under = All-push (λ (t : Share). ShareBefore t (share_of_part q)) shares s (All-weaker (λ (t : Share). ShareBefore t s) (λ (t : Share). ShareBefore t (share_of_part q)) (λ t h. onward t s (share_of_part q) h here) shares made.under) here;
         fits = omega arith;
       }
 
-  pub made-more : (shares ys : List Share) (s n : Share) → n ≡ next_share s q → ys ≡ shares_before shares s q → AreMade parts at shares s → AreMade parts (at + 1) ys n
-  made-more shares ys s n n_is ys_is made = subst (λ (x : Share). AreMade parts (at + 1) ys x) (sym n_is) (subst (λ (xs : List Share). AreMade parts (at + 1) xs (next_share s q)) (sym ys_is) (made-next (is_of_pair s q) shares s refl made))
+  pub made-more : (shares ys : List Share) (s n : Share) → n ≡ next_share s q → ys ≡ finished_shares shares s q → AreSharesSoFar parts at shares s → AreSharesSoFar parts (at + 1) ys n
+  made-more shares ys s n n_is ys_is made = subst (λ (x : Share). AreSharesSoFar parts (at + 1) ys x) (sym n_is) (subst (λ (xs : List Share). AreSharesSoFar parts (at + 1) xs (next_share s q)) (sym ys_is) (made-next (is_of_pair s q) shares s refl made))
 
 -- the first part
-pub made-first : (parts : List Part) (each : All IsPartOfDeal parts) (shares : List Share) (s : Share) → 0 < length parts → s ≡ share_of (part_at parts 0) → shares ≡ [] → AreMade parts 1 shares s
+pub made-first : (parts : List DealPart) (each : All IsPartOfDeal parts) (shares : List Share) (s : Share) → 0 < length parts → s ≡ share_of_part (part_at parts 0) → shares ≡ [] → AreSharesSoFar parts 1 shares s
 made-first parts each shares s inside s_is none =
-    let deal = each 0 missing_part inside in
-    subst (λ (xs : List Share). AreMade parts 1 xs s) (sym none) (subst (AreMade parts 1 []) (sym s_is) (record {
+    let deal = each 0 part_past_end inside in
+    subst (λ (xs : List Share). AreSharesSoFar parts 1 xs s) (sym none) (subst (AreSharesSoFar parts 1 []) (sym s_is) (record {
       bid = λ i e. ap (λ (j : ℕ). (part_at parts j).bid) (zero-is i e);
       ask = λ i e. ap (λ (j : ℕ). (part_at parts j).ask) (zero-is i e);
-      sums = λ bid ask. let more = sum_by_more (part_of_pair bid ask) parts 0 missing_part inside in omega arith;
+      sums = λ bid ask. let more = sum_by_more (part_of_pair bid ask) parts 0 part_past_end inside in omega arith;
       some = All-nil (λ (t : Share). 0 < t.quantity);
       some_here = deal.some;
       ascending = λ i j d lt below. absurd (omega arith);
-      under = All-nil (λ (t : Share). StandsBefore t (share_of (part_at parts 0)));
+      under = All-nil (λ (t : Share). ShareBefore t (share_of_part (part_at parts 0)));
       fits = let most = deal.most in omega arith;
     }))
   where
@@ -136,8 +136,8 @@ made-first parts each shares s inside s_is none =
     zero-is i e = omega arith
 
 -- with the last share put behind the others
-pub merged : (parts : List Part) (at : ℕ) (shares ys : List Share) (s : Share) → ys ≡ shares ++ s ∷ [] → length parts ≤ at → AreMade parts at shares s → AreMerged parts ys
-merged parts at shares ys s is all made = subst (AreMerged parts) (sym is) (record {
+pub merged : (parts : List DealPart) (at : ℕ) (shares ys : List Share) (s : Share) → ys ≡ shares ++ s ∷ [] → length parts ≤ at → AreSharesSoFar parts at shares s → AreMergedShares parts ys
+merged parts at shares ys s is all made = subst (AreMergedShares parts) (sym is) (record {
   sums = λ bid ask. sum_by-append (share_of_pair bid ask) shares (s ∷ []) ∙ ap (λ (n : ℕ). sum_by (share_of_pair bid ask) shares + n) (one bid ask) ∙ made.sums bid ask ∙ ap (sum_by (part_of_pair bid ask)) (take_all at parts all);
   some = All-push (λ (t : Share). 0 < t.quantity) shares s made.some made.some_here;
   ascending = push shares s made.ascending made.under;
@@ -147,15 +147,15 @@ merged parts at shares ys s is all made = subst (AreMerged parts) (sym is) (reco
     one bid ask = omega (arith, sum_by-cons (share_of_pair bid ask) s [])
 
 -- of no parts there are no shares
-pub merged-none : (parts : List Part) (shares : List Share) → length parts ≡ 0 → shares ≡ [] → AreMerged parts shares
-merged-none [] shares e none = subst (AreMerged []) (sym none) (record { sums = λ bid ask. refl; some = All-nil (λ (t : Share). 0 < t.quantity); ascending = λ i j d lt below. absurd (omega arith) })
+pub merged-none : (parts : List DealPart) (shares : List Share) → length parts ≡ 0 → shares ≡ [] → AreMergedShares parts shares
+merged-none [] shares e none = subst (AreMergedShares []) (sym none) (record { sums = λ bid ask. refl; some = All-nil (λ (t : Share). 0 < t.quantity); ascending = λ i j d lt below. absurd (omega arith) })
 merged-none (p ∷ ps) shares e none = absurd (omega arith)
 
 -- the parts of all deals, in another order
-pub sorted-parts : (deals : List Deal) (from parts : List Part) → from ≡ map part_of_deal deals → AreDeals deals → IsPermutation from parts → (length parts ≡ length deals) × All IsPartOfDeal parts × AreParts deals parts
+pub sorted-parts : (deals : List Deal) (from parts : List DealPart) → from ≡ map part_of_deal deals → DealsInRange deals → IsPermutation from parts → (length parts ≡ length deals) × All IsPartOfDeal parts × AreParts deals parts
 sorted-parts deals from parts is ranges moved =
-    let moved' : IsPermutation (map part_of_deal deals) parts = subst (λ (xs : List Part). IsPermutation xs parts) is moved in (
+    let moved' : IsPermutation (map part_of_deal deals) parts = subst (λ (xs : List DealPart). IsPermutation xs parts) is moved in (
       length_permutation (map part_of_deal deals) parts moved' ∙ length-map deals part_of_deal,
       All-permutation IsPartOfDeal (map part_of_deal deals) parts moved' (All-map IsPartOfDeal part_of_deal deals (λ k d lt. let r = ranges k d lt in record { some = r.some; most = r.most })),
-      λ bid ask. sum_by-IsPermutation (part_of_pair bid ask) (map part_of_deal deals) parts moved' ∙ fold-map (λ (n : ℕ) (p : Part). n + part_of_pair bid ask p) part_of_deal 0 deals,
+      λ bid ask. sum_by-IsPermutation (part_of_pair bid ask) (map part_of_deal deals) parts moved' ∙ fold-map (λ (n : ℕ) (p : DealPart). n + part_of_pair bid ask p) part_of_deal 0 deals,
     )

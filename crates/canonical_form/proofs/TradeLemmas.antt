@@ -16,9 +16,9 @@ use Rattle.audit_base.specs.declared.terms.Side.TheVariants.{Buy, Sell}
 use Rattle.audit_base.specs.declared.records.TradeRecord.{TradeRecord}
 use Rattle.audit_base.specs.declared.orders.Order.{Order}
 use Rattle.audit_base.specs.declared.orders.Deal.{Deal}
-use Rattle.audit_base.specs.Orders.{order_at, side_at, same_name, same_side, same_key, on_side_with_key, missing_order, HaveOwnKeys}
-use Rattle.audit_base.specs.Deals.{deal_at, missing_deal, AreDeals, IsDealList}
-use Rattle.audit_base.specs.Trades.{trades_of, missing_trade, trade_at, IsTrade, AreTrades, duplicate_trade, unknown_order, unsound_trade, Sound, deal_of, deals_of}
+use Rattle.audit_base.specs.Orders.{order_at, side_at, same_name, same_side, same_key, order_on_side_with_key, order_past_end, HaveOwnKeys}
+use Rattle.audit_base.specs.Deals.{deal_at, deal_past_end, DealsInRange, IsDealList}
+use Rattle.audit_base.specs.Trades.{trades_of_symbol, trade_past_end, trade_at, TradeInRange, TradesInRange, duplicate_trade, unknown_order, unsound_trade, SoundTrades, deal_of_trade, deals_of_symbol}
 use Rattle.audit_base.specs.declared.terms.Rule.TheVariants as rule
 use Rattle.audit_base.specs.Expected.{pair_deals, trade_of_deal, trades_of_deals}
 use Rattle.audit_base.proofs.PairDealLemmas.{pair_deals-are}
@@ -35,7 +35,7 @@ all-pass test (x ∷ xs) h = cond-true (test x) (x ∷ filter test xs) (filter t
 
 -- of a key that no other order has, the order is found
 found-own : (orders : List Order) → HaveOwnKeys orders → (side : Side) (i : ℕ) (key : Key) → i < length orders → side_at orders i ≡ side → key ≡ (order_at orders i).key
-    → on_side_with_key orders side key ≡ Some i
+    → order_on_side_with_key orders side key ≡ Some i
 found-own orders own side i key lt of e =
     let test : ℕ → Bool = λ i. same_side side (side_at orders i) && same_key (order_at orders i).key key in
     with-at test (length orders) i lt (and_from _ _ (is-same_side side (side_at orders i) (sym of)) (is-same_key (order_at orders i).key key (sym e)))
@@ -43,7 +43,7 @@ found-own orders own side i key lt of e =
       | inr f ↦ f
       | inl t ↦
           let same : (order_at orders j).key ≡ key = same_key-is _ _ (and_parts (same_side side (side_at orders j)) (same_key (order_at orders j).key key) t).1 in
-          absurd (own j i missing_order below lt (same ∙ e))
+          absurd (own j i order_past_end below lt (same ∙ e))
     ])
 
 module _ (orders : List Order) (symbol : List ℕ) (deals : List Deal) where
@@ -59,7 +59,7 @@ module _ (orders : List Order) (symbol : List ℕ) (deals : List Deal) where
   trade-is : (k : ℕ) (t : TradeRecord) → k < length deals → get_or trades k t ≡ trade_of_deal orders symbol (1 + k) (deal_at deals k)
   trade-is k t lt =
       let inside : k < length (enumerate_from 1 deals) = rw (length-enumerate_from 1 deals) lt in
-      get_or-map made (enumerate_from 1 deals) k (0, missing_deal) t inside ∙ ap made (get_or-enumerate_from 1 deals k (0, missing_deal) lt)
+      get_or-map made (enumerate_from 1 deals) k (0, deal_past_end) t inside ∙ ap made (get_or-enumerate_from 1 deals k (0, deal_past_end) lt)
 
   abbrev listed : List (ℕ × TradeRecord)
   listed = enumerate_from 1 trades
@@ -72,8 +72,8 @@ module _ (orders : List Order) (symbol : List ℕ) (deals : List Deal) where
       let inside : k < length trades = rw trade-length lt in
       get_or-enumerate_from 1 trades k e inside ∙ ap (λ t. (1 + k, t)) (trade-is k e.1 lt)
 
-  all-listed : trades_of symbol trades ≡ listed
-  unfolding trades_of
+  all-listed : trades_of_symbol symbol trades ≡ listed
+  unfolding trades_of_symbol
   all-listed = all-pass (λ e. same_name e.1.symbol symbol) listed (λ k e lt.
       let inside : k < length deals = rw (← listed-length) lt in
       ap (λ (e : ℕ × TradeRecord). same_name e.1.symbol symbol) (listed-is k e inside) ∙ (bytes_eq-Decides symbol symbol).1 refl)
@@ -84,20 +84,20 @@ module _ (orders : List Order) (symbol : List ℕ) (deals : List Deal) where
       | inr f ↦ f
       | inl t ↦
           let same : (trade_at listed j).trade ≡ (trade_at listed k).trade = (bytes_eq-Decides (trade_at listed j).trade (trade_at listed k).trade).0 t in
-          let first : (trade_at listed j).trade ≡ 84 ∷ decimal (1 + j) = ap (λ (e : ℕ × TradeRecord). e.1.trade) (listed-is j missing_trade (omega arith)) in
-          let second : (trade_at listed k).trade ≡ 84 ∷ decimal (1 + k) = ap (λ (e : ℕ × TradeRecord). e.1.trade) (listed-is k missing_trade lt) in
+          let first : (trade_at listed j).trade ≡ 84 ∷ decimal (1 + j) = ap (λ (e : ℕ × TradeRecord). e.1.trade) (listed-is j trade_past_end (omega arith)) in
+          let second : (trade_at listed k).trade ≡ 84 ∷ decimal (1 + k) = ap (λ (e : ℕ × TradeRecord). e.1.trade) (listed-is k trade_past_end lt) in
           let digits : decimal (1 + j) ≡ decimal (1 + k) = cc in
           let few = list.few in
           let e : 1 + j ≡ 1 + k = decimal_injective (1 + j) (1 + k) (omega arith) (omega arith) digits in
           absurd (omega arith)
     ]
 
-    bid-found : (k : ℕ) (e : ℕ × TradeRecord) → k < length deals → on_side_with_key orders Buy (get_or listed k e).1.buy ≡ Some (deal_at deals k).bid
-    bid-found k e lt = let n = list.named k missing_deal lt in
+    bid-found : (k : ℕ) (e : ℕ × TradeRecord) → k < length deals → order_on_side_with_key orders Buy (get_or listed k e).1.buy ≡ Some (deal_at deals k).bid
+    bid-found k e lt = let n = list.named k deal_past_end lt in
         found-own orders own Buy (deal_at deals k).bid _ n.bid_inside n.buys (ap (λ (e : ℕ × TradeRecord). e.1.buy) (listed-is k e lt))
 
-    ask-found : (k : ℕ) (e : ℕ × TradeRecord) → k < length deals → on_side_with_key orders Sell (get_or listed k e).1.sell ≡ Some (deal_at deals k).ask
-    ask-found k e lt = let n = list.named k missing_deal lt in
+    ask-found : (k : ℕ) (e : ℕ × TradeRecord) → k < length deals → order_on_side_with_key orders Sell (get_or listed k e).1.sell ≡ Some (deal_at deals k).ask
+    ask-found k e lt = let n = list.named k deal_past_end lt in
         found-own orders own Sell (deal_at deals k).ask _ n.ask_inside n.sells (ap (λ (e : ℕ × TradeRecord). e.1.sell) (listed-is k e lt))
 
     -- no trade fails
@@ -106,37 +106,37 @@ module _ (orders : List Order) (symbol : List ℕ) (deals : List Deal) where
     sound-listed l is k lt =
         let inside : k < length deals = rw (← listed-length) (rw (← is) lt) in
         let none = with-none (λ j. same_name (trade_at l j).trade (trade_at l k).trade) k (λ j below. rw is (ids-differ j k below inside)) in
-        let bid : on_side_with_key orders Buy (trade_at l k).buy ≡ Some (deal_at deals k).bid = rw is (bid-found k missing_trade inside) in
-        let ask : on_side_with_key orders Sell (trade_at l k).sell ≡ Some (deal_at deals k).ask = rw is (ask-found k missing_trade inside) in
+        let bid : order_on_side_with_key orders Buy (trade_at l k).buy ≡ Some (deal_at deals k).bid = rw is (bid-found k trade_past_end inside) in
+        let ask : order_on_side_with_key orders Sell (trade_at l k).sell ≡ Some (deal_at deals k).ask = rw is (ask-found k trade_past_end inside) in
         rw (none, bid, ask) refl
 
-    pub trades-sound : Sound orders symbol trades
+    pub trades-sound : SoundTrades orders symbol trades
     unfolding unsound_trade
-    trades-sound = least-none (λ k. option_or (duplicate_trade (trades_of symbol trades) k) (unknown_order orders (trades_of symbol trades) k)) (length (trades_of symbol trades))
-        (λ k lt. sound-listed (trades_of symbol trades) all-listed k lt)
+    trades-sound = least-none (λ k. option_or (duplicate_trade (trades_of_symbol symbol trades) k) (unknown_order orders (trades_of_symbol symbol trades) k)) (length (trades_of_symbol symbol trades))
+        (λ k lt. sound-listed (trades_of_symbol symbol trades) all-listed k lt)
 
     deal-same : (d : Deal) (p b a : ℕ) → p ≡ d.place → b ≡ d.bid → a ≡ d.ask → ◌≡◌ {A = Deal} (record { place = p; bid = b; ask = a; quantity = d.quantity; price = d.price }) d
     deal-same d p b a e f g = λ i. record { place = e i; bid = f i; ask = g i; quantity = d.quantity; price = d.price }
 
-    pub trades-deals : HavePlacesFromOne deals → deals_of orders symbol trades ≡ deals
-    unfolding deals_of
-    trades-deals places = ap (map (deal_of orders)) all-listed ∙ same_lists (map (deal_of orders) listed) deals (length-map listed (deal_of orders) ∙ listed-length) (λ k d lt.
-        let inside : k < length deals = rw (← listed-length) (rw (← length-map listed (deal_of orders)) lt) in
-        let at : get_or (map (deal_of orders) listed) k d ≡ deal_of orders (get_or listed k missing_trade) = get_or-map (deal_of orders) listed k missing_trade d (rw listed-length inside) in
-        let bid : unwrap_or (on_side_with_key orders Buy (get_or listed k missing_trade).1.buy) (length orders) ≡ (deal_at deals k).bid = ap (λ (o : Option ℕ). unwrap_or o (length orders)) (bid-found k missing_trade inside) in
-        let ask : unwrap_or (on_side_with_key orders Sell (get_or listed k missing_trade).1.sell) (length orders) ≡ (deal_at deals k).ask = ap (λ (o : Option ℕ). unwrap_or o (length orders)) (ask-found k missing_trade inside) in
-        let is = listed-is k missing_trade inside in
-        let place : (get_or listed k missing_trade).0 ≡ (deal_at deals k).place = ap (λ (e : ℕ × TradeRecord). e.0) is ∙ (let p = places k inside in omega arith) in
-        let rest : deal_of orders (get_or listed k missing_trade)
-        ≡ record { place = (deal_of orders (get_or listed k missing_trade)).place; bid = (deal_of orders (get_or listed k missing_trade)).bid; ask = (deal_of orders (get_or listed k missing_trade)).ask; quantity = (deal_at deals k).quantity; price = (deal_at deals k).price } =
-        (λ i. record { place = (deal_of orders (get_or listed k missing_trade)).place; bid = (deal_of orders (get_or listed k missing_trade)).bid; ask = (deal_of orders (get_or listed k missing_trade)).ask; quantity = (is i).1.quantity; price = (is i).1.price }) in
-        at ∙ rest ∙ deal-same (deal_at deals k) _ _ _ place bid ask ∙ get_or-default deals k missing_deal d inside)
+    pub trades-deals : HavePlacesFromOne deals → deals_of_symbol orders symbol trades ≡ deals
+    unfolding deals_of_symbol
+    trades-deals places = ap (map (deal_of_trade orders)) all-listed ∙ same_lists (map (deal_of_trade orders) listed) deals (length-map listed (deal_of_trade orders) ∙ listed-length) (λ k d lt.
+        let inside : k < length deals = rw (← listed-length) (rw (← length-map listed (deal_of_trade orders)) lt) in
+        let at : get_or (map (deal_of_trade orders) listed) k d ≡ deal_of_trade orders (get_or listed k trade_past_end) = get_or-map (deal_of_trade orders) listed k trade_past_end d (rw listed-length inside) in
+        let bid : unwrap_or (order_on_side_with_key orders Buy (get_or listed k trade_past_end).1.buy) (length orders) ≡ (deal_at deals k).bid = ap (λ (o : Option ℕ). unwrap_or o (length orders)) (bid-found k trade_past_end inside) in
+        let ask : unwrap_or (order_on_side_with_key orders Sell (get_or listed k trade_past_end).1.sell) (length orders) ≡ (deal_at deals k).ask = ap (λ (o : Option ℕ). unwrap_or o (length orders)) (ask-found k trade_past_end inside) in
+        let is = listed-is k trade_past_end inside in
+        let place : (get_or listed k trade_past_end).0 ≡ (deal_at deals k).place = ap (λ (e : ℕ × TradeRecord). e.0) is ∙ (let p = places k inside in omega arith) in
+        let rest : deal_of_trade orders (get_or listed k trade_past_end)
+        ≡ record { place = (deal_of_trade orders (get_or listed k trade_past_end)).place; bid = (deal_of_trade orders (get_or listed k trade_past_end)).bid; ask = (deal_of_trade orders (get_or listed k trade_past_end)).ask; quantity = (deal_at deals k).quantity; price = (deal_at deals k).price } =
+        (λ i. record { place = (deal_of_trade orders (get_or listed k trade_past_end)).place; bid = (deal_of_trade orders (get_or listed k trade_past_end)).bid; ask = (deal_of_trade orders (get_or listed k trade_past_end)).ask; quantity = (is i).1.quantity; price = (is i).1.price }) in
+        at ∙ rest ∙ deal-same (deal_at deals k) _ _ _ place bid ask ∙ get_or-default deals k deal_past_end d inside)
 
-  pub trades-ranges : AreDeals deals → AreTrades trades
+  pub trades-ranges : DealsInRange deals → TradesInRange trades
   trades-ranges ranges k t lt =
       let inside : k < length deals = rw (← trade-length) lt in
-      let r = ranges k missing_deal inside in
-      subst IsTrade (sym (trade-is k t inside)) (record { some = r.some; most = r.most; priced = r.priced })
+      let r = ranges k deal_past_end inside in
+      subst TradeInRange (sym (trade-is k t inside)) (record { some = r.some; most = r.most; priced = r.priced })
 
 -- the ids are names
 pub id_is_name : (number : ℕ) → number ≤ 2 ^ 32 → is_name (84 ∷ decimal number) ≡ true
@@ -176,7 +176,7 @@ pub have_ranges : TradesHaveRanges
 have_ranges orders deals symbol ranges = trades-ranges orders symbol deals ranges
 
 expected-places : (orders : List Order) (quantity price : ℕ → ℕ → ℕ) (deals : List Deal) → deals ≡ pair_deals orders quantity price → HavePlacesFromOne deals
-expected-places orders quantity price deals e = subst HavePlacesFromOne (sym e) (λ k lt. (pair_deals-are orders quantity price).numbered k missing_deal lt)
+expected-places orders quantity price deals e = subst HavePlacesFromOne (sym e) (λ k lt. (pair_deals-are orders quantity price).numbered k deal_past_end lt)
 
 pub expected_have_places : ExpectedHavePlaces
 expected_have_places rule.Uniform orders deals h = expected-places orders _ _ deals h.pairs

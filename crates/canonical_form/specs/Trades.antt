@@ -4,8 +4,8 @@ use Rattle.audit_base.specs.declared.terms.Rule.{Rule}
 use Rattle.audit_base.specs.declared.orders.Order.{Order}
 use Rattle.audit_base.specs.declared.orders.Deal.{Deal}
 use Rattle.audit_base.specs.Orders.{HaveOwnKeys}
-use Rattle.audit_base.specs.Deals.{deal_at, AreDeals, IsDealList}
-use Rattle.audit_base.specs.Trades.{AreTrades, Sound, deals_of}
+use Rattle.audit_base.specs.Deals.{deal_at, DealsInRange, IsDealList}
+use Rattle.audit_base.specs.Trades.{TradesInRange, SoundTrades, deals_of_symbol}
 use Rattle.audit_base.specs.Expected.{IsExpected, trades_of_deals}
 
 -- the places of deals are 1, 2 and so on
@@ -16,13 +16,13 @@ HavePlacesFromOne deals = EachIndex deals (λ k. (deal_at deals k).place ≡ k +
 abbrev pub TradesAreSound : Type 0
 TradesAreSound = (orders : List Order) (deals : List Deal) (symbol : List ℕ)
     → HaveOwnKeys orders → IsDealList orders deals
-    → Sound orders symbol (trades_of_deals orders symbol deals)
+    → SoundTrades orders symbol (trades_of_deals orders symbol deals)
 
 -- and where the deals have the places 1, 2 and so on, they are the deals of their trade records
 abbrev pub TradesGiveTheirDeals : Type 0
 TradesGiveTheirDeals = (orders : List Order) (deals : List Deal) (symbol : List ℕ)
     → HaveOwnKeys orders → IsDealList orders deals → HavePlacesFromOne deals
-    → deals_of orders symbol (trades_of_deals orders symbol deals) ≡ deals
+    → deals_of_symbol orders symbol (trades_of_deals orders symbol deals) ≡ deals
 
 -- the Expected trades of a rule have these places
 abbrev pub ExpectedHavePlaces : Type 0
@@ -32,4 +32,4 @@ ExpectedHavePlaces = (rule : Rule) (orders : List Order) (deals : List Deal)
 -- the numbers of the trade records are those of the deals
 abbrev pub TradesHaveRanges : Type 0
 TradesHaveRanges = (orders : List Order) (deals : List Deal) (symbol : List ℕ)
-    → AreDeals deals → AreTrades (trades_of_deals orders symbol deals)
+    → DealsInRange deals → TradesInRange (trades_of_deals orders symbol deals)

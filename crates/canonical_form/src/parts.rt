@@ -9,19 +9,19 @@ use std::alloc::Global;
 
 /// What one deal trades, by its bid and its ask.
 #[derive(Clone, Copy, Debug, PartialEq, Eq, PartialOrd, Ord)]
-pub struct Part {
+pub struct DealPart {
     pub bid: usize,
     pub ask: usize,
     pub quantity: u64,
 }
 
 /// The parts of the deals, in log order.
-fn collect_parts(alloc: Global, deals: &[Deal]) -> Result<Vec<Part>, NoMemory>
+fn collect_parts(alloc: Global, deals: &[Deal]) -> Result<Vec<DealPart>, NoMemory>
     ensures { IfOk result (λ parts. parts.items ≡ map part_of_deal deals.now) }
 {
     let mut parts = Vec::with_capacity(alloc, deals.len())?;
     for deal in deals {
-        let part = Part {
+        let part = DealPart {
             bid: deal.bid,
             ask: deal.ask,
             quantity: deal.quantity.value(),
@@ -32,7 +32,7 @@ fn collect_parts(alloc: Global, deals: &[Deal]) -> Result<Vec<Part>, NoMemory>
 }
 
 /// The parts of the deals in order of the bid, then of the ask.
-pub fn sort_parts(alloc: Global, deals: &[Deal]) -> Result<Vec<Part>, NoMemory>
+pub fn sort_parts(alloc: Global, deals: &[Deal]) -> Result<Vec<DealPart>, NoMemory>
     ensures count { IfOk result (λ parts. length parts.items ≡ length deals.now) }
     ensures each { IfOk result (λ parts. All IsPartOfDeal parts.items) }
     ensures sums { IfOk result (λ parts. AreParts deals.now parts.items) }

@@ -58,8 +58,8 @@ fn trade_of_deal(id: Name, orders: &OrderList<'_>, deal: &Deal, symbol: &Name) -
     }
 }
 
-/// The trade records of the deals, one for each in their order: with the ids `T1`, `T2` and so on, each
-/// at the time of the later of its two orders. Err only out of memory.
+/// The trade records of the deals, one for each in their order: with the ids `T1`, `T2` and so on,
+/// each at the time of the later of its two orders. Err only out of memory.
 pub fn trades_of_deals(
     alloc: Global,
     orders: &OrderList<'_>,
@@ -80,9 +80,9 @@ pub fn trades_of_deals(
     Ok(trades)
 }
 
-/// A law: over an order list in which no two orders have one key, the trade records of deals with the
-/// places 1, 2 and so on are sound trades of the symbol, and their deals are these deals; the Expected
-/// trades of a rule have these places. It computes nothing.
+/// A law: over an order list in which no two orders have one key, the trade records of deals with
+/// the places 1, 2 and so on are sound trades of the symbol, and their deals are these deals; the
+/// Expected trades of a rule have these places. It computes nothing.
 pub fn trades_give_their_deals_back()
     ensures sound { TradesAreSound }
     ensures deals { TradesGiveTheirDeals }

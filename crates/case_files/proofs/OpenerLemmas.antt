@@ -1,4 +1,5 @@
--- An opener that tells nothing has opened a path where it gives a keeper that has counted no fault.
+-- An opener of which nothing is known has opened a path where it gives a keeper that has counted
+-- no fault.
 use Rattle.std.proofs.Common.{◌≡◌, sym, ◌∙◌, refl, arith, ℕ, true, false, List, Ok, Err}
 use Rattle.case_keeper.specs.Keepers.{KeeperState}
 use Rattle.case_keeper.specs.declared.keeper.KeepFault.TheVariants.{Failed}

@@ -1,4 +1,4 @@
--- The opener over files: it tells nothing of what is under a path, and counts what it refuses.
+-- The opener over files: nothing is known of what is under a path, and what it refuses is counted.
 use Rattle.std.specs.Prelude.{◌≡◌, true, false, None, Result, Err}
 use Rattle.case_keeper.specs.declared.keeper.KeepFault.{KeepFault}
 use Rattle.case_keeper.specs.declared.keeper.KeepFault.TheVariants.{Failed}
@@ -6,12 +6,12 @@ use Rattle.case_run.specs.Openers.{OpenerState}
 use Rattle.log_source.specs.Calls.{faults_after}
 use Rattle.case_files.specs.declared.file_opener.FileOpener.{FileOpener}
 
--- what it stands at: its faults alone are known
+-- its state: its faults alone are known
 abbrev pub file_opener_state : FileOpener → OpenerState
 file_opener_state opener =
     record { tells = false; kept = (λ path. None); faults = opener.faults }
 
--- what it stands at before it has opened anything
+-- its state before it has opened anything
 abbrev pub fresh_opener : OpenerState
 fresh_opener = record { tells = false; kept = (λ path. None); faults = 0 }
 

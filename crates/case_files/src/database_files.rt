@@ -1,5 +1,5 @@
-//! The files of a database: they are opened when no other process has them open, and the log is removed behind the last
-//! transaction that stood in it. No clause speaks of either.
+//! The files of a database: they are opened when no other process has them open, and the log is
+//! removed behind the last transaction that was in it. No clause speaks of either.
 ghost use Rattle.std.specs.Prelude.{IsTrue, IfOk};
 
 use sqlite::{File, Files, Unknown};
@@ -16,8 +16,8 @@ const PAUSES: u32 = 100;
 /// How long a pause is.
 const PAUSE_MILLISECONDS: u64 = 50;
 
-/// The files of the database under a path, which are made where they are not there. A database that another process has
-/// open is waited for, about five seconds.
+/// The files of the database under a path, which are made where they are not there. A database
+/// that another process has open is waited for, about five seconds.
 pub(crate) fn open_when_free(rt: &HostRuntime, path: &str) -> Result<Files<File>, OpenError>
     ensures usable { IfOk result (λ files.
         IsTrue (⟦<File as Disk>⟧.is_usable files.log)
@@ -32,7 +32,7 @@ pub(crate) fn open_when_free(rt: &HostRuntime, path: &str) -> Result<Files<File>
     open(rt, path, Unknown)
 }
 
-/// Where a database lies that is open, and which file it is.
+/// Where a database that is open is, and which file it is.
 #[derive(Drop)]
 pub(crate) struct Place {
     database: String,
@@ -42,7 +42,7 @@ pub(crate) struct Place {
 }
 
 impl Place {
-    /// Where the database under this path lies, with no link in its path.
+    /// Where the database under this path is, with no link in its path.
     pub(crate) fn of(rt: &HostRuntime, path: &str) -> io::Result<Place> {
         let real = fs::canonicalize(rt, path)?;
         let found = fs::symlink_metadata(rt, real.as_str())?;
@@ -62,16 +62,16 @@ impl Place {
         }
     }
 
-    /// Removes the log. Whoever calls this still has the files open, so that nobody else has opened the log, and knows
-    /// that the database file has all of it.
+    /// Removes the log. Whoever calls this still has the files open, so that nobody else has
+    /// opened the log, and knows that the database file has all of it.
     pub(crate) fn remove_log(&self, rt: &HostRuntime) {
         if self.is_there(rt) {
             let _removed = fs::remove_file(rt, self.log.as_str());
         }
     }
 
-    /// Removes the log where it is empty, as one is made beside a file that is then refused. Whoever calls this still has
-    /// the files open.
+    /// Removes the log where it is empty, as one is made beside a file that is then refused.
+    /// Whoever calls this still has the files open.
     pub(crate) fn remove_empty_log(&self, rt: &HostRuntime) {
         if let Ok(found) = fs::symlink_metadata(rt, self.log.as_str()) {
             if found.is_file() && found.len() == 0 {

@@ -18,22 +18,23 @@ use sqlite_std_file::OpenError;
 use std::hash::{BuildHasher, RandomState};
 use std::io::ErrorKind;
 
-/// How many pages of a database that were read are kept in memory: 2 MB, whose room is taken at the open. A casebook of
-/// ten thousand cases has 110 pages.
+/// How many pages of a database that were read are kept in memory: 2 MB, whose room is taken at
+/// the open. A casebook of ten thousand cases has 110 pages.
 const KEPT_PAGES: usize = 512;
 
-/// An opener over the files of the runtime, where a casebook is a database under its path, which is made
-/// where there is none. It tells nothing of what is under a path. A path that is not opened is counted as a
-/// fault, as one of a directory, of a file that is no database or may not be written, or of a database that
-/// another process has open for longer than is waited for. An opening that finds no memory is no fault.
+/// An opener over the files of the runtime, where a casebook is a database under its path,
+/// which is made where there is none. Nothing is known of what is under a path. A path that is
+/// not opened is counted as a fault, as one of a directory, of a file that is no database or
+/// may not be written, or of a database that another process has open for longer than is waited
+/// for. An opening that finds no memory is no fault.
 ///
-/// A path that begins with `-` is one that was meant as an option: it is refused before any file is opened or
-/// made. A file of such a name is given as `./-x`.
+/// A path that begins with `-` is one that was meant as an option: it is refused before any
+/// file is opened or made. A file of such a name is given as `./-x`.
 #[derive(Drop)]
 pub struct FileOpener {
     rt: HostRuntime,
     faults: u64,
-    // Where the database lies that was opened last, if there was memory for it.
+    // Where the database is that was opened last, if there was memory for it.
     place: Option<Place>,
 }
 
@@ -46,7 +47,8 @@ fn refused(error: OpenError) -> KeepFault {
     }
 }
 
-/// How the database is held: with a random number for the salts of its log, and few pages in memory.
+/// How the database is held: with a random number for the salts of its log, and few pages in
+/// memory.
 fn options(rt: &HostRuntime) -> Result<Options, KeepFault> {
     let Ok(seeds) = RandomState::new(rt) else {
         return Err(KeepFault::Failed);
@@ -57,8 +59,8 @@ fn options(rt: &HostRuntime) -> Result<Options, KeepFault> {
     })
 }
 
-/// Whether a path names a file. An option does not, and neither do the two forms by which SQLite names what is no file,
-/// or more than a file.
+/// Whether a path names a file. An option does not, and neither do the two forms by which
+/// SQLite names what is no file, or more than a file.
 fn names_file(path: &str) -> bool
     ensures { is_path path.now ≡ false → result ≡ false }
 {
@@ -141,8 +143,9 @@ impl Opener for FileOpener {
 }
 
 impl Closing for FileOpener {
-    /// What was filed is in the database's files before this, so that a close that fails loses nothing. Behind it the
-    /// database file has all of it alone, and the log beside it is removed while nobody else can have opened it.
+    /// What was filed is in the database's files before this, so that a close that fails loses
+    /// nothing. Behind it the database file has all of it alone, and the log beside it is
+    /// removed while nobody else can have opened it.
     fn close(&self, keeper: SqlKeeper<FileStore<File>>) {
         match keeper.into_connection().close_files() {
             Ok(files) => {

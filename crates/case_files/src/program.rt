@@ -1,11 +1,14 @@
-//! What the program `casebook` does with what its machine gives it: words, files, standard output, an opener over
-//! files and a random seed are handed to `run_and_close`, and the number of the status is what the process ends with.
-//! Where it is above 1, where a database was made, and where a list may not be the one that was meant, a line on standard
+//! What the program `casebook` does with what its machine gives it: the arguments, files,
+//! standard output, an opener over files and a random seed are handed to `run_and_close`, and
+//! the number of the status is what the process ends with. Where it is above 1, where a
+//! database was made, and where a list may not be the one that was meant, a line on standard
 //! error says so (`run_notes`).
 ghost use Rattle.std.specs.Prelude.{◌≡◌};
 ghost use Rattle.std.specs.Process.{exit_status};
-ghost use Rattle.case_files.specs.ClosedRuns.{AnswersWords, AnswersOver, AnswersUntold, EndsAsAnswer};
+ghost use Rattle.case_files.specs.ClosedRuns.{CasebookAnswers, CasebookBegins, CasebookBeginsUnknown};
 ghost use Rattle.case_run.specs.Statuses.{case_status_number};
+ghost use Rattle.case_run.specs.declared.statuses.CaseStatus.TheVariants as status;
+ghost use Rattle.run_notes.specs.ProgramAnswers.{AnswersCommandLine, AnswersFrom, AnswersUnknownWords, EndsAsAnswer};
 
 use crate::closing::{Closing, run_and_close};
 use crate::file_opener::FileOpener;
@@ -18,25 +21,30 @@ use log_source::shelf::Shelf;
 use log_source::sink::Sink;
 use log_source::std_sink::StdSink;
 use run_notes::command_line::CommandLine;
-use run_notes::database_notes::{is_missing, tell_database_fault, tell_listed_symbols, tell_made};
-use run_notes::log_notes::tell_log_fault;
+use run_notes::database_notes::{
+    is_database_missing, print_database_fault, print_listed_symbols, print_made_database,
+};
+use run_notes::log_notes::print_log_fault;
 use run_notes::noted_shelf::NotedShelf;
 use run_notes::noted_sink::NotedSink;
 use run_notes::program_ends::{noted_files, noted_output};
-use run_notes::usage_notes::tell_casebook_usage;
+use run_notes::usage_notes::print_casebook_usage;
 use std::io;
 use std::process::ExitCode;
 use std::random::RandomSource;
 
-/// Runs the commands that the words of the command line ask for, with hashes of a random seed, and closes the casebook.
+/// Runs the commands that the words of the command line ask for, with hashes of a random seed,
+/// and closes the casebook.
 fn answer_words<R: CommandLine + AllocGlobal + RandomSource, F: Shelf, K: Sink, O: Closing>(
     rt: &R,
     shelf: &mut F,
     out: &mut K,
     opener: &mut O,
 ) -> CaseStatus
-    ensures { AnswersWords (R.told rt.now) F.Shelf shelf.old shelf.new (O.state opener.old) (O.state opener.new)
-        (K.state out.old) (K.state out.new) result }
+    ensures { AnswersCommandLine (CasebookAnswers F.Shelf) status.Memory (R.told rt.now)
+        (record { shelf = shelf.old; opener = O.state opener.old; sink = K.state out.old })
+        (record { shelf = shelf.new; opener = O.state opener.new; sink = K.state out.new })
+        result }
 {
     match rt.words() {
         Ok(words) => run_and_close(rt.alloc(), seed_of(rt), &words, shelf, out, opener),
@@ -44,34 +52,39 @@ fn answer_words<R: CommandLine + AllocGlobal + RandomSource, F: Shelf, K: Sink, 
     }
 }
 
-/// What a run leaves: its status, the files that it read and the output that it wrote, with what was noted of both.
+/// What a run leaves: its status, the files that it read and the output that it wrote, with
+/// what was noted of both.
 #[derive(Drop)]
-struct Ran<S: FileSystem, W> {
+struct RunEnds<S: FileSystem, W> {
     status: CaseStatus,
     shelf: NotedShelf<FileShelf<S>>,
     out: NotedSink<StdSink<W>>,
 }
 
-/// Runs the commands that the words of the command line ask for over these files, this output and this opener.
+/// Runs the commands that the words of the command line ask for over these files, this output
+/// and this opener.
 fn run_over<
     R: CommandLine + AllocGlobal + RandomSource,
     S: FileSystem + Drop,
     W: Output + Drop,
     O: Closing,
->(rt: &R, files: S, output: W, opener: &mut O) -> Ran<S, W>
+>(rt: &R, files: S, output: W, opener: &mut O) -> RunEnds<S, W>
     ensures { let shelf = ⟦<NotedShelf<FileShelf<S>> as Shelf>⟧ in
         let state = ⟦<NotedSink<StdSink<W>> as Sink>⟧.state in
-        AnswersOver (R.told rt.now) shelf (S.tells files) (S.file_at files) (W.contents output)
-        (O.state opener.old) (O.state opener.new)
-        result.shelf (state result.out) result.status }
+        AnswersFrom (CasebookAnswers shelf) status.Memory (R.told rt.now)
+        (CasebookBegins shelf (S.tells files) (S.file_at files) (W.contents output)
+        (O.state opener.old))
+        (record { shelf = result.shelf; opener = O.state opener.new; sink = state result.out })
+        result.status }
 {
     let mut shelf = noted_files(rt.alloc(), files);
     let mut out = noted_output(rt.alloc(), output);
     let status = answer_words(rt, &mut shelf, &mut out, opener);
-    Ran { status, shelf, out }
+    RunEnds { status, shelf, out }
 }
 
-/// Tells on standard error why a run ended above 1.
+/// Says on standard error why a run ended above 1, or of which symbol a list is that may be
+/// meant otherwise.
 fn tell<F: Shelf>(
     rt: &HostRuntime,
     status: CaseStatus,
@@ -80,8 +93,8 @@ fn tell<F: Shelf>(
     last: &[u8],
 ) {
     match status {
-        CaseStatus::Usage => tell_casebook_usage(rt, words),
-        CaseStatus::KeeperFault => tell_database_fault(rt, words),
+        CaseStatus::Usage => print_casebook_usage(rt, words),
+        CaseStatus::KeeperFault => print_database_fault(rt, words),
         CaseStatus::Memory => {
             let _told = eprintln!(rt; "casebook: memory ran out");
         }
@@ -89,15 +102,17 @@ fn tell<F: Shelf>(
             let _told = eprintln!(rt; "casebook: standard output could not be written");
         }
         CaseStatus::Malformed | CaseStatus::ReadFault | CaseStatus::TooLong => {
-            tell_log_fault(rt, "casebook", shelf, last);
+            print_log_fault(rt, "casebook", shelf, last);
         }
-        CaseStatus::Done | CaseStatus::Refused => tell_listed_symbols(rt, words),
+        CaseStatus::Done | CaseStatus::Refused => print_listed_symbols(rt, words),
     }
 }
 
 /// Runs the commands over files and standard output.
 fn answer(rt: HostRuntime) -> CaseStatus
-    ensures { AnswersUntold ⟦<NotedShelf<FileShelf<HostRuntime>> as Shelf>⟧ result }
+    ensures { let shelf = ⟦<NotedShelf<FileShelf<HostRuntime>> as Shelf>⟧ in
+        AnswersUnknownWords (CasebookAnswers shelf) status.Memory
+        (CasebookBeginsUnknown shelf) result }
 {
     let Ok(files) = rt.clone() else {
         return CaseStatus::Memory;
@@ -108,24 +123,26 @@ fn answer(rt: HostRuntime) -> CaseStatus
     let Ok(words) = rt.words() else {
         return CaseStatus::Memory;
     };
-    let was_missing = is_missing(&rt, &words);
+    let was_missing = is_database_missing(&rt, &words);
     let mut opener = FileOpener::new(databases);
-    let Ran { status, shelf, out } = run_over(&rt, files, io::writer(&rt), &mut opener);
-    tell_made(&rt, &words, was_missing);
+    let RunEnds { status, shelf, out } = run_over(&rt, files, io::writer(&rt), &mut opener);
+    print_made_database(&rt, &words, was_missing);
     tell(&rt, status, &words, &shelf, out.last());
     status
 }
 
-/// What a process ends with whose status this is: its number.
+/// The exit code of a status: its number.
 fn exit_code(status: CaseStatus) -> ExitCode
     ensures { exit_status result ≡ case_status_number status }
 {
     ExitCode::from(status.number())
 }
 
-/// Does what the program does, and gives what its process ends with.
+/// Runs the program, and gives the exit code of its process.
 pub fn run_casebook(rt: HostRuntime) -> ExitCode
-    ensures { EndsAsAnswer ⟦<NotedShelf<FileShelf<HostRuntime>> as Shelf>⟧ result }
+    ensures { let shelf = ⟦<NotedShelf<FileShelf<HostRuntime>> as Shelf>⟧ in
+        EndsAsAnswer (CasebookAnswers shelf) status.Memory case_status_number
+        (CasebookBeginsUnknown shelf) result }
 {
     exit_code(answer(rt))
 }

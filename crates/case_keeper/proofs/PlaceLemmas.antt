@@ -12,11 +12,11 @@ use Rattle.std.proofs.lemmas.List.Folds.{find_at, position_or_len_push}
 use Rattle.std.proofs.lemmas.List.Sums.{prefix_len-le-length}
 use Rattle.std.proofs.lemmas.Map.Text.{is_eq-slice_cmp}
 use Rattle.std.proofs.lemmas.Slice.Eq.{bytes_eq-Decides}
-use Rattle.case_keeper.specs.Cases.{has_label, kept}
-use Rattle.case_keeper.specs.IndexedCases.{place_of, IsIndex}
+use Rattle.case_keeper.specs.Cases.{has_label, kept_case}
+use Rattle.case_keeper.specs.IndexedCases.{index_of_label, IsLabelIndex}
 use Rattle.case_keeper.specs.declared.case.Case.{Case}
 
--- what is found stands at its place
+-- what is found is at its index
 found_at_place : {X : Type 0} (p : X → Bool) (xs : List X) → find p xs ≡ option_and_then (slice_get xs) (position p xs)
 found_at_place {X} p xs = find_at p xs ∙ inside (ltb place (length xs)) refl
   where
@@ -62,14 +62,14 @@ place_push p xs x =
     ap (λ n. cond (ltb next n) (Some next) None) (length-append xs (x ∷ []))
     ∙ place_shape (position_or_len p xs) next (length xs) (p x) (prefix_len-le-length (λ y. not (p y)) xs) (position_or_len_push p xs x)
 
--- what stands where an index has a label is the case that is kept under it
-pub kept_at : (cases : List Case) (index : BTreeMap (List ℕ) ℕ) (label : List ℕ) (place : Option ℕ) → IsIndex index cases → place ≡ get (slice_cmp nat_cmp) index label
-    → option_and_then (slice_get cases) place ≡ kept cases label
+-- the case at the index of a label is the case that is kept under it
+pub kept_at : (cases : List Case) (index : BTreeMap (List ℕ) ℕ) (label : List ℕ) (place : Option ℕ) → IsLabelIndex index cases → place ≡ get (slice_cmp nat_cmp) index label
+    → option_and_then (slice_get cases) place ≡ kept_case cases label
 kept_at cases index label place holds e = ap (option_and_then (slice_get cases)) (e ∙ holds label) ∙ sym (found_at_place (has_label label) cases)
 
 -- an index stays one as a case is added whose label no case has
-pub index_more : (cases : List Case) (case : Case) (old new : BTreeMap (List ℕ) ℕ) → kept cases case.label ≡ None → IsIndex old cases
-    → Updates (slice_cmp nat_cmp) old new case.label (Some (length cases)) → IsIndex new (cases ++ case ∷ [])
+pub index_more : (cases : List Case) (case : Case) (old new : BTreeMap (List ℕ) ℕ) → kept_case cases case.label ≡ None → IsLabelIndex old cases
+    → Updates (slice_cmp nat_cmp) old new case.label (Some (length cases)) → IsLabelIndex new (cases ++ case ∷ [])
 index_more cases case old new none holds puts label =
     puts.0 label
     ∙ ap (λ t. cond t (Some (length cases)) (get (slice_cmp nat_cmp) old label)) (is_eq-slice_cmp case.label label)
@@ -81,8 +81,8 @@ index_more cases case old new none holds puts label =
     or_none None = refl
     or_none (Some n) = refl
 
-    turned : (b : Bool) → bytes_eq case.label label ≡ b → cond b (Some (length cases)) (place_of cases label) ≡ option_or (place_of cases label) (cond b (Some (length cases)) None)
+    turned : (b : Bool) → bytes_eq case.label label ≡ b → cond b (Some (length cases)) (index_of_label cases label) ≡ option_or (index_of_label cases label) (cond b (Some (length cases)) None)
     turned true e =
-        let none_here : place_of cases label ≡ None = subst (λ l. place_of cases l ≡ None) ((bytes_eq-Decides case.label label).0 e) (no_place (has_label case.label) cases none) in
+        let none_here : index_of_label cases label ≡ None = subst (λ l. index_of_label cases l ≡ None) ((bytes_eq-Decides case.label label).0 e) (no_place (has_label case.label) cases none) in
         sym (ap (λ o. option_or o (Some (length cases))) none_here)
-    turned false e = or_none (place_of cases label)
+    turned false e = or_none (index_of_label cases label)

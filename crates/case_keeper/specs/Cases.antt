@@ -1,4 +1,5 @@
--- Cases on file: the labels that they are kept under, how their audits ended, and which of them a filter lets through.
+-- Cases on file: the labels that they are kept under, how their audits ended, and which of them
+-- a filter lets through.
 use Rattle.std.specs.Prelude.{◌≢◌, ℕ, Bool, true, false, ◌&&◌, List, Option, bytes_eq, find, filter, AllPairs}
 use Rattle.std.specs.Option.{option_map_or}
 use Rattle.audit_base.specs.Orders.{same_name}
@@ -13,23 +14,24 @@ abbrev pub has_label : List ℕ → Case → Bool
 has_label label case = same_name case.label label
 
 -- the case that is kept under a label, or nothing
-abbrev pub kept : List Case → List ℕ → Option Case
-kept cases label = find (has_label label) cases
+abbrev pub kept_case : List Case → List ℕ → Option Case
+kept_case cases label = find (has_label label) cases
 
 -- no two cases have one label
-abbrev pub HaveOwnLabels : List Case → Type 0
-HaveOwnLabels cases = AllPairs (λ a b. a.label ≢ b.label) cases
+abbrev pub LabelsDiffer : List Case → Type 0
+LabelsDiffer cases = AllPairs (λ a b. a.label ≢ b.label) cases
 
--- how the audit of a case ended: accepted where it has no offence, else broken by the offence's property
+-- how the audit of a case ended: accepted where it has no offence, else with the property of
+-- the offence broken
 abbrev pub mark_of : Case → Mark
 mark_of case = option_map_or (λ offence. Broken offence.property) case.offence Accepted
 
--- two audits ended alike: both accepted, or broken by one property
-abbrev pub same_mark : Mark → Mark → Bool
-same_mark Accepted Accepted = true
-same_mark Accepted (Broken _) = false
-same_mark (Broken _) Accepted = false
-same_mark (Broken p) (Broken q) = bytes_eq (property_word p) (property_word q)
+-- two audits ended alike: both accepted, or with one property broken
+abbrev pub same_property_broken : Mark → Mark → Bool
+same_property_broken Accepted Accepted = true
+same_property_broken Accepted (Broken _) = false
+same_property_broken (Broken _) Accepted = false
+same_property_broken (Broken p) (Broken q) = bytes_eq (property_word p) (property_word q)
 
 -- the case has the symbol that the filter names, if it names one
 abbrev pub passes_symbol : Filter → Case → Bool
@@ -37,12 +39,12 @@ passes_symbol wanted case = option_map_or (same_name case.symbol) wanted.symbol 
 
 -- the case has the mark that the filter names, if it names one
 abbrev pub passes_mark : Filter → Case → Bool
-passes_mark wanted case = option_map_or (same_mark (mark_of case)) wanted.mark true
+passes_mark wanted case = option_map_or (same_property_broken (mark_of case)) wanted.mark true
 
 -- the filter lets the case through
-abbrev pub passes : Filter → Case → Bool
-passes wanted case = passes_symbol wanted case && passes_mark wanted case
+abbrev pub passes_filter : Filter → Case → Bool
+passes_filter wanted case = passes_symbol wanted case && passes_mark wanted case
 
 -- the cases that the filter lets through, in their order
-abbrev pub passing : Filter → List Case → List Case
-passing wanted cases = filter (passes wanted) cases
+abbrev pub passing_cases : Filter → List Case → List Case
+passing_cases wanted cases = filter (passes_filter wanted) cases

@@ -6,10 +6,11 @@ use Rattle.std.specs.Ordering.{nat_cmp}
 use Rattle.case_keeper.specs.Cases.{has_label}
 use Rattle.case_keeper.specs.declared.case.Case.{Case}
 
--- where the first case with the label stands
-abbrev pub place_of : List Case → List ℕ → Option ℕ
-place_of cases label = position (has_label label) cases
+-- the index of the first case with the label
+abbrev pub index_of_label : List Case → List ℕ → Option ℕ
+index_of_label cases label = position (has_label label) cases
 
--- the index has under each label where its case stands
-abbrev pub IsIndex : BTreeMap (List ℕ) ℕ → List Case → Type 0
-IsIndex index cases = (label : List ℕ) → get (slice_cmp nat_cmp) index label ≡ place_of cases label
+-- the map has under each label the index of its case
+abbrev pub IsLabelIndex : BTreeMap (List ℕ) ℕ → List Case → Type 0
+IsLabelIndex index cases =
+    (label : List ℕ) → get (slice_cmp nat_cmp) index label ≡ index_of_label cases label

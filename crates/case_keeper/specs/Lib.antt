@@ -1,8 +1,9 @@
--- What a reader must believe: cases and filters, the meaning of a keeper, and what the public calls say by them.
+-- What a reader must believe: cases and filters, the state of a keeper, and what the public
+-- calls say of them.
 pub mod Cases
 pub mod Keepers
 pub mod Casebooks
--- What the keeper in memory stands at.
+-- The state of the keeper in memory.
 pub mod MapKeepers
 -- What private functions pass on.
 pub mod IndexedCases

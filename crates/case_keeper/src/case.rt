@@ -5,8 +5,7 @@ use audit_base::findings::Property;
 use audit_base::names::Name;
 use audit_base::terms::{Rule, Which};
 
-/// What broke the rule of a case: the property, and the record at which it broke, by its log and its
-/// place from 1.
+/// The property that was broken, and the record that broke it, by its log and its place from 1.
 #[derive(Clone, Copy, Debug, PartialEq, Eq)]
 pub struct Offence {
     pub property: Property,
@@ -14,7 +13,8 @@ pub struct Offence {
     pub place: u32,
 }
 
-/// The verdict of an audit of a symbol by a rule, under its label. No offence is an accepted log.
+/// The verdict of an audit of a symbol by a rule, under its label. With no offence the logs
+/// were accepted.
 #[derive(Clone, Copy, Debug, PartialEq, Eq)]
 pub struct Case {
     pub label: Name,
@@ -23,15 +23,15 @@ pub struct Case {
     pub offence: Option<Offence>,
 }
 
-/// How an audit ended: its rule was kept, or a property broke it.
+/// How an audit ended: its logs were accepted, or this property was broken.
 #[derive(Clone, Copy, Debug, PartialEq, Eq)]
 pub enum Mark {
     Accepted,
     Broken(Property),
 }
 
-/// Which cases are listed: those of a symbol, those with a mark, or those with both. What it does not
-/// name may be any.
+/// Which cases are listed: those of a symbol, those with a mark, or those with both. What it
+/// does not name may be any.
 #[derive(Clone, Copy, Debug, PartialEq, Eq)]
 pub struct Filter {
     pub symbol: Option<Name>,
@@ -39,11 +39,11 @@ pub struct Filter {
 }
 
 impl Mark {
-    ghost use Rattle.case_keeper.specs.Cases.{same_mark};
+    ghost use Rattle.case_keeper.specs.Cases.{same_property_broken};
 
-    /// Whether two audits ended alike.
+    /// Whether two audits ended alike: both accepted, or with one property broken.
     fn is_same(self, other: Mark) -> bool
-        ensures { result ≡ same_mark self other }
+        ensures { result ≡ same_property_broken self other }
     {
         match (self, other) {
             (Mark::Accepted, Mark::Accepted) => true,
@@ -68,7 +68,7 @@ impl Case {
 }
 
 impl Filter {
-    ghost use Rattle.case_keeper.specs.Cases.{passes, passes_symbol, passes_mark};
+    ghost use Rattle.case_keeper.specs.Cases.{passes_filter, passes_symbol, passes_mark};
 
     /// Whether the symbol of a case is the one that the filter names, if it names one.
     fn passes_symbol(&self, case: &Case) -> bool
@@ -92,7 +92,7 @@ impl Filter {
 
     /// Whether a case has the symbol and the mark that the filter names.
     pub fn passes(&self, case: &Case) -> bool
-        ensures { result ≡ passes self.now case.now }
+        ensures { result ≡ passes_filter self.now case.now }
     {
         self.passes_symbol(case) && self.passes_mark(case)
     }

@@ -1,6 +1,6 @@
 //! A list of cases, as a keeper gives it.
 ghost use Rattle.std.specs.Prelude.{◌≡◌, IfOk};
-ghost use Rattle.case_keeper.specs.Cases.{passing};
+ghost use Rattle.case_keeper.specs.Cases.{passing_cases};
 
 use crate::case::{Case, Filter};
 use audit_base::faults::NoMemory;
@@ -24,7 +24,7 @@ impl Model for CaseList {
 
 /// Those of the cases that pass the filter, in their order.
 fn pick(alloc: Global, cases: &[Case], filter: &Filter) -> Result<Vec<Case>, NoMemory>
-    ensures { IfOk result (λ picked. picked.items ≡ passing filter.now cases.now) }
+    ensures { IfOk result (λ picked. picked.items ≡ passing_cases filter.now cases.now) }
 {
     let mut picked = Vec::new(alloc);
     for case in cases {
@@ -56,7 +56,7 @@ impl CaseList {
         cases: &[Case],
         filter: &Filter,
     ) -> Result<CaseList, NoMemory>
-        ensures { IfOk result (λ list. list ≡ passing filter.now cases.now) }
+        ensures { IfOk result (λ list. list ≡ passing_cases filter.now cases.now) }
     {
         Ok(CaseList::of(pick(alloc, cases, filter)?))
     }

@@ -29,8 +29,8 @@ impl<K> Model for Casebook<K> {
 }
 
 impl<K: Keeper> Casebook<K> {
-    ghost use Rattle.case_keeper.specs.Keepers.{Finds, Lists};
-    ghost use Rattle.case_keeper.specs.Casebooks.{Files};
+    ghost use Rattle.case_keeper.specs.Keepers.{FindsLabel, ListsCases};
+    ghost use Rattle.case_keeper.specs.Casebooks.{FilesCase};
 
     /// The casebook over this keeper. Takes no memory.
     pub fn new(keeper: K) -> Casebook<K>
@@ -48,7 +48,7 @@ impl<K: Keeper> Casebook<K> {
 
     /// Files a case under its label, unless a case has it. After a fault the cases are as before.
     pub fn file(&mut self, case: &Case) -> Result<Filed, KeepFault>
-        ensures { Files (K.state self.old) (K.state self.new) result case.now }
+        ensures { FilesCase (K.state self.old) (K.state self.new) result case.now }
     {
         match self.keeper.find(&case.label)? {
             Some(kept) => Ok(Filed::Known(kept)),
@@ -61,14 +61,14 @@ impl<K: Keeper> Casebook<K> {
 
     /// The case with this label.
     pub fn show(&mut self, label: &Name) -> Result<Option<Case>, KeepFault>
-        ensures { Finds (K.state self.old) (K.state self.new) result label.now }
+        ensures { FindsLabel (K.state self.old) (K.state self.new) result label.now }
     {
         self.keeper.find(label)
     }
 
     /// The cases that pass the filter, in the order of filing.
     pub fn list(&mut self, filter: &Filter) -> Result<CaseList, KeepFault>
-        ensures { Lists (K.state self.old) (K.state self.new) result filter.now }
+        ensures { ListsCases (K.state self.old) (K.state self.new) result filter.now }
     {
         self.keeper.list(filter)
     }

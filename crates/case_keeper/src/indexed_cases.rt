@@ -1,7 +1,7 @@
-//! Cases in the order of filing, with an index by label, so that a label is found among many without
-//! going over them, whatever the labels are.
+//! Cases in the order of filing, with an index by label, so that a label is found among many
+//! without going over them, whatever the labels are.
 ghost use Rattle.std.specs.Prelude.{◌≡◌, ◌++◌, ◌∷◌, [], None, OnOk, OnErr};
-ghost use Rattle.case_keeper.specs.Cases.{kept};
+ghost use Rattle.case_keeper.specs.Cases.{kept_case};
 
 use crate::case::Case;
 use audit_base::faults::NoMemory;
@@ -14,20 +14,20 @@ use std::marker::Model;
 #[derive(Drop)]
 pub(crate) struct IndexedCases {
     cases: Vec<Case>,
-    // Where the case of each label stands among the cases.
+    // The index of the case of each label among the cases.
     index: BTreeMap<Name, usize>,
 }
 
 impl Model for IndexedCases {
     ghost use Rattle.std.specs.Prelude.{List};
-    ghost use Rattle.case_keeper.specs.IndexedCases.{IsIndex};
+    ghost use Rattle.case_keeper.specs.IndexedCases.{IsLabelIndex};
     ghost use Rattle.case_keeper.specs.declared.case.Case.{Case};
 
     ghost Value = { List Case };
 
     ghost view = { λ c. c.cases.items };
 
-    ghost invariant = { λ c. IsIndex c.index c.cases.items };
+    ghost invariant = { λ c. IsLabelIndex c.index c.cases.items };
 }
 
 impl IndexedCases {
@@ -43,7 +43,7 @@ impl IndexedCases {
 
     /// The case with this label. Takes no memory.
     pub(crate) fn kept(&self, label: &Name) -> Option<Case>
-        ensures { result ≡ kept self.now label.now }
+        ensures { result ≡ kept_case self.now label.now }
     {
         match self.index.get(label) {
             Some(place) => self.cases.get(*place).copied(),
@@ -53,7 +53,7 @@ impl IndexedCases {
 
     /// Adds a case after the others. Out of memory leaves them as they were.
     pub(crate) fn add(&mut self, case: &Case) -> Result<(), NoMemory>
-        requires { kept self.old case.now.label ≡ None }
+        requires { kept_case self.old case.now.label ≡ None }
         ensures ok { OnOk result (self.new ≡ self.old ++ case.now ∷ []) }
         ensures err { OnErr result (self.new ≡ self.old) }
     {

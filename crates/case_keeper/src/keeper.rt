@@ -1,6 +1,6 @@
 //! A keeper: what holds cases under their labels.
 ghost use Rattle.std.specs.Prelude.{◌≡◌};
-ghost use Rattle.case_keeper.specs.Keepers.{KeeperState, HasOwnLabels, Lacks, Finds, Adds, Lists};
+ghost use Rattle.case_keeper.specs.Keepers.{KeeperState, KnownLabelsDiffer, LacksLabel, FindsLabel, AddsCase, ListsCases};
 
 use crate::case::{Case, Filter};
 use crate::case_list::CaseList;
@@ -30,25 +30,26 @@ impl From<NoMemory> for KeepFault {
 
 /// What holds cases under their labels, in the order of filing, no two under one label.
 ///
-/// A keeper that tells has known cases. It counts its faults, which never fall; `Failed` comes only
-/// where they rose, and after a fault the cases are as before.
+/// The cases of a keeper are known where it `tells`. It counts its faults, which never fall;
+/// `Failed` comes only where they rose, and after a fault the cases are as before.
 pub trait Keeper {
-    // What the keeper stands at.
+    // The state of the keeper: its cases, where they are known, and its faults.
     ghost state: { Self → KeeperState };
 
-    /// The case with this label. `None` comes, where the keeper tells, exactly where no case has it.
+    /// The case with this label. `None` comes, where its cases are known, exactly where no case
+    /// has it.
     fn find(&mut self, label: &Name) -> Result<Option<Case>, KeepFault>
-        ensures { Finds (state self.old) (state self.new) result label.now };
+        ensures { FindsLabel (state self.old) (state self.new) result label.now };
 
     /// Adds a case after the others.
     fn add(&mut self, case: &Case) -> Result<(), KeepFault>
-        requires { Lacks (state self.old) case.now.label }
-        ensures { Adds (state self.old) (state self.new) result case.now };
+        requires { LacksLabel (state self.old) case.now.label }
+        ensures { AddsCase (state self.old) (state self.new) result case.now };
 
     /// The cases that pass the filter, in the order of filing.
     fn list(&mut self, filter: &Filter) -> Result<CaseList, KeepFault>
-        ensures { Lists (state self.old) (state self.new) result filter.now };
+        ensures { ListsCases (state self.old) (state self.new) result filter.now };
 
-    // No two of the cases that it tells have one label.
-    ghost own_labels: { (keeper : Self) → HasOwnLabels (state keeper) };
+    // No two of its cases have one label, where they are known.
+    ghost own_labels: { (keeper : Self) → KnownLabelsDiffer (state keeper) };
 }

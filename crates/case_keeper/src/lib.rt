@@ -1,6 +1,6 @@
-//! Cases on file: a keeper holds the verdicts of audits under their labels, and a casebook files them,
-//! shows one and lists those that pass a filter. Of a keeper that tells its cases, contracts say which
-//! they are; of every keeper they say why a call failed.
+//! Cases on file: a keeper holds the verdicts of audits under their labels, and a casebook
+//! files them, shows one and lists those that pass a filter. Of a keeper whose cases are known,
+//! contracts say which they are; of every keeper they say why a call failed.
 #![tactic(auto)]
 
 pub mod case;

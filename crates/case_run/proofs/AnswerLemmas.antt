@@ -4,8 +4,8 @@ use Rattle.std.specs.Option.{option_map, option_map_or}
 use Rattle.audit_report.specs.declared.verdicts.Verdict.{Verdict}
 use Rattle.audit_report.specs.declared.verdicts.Verdict.TheVariants as verdict
 use Rattle.log_verdict.specs.Steps.{Reading}
-use Rattle.case_keeper.specs.Cases.{kept}
-use Rattle.case_keeper.specs.Casebooks.{Files, filing, with_filed}
+use Rattle.case_keeper.specs.Cases.{kept_case}
+use Rattle.case_keeper.specs.Casebooks.{FilesCase, filing, cases_after_filing}
 use Rattle.case_keeper.specs.Keepers.{KeeperState}
 use Rattle.case_keeper.specs.declared.case.Case.{Case}
 use Rattle.case_keeper.specs.declared.case.Filter.{Filter}
@@ -122,16 +122,16 @@ within_halted S T r halt.Memory stays begins = stays begins
 within_halted S T r halt.KeeperFault stays begins = stays begins
 
 -- where a known case is answered, no case was changed
-pub known_stays : (old new : KeeperState) (case known : Case) → Files old new (Ok (Known known)) case → new.cases ≡ old.cases
+pub known_stays : (old new : KeeperState) (case known : Case) → FilesCase old new (Ok (Known known)) case → new.cases ≡ old.cases
 known_stays old new case known files = by_cases old.cases files.known files.cases_are
   where
-    by_kept : (cases : List Case) (found : Option Case) → kept cases case.label ≡ found → Known known ≡ filing cases case → with_filed cases case ≡ cases
+    by_kept : (cases : List Case) (found : Option Case) → kept_case cases case.label ≡ found → Known known ≡ filing cases case → cases_after_filing cases case ≡ cases
     by_kept cases None is answers = absurd (no_kept (subst (λ (o : Option Case). Known known ≡ option_map_or {T = Case} Known o Kept) is answers))
       where
         no_kept : Known known ≡ Kept → ⊥
         no_kept e = cc
     by_kept cases (Some c) is answers = rw is refl
 
-    by_cases : (told : Option (List Case)) → IfSome told (λ cases. Known known ≡ filing cases case) → new.cases ≡ option_map (λ cases. with_filed cases case) told → new.cases ≡ told
+    by_cases : (told : Option (List Case)) → IfSome told (λ cases. Known known ≡ filing cases case) → new.cases ≡ option_map (λ cases. cases_after_filing cases case) told → new.cases ≡ told
     by_cases None answers are = are
-    by_cases (Some cases) answers are = are ∙ ap Some (by_kept cases (kept cases case.label) refl answers)
+    by_cases (Some cases) answers are = are ∙ ap Some (by_kept cases (kept_case cases case.label) refl answers)

@@ -3,10 +3,10 @@ use Rattle.std.proofs.Common.{◌≡◌, sym, subst, refl, inl, inr, ◌⊎◌, 
 use Rattle.std.proofs.KnownBytes.{Appends-nil}
 use Rattle.std.proofs.lemmas.List.Splits.{length-slice_split}
 use Rattle.std.specs.List.{count_by, slice_split}
-use Rattle.log_verdict.specs.Steps.{NeverFall, reading}
+use Rattle.log_verdict.specs.Steps.{FaultsNeverFall, reading}
 use Rattle.case_keeper.specs.Keepers.{KeeperState}
 use Rattle.log_source.specs.declared.shelf.Shelf.{Ghosts as Shelf}
-use Rattle.log_source.specs.Sinks.{SinkState, Stays}
+use Rattle.log_source.specs.Sinks.{SinkState, SinkStays}
 use Rattle.log_source.specs.Sources.{Rose}
 use Rattle.case_run.specs.Commands.{all_there, command_of, commands_of, is_then, with_next}
 use Rattle.case_run.specs.Lines.{usage_line}
@@ -54,11 +54,11 @@ module _ {S : Type 0} (shelf : Shelf S) (asked : Option (List Command)) where
         book = keeps.book;
       }
 
-  never_falls : (old : S) → NeverFall (reading shelf old old)
+  never_falls : (old : S) → FaultsNeverFall (reading shelf old old)
   never_falls old log = omega arith
 
   -- words that are not well-formed
-  pub case_usage : (old : S) (sink_old sink_new : SinkState) (book : KeeperState) (answer : CaseStatus) → asked ≡ None → Stays sink_old sink_new → Writes sink_old sink_new status.Usage usage_line answer
+  pub case_usage : (old : S) (sink_old sink_new : SinkState) (book : KeeperState) (answer : CaseStatus) → asked ≡ None → SinkStays sink_old sink_new → Writes sink_old sink_new status.Usage usage_line answer
       → IsCaseRun shelf asked old old sink_old sink_new book book answer
   case_usage old sink_old sink_new book answer is stays writes =
       let call : Call = call_of (reading shelf old old) sink_old sink_new book book in

@@ -2,10 +2,10 @@
 use Rattle.std.proofs.Common.{◌∙◌, arith}
 use Rattle.case_keeper.specs.Keepers.{KeeperState}
 use Rattle.log_source.specs.declared.shelf.Shelf.{Ghosts as Shelf}
-use Rattle.log_source.specs.Sinks.{SinkState, Stays}
+use Rattle.log_source.specs.Sinks.{SinkState, SinkStays}
 use Rattle.case_run.specs.Turns.{KeepsAll}
 
-pub Stays_trans : (a b c : SinkState) → Stays a b → Stays b c → Stays a c
+pub Stays_trans : (a b c : SinkState) → SinkStays a b → SinkStays b c → SinkStays a c
 Stays_trans a b c p q = record { tells = q.tells ∙ p.tells; sure = q.sure ∙ p.sure; later = omega (arith, p.later, q.later) }
 
 -- two parts of a call that keep all keep all in the whole

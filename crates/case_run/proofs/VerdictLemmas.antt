@@ -11,7 +11,7 @@ use Rattle.audit_base.specs.declared.terms.Form.{Form}
 use Rattle.audit_base.specs.declared.terms.Which.{Which}
 use Rattle.audit_base.specs.declared.terms.Which.TheVariants.{Orders, Trades}
 use Rattle.audit_base.specs.Histories.{order_list}
-use Rattle.audit_base.specs.Trades.{deals_of}
+use Rattle.audit_base.specs.Trades.{deals_of_symbol}
 use Rattle.audit_base.specs.Verdicts.{paired_trades}
 use Rattle.audit_report.specs.declared.verdicts.Verdict.{Verdict}
 use Rattle.audit_report.specs.declared.verdicts.Verdict.TheVariants as verdict
@@ -22,9 +22,9 @@ use Rattle.log_verdict.specs.BothLogs.{IsAfterGoodOrders, IsAuditStop, ReadsAfte
 use Rattle.log_verdict.specs.BothLogs as both
 use Rattle.log_verdict.specs.Collecting.{step_of}
 use Rattle.log_verdict.specs.LogVerdicts.{log_in, order_log, trade_log, IsLogVerdict}
-use Rattle.log_verdict.specs.Steps.{Reading, Step, IsRead}
+use Rattle.log_verdict.specs.Steps.{Reading, LogStep, IsRead}
 use Rattle.record_verdict.specs.declared.questions.Question.{Question}
-use Rattle.record_verdict.specs.Judgements.{question, IsJudged, IsOutcome}
+use Rattle.record_verdict.specs.Judgements.{question, IsJudged, IsVerdictOfFinding}
 use Rattle.case_run.specs.Calls.{IsStarted, OfLog, ReadsGoodLogs, name_in}
 use Rattle.case_run.specs.Turns.{halt_of_stop, IsLogHalt, JudgesLogs, ReadsFor, StaysWithin}
 use Rattle.case_run.specs.declared.commands.Command.TheVariants as command
@@ -33,9 +33,9 @@ use Rattle.case_run.specs.declared.commands.Filing.{Filing}
 -- a verdict on records is no bad place
 judged_sound : (q : Question) (entries : List OrderRecord) (paired : Result (List TradeRecord) Finding) (log : Which) (bad : BadPlace) → IsJudged q entries paired (verdict.Malformed log bad) → ⊥
 judged_sound q entries paired log bad is =
-    by_found (order_list q.symbol entries) (deals_of (order_list q.symbol entries) q.symbol (paired_trades paired)) is.found is.outcome
+    by_found (order_list q.symbol entries) (deals_of_symbol (order_list q.symbol entries) q.symbol (paired_trades paired)) is.found is.outcome
   where
-    by_found : (orders : List Order) (deals : List Deal) (found : Option Finding) → IsOutcome q orders deals found (verdict.Malformed log bad) → ⊥
+    by_found : (orders : List Order) (deals : List Deal) (found : Option Finding) → IsVerdictOfFinding q orders deals found (verdict.Malformed log bad) → ⊥
     by_found orders deals None is = absurd is
     by_found orders deals (Some finding) is = cc
 
@@ -126,7 +126,7 @@ module _ (r : Reading) (wanted : Filing) (orders trades : Source) (first : Names
   started Orders is = tt
   started Trades is = record { bytes = is.bytes; read = read_orders is.bytes is.read; holds = subst (λ (f : Form). IsOk (order_log f is.bytes)) first.form is.holds }
 
-  of_slot : (holds : Reading → Step → Type 0) (log : Which) → both.IsStarted r orders log → holds r (step_of r log (both.source_of orders trades log).name.now) → OfLog holds r wanted log
+  of_slot : (holds : Reading → LogStep → Type 0) (log : Which) → both.IsStarted r orders log → holds r (step_of r log (both.source_of orders trades log).name.now) → OfLog holds r wanted log
   of_slot holds Orders is cause = record { is_started = started Orders is; holds = subst (λ (n : List ℕ). holds r (step_of r Orders n)) first.name cause }
   of_slot holds Trades is cause = record { is_started = started Trades is; holds = subst (λ (n : List ℕ). holds r (step_of r Trades n)) second.name cause }
 

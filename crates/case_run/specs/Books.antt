@@ -5,7 +5,7 @@ use Rattle.audit_base.specs.declared.terms.Which.{Which}
 use Rattle.log_verdict.specs.Steps.{Reading, reading}
 use Rattle.case_keeper.specs.Keepers.{KeeperState}
 use Rattle.log_source.specs.declared.shelf.Shelf.{Ghosts as Shelf}
-use Rattle.log_source.specs.Sinks.{SinkState, AppendsPart, MayFail}
+use Rattle.log_source.specs.Sinks.{SinkState, AppendsPart, HasFailureCause}
 use Rattle.case_run.specs.Commands.{commands_of}
 use Rattle.case_run.specs.Lines.{keeper_fault_line, usage_line}
 use Rattle.case_run.specs.Openers.{OpenerState, IsOpened, IsRefused}
@@ -17,7 +17,7 @@ use Rattle.case_run.specs.declared.statuses.CaseStatus.TheVariants as status
 abbrev pub WritesLine : SinkState → SinkState → CaseStatus → List ℕ → CaseStatus → Type 0
 WritesLine old new the_status line answer =
     ((answer ≡ the_status) × Appends old.wrote new.wrote line)
-    ⊎ ((answer ≡ status.WriteFault) × AppendsPart old.wrote new.wrote line × MayFail old new)
+    ⊎ ((answer ≡ status.WriteFault) × AppendsPart old.wrote new.wrote line × HasFailureCause old new)
 
 -- The path was not opened: memory ran out, and nothing was written, or the opening was refused.
 pub record NotOpened (opener_old opener_new : OpenerState) (path : List ℕ)

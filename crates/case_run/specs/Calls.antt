@@ -7,7 +7,7 @@ use Rattle.audit_base.specs.declared.terms.Which.TheVariants.{Orders, Trades}
 use Rattle.audit_report.specs.Lines.{read_fault_line, too_long_line}
 use Rattle.log_verdict.specs.Collecting.{step_of, IsReadAs}
 use Rattle.log_verdict.specs.LogVerdicts.{order_log, trade_log}
-use Rattle.log_verdict.specs.Steps.{Reading, Step, IsReadFault, IsTooLong}
+use Rattle.log_verdict.specs.Steps.{Reading, LogStep, IsReadFault, IsTooLong}
 use Rattle.case_keeper.specs.Keepers.{KeeperState}
 use Rattle.case_keeper.specs.declared.case.Case.{Case}
 use Rattle.log_source.specs.Sinks.{SinkState}
@@ -64,13 +64,13 @@ IsStarted r wanted Trades =
     IsReadAs r Orders wanted.orders (λ bytes. IsOk (order_log wanted.form bytes))
 
 -- A log that the filing names was started, and this became of it.
-pub record OfLog (is : Reading → Step → Type 0) (r : Reading) (wanted : Filing)
+pub record OfLog (is : Reading → LogStep → Type 0) (r : Reading) (wanted : Filing)
     (log : Which) : Type 0 where
   pub is_started : IsStarted r wanted log
   pub holds : is r (step_of r log (name_in wanted log))
 
 -- the same of a log that the command names; `list` and `show` name none
-abbrev pub OfNamedLog : (Reading → Step → Type 0) → Reading → Command → Which → Type 0
+abbrev pub OfNamedLog : (Reading → LogStep → Type 0) → Reading → Command → Which → Type 0
 OfNamedLog is r (command.File wanted) log = OfLog is r wanted log
 OfNamedLog is r (command.List filter) log = ⊥
 OfNamedLog is r (command.Show label) log = ⊥

@@ -2,12 +2,12 @@
 -- command is `then`.
 use Rattle.std.specs.Prelude.{ℕ, Bool, ◌&&◌, ◌==◌, Option, None, Some, option_and_then, option_map, List, [], ◌∷◌, codes, length, map, if◌then◌else◌}
 use Rattle.std.specs.List.{position_or_len, slice_split}
-use Rattle.audit_base.specs.Least.{first_of, only_if}
+use Rattle.audit_base.specs.Least.{first_answer, only_if}
 use Rattle.audit_base.specs.Words.{property_word}
 use Rattle.audit_base.specs.declared.findings.Property.{Property}
 use Rattle.audit_base.specs.declared.findings.Property.TheVariants as property
-use Rattle.command_words.specs.WordForms.{form_named, is_path, is_word, rule_named, symbol_named, word_at}
-use Rattle.command_words.specs.Words.{given}
+use Rattle.command_words.specs.WordForms.{form_named, is_path, word_equals, rule_named, symbol_named, nth_word}
+use Rattle.command_words.specs.Words.{when_some}
 use Rattle.case_keeper.specs.declared.case.Filter.{Filter}
 use Rattle.case_keeper.specs.declared.case.Mark.{Mark}
 use Rattle.case_keeper.specs.declared.case.Mark.TheVariants.{Accepted, Broken}
@@ -17,52 +17,52 @@ use Rattle.case_run.specs.declared.commands.Command.TheVariants as command
 -- `file LABEL RULE SYMBOL FORM ORDERS TRADES`; LABEL is a name that does not begin with `-`, as SYMBOL is
 abbrev pub file_command : List (List ℕ) → Option Command
 file_command words =
-    if length words == 7 && is_word (word_at words 0) (codes "file")
-    && is_path (word_at words 5) && is_path (word_at words 6) then
-    given (symbol_named (word_at words 1)) (λ label.
-    given (rule_named (word_at words 2)) (λ the_rule.
-    given (symbol_named (word_at words 3)) (λ symbol.
-    given (form_named (word_at words 4)) (λ form.
+    if length words == 7 && word_equals (nth_word words 0) (codes "file")
+    && is_path (nth_word words 5) && is_path (nth_word words 6) then
+    when_some (symbol_named (nth_word words 1)) (λ label.
+    when_some (rule_named (nth_word words 2)) (λ the_rule.
+    when_some (symbol_named (nth_word words 3)) (λ symbol.
+    when_some (form_named (nth_word words 4)) (λ form.
     Some (command.File (record {
       label = label;
       rule = the_rule;
       symbol = symbol;
       form = form;
-      orders = word_at words 5;
-      trades = word_at words 6;
+      orders = nth_word words 5;
+      trades = nth_word words 6;
     }))))))
     else None
 
 -- the property of a history or of trades, looked at before any rule, that a word names
 abbrev pub log_property : List ℕ → Option Property
-log_property word = first_of (only_if (is_word word (property_word property.DuplicateId)) property.DuplicateId
-    ∷ only_if (is_word word (property_word property.TimeBack)) property.TimeBack
-    ∷ only_if (is_word word (property_word property.UnknownTarget)) property.UnknownTarget
-    ∷ only_if (is_word word (property_word property.InstantOrder)) property.InstantOrder
-    ∷ only_if (is_word word (property_word property.Unpaired)) property.Unpaired
-    ∷ only_if (is_word word (property_word property.DuplicateTrade)) property.DuplicateTrade
-    ∷ only_if (is_word word (property_word property.UnknownOrder)) property.UnknownOrder ∷ [])
+log_property word = first_answer (only_if (word_equals word (property_word property.DuplicateId)) property.DuplicateId
+    ∷ only_if (word_equals word (property_word property.TimeBack)) property.TimeBack
+    ∷ only_if (word_equals word (property_word property.UnknownTarget)) property.UnknownTarget
+    ∷ only_if (word_equals word (property_word property.InstantOrder)) property.InstantOrder
+    ∷ only_if (word_equals word (property_word property.Unpaired)) property.Unpaired
+    ∷ only_if (word_equals word (property_word property.DuplicateTrade)) property.DuplicateTrade
+    ∷ only_if (word_equals word (property_word property.UnknownOrder)) property.UnknownOrder ∷ [])
 
 -- the property of a rule that a word names
 abbrev pub rule_property : List ℕ → Option Property
-rule_property word = first_of (only_if (is_word word (property_word property.Inactive)) property.Inactive
-    ∷ only_if (is_word word (property_word property.Limit)) property.Limit
-    ∷ only_if (is_word word (property_word property.UniformPrice)) property.UniformPrice
-    ∷ only_if (is_word word (property_word property.BuyQuantity)) property.BuyQuantity
-    ∷ only_if (is_word word (property_word property.SellQuantity)) property.SellQuantity
-    ∷ only_if (is_word word (property_word property.BuyPriority)) property.BuyPriority
-    ∷ only_if (is_word word (property_word property.SellPriority)) property.SellPriority
-    ∷ only_if (is_word word (property_word property.Volume)) property.Volume
-    ∷ only_if (is_word word (property_word property.Spread)) property.Spread ∷ [])
+rule_property word = first_answer (only_if (word_equals word (property_word property.Inactive)) property.Inactive
+    ∷ only_if (word_equals word (property_word property.Limit)) property.Limit
+    ∷ only_if (word_equals word (property_word property.UniformPrice)) property.UniformPrice
+    ∷ only_if (word_equals word (property_word property.BuyQuantity)) property.BuyQuantity
+    ∷ only_if (word_equals word (property_word property.SellQuantity)) property.SellQuantity
+    ∷ only_if (word_equals word (property_word property.BuyPriority)) property.BuyPriority
+    ∷ only_if (word_equals word (property_word property.SellPriority)) property.SellPriority
+    ∷ only_if (word_equals word (property_word property.Volume)) property.Volume
+    ∷ only_if (word_equals word (property_word property.Spread)) property.Spread ∷ [])
 
 -- the property that a word names, one of sixteen
 abbrev pub property_named : List ℕ → Option Property
-property_named word = first_of (log_property word ∷ rule_property word ∷ [])
+property_named word = first_answer (log_property word ∷ rule_property word ∷ [])
 
 -- RESULT is `accepted` or the word of a property
 abbrev pub mark_named : List ℕ → Option Mark
 mark_named word =
-    if is_word word (codes "accepted") then Some Accepted
+    if word_equals word (codes "accepted") then Some Accepted
     else option_map Broken (property_named word)
 
 -- the filter of a symbol, which must be one, and of a mark
@@ -82,7 +82,7 @@ filter_named (symbol ∷ result ∷ more ∷ rest) = None
 abbrev pub list_filter : List (List ℕ) → Option Filter
 list_filter [] = None
 list_filter (word ∷ words) =
-    if is_word word (codes "list") then filter_named words else None
+    if word_equals word (codes "list") then filter_named words else None
 
 abbrev pub list_command : List (List ℕ) → Option Command
 list_command words = option_map command.List (list_filter words)
@@ -90,17 +90,17 @@ list_command words = option_map command.List (list_filter words)
 -- `show LABEL`
 abbrev pub show_command : List (List ℕ) → Option Command
 show_command words =
-    if length words == 2 && is_word (word_at words 0) (codes "show") then
-    given (symbol_named (word_at words 1)) (λ label. Some (command.Show label))
+    if length words == 2 && word_equals (nth_word words 0) (codes "show") then
+    when_some (symbol_named (nth_word words 1)) (λ label. Some (command.Show label))
     else None
 
 -- the command that words ask for; nothing where they are not well-formed
 abbrev pub command_of : List (List ℕ) → Option Command
-command_of words = first_of (file_command words ∷ list_command words ∷ show_command words ∷ [])
+command_of words = first_answer (file_command words ∷ list_command words ∷ show_command words ∷ [])
 
 -- the separator of commands
 abbrev pub is_then : List ℕ → Bool
-is_then word = is_word word (codes "then")
+is_then word = word_equals word (codes "then")
 
 -- how many words stand before the first separator
 abbrev pub part_length : List (List ℕ) → ℕ

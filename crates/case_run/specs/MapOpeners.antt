@@ -1,6 +1,6 @@
 -- An opener in memory: how many calls were made, and which of them fail.
 use Rattle.std.specs.Prelude.{◌≡◌, ℕ, Bool, true, List, [], Some}
-use Rattle.log_source.specs.Calls.{count_after, faults_after, is_listed}
+use Rattle.log_source.specs.Calls.{count_after, faults_after, is_failing_number}
 use Rattle.case_run.specs.Openers.{OpenerState}
 use Rattle.case_run.specs.declared.map_opener.MapOpener.{MapOpener}
 
@@ -19,7 +19,7 @@ failing_openings opener = opener.fails.items
 
 -- the next call is to fail
 abbrev pub opening_fails : MapOpener → Bool
-opening_fails opener = is_listed (count_after (openings_made opener)) (failing_openings opener)
+opening_fails opener = is_failing_number (count_after (openings_made opener)) (failing_openings opener)
 
 -- one more call was made, and where it was to fail, a fault was counted
 pub record CountsOpening (old new : MapOpener) : Type 0 where

@@ -10,8 +10,8 @@ use Rattle.audit_report.specs.declared.verdicts.Verdict.{Verdict}
 use Rattle.audit_report.specs.declared.verdicts.Verdict.TheVariants as verdict
 use Rattle.record_verdict.specs.Judgements.{question}
 use Rattle.log_verdict.specs.LogVerdicts.{order_log, log_in, IsLogVerdict}
-use Rattle.case_keeper.specs.Cases.{kept, passing}
-use Rattle.case_keeper.specs.Casebooks.{filing, with_filed}
+use Rattle.case_keeper.specs.Cases.{kept_case, passing_cases}
+use Rattle.case_keeper.specs.Casebooks.{filing, cases_after_filing}
 use Rattle.case_keeper.specs.declared.case.Case.{Case}
 use Rattle.case_keeper.specs.declared.case.Filter.{Filter}
 use Rattle.case_keeper.specs.declared.case.Offence.{Offence}
@@ -66,7 +66,7 @@ filed_status (Known known) = status.Refused
 abbrev pub filed_turn : List Case → Case → Turn
 filed_turn cases case = let filed = filing cases case in
     record {
-      cases = with_filed cases case;
+      cases = cases_after_filing cases case;
       text = filed_text case filed;
       status = filed_status filed;
     }
@@ -95,12 +95,12 @@ shown_status (Some case) = status.Done
 abbrev pub list_turn : List Case → Filter → Turn
 list_turn cases filter = record {
   cases = cases;
-  text = flat_map case_line (passing filter cases);
+  text = flat_map case_line (passing_cases filter cases);
   status = status.Done;
 }
 
 abbrev pub show_turn : List Case → List ℕ → Turn
-show_turn cases label = let found = kept cases label in
+show_turn cases label = let found = kept_case cases label in
     record { cases = cases; text = shown_text label found; status = shown_status found }
 
 -- what one command leaves of these cases

@@ -5,11 +5,11 @@ use Rattle.audit_base.specs.declared.faults.BadPlace.{BadPlace}
 use Rattle.audit_base.specs.declared.terms.Which.{Which}
 use Rattle.audit_base.specs.declared.terms.Which.TheVariants.{Orders, Trades}
 use Rattle.log_verdict.specs.LogVerdicts.{order_log, trade_log}
-use Rattle.log_verdict.specs.Steps.{Reading, BeginsWithin, EndsWithin, KeepsLogs, NeverFall, reading}
+use Rattle.log_verdict.specs.Steps.{Reading, BeginsWithin, EndsWithin, KeepsShelfLogs, FaultsNeverFall, reading}
 use Rattle.case_keeper.specs.Keepers.{KeeperState}
 use Rattle.case_keeper.specs.declared.case.Case.{Case}
 use Rattle.log_source.specs.declared.shelf.Shelf.{Ghosts as Shelf}
-use Rattle.log_source.specs.Sinks.{SinkState, AppendsPart, MayFail, Stays}
+use Rattle.log_source.specs.Sinks.{SinkState, AppendsPart, HasFailureCause, SinkStays}
 use Rattle.log_source.specs.Sources.{Rose, longest_log}
 use Rattle.case_run.specs.Calls.{Call, Tells, call_of, IsUntouched}
 use Rattle.case_run.specs.Lines.{usage_line}
@@ -40,7 +40,7 @@ pub record LeavesAlone (call : Call) : Type 0 where
 abbrev pub WritesUsage : SinkState → SinkState → CaseStatus → Type 0
 WritesUsage old new status.Usage = Appends old.wrote new.wrote usage_line
 WritesUsage old new status.WriteFault =
-    AppendsPart old.wrote new.wrote usage_line × MayFail old new
+    AppendsPart old.wrote new.wrote usage_line × HasFailureCause old new
 WritesUsage old new status.Memory = new ≡ old
 WritesUsage old new status.Done = ⊥
 WritesUsage old new status.Refused = ⊥
@@ -112,7 +112,7 @@ pub record IsCaseRun {S : Type 0} (shelf : Shelf S) (asked : Option (List Comman
   pub runs : Runs
       (call_of (reading shelf old new) sink_old sink_new book_old book_new) asked answer
   pub length : AnswersLength (reading shelf old new) answer
-  pub logs : KeepsLogs shelf old new
-  pub later : NeverFall (reading shelf old new)
-  pub sink : Stays sink_old sink_new
+  pub logs : KeepsShelfLogs shelf old new
+  pub later : FaultsNeverFall (reading shelf old new)
+  pub sink : SinkStays sink_old sink_new
   pub book : book_old.faults ≤ book_new.faults

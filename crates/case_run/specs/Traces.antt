@@ -4,7 +4,7 @@ use Rattle.audit_base.specs.declared.terms.Which.{Which}
 use Rattle.log_verdict.specs.Steps.{Reading}
 use Rattle.case_keeper.specs.Keepers.{KeeperState}
 use Rattle.case_keeper.specs.declared.case.Case.{Case}
-use Rattle.log_source.specs.Sinks.{SinkState, AppendsPart, MayFail}
+use Rattle.log_source.specs.Sinks.{SinkState, AppendsPart, HasFailureCause}
 use Rattle.log_source.specs.Sources.{Slot}
 use Rattle.case_run.specs.Calls.{Call, HasCause, Leaves, ReadsBadLog, ReadsGoodLogs, Tells, halt_line}
 use Rattle.case_run.specs.Play.{Turn, IsPlay, IsTurn}
@@ -51,7 +51,7 @@ pub record CutsLine (call : Call) (the_command : Command) (cases : List Case) : 
 
 -- The sink's faults rose while the command was answered.
 pub record IsCut (call : Call) (the_command : Command) : Type 0 where
-  pub cause : MayFail call.sink_old call.sink_new
+  pub cause : HasFailureCause call.sink_old call.sink_new
   pub left : (cases : List Case) → Tells call cases
       → CutsTurn call the_command cases ⊎ CutsLine call the_command cases
 

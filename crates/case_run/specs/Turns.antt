@@ -4,7 +4,7 @@ use Rattle.audit_base.specs.declared.terms.Which.{Which}
 use Rattle.audit_report.specs.declared.verdicts.Verdict.{Verdict}
 use Rattle.audit_report.specs.declared.verdicts.Verdict.TheVariants as verdict
 use Rattle.log_verdict.specs.Collecting.{IsReadAs}
-use Rattle.log_verdict.specs.Steps.{Reading, BeginsWithin, EndsWithin, KeepsLogs, NeverFall, reading}
+use Rattle.log_verdict.specs.Steps.{Reading, BeginsWithin, EndsWithin, KeepsShelfLogs, FaultsNeverFall, reading}
 use Rattle.log_verdict.specs.declared.stops.Stop.{Stop}
 use Rattle.log_verdict.specs.declared.stops.Stop.TheVariants as stop
 use Rattle.case_keeper.specs.Keepers.{KeeperState}
@@ -12,7 +12,7 @@ use Rattle.case_keeper.specs.declared.case.Case.{Case}
 use Rattle.case_keeper.specs.declared.keeper.KeepFault.{KeepFault}
 use Rattle.case_keeper.specs.declared.keeper.KeepFault.TheVariants as keeping
 use Rattle.log_source.specs.declared.shelf.Shelf.{Ghosts as Shelf}
-use Rattle.log_source.specs.Sinks.{SinkState, AppendsPart, MayFail, Stays}
+use Rattle.log_source.specs.Sinks.{SinkState, AppendsPart, HasFailureCause, SinkStays}
 use Rattle.case_run.specs.Play.{Turn, IsTurn, IsVerdictOn, verdict_turn}
 use Rattle.log_source.specs.Sources.{Rose}
 use Rattle.case_run.specs.Calls.{call_of, IsBadLog, IsCause, OfLog, ReadsBadLog, ReadsGoodLogs, name_in}
@@ -172,9 +172,9 @@ AnswersCommand r book_old book_new the_command result =
 -- What any call leaves: the shelf has what it had; no count of faults falls; the sink is of the same kind.
 pub record KeepsAll {S : Type 0} (shelf : Shelf S) (old new : S) (sink_old sink_new : SinkState)
     (book_old book_new : KeeperState) : Type 0 where
-  pub logs : KeepsLogs shelf old new
-  pub later : NeverFall (reading shelf old new)
-  pub sink : Stays sink_old sink_new
+  pub logs : KeepsShelfLogs shelf old new
+  pub later : FaultsNeverFall (reading shelf old new)
+  pub sink : SinkStays sink_old sink_new
   pub book : book_old.faults ≤ book_new.faults
 
 -- The commands so far were done, and both slots stay within the limit.

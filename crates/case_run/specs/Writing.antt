@@ -1,7 +1,7 @@
 -- What writing the text of a command answers: its status, or that the sink failed.
 use Rattle.std.specs.Prelude.{◌≡◌, ◌⊎◌, ℕ, List}
 use Rattle.std.specs.Io.KnownBytes.{Appends}
-use Rattle.log_source.specs.Sinks.{SinkState, AppendsPart, MayFail}
+use Rattle.log_source.specs.Sinks.{SinkState, AppendsPart, HasFailureCause}
 use Rattle.case_run.specs.Calls.{halt_line}
 use Rattle.case_run.specs.declared.halts.Halt.{Halt}
 use Rattle.case_run.specs.declared.halts.Halt.TheVariants as halt
@@ -18,7 +18,7 @@ pub record WritesAll (old new : SinkState) (the_status : CaseStatus) (text : Lis
 pub record WritesFront (old new : SinkState) (text : List ℕ) (answer : CaseStatus) : Type 0 where
   pub answer_is : answer ≡ status.WriteFault
   pub wrote : AppendsPart old.wrote new.wrote text
-  pub cause : MayFail old new
+  pub cause : HasFailureCause old new
 
 abbrev pub Writes : SinkState → SinkState → CaseStatus → List ℕ → CaseStatus → Type 0
 Writes old new the_status text answer =

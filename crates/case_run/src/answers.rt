@@ -3,7 +3,7 @@ ghost use Rattle.std.specs.Prelude.{◌≡◌, ◌≤◌, ◌++◌, IfOk};
 ghost use Rattle.std.specs.List.{flat_map};
 ghost use Rattle.audit_report.specs.Lines.{malformed_line};
 ghost use Rattle.audit_report.specs.Texts.{IsVerdictInRange};
-ghost use Rattle.log_verdict.specs.Steps.{reading, KeepsLogs, NeverFall};
+ghost use Rattle.log_verdict.specs.Steps.{reading, KeepsShelfLogs, FaultsNeverFall};
 ghost use Rattle.case_run.specs.Lines.{case_line, known_line};
 ghost use Rattle.case_run.specs.Play as spec;
 ghost use Rattle.case_run.specs.Calls.{call_of};
@@ -172,8 +172,8 @@ fn file<F: Shelf, B: Keeper>(
     shelf: &mut F,
     book: &mut Casebook<B>,
 ) -> Result<Answer, Halt>
-    ensures logs { KeepsLogs F.Shelf shelf.old shelf.new }
-    ensures later { NeverFall (reading F.Shelf shelf.old shelf.new) }
+    ensures logs { KeepsShelfLogs F.Shelf shelf.old shelf.new }
+    ensures later { FaultsNeverFall (reading F.Shelf shelf.old shelf.new) }
     ensures book { (B.state book.old).faults ≤ (B.state book.new).faults }
     ensures answers { AnswersCommand (reading F.Shelf shelf.old shelf.new)
         (B.state book.old) (B.state book.new) (Command.File filing.now) result }
@@ -220,8 +220,8 @@ fn answer_to<F: Shelf, B: Keeper>(
     shelf: &mut F,
     book: &mut Casebook<B>,
 ) -> Result<Answer, Halt>
-    ensures logs { KeepsLogs F.Shelf shelf.old shelf.new }
-    ensures later { NeverFall (reading F.Shelf shelf.old shelf.new) }
+    ensures logs { KeepsShelfLogs F.Shelf shelf.old shelf.new }
+    ensures later { FaultsNeverFall (reading F.Shelf shelf.old shelf.new) }
     ensures book { (B.state book.old).faults ≤ (B.state book.new).faults }
     ensures answers { AnswersCommand (reading F.Shelf shelf.old shelf.new)
         (B.state book.old) (B.state book.new) command.now result }

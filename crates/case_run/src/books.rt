@@ -2,8 +2,8 @@
 ghost use Rattle.std.specs.Prelude.{◌≡◌, map};
 ghost use Rattle.std.specs.Option.{option_map};
 ghost use Rattle.std.specs.String.{string_bytes};
-ghost use Rattle.log_verdict.specs.Steps.{KeepsLogs};
-ghost use Rattle.log_source.specs.Sinks.{Stays};
+ghost use Rattle.log_verdict.specs.Steps.{KeepsShelfLogs};
+ghost use Rattle.log_source.specs.Sinks.{SinkStays};
 ghost use Rattle.case_run.specs.Books.{RunsPath, RunsWords};
 ghost use Rattle.case_run.specs.Openers.{KeepsBooks};
 
@@ -36,8 +36,8 @@ fn run_path<F: Shelf, K: Sink, O: Opener>(
     out: &mut K,
     opener: &mut O,
 ) -> Ended<O::Book>
-    ensures logs { KeepsLogs F.Shelf shelf.old shelf.new }
-    ensures sink { Stays (K.state out.old) (K.state out.new) }
+    ensures logs { KeepsShelfLogs F.Shelf shelf.old shelf.new }
+    ensures sink { SinkStays (K.state out.old) (K.state out.new) }
     ensures books { KeepsBooks (O.state opener.old) (O.state opener.new) }
     ensures runs { RunsPath F.Shelf shelf.old shelf.new (O.state opener.old) (O.state opener.new)
         path.now (map string_bytes words.now) (K.state out.old) (K.state out.new)
@@ -73,8 +73,8 @@ pub fn run_book<F: Shelf, K: Sink, O: Opener>(
     out: &mut K,
     opener: &mut O,
 ) -> Ended<O::Book>
-    ensures logs { KeepsLogs F.Shelf shelf.old shelf.new }
-    ensures sink { Stays (K.state out.old) (K.state out.new) }
+    ensures logs { KeepsShelfLogs F.Shelf shelf.old shelf.new }
+    ensures sink { SinkStays (K.state out.old) (K.state out.new) }
     ensures books { KeepsBooks (O.state opener.old) (O.state opener.new) }
     ensures runs { RunsWords F.Shelf shelf.old shelf.new (O.state opener.old) (O.state opener.new)
         (map string_bytes words.now) (K.state out.old) (K.state out.new)
@@ -92,8 +92,8 @@ pub fn run_book_seeded<F: Shelf, K: Sink, O: Opener>(
     out: &mut K,
     opener: &mut O,
 ) -> Ended<O::Book>
-    ensures logs { KeepsLogs F.Shelf shelf.old shelf.new }
-    ensures sink { Stays (K.state out.old) (K.state out.new) }
+    ensures logs { KeepsShelfLogs F.Shelf shelf.old shelf.new }
+    ensures sink { SinkStays (K.state out.old) (K.state out.new) }
     ensures books { KeepsBooks (O.state opener.old) (O.state opener.new) }
     ensures runs { RunsWords F.Shelf shelf.old shelf.new (O.state opener.old) (O.state opener.new)
         (map string_bytes words.now) (K.state out.old) (K.state out.new)

@@ -19,7 +19,7 @@ pub struct MapOpener {
 
 /// Whether the call of this number is to fail.
 fn is_listed(number: u64, fails: &[u32]) -> bool
-    ensures { result ≡ calls.is_listed number fails.now }
+    ensures { result ≡ calls.is_failing_number number fails.now }
 {
     fails.iter().any(|fail| u64::from(*fail) == number)
 }
@@ -45,14 +45,14 @@ impl MapOpener {
 impl Opener for MapOpener {
     ghost use Rattle.case_run.specs.MapOpeners.{map_opener_state, opening_fails, CountsOpening};
     ghost use Rattle.case_run.specs.Openers.{Opens};
-    ghost use Rattle.case_keeper.specs.MapKeepers.{map_state};
+    ghost use Rattle.case_keeper.specs.MapKeepers.{map_keeper_state};
 
     type Book = MapKeeper;
 
     ghost state = { map_opener_state };
 
     fn open_book(&mut self, path: &str) -> Result<MapKeeper, KeepFault>
-        ensures opens { Opens map_state (map_opener_state self.old) (map_opener_state self.new)
+        ensures opens { Opens map_keeper_state (map_opener_state self.old) (map_opener_state self.new)
             path.now result }
         ensures counted { CountsOpening self.old self.new }
         ensures failing { is_err result ≡ opening_fails self.old }

@@ -2,7 +2,7 @@
 ghost use Rattle.std.specs.Prelude.{◌≡◌, IfOk};
 ghost use Rattle.audit_report.specs.Texts.{IsVerdictInRange};
 ghost use Rattle.log_source.specs.Sources.{longest_log};
-ghost use Rattle.log_verdict.specs.Steps.{reading, KeepsLogs, NeverFall};
+ghost use Rattle.log_verdict.specs.Steps.{reading, KeepsShelfLogs, FaultsNeverFall};
 ghost use Rattle.case_run.specs.Turns.{OnLogs, StaysWithin};
 
 use super::commands::Filing;
@@ -33,8 +33,8 @@ pub(crate) fn verdict_of<F: Shelf>(
     filing: &Filing,
     shelf: &mut F,
 ) -> Result<Verdict, Halt>
-    ensures logs { KeepsLogs F.Shelf shelf.old shelf.new }
-    ensures later { NeverFall (reading F.Shelf shelf.old shelf.new) }
+    ensures logs { KeepsShelfLogs F.Shelf shelf.old shelf.new }
+    ensures later { FaultsNeverFall (reading F.Shelf shelf.old shelf.new) }
     ensures judges { OnLogs (reading F.Shelf shelf.old shelf.new) filing.now result }
     ensures within { StaysWithin (reading F.Shelf shelf.old shelf.new) result }
     ensures in_range { IfOk result IsVerdictInRange }

@@ -1,4 +1,4 @@
--- The cases that the rows of an answer tell, row by row.
+-- The cases in the rows of an answer, row by row.
 use Rattle.std.proofs.Common.{◌≡◌, map, ap₂, ℕ, zero, suc, ◌+◌, ◌<◌, Bool, List, [], ◌∷◌, ◌++◌, length, take, get_or, Some, None, Ok, refl, sym, ap, ◌∙◌, subst, All, arith}
 use Rattle.std.specs.Prelude.{Option, Result, option_map, option_and_then, IfSome, IfOk, IsTrue}
 use Rattle.std.specs.Option.{ok_or}
@@ -15,12 +15,12 @@ use Rattle.sqlite_value.specs.Order.{Row}
 use Rattle.std.specs.Option.{option_to_list}
 use Rattle.case_sqlite.specs.CaseRows.{case_columns}
 use Rattle.case_sqlite.proofs.RowLemmas.{form_told}
-use Rattle.case_sqlite.specs.Readings.{case_form, case_that, cases_that, one_that}
+use Rattle.case_sqlite.specs.Readings.{case_form, case_that, cases_that, one_case_that}
 
 abbrev before : Case → Option (List Case) → Option (List Case)
 before case = option_map (λ cases. case ∷ cases)
 
--- one more row that tells a case
+-- one more row with a case
 pub cases_push : (test : Case → Bool) (rows : List Row) (row : Row) (cases : List Case) (case : Case) → cases_that test rows ≡ Some cases → case_that test row ≡ Some case
     → cases_that test (rows ++ row ∷ []) ≡ Some (cases ++ case ∷ [])
 cases_push test [] row cases case e is =
@@ -38,7 +38,7 @@ cases_push test (first ∷ rows) row cases case e is =
         ∙ ap (before c) (push more is_o)
         ∙ ap (λ cs. Some (cs ++ case ∷ [])) (same_Some (c ∷ more) cases behind)
 
--- a row that tells none
+-- a row with none
 pub cases_none : (test : Case → Bool) (rows : List Row) (i : ℕ) (row : Row) → i < length rows → row ≡ get_or rows i row → case_that test row ≡ None → cases_that test rows ≡ None
 cases_none test [] i row inside at is = absurd (omega arith)
 cases_none test (first ∷ rows) zero row inside at is = ap (option_and_then (λ c. before c (cases_that test rows))) (ap (case_that test) (sym at) ∙ is)
@@ -48,13 +48,13 @@ cases_none test (first ∷ rows) (suc i) row inside at is = rest (case_that test
     rest None none = refl
     rest (Some c) none = ap (before c) none
 
--- the row behind the first ones tells one more case
+-- the row behind the first ones has one more case
 pub cases_more : (test : Case → Bool) (rows : List Row) (i : ℕ) (row : Row) (cases : List Case) (case : Case) → i < length rows → row ≡ get_or rows i row
     → cases_that test (take i rows) ≡ Some cases → case_that test row ≡ Some case → cases_that test (take (i + 1) rows) ≡ Some (cases ++ case ∷ [])
 cases_more test rows i row cases case inside at front is =
     ap (cases_that test) (take_more rows i row inside ∙ ap (λ r. take i rows ++ r ∷ []) (sym at)) ∙ cases_push test (take i rows) row cases case front is
 
--- a case that is told passes the test
+-- a case that is given passes the test
 told_passes : (test : Case → Bool) (row : Row) (case : Case) → case_that test row ≡ Some case → IsTrue (test case)
 told_passes test row case e =
     option_and_then_some (λ c. only_if (test c) c) (case_form row) case e
@@ -72,8 +72,8 @@ all_pass test (row ∷ rows) cases e =
     rest c is_c (Some more) is_o behind pass =
         subst (All (λ case. IsTrue (test case))) (same_Some (c ∷ more) cases behind) (All-cons (λ case. IsTrue (test case)) c more (told_passes test row c is_c) (pass more is_o))
 
--- the rows with a label tell a case with this label
-pub one_has_label : (label : List ℕ) (rows : List Row) (result : Result (Option Case) KeepFault) → result ≡ one_that (has_label label) rows
+-- the rows with a label give a case with this label
+pub one_has_label : (label : List ℕ) (rows : List Row) (result : Result (Option Case) KeepFault) → result ≡ one_case_that (has_label label) rows
     → IfOk result (λ found. IfSome found (λ case. case.label ≡ label))
 one_has_label label rows result e = subst (λ r. IfOk r (λ found. IfSome found (λ case. case.label ≡ label))) (sym e) (told rows)
   where
@@ -81,18 +81,18 @@ one_has_label label rows result e = subst (λ r. IfOk r (λ found. IfSome found 
     one row None is = tt
     one row (Some case) is = (bytes_eq-Decides case.label label).0 (told_passes (has_label label) row case is)
 
-    told : (rows : List Row) → IfOk (one_that (has_label label) rows) (λ found. IfSome found (λ case. case.label ≡ label))
+    told : (rows : List Row) → IfOk (one_case_that (has_label label) rows) (λ found. IfSome found (λ case. case.label ≡ label))
     told [] = tt
     told (row ∷ []) = one row (case_that (has_label label) row) refl
     told (row ∷ next ∷ rows) = tt
 
--- a row that tells a case has its columns
+-- a row with a case has its columns
 told_columns : (test : Case → Bool) (row : Row) (case : Case) → case_that test row ≡ Some case → row ≡ case_columns case
 told_columns test row case e =
     option_and_then_some (λ c. only_if (test c) c) (case_form row) case e
     (λ c is_c is. (form_told row c is_c).columns ∙ ap case_columns (cond_some (test c) c case is).1)
 
--- the rows that tell cases have their columns, all of them, in their order
+-- the rows with cases have their columns, all of them, in their order
 pub all_rows : (test : Case → Bool) (rows : List Row) (cases : List Case) → cases_that test rows ≡ Some cases → rows ≡ map case_columns cases
 all_rows test [] cases e = ap (map case_columns) (same_Some [] cases e)
 all_rows test (row ∷ rows) cases e =
@@ -105,8 +105,8 @@ all_rows test (row ∷ rows) cases e =
     rest c is_c (Some more) is_o behind same =
         ap₂ (λ r rs. r ∷ rs) (told_columns test row c is_c) (same more is_o) ∙ ap (map case_columns) (same_Some (c ∷ more) cases behind)
 
--- the rows that tell a case, or none, are its columns, or none
-pub one_row : (test : Case → Bool) (rows : List Row) (found : Option Case) → Ok found ≡ one_that test rows → rows ≡ map case_columns (option_to_list found)
+-- the rows that give a case, or none, are its columns, or none
+pub one_row : (test : Case → Bool) (rows : List Row) (found : Option Case) → Ok found ≡ one_case_that test rows → rows ≡ map case_columns (option_to_list found)
 one_row test [] found e = ap (λ o. map case_columns (option_to_list o)) (sym (ok_same found None e))
   where
     ok_same : (a b : Option Case) → ◌≡◌ {A = Result (Option Case) KeepFault} (Ok a) (Ok b) → a ≡ b

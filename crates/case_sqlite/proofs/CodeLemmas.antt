@@ -1,4 +1,4 @@
--- A number tells the rule, the property or the log whose number it is.
+-- The rule, the property or the log of a number is the one whose number it is.
 use Rattle.std.proofs.Common.{◌≡◌, ℕ, Bool, true, false, cond, List, [], ◌∷◌, ◌^◌, eqb, ltb, Some, refl, sym, ap, ◌∙◌}
 use Rattle.std.specs.Prelude.{find}
 use Rattle.std.proofs.lemmas.Bool.{eqb-true}
@@ -10,7 +10,7 @@ use Rattle.audit_base.specs.declared.terms.Rule.TheVariants as rule
 use Rattle.audit_base.specs.declared.terms.Which.{Which}
 use Rattle.audit_base.specs.declared.terms.Which.TheVariants as log
 use Rattle.case_sqlite.specs.Codes.{rule_number, property_number, log_number}
-use Rattle.case_sqlite.specs.Readings.{rules, properties, logs, rule_with, property_with, log_with}
+use Rattle.case_sqlite.specs.Readings.{all_rules, all_properties, all_logs, rule_of_number, property_of_number, log_of_number}
 
 -- what is found by its number has this number
 numbered : {X : Type 0} (number : X → ℕ) (n : ℕ) (xs : List X) (x : X) → find (λ y. eqb (number y) n) xs ≡ Some x → number x ≡ n
@@ -22,23 +22,23 @@ numbered {X} number n (y ∷ ys) x e = head (eqb (number y) n) refl e (numbered 
     head true is e behind = ap number (sym (same_Some y x e)) ∙ eqb-true (number y) n is
     head false is e behind = behind e
 
-pub rule_has_number : (n : ℕ) (r : Rule) → rule_with n ≡ Some r → rule_number r ≡ n
-rule_has_number n r e = numbered rule_number n rules r e
+pub rule_has_number : (n : ℕ) (r : Rule) → rule_of_number n ≡ Some r → rule_number r ≡ n
+rule_has_number n r e = numbered rule_number n all_rules r e
 
-pub property_has_number : (n : ℕ) (p : Property) → property_with n ≡ Some p → property_number p ≡ n
-property_has_number n p e = numbered property_number n properties p e
+pub property_has_number : (n : ℕ) (p : Property) → property_of_number n ≡ Some p → property_number p ≡ n
+property_has_number n p e = numbered property_number n all_properties p e
 
-pub log_has_number : (n : ℕ) (w : Which) → log_with n ≡ Some w → log_number w ≡ n
-log_has_number n w e = numbered log_number n logs w e
+pub log_has_number : (n : ℕ) (w : Which) → log_of_number n ≡ Some w → log_number w ≡ n
+log_has_number n w e = numbered log_number n all_logs w e
 
-pub rule_again : (r : Rule) → rule_with (rule_number r) ≡ Some r
+pub rule_again : (r : Rule) → rule_of_number (rule_number r) ≡ Some r
 rule_again rule.Matching = refl
 rule_again rule.Fair = refl
 rule_again rule.Uniform = refl
 rule_again rule.Maximum = refl
 rule_again rule.Continuous = refl
 
-pub property_again : (p : Property) → property_with (property_number p) ≡ Some p
+pub property_again : (p : Property) → property_of_number (property_number p) ≡ Some p
 property_again property.DuplicateId = refl
 property_again property.TimeBack = refl
 property_again property.UnknownTarget = refl
@@ -56,7 +56,7 @@ property_again property.Volume = refl
 property_again property.Spread = refl
 property_again property.InstantOrder = refl
 
-pub log_again : (w : Which) → log_with (log_number w) ≡ Some w
+pub log_again : (w : Which) → log_of_number (log_number w) ≡ Some w
 log_again log.Orders = refl
 log_again log.Trades = refl
 

@@ -8,7 +8,7 @@ use Rattle.sqlite.specs.Values.{bound, bound_value}
 use Rattle.sqlite_value.specs.Value.{owned}
 use Rattle.sqlite_value.specs.declared.value.Value.TheVariants.{Text}
 use Rattle.sqlite_value.specs.declared.value.ValueRef.{ValueRef}
-use Rattle.case_sqlite.specs.CaseRows.{case_columns, offence_columns, integer}
+use Rattle.case_sqlite.specs.CaseRows.{case_columns, offence_columns, integer_value}
 use Rattle.case_sqlite.specs.Codes.{rule_number}
 use Rattle.case_sqlite.specs.Statements.{symbol_value, property_value, filter_values}
 
@@ -35,7 +35,7 @@ bound_owned (v ∷ vs) = ap (λ rest. bound_value (owned v) ∷ rest) (bound_own
 
 -- the columns of a case are bound as they are
 case_bound : (case : Case) → map bound_value (case_columns case) ≡ case_columns case
-case_bound case = ap (λ rest. Text case.label ∷ integer (rule_number case.rule) ∷ Text case.symbol ∷ rest) (offence case.offence)
+case_bound case = ap (λ rest. Text case.label ∷ integer_value (rule_number case.rule) ∷ Text case.symbol ∷ rest) (offence case.offence)
   where
     offence : (o : _) → map bound_value (offence_columns o) ≡ offence_columns o
     offence None = refl

@@ -1,4 +1,4 @@
--- The numbers that stand for rules, properties and logs in the table of cases.
+-- The numbers of rules, properties and logs in the table of cases.
 use Rattle.std.specs.Prelude.{ℕ}
 use Rattle.audit_base.specs.declared.findings.Property.{Property}
 use Rattle.audit_base.specs.declared.findings.Property.TheVariants as property

@@ -5,7 +5,7 @@ use Rattle.sqlite.specs.declared.error.Error.{Error}
 use Rattle.sqlite.specs.declared.error.Error.TheVariants.{SqliteFailure}
 use Rattle.sqlite.specs.declared.error.ErrorCode.TheVariants.{OutOfMemory}
 
--- out of memory is told from every other refusal
+-- out of memory is a fault of its own, and every other refusal is a failure
 abbrev pub fault_of : Error → KeepFault
 fault_of (SqliteFailure OutOfMemory) = Memory
 fault_of _ = Failed

@@ -1,5 +1,5 @@
--- Part 1. What a reader must believe: the row of a case, its numbers, what a keeper over a database
--- stands at, and the laws of the rows.
+-- Part 1. What a reader must believe: the row of a case, its numbers, the state of a keeper over a
+-- database, and the laws of the rows.
 pub mod Codes
 pub mod CaseRows
 pub mod Laws

@@ -15,19 +15,19 @@ use Rattle.case_sqlite.specs.Statements.{make_text, insert_text, find_text, list
 use Rattle.case_sqlite.specs.declared.sql_keeper.SqlKeeper.{SqlKeeper}
 
 -- a transaction is begun, in which nothing was done yet
-abbrev pub begun : State → State
-begun s = record s { in_transaction = true }
+abbrev pub transaction_begun : State → State
+transaction_begun s = record s { in_transaction = true }
 
 -- what the disk was once known to have returned wrong stays known
-abbrev pub StaysDoubted : State → State → Type 0
-StaysDoubted old new = doubt old.is_clean ≤ doubt new.is_clean
+abbrev pub KeepsDoubt : State → State → Type 0
+KeepsDoubt old new = doubt old.is_clean ≤ doubt new.is_clean
 
 module _ {S : Type 0} (g : Ghosts S) where
   -- A statement, run in a transaction of its own, makes these trees of the database.
-  pub record Makes (text : List ℕ) (values : Row) (old : Held S) (db : Trees) : Type 0 where
+  pub record MakesTrees (text : List ℕ) (values : Row) (old : Held S) (db : Trees) : Type 0 where
     pub inside : Held S
     pub count : ℕ
-    pub ran : Executes text values (begun (state g old)) (state g inside) (Ok count)
+    pub ran : Executes text values (transaction_begun (state g old)) (state g inside) (Ok count)
     pub trees : db ≡ (state g inside).now.trees
 
   -- A statement ran in a transaction of its own, and was committed: the database is what the
@@ -35,7 +35,7 @@ module _ {S : Type 0} (g : Ghosts S) where
   pub record RunsCommitted (text : List ℕ) (values : Row) (old new : Held S) : Type 0 where
     pub inside : Held S
     pub count : ℕ
-    pub ran : Executes text values (begun (state g old)) (state g inside) (Ok count)
+    pub ran : Executes text values (transaction_begun (state g old)) (state g inside) (Ok count)
     pub now : (state g new).now ≡ (state g inside).now
     pub committed : (state g new).committed ≡ (state g inside).now
     pub is_open : IsTrue (state g new).is_open
@@ -46,8 +46,8 @@ module _ {S : Type 0} (g : Ghosts S) where
   database keeper = state g (connection_of keeper)
 
   -- the disk of the database has returned so far what was written
-  abbrev pub IsClean : SqlKeeper S → Type 0
-  IsClean keeper = HasCleanDisk (database keeper)
+  abbrev pub KeeperDiskIsClean : SqlKeeper S → Type 0
+  KeeperDiskIsClean keeper = HasCleanDisk (database keeper)
 
   -- the connection once the table is there: that of the keeper, or what making the table left of it
   -- at the first call
@@ -57,8 +57,8 @@ module _ {S : Type 0} (g : Ghosts S) where
       (RunsCommitted make_text [] (connection_of keeper) connection)
 
   -- A query that only reads shows these rows, all of them, over the table of the keeper.
-  pub record ShowsRows (text : List ℕ) (values : Row) (old new : SqlKeeper S) (rows : List Row)
-      : Type 0 where
+  pub record ShowsRows (text : List ℕ) (values : Row) (old new : SqlKeeper S)
+      (rows : List Row) : Type 0 where
     pub table : Held S
     pub made : HasTable old table
     pub shown : Shown text values (state g table) (database new) rows
@@ -67,7 +67,8 @@ module _ {S : Type 0} (g : Ghosts S) where
   -- what is found is the one row that the table shows for the label, nothing where it shows none
   abbrev pub FindsRow : SqlKeeper S → SqlKeeper S → List ℕ → Option Case → Type 0
   FindsRow old new label found =
-      ShowsRows find_text (label_values label) old new (map case_columns (option_to_list found))
+      ShowsRows find_text (label_values label) old new
+      (map case_columns (option_to_list found))
 
   -- the cases that are listed are all rows that the table shows for the filter, in the order of
   -- their numbers
@@ -90,7 +91,8 @@ module _ {S : Type 0} (g : Ghosts S) where
 
   -- what a stop while a case is added may leave that it could not leave before: the table as it was
   -- made, or with the row of the case
-  abbrev pub MayLeave : SqlKeeper S → Case → Trees → Type 0
-  MayLeave old case db =
-      Makes make_text [] (connection_of old) db
-      ⊎ ((table : Held S) × HasTable old table × Makes insert_text (case_columns case) table db)
+  abbrev pub AddingMayLeave : SqlKeeper S → Case → Trees → Type 0
+  AddingMayLeave old case db =
+      MakesTrees make_text [] (connection_of old) db
+      ⊎ ((table : Held S) × HasTable old table
+      × MakesTrees insert_text (case_columns case) table db)

@@ -1,4 +1,4 @@
--- A keeper over a database: what it stands at, and what its calls count.
+-- A keeper over a database: its state, and what its calls count.
 use Rattle.std.specs.Prelude.{◌≡◌, ℕ, Bool, true, false, None, Result, Ok, Err}
 use Rattle.case_keeper.specs.Keepers.{KeeperState}
 use Rattle.case_keeper.specs.declared.keeper.KeepFault.{KeepFault}
@@ -7,27 +7,28 @@ use Rattle.log_source.specs.Calls.{faults_after}
 use Rattle.sqlite.specs.Held.{Held}
 use Rattle.case_sqlite.specs.declared.sql_keeper.SqlKeeper.{SqlKeeper}
 
--- where a keeper stands that does not tell its cases
-abbrev pub silent_state : ℕ → KeeperState
-silent_state faults = record { cases = None; faults = faults }
+-- the state of a keeper whose cases are not known
+abbrev pub state_of_faults : ℕ → KeeperState
+state_of_faults faults = record { cases = None; faults = faults }
 
--- what it stands at: it does not tell its cases
+-- its state: its cases are not known
 abbrev pub sql_state : {S : Type 0} → SqlKeeper S → KeeperState
-sql_state keeper = silent_state keeper.faults
+sql_state keeper = state_of_faults keeper.faults
 
 -- the connection that it keeps its cases by
 abbrev pub connection_of : {S : Type 0} → SqlKeeper S → Held S
 connection_of keeper = keeper.connection
 
 -- the answer is a failure, which out of memory is not
-abbrev pub is_failure : {T : Type 0} → Result T KeepFault → Bool
-is_failure (Ok _) = false
-is_failure (Err fault.Failed) = true
-is_failure (Err fault.Memory) = false
+abbrev pub is_failed_call : {T : Type 0} → Result T KeepFault → Bool
+is_failed_call (Ok _) = false
+is_failed_call (Err fault.Failed) = true
+is_failed_call (Err fault.Memory) = false
 
 -- one fault more is counted where a call failed, and none otherwise
-abbrev pub CountsFailure : {T : Type 0} → KeeperState → KeeperState → Result T KeepFault → Type 0
-CountsFailure old new result = new.faults ≡ faults_after (is_failure result) old.faults
+abbrev pub CountsFailure : {T : Type 0} → KeeperState → KeeperState → Result T KeepFault
+    → Type 0
+CountsFailure old new result = new.faults ≡ faults_after (is_failed_call result) old.faults
 
 -- no transaction is open after a call before which none was
 abbrev pub EndsTransaction : {S : Type 0} → Held S → Held S → Type 0

@@ -7,7 +7,7 @@ use Rattle.case_keeper.specs.declared.case.Mark.TheVariants.{Accepted, Broken}
 use Rattle.sqlite_value.specs.Order.{Row}
 use Rattle.sqlite_value.specs.declared.value.Value.{Value}
 use Rattle.sqlite_value.specs.declared.value.Value.TheVariants.{Null, Text}
-use Rattle.case_sqlite.specs.CaseRows.{integer}
+use Rattle.case_sqlite.specs.CaseRows.{integer_value}
 use Rattle.case_sqlite.specs.Codes.{property_number}
 
 -- the columns of the table, as a query names them
@@ -44,8 +44,8 @@ label_values label = Text label ∷ []
 
 -- a mark as the column of properties has it: 0 of an accepted log, else the number of the property
 abbrev pub mark_value : Mark → Value
-mark_value Accepted = integer 0
-mark_value (Broken property) = integer (property_number property)
+mark_value Accepted = integer_value 0
+mark_value (Broken property) = integer_value (property_number property)
 
 -- the symbol that a filter names, or null
 abbrev pub symbol_value : Filter → Value

@@ -1,7 +1,7 @@
-//! The cases that the rows of an answer tell. Each row is tested again, whatever the query asked for.
+//! The cases in the rows of an answer. Each row is tested again, whatever the query asked for.
 ghost use Rattle.std.specs.Prelude.{◌≡◌, IfOk, option_map};
-ghost use Rattle.case_keeper.specs.Cases.{has_label, passes};
-ghost use Rattle.case_sqlite.specs.Readings.{case_that, cases_that, one_that};
+ghost use Rattle.case_keeper.specs.Cases.{has_label, passes_filter};
+ghost use Rattle.case_sqlite.specs.Readings.{case_that, cases_that, one_case_that};
 
 use crate::case_rows::read_case;
 use audit_base::faults::NoMemory;
@@ -11,7 +11,7 @@ use case_keeper::keeper::KeepFault;
 use sqlite::Row;
 use std::alloc::Global;
 
-/// The case that a row tells, if it has the label.
+/// The case in a row, if it has the label.
 fn case_with_label(row: &Row, label: &Name) -> Option<Case>
     ensures { result ≡ case_that (has_label label.now) row.now }
 {
@@ -23,9 +23,9 @@ fn case_with_label(row: &Row, label: &Name) -> Option<Case>
     }
 }
 
-/// The case that a row tells, if it passes the filter.
+/// The case in a row, if it passes the filter.
 fn case_passing(row: &Row, filter: &Filter) -> Option<Case>
-    ensures { result ≡ case_that (passes filter.now) row.now }
+    ensures { result ≡ case_that (passes_filter filter.now) row.now }
 {
     let case = read_case(row)?;
     if filter.passes(&case) {
@@ -35,10 +35,10 @@ fn case_passing(row: &Row, filter: &Filter) -> Option<Case>
     }
 }
 
-/// What the rows with a label tell: no case where there is none, else the case of the one row. It fails where that
-/// row is no case or has another label, and where there are two.
+/// What the rows with a label say: no case where there is none, else the case of the one row.
+/// It fails where that row is no case or has another label, and where there are two.
 pub(crate) fn one_with_label(rows: &[Row], label: &Name) -> Result<Option<Case>, KeepFault>
-    ensures { result ≡ one_that (has_label label.now) rows.now }
+    ensures { result ≡ one_case_that (has_label label.now) rows.now }
 {
     match rows {
         [] => Ok(None),
@@ -50,14 +50,15 @@ pub(crate) fn one_with_label(rows: &[Row], label: &Name) -> Result<Option<Case>,
     }
 }
 
-/// The cases that the rows tell, in their order. None where a row is no case or does not pass the filter.
+/// The cases in the rows, in their order. None where a row is no case or does not pass the
+/// filter.
 pub(crate) fn all_passing(
     alloc: Global,
     rows: &[Row],
     filter: &Filter,
 ) -> Result<Option<Vec<Case>>, NoMemory>
     ensures { IfOk result (λ told.
-        option_map (λ cases. cases.items) told ≡ cases_that (passes filter.now) rows.now) }
+        option_map (λ cases. cases.items) told ≡ cases_that (passes_filter filter.now) rows.now) }
 {
     let mut cases = Vec::new(alloc);
     for row in rows {

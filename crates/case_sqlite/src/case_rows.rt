@@ -1,10 +1,11 @@
-//! The rows of the table of cases. A row has six columns: the label, the number of the rule, the symbol, and of an
-//! offence the number of its property, that of its log, and its place; of no offence three times 0.
+//! The rows of the table of cases. A row has six columns: the label, the number of the rule,
+//! the symbol, and of an offence the number of its property, that of its log, and its place; of
+//! no offence three times 0.
 ghost use Rattle.std.specs.Prelude.{◌≡◌, map, MatchBool};
 ghost use Rattle.sqlite_value.specs.Value.{owned};
 ghost use Rattle.sqlite_value.specs.Order.{column};
-ghost use Rattle.case_sqlite.specs.CaseRows.{Tells, case_columns, offence_columns, integer, HasPlace};
-ghost use Rattle.case_sqlite.specs.Readings.{number_in, name_in, offence_form, offence_in, rule_in, case_in, case_form};
+ghost use Rattle.case_sqlite.specs.CaseRows.{RowSays, case_columns, offence_columns, integer_value, OffenceHasPlace};
+ghost use Rattle.case_sqlite.specs.Readings.{number_in_column, name_in_column, offence_form, offence_in_row, rule_in_row, case_in_columns, case_form};
 
 use crate::codes::{log_number, log_with, property_number, property_with, rule_number, rule_with};
 use audit_base::names::{Name, read_name};
@@ -25,7 +26,7 @@ fn value_at(row: &Row, at: usize) -> ValueRef<'_>
 
 /// The number of 32 bits in a column.
 fn number_at(row: &Row, at: usize) -> Option<u32>
-    ensures { result ≡ number_in (column row.now at) }
+    ensures { result ≡ number_in_column (column row.now at) }
 {
     match value_at(row, at) {
         ValueRef::Int(number) => u32::try_from(number).ok(),
@@ -35,7 +36,7 @@ fn number_at(row: &Row, at: usize) -> Option<u32>
 
 /// The name in a column.
 fn name_at(row: &Row, at: usize) -> Option<Name>
-    ensures { result ≡ name_in (column row.now at) }
+    ensures { result ≡ name_in_column (column row.now at) }
 {
     match value_at(row, at) {
         ValueRef::Text(text) => read_name(text),
@@ -45,12 +46,13 @@ fn name_at(row: &Row, at: usize) -> Option<Name>
 
 /// The rule in column 1.
 fn rule_at(row: &Row) -> Option<Rule>
-    ensures { result ≡ rule_in row.now }
+    ensures { result ≡ rule_in_row row.now }
 {
     rule_with(number_at(row, 1)?)
 }
 
-/// What the numbers of a property, a log and a place tell: that there is no offence where all are 0, or which it is.
+/// What the numbers of a property, a log and a place say: that there is no offence where all
+/// are 0, or which it is.
 fn offence_of(property: u32, log: u32, place: u32) -> Option<Option<Offence>>
     ensures { result ≡ offence_form property log place }
 {
@@ -69,18 +71,18 @@ fn offence_of(property: u32, log: u32, place: u32) -> Option<Option<Offence>>
     }))
 }
 
-/// What columns 3 to 5 tell of an offence.
+/// What columns 3 to 5 say of an offence.
 fn offence_at(row: &Row) -> Option<Option<Offence>>
-    ensures { result ≡ offence_in row.now }
+    ensures { result ≡ offence_in_row row.now }
 {
     let property = number_at(row, 3)?;
     let log = number_at(row, 4)?;
     offence_of(property, log, number_at(row, 5)?)
 }
 
-/// The case that the first six columns tell.
+/// The case in the first six columns.
 fn case_at(row: &Row) -> Option<Case>
-    ensures { result ≡ case_in row.now }
+    ensures { result ≡ case_in_columns row.now }
 {
     let label = name_at(row, 0)?;
     let rule = rule_at(row)?;
@@ -94,7 +96,7 @@ fn case_at(row: &Row) -> Option<Case>
     })
 }
 
-/// The case that a row of six columns tells.
+/// The case in a row of six columns.
 fn case_of(row: &Row) -> Option<Case>
     ensures { result ≡ case_form row.now }
 {
@@ -108,7 +110,7 @@ fn case_of(row: &Row) -> Option<Case>
 /// The case whose row it is. None exactly where it is the row of no case. Takes no memory.
 #[tactic(auto, using(crate::proofs::RowLemmas::row_tells))]
 pub fn read_case(row: &Row) -> Option<Case>
-    ensures told { Tells row.now result }
+    ensures told { RowSays row.now result }
     ensures form { result ≡ case_form row.now }
 {
     case_of(row)
@@ -116,7 +118,7 @@ pub fn read_case(row: &Row) -> Option<Case>
 
 /// Whether the place of an offence is that of a record, from 1.
 pub(crate) fn has_place(case: &Case) -> bool
-    ensures { MatchBool result (HasPlace case.now) (¬ HasPlace case.now) }
+    ensures { MatchBool result (OffenceHasPlace case.now) (¬ OffenceHasPlace case.now) }
 {
     match case.offence {
         Some(offence) => offence.place > 0,
@@ -126,7 +128,7 @@ pub(crate) fn has_place(case: &Case) -> bool
 
 /// A number as a column has it.
 fn number_value(number: u32) -> ValueRef<'static>
-    ensures { owned result ≡ integer number }
+    ensures { owned result ≡ integer_value number }
 {
     ValueRef::Int(i64::from(number))
 }

@@ -1,4 +1,4 @@
-//! The numbers that stand for rules, properties and logs.
+//! The numbers of rules, properties and logs in the table of cases.
 ghost use Rattle.std.specs.Prelude.{◌≡◌, ◌==◌, find, option_copied};
 ghost use Rattle.case_sqlite.specs.Codes as code;
 ghost use Rattle.case_sqlite.specs.Readings as reading;
@@ -96,7 +96,7 @@ fn find_rule(rules: &[Rule], number: u32) -> Option<&Rule>
 
 /// The rule with this number.
 pub(crate) fn rule_with(number: u32) -> Option<Rule>
-    ensures { result ≡ reading.rule_with number }
+    ensures { result ≡ reading.rule_of_number number }
 {
     find_rule(&RULES, number).copied()
 }
@@ -120,14 +120,14 @@ fn find_property(properties: &[Property], number: u32) -> Option<&Property>
 
 /// The property with this number.
 pub(crate) fn property_with(number: u32) -> Option<Property>
-    ensures { result ≡ reading.property_with number }
+    ensures { result ≡ reading.property_of_number number }
 {
     find_property(&PROPERTIES, number).copied()
 }
 
 /// The log with this number.
 pub(crate) fn log_with(number: u32) -> Option<Which>
-    ensures { result ≡ reading.log_with number }
+    ensures { result ≡ reading.log_of_number number }
 {
     match number {
         1 => Some(Which::Orders),

@@ -5,7 +5,8 @@ ghost use Rattle.case_sqlite.specs.Faults as spec;
 use case_keeper::keeper::KeepFault;
 use sqlite::{Error, ErrorCode};
 
-/// The fault of a keeper whose database refused: out of memory, or a failure, which the keeper counts.
+/// The fault of a keeper whose database refused: out of memory, or a failure, which the keeper
+/// counts.
 pub fn fault_of(error: Error) -> KeepFault
     ensures { result ≡ spec.fault_of error }
 {

@@ -1,5 +1,5 @@
-//! What holds of every row of the table. Nothing is computed here: a law is a function's contract, so that the check
-//! proves it.
+//! What holds of every row of the table. Nothing is computed here: a law is a function's
+//! contract, so that the check proves it.
 ghost use Rattle.case_sqlite.specs.Laws.{RowHasOneCase, WrittenCaseIsRead};
 
 /// No row is the row of two cases.

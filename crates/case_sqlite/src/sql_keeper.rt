@@ -1,11 +1,11 @@
 //! A keeper that has its cases in a database.
 ghost use Rattle.std.specs.Prelude.{◌≡◌, None, false, [], IfOk, IfSome, OnOk, OnErr, All, IsTrue};
-ghost use Rattle.case_keeper.specs.Cases.{passes};
-ghost use Rattle.case_keeper.specs.Keepers.{Accounts};
-ghost use Rattle.case_sqlite.specs.Runs.{database, IsClean, HasTable, Makes, MayLeave, FindsRow, ListsRows, AddsRow, AddsNothing};
+ghost use Rattle.case_keeper.specs.Cases.{passes_filter};
+ghost use Rattle.case_keeper.specs.Keepers.{CountsKeeperFaults};
+ghost use Rattle.case_sqlite.specs.Runs.{database, KeeperDiskIsClean, HasTable, MakesTrees, AddingMayLeave, FindsRow, ListsRows, AddsRow, AddsNothing};
 ghost use Rattle.case_sqlite.specs.Statements.{make_text};
 ghost use Rattle.sqlite.specs.State.{Survives, KeepsCommit};
-ghost use Rattle.case_sqlite.specs.SqlKeepers.{silent_state, CountsFailure};
+ghost use Rattle.case_sqlite.specs.SqlKeepers.{state_of_faults, CountsFailure};
 
 use crate::answers::{all_passing, one_with_label};
 use crate::table;
@@ -16,13 +16,13 @@ use case_keeper::keeper::{KeepFault, Keeper};
 use sqlite::{Alter, Connection};
 use std::alloc::Global;
 
-/// A keeper over a connection to a database, whose table `cases` it makes at its first call where it
-/// is not there.
+/// A keeper over a connection to a database, whose table `cases` it makes at its first call
+/// where it is not there.
 ///
-/// It does not tell its cases. A call fails, and its fault is counted, where the database refuses or
-/// gives a row that is no case, has another label or does not pass the filter. Out of memory is no
-/// failure and is not counted. After either no transaction is open, and what the call began is rolled
-/// back.
+/// Its cases are not known to contracts. A call fails, and its fault is counted, where the
+/// database refuses or gives a row that is no case, has another label or does not pass the
+/// filter. Out of memory is no failure and is not counted. After either no transaction is open,
+/// and what the call began is rolled back.
 #[derive(Drop)]
 pub struct SqlKeeper<S: Alter> {
     connection: Connection<S>,
@@ -35,8 +35,8 @@ pub struct SqlKeeper<S: Alter> {
 /// Counts a fault where a call failed. The count stays at its greatest value.
 fn count_failure<T>(faults: &mut u64, outcome: Result<T, KeepFault>) -> Result<T, KeepFault>
     ensures outcome { result ≡ outcome }
-    ensures counted { CountsFailure (silent_state faults.old) (silent_state faults.new) result }
-    ensures accounts { Accounts (silent_state faults.old) (silent_state faults.new) result }
+    ensures counted { CountsFailure (state_of_faults faults.old) (state_of_faults faults.new) result }
+    ensures accounts { CountsKeeperFaults (state_of_faults faults.old) (state_of_faults faults.new) result }
 {
     if let Err(KeepFault::Failed) = outcome {
         *faults = faults.saturating_add(1);
@@ -47,7 +47,8 @@ fn count_failure<T>(faults: &mut u64, outcome: Result<T, KeepFault>) -> Result<T
 impl<S: Alter> SqlKeeper<S> {
     ghost use Rattle.case_sqlite.specs.SqlKeepers.{sql_state, connection_of, EndsTransaction};
 
-    /// A keeper over this connection, with no fault counted. Takes no memory, and asks nothing of the database.
+    /// A keeper over this connection, with no fault counted. Takes no memory, and asks nothing
+    /// of the database.
     pub fn new(alloc: Global, connection: Connection<S>) -> SqlKeeper<S>
         ensures state { sql_state result ≡ record { cases = None; faults = 0 } }
         ensures connection { connection_of result ≡ connection }
@@ -72,13 +73,13 @@ impl<S: Alter> SqlKeeper<S> {
     fn make_table(&mut self) -> Result<(), KeepFault>
         ensures faults { self.new.faults ≡ self.old.faults }
         ensures ends { EndsTransaction self.old.connection self.new.connection }
-        ensures made { IsClean S.Store self.new
+        ensures made { KeeperDiskIsClean S.Store self.new
             → OnOk result (HasTable S.Store self.old self.new.connection) }
         ensures known { OnOk result (IsTrue self.new.has_table) }
-        ensures refused { IsClean S.Store self.new
+        ensures refused { KeeperDiskIsClean S.Store self.new
             → OnErr result (KeepsCommit (database S.Store self.old) (database S.Store self.new)) }
         ensures survives { Survives (database S.Store self.old) (database S.Store self.new)
-            (Makes S.Store make_text [] self.old.connection) }
+            (MakesTrees S.Store make_text [] self.old.connection) }
     {
         if !self.has_table {
             table::make_table(&mut self.connection)?;
@@ -92,7 +93,7 @@ impl<S: Alter> SqlKeeper<S> {
         ensures labelled { IfOk result (λ found. IfSome found (λ case. case.label ≡ label.now)) }
         ensures faults { self.new.faults ≡ self.old.faults }
         ensures ends { EndsTransaction self.old.connection self.new.connection }
-        ensures shown { IsClean S.Store self.new
+        ensures shown { KeeperDiskIsClean S.Store self.new
             → IfOk result (FindsRow S.Store self.old self.new label.now) }
     {
         self.make_table()?;
@@ -104,12 +105,12 @@ impl<S: Alter> SqlKeeper<S> {
     fn insert(&mut self, case: &Case) -> Result<(), KeepFault>
         ensures faults { self.new.faults ≡ self.old.faults }
         ensures ends { EndsTransaction self.old.connection self.new.connection }
-        ensures inserted { IsClean S.Store self.new
+        ensures inserted { KeeperDiskIsClean S.Store self.new
             → OnOk result (AddsRow S.Store self.old self.new case.now) }
-        ensures refused { IsClean S.Store self.new
+        ensures refused { KeeperDiskIsClean S.Store self.new
             → OnErr result (AddsNothing S.Store self.old self.new) }
         ensures survives { Survives (database S.Store self.old) (database S.Store self.new)
-            (MayLeave S.Store self.old case.now) }
+            (AddingMayLeave S.Store self.old case.now) }
     {
         self.make_table()?;
         table::insert(&mut self.connection, case)
@@ -118,10 +119,10 @@ impl<S: Alter> SqlKeeper<S> {
     /// The cases that pass a filter. A failure is not counted yet.
     fn cases_passing(&mut self, filter: &Filter) -> Result<CaseList, KeepFault>
         ensures passing_only { IfOk result (λ given.
-            All (λ case. IsTrue (passes filter.now case)) given) }
+            All (λ case. IsTrue (passes_filter filter.now case)) given) }
         ensures faults { self.new.faults ≡ self.old.faults }
         ensures ends { EndsTransaction self.old.connection self.new.connection }
-        ensures shown { IsClean S.Store self.new
+        ensures shown { KeeperDiskIsClean S.Store self.new
             → IfOk result (ListsRows S.Store self.old self.new filter.now) }
     {
         self.make_table()?;
@@ -134,18 +135,18 @@ impl<S: Alter> SqlKeeper<S> {
 }
 
 impl<S: Alter> Keeper for SqlKeeper<S> {
-    ghost use Rattle.case_keeper.specs.Keepers.{Finds, Adds, Lists, Lacks};
+    ghost use Rattle.case_keeper.specs.Keepers.{FindsLabel, AddsCase, ListsCases, LacksLabel};
     ghost use Rattle.case_sqlite.specs.SqlKeepers.{sql_state, connection_of, CountsFailure, EndsTransaction};
-    ghost use Rattle.case_sqlite.specs.Runs.{database, IsClean, MayLeave, FindsRow, ListsRows, AddsRow, AddsNothing};
+    ghost use Rattle.case_sqlite.specs.Runs.{database, KeeperDiskIsClean, AddingMayLeave, FindsRow, ListsRows, AddsRow, AddsNothing};
     ghost use Rattle.sqlite.specs.State.{Survives};
 
     ghost state = { sql_state };
 
     fn find(&mut self, label: &Name) -> Result<Option<Case>, KeepFault>
-        ensures found { Finds (sql_state self.old) (sql_state self.new) result label.now }
+        ensures found { FindsLabel (sql_state self.old) (sql_state self.new) result label.now }
         ensures counted { CountsFailure (sql_state self.old) (sql_state self.new) result }
         ensures ends { EndsTransaction (connection_of self.old) (connection_of self.new) }
-        ensures shown { IsClean S.Store self.new
+        ensures shown { KeeperDiskIsClean S.Store self.new
             → IfOk result (FindsRow S.Store self.old self.new label.now) }
     {
         let found = self.case_with_label(label);
@@ -153,26 +154,26 @@ impl<S: Alter> Keeper for SqlKeeper<S> {
     }
 
     fn add(&mut self, case: &Case) -> Result<(), KeepFault>
-        requires { Lacks (sql_state self.old) case.now.label }
-        ensures added { Adds (sql_state self.old) (sql_state self.new) result case.now }
+        requires { LacksLabel (sql_state self.old) case.now.label }
+        ensures added { AddsCase (sql_state self.old) (sql_state self.new) result case.now }
         ensures counted { CountsFailure (sql_state self.old) (sql_state self.new) result }
         ensures ends { EndsTransaction (connection_of self.old) (connection_of self.new) }
-        ensures inserted { IsClean S.Store self.new
+        ensures inserted { KeeperDiskIsClean S.Store self.new
             → OnOk result (AddsRow S.Store self.old self.new case.now) }
-        ensures refused { IsClean S.Store self.new
+        ensures refused { KeeperDiskIsClean S.Store self.new
             → OnErr result (AddsNothing S.Store self.old self.new) }
         ensures survives { Survives (database S.Store self.old) (database S.Store self.new)
-            (MayLeave S.Store self.old case.now) }
+            (AddingMayLeave S.Store self.old case.now) }
     {
         let added = self.insert(case);
         count_failure(&mut self.faults, added)
     }
 
     fn list(&mut self, filter: &Filter) -> Result<CaseList, KeepFault>
-        ensures listed { Lists (sql_state self.old) (sql_state self.new) result filter.now }
+        ensures listed { ListsCases (sql_state self.old) (sql_state self.new) result filter.now }
         ensures counted { CountsFailure (sql_state self.old) (sql_state self.new) result }
         ensures ends { EndsTransaction (connection_of self.old) (connection_of self.new) }
-        ensures shown { IsClean S.Store self.new
+        ensures shown { KeeperDiskIsClean S.Store self.new
             → IfOk result (ListsRows S.Store self.old self.new filter.now) }
     {
         let listed = self.cases_passing(filter);

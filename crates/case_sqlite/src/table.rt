@@ -1,7 +1,7 @@
 //! The table `cases` and its statements.
 ghost use Rattle.std.specs.Prelude.{◌≡◌, false, [], IfOk, OnOk, OnErr};
 ghost use Rattle.case_sqlite.specs.CaseRows.{case_columns};
-ghost use Rattle.case_sqlite.specs.Runs.{Makes, RunsCommitted, StaysDoubted};
+ghost use Rattle.case_sqlite.specs.Runs.{MakesTrees, RunsCommitted, KeepsDoubt};
 ghost use Rattle.case_sqlite.specs.SqlKeepers.{EndsTransaction};
 ghost use Rattle.case_sqlite.specs.Statements as text;
 ghost use Rattle.sqlite.specs.Held.{state};
@@ -49,14 +49,14 @@ fn commit_one<S: Alter>(
     ensures refused { HasCleanDisk (state S.Store connection.new)
         → OnErr result (KeepsCommit (state S.Store connection.old) (state S.Store connection.new)) }
     ensures survives { Survives (state S.Store connection.old) (state S.Store connection.new)
-        (Makes S.Store sql.now (bound values.now) connection.old) }
+        (MakesTrees S.Store sql.now (bound values.now) connection.old) }
 {
     let mut transaction = connection.transaction();
     transaction.execute(sql, values)?;
     transaction.commit()
 }
 
-/// The same. It is refused where a transaction is open.
+/// Runs one statement in a transaction of its own. It is refused where a transaction is open.
 fn change<S: Alter>(
     connection: &mut Connection<S>,
     sql: &str,
@@ -69,7 +69,7 @@ fn change<S: Alter>(
     ensures refused { HasCleanDisk (state S.Store connection.new)
         → OnErr result (KeepsCommit (state S.Store connection.old) (state S.Store connection.new)) }
     ensures survives { Survives (state S.Store connection.old) (state S.Store connection.new)
-        (Makes S.Store sql.now (bound values.now) connection.old) }
+        (MakesTrees S.Store sql.now (bound values.now) connection.old) }
 {
     if !connection.is_autocommit() {
         return Err(KeepFault::Failed);
@@ -90,7 +90,7 @@ fn answer<S: Alter>(
     ensures shown { HasCleanDisk (state S.Store connection.new) → IfOk result (λ rows.
         Shown sql.now (bound values.now) (state S.Store connection.old)
         (state S.Store connection.new) rows.items) }
-    ensures clean { StaysDoubted (state S.Store connection.old) (state S.Store connection.new) }
+    ensures clean { KeepsDoubt (state S.Store connection.old) (state S.Store connection.new) }
 {
     match connection.query_all(sql, values) {
         Ok(rows) => Ok(rows),
@@ -106,7 +106,7 @@ pub(crate) fn make_table<S: Alter>(connection: &mut Connection<S>) -> Result<(),
     ensures refused { HasCleanDisk (state S.Store connection.new)
         → OnErr result (KeepsCommit (state S.Store connection.old) (state S.Store connection.new)) }
     ensures survives { Survives (state S.Store connection.old) (state S.Store connection.new)
-        (Makes S.Store text.make_text [] connection.old) }
+        (MakesTrees S.Store text.make_text [] connection.old) }
 {
     change(connection, MAKE, &[])
 }
@@ -120,7 +120,7 @@ pub(crate) fn insert<S: Alter>(connection: &mut Connection<S>, case: &Case) -> R
     ensures refused { HasCleanDisk (state S.Store connection.new)
         → OnErr result (KeepsCommit (state S.Store connection.old) (state S.Store connection.new)) }
     ensures survives { Survives (state S.Store connection.old) (state S.Store connection.new)
-        (Makes S.Store text.insert_text (case_columns case.now) connection.old) }
+        (MakesTrees S.Store text.insert_text (case_columns case.now) connection.old) }
 {
     if has_place(case) {
         change(connection, INSERT, &case_values(case))
@@ -138,7 +138,7 @@ pub(crate) fn rows_with_label<S: Alter>(
     ensures shown { HasCleanDisk (state S.Store connection.new) → IfOk result (λ rows.
         Shown text.find_text (text.label_values label.now) (state S.Store connection.old)
         (state S.Store connection.new) rows.items) }
-    ensures clean { StaysDoubted (state S.Store connection.old) (state S.Store connection.new) }
+    ensures clean { KeepsDoubt (state S.Store connection.old) (state S.Store connection.new) }
 {
     answer(connection, FIND, &[ValueRef::Text(label.bytes())])
 }
@@ -173,7 +173,7 @@ pub(crate) fn rows_passing<S: Alter>(
     ensures shown { HasCleanDisk (state S.Store connection.new) → IfOk result (λ rows.
         Shown text.list_text (text.filter_values filter.now) (state S.Store connection.old)
         (state S.Store connection.new) rows.items) }
-    ensures clean { StaysDoubted (state S.Store connection.old) (state S.Store connection.new) }
+    ensures clean { KeepsDoubt (state S.Store connection.old) (state S.Store connection.new) }
 {
     answer(
         connection,

@@ -13,8 +13,8 @@ use std::alloc::Global;
 use std::process::Abort;
 use std::test::Fail;
 
-/// The logs of the tests, by their names: those of one trade, a trade log of no trades, and a log that is in
-/// no grammar.
+/// The logs of the tests, by their names: those of one trade, a trade log of no trades, and a
+/// log that is in no grammar.
 const LOGS: [(&str, &str); 4] = [
     (
         "o",
@@ -65,12 +65,12 @@ pub(crate) fn shelf_of(alloc: Global, fails: u32) -> Result<MemoryShelf, Fail> {
 }
 
 /// A casebook in memory of no cases, whose keeper's call of this number fails.
-fn book_of(alloc: Global, fails: u32) -> Result<Casebook<MapKeeper>, Fail> {
+fn casebook_over(alloc: Global, fails: u32) -> Result<Casebook<MapKeeper>, Fail> {
     let list = Vec::from_slice(alloc, &[fails])?;
     Ok(Casebook::new(MapKeeper::new(alloc, list)))
 }
 
-/// What the words come to over a casebook.
+/// What the words give over a casebook: the status and the lines.
 pub(crate) fn run_line<B: Keeper>(
     alloc: Global,
     line: &str,
@@ -121,7 +121,7 @@ nocase,c9
 #[test]
 fn cases_are_filed_once_and_listed(rt: HostRuntime) -> Result<(), Fail> {
     for &row in &FILED {
-        let mut book = book_of(rt.alloc(), 0)?;
+        let mut book = casebook_over(rt.alloc(), 0)?;
         assert_row(&rt, row, &mut book)?;
     }
     Ok(())
@@ -175,7 +175,7 @@ const LINES: [Row; 14] = [
 
 #[test]
 fn a_casebook_is_asked_again_and_again(rt: HostRuntime) -> Result<(), Fail> {
-    let mut book = book_of(rt.alloc(), 0)?;
+    let mut book = casebook_over(rt.alloc(), 0)?;
     for &row in &LINES {
         assert_row(&rt, row, &mut book)?;
     }
@@ -206,7 +206,7 @@ const FAULTY: [&str; 18] = [
 
 #[test]
 fn faulty_words_are_told_the_usage(rt: HostRuntime) -> Result<(), Fail> {
-    let mut book = book_of(rt.alloc(), 0)?;
+    let mut book = casebook_over(rt.alloc(), 0)?;
     for &line in &FAULTY {
         assert_row(&rt, (line, 2, USAGE), &mut book)?;
     }
@@ -217,7 +217,7 @@ fn faulty_words_are_told_the_usage(rt: HostRuntime) -> Result<(), Fail> {
 #[test]
 fn a_keeper_that_fails_keeps_its_cases(rt: HostRuntime) -> Result<(), Fail> {
     for fails in [1, 2] {
-        let mut book = book_of(rt.alloc(), fails)?;
+        let mut book = casebook_over(rt.alloc(), fails)?;
         let row = ("file c1 matching Z csv o t", 8, "keeperfault\n");
         assert_row(&rt, row, &mut book)?;
         assert_row(&rt, ("list", 0, ""), &mut book)?;
@@ -231,7 +231,7 @@ fn a_case_whose_line_is_cut_stays_filed(rt: HostRuntime) -> Result<(), Fail> {
     let words = split_words(rt.alloc(), "file c1 matching Z csv o t then list")?;
     let label = read_name(b"c1").expect(&rt, "a name");
     for room in [0, 10, 27, 28, 40] {
-        let mut book = book_of(rt.alloc(), 0)?;
+        let mut book = casebook_over(rt.alloc(), 0)?;
         let mut shelf = shelf_of(rt.alloc(), 0)?;
         let mut out = MemorySink::new(rt.alloc(), room, 4096, Vec::new(rt.alloc()))?;
         let status = run_case(rt.alloc(), &words, &mut shelf, &mut out, &mut book);
@@ -242,15 +242,15 @@ fn a_case_whose_line_is_cut_stays_filed(rt: HostRuntime) -> Result<(), Fail> {
     Ok(())
 }
 
-// Into a sink of this much room, which the line of the first case fills or not: the second command is done
-// only where the first line was written whole.
+// Into a sink of this much room, which the line of the first case fills or not: the second
+// command is done only where the first line was written whole.
 #[test]
 fn a_command_behind_a_cut_line_files_nothing(rt: HostRuntime) -> Result<(), Fail> {
     let line = "file c1 matching Z csv o t then file c2 matching Z csv o t";
     let words = split_words(rt.alloc(), line)?;
     let second = read_name(b"c2").expect(&rt, "a name");
     for (room, filed) in [(0, false), (1, false), (28, true)] {
-        let mut book = book_of(rt.alloc(), 0)?;
+        let mut book = casebook_over(rt.alloc(), 0)?;
         let mut shelf = shelf_of(rt.alloc(), 0)?;
         let mut out = MemorySink::new(rt.alloc(), room, 4096, Vec::new(rt.alloc()))?;
         let status = run_case(rt.alloc(), &words, &mut shelf, &mut out, &mut book);
@@ -261,7 +261,8 @@ fn a_command_behind_a_cut_line_files_nothing(rt: HostRuntime) -> Result<(), Fail
     Ok(())
 }
 
-// A keeper whose first call fails: it is asked only behind two logs that are read and in their grammar.
+// A keeper whose first call fails: it is asked only behind two logs that are read and in their
+// grammar.
 #[test]
 fn a_log_is_told_before_a_keeper_that_fails(rt: HostRuntime) -> Result<(), Fail> {
     for row in [
@@ -278,7 +279,7 @@ fn a_log_is_told_before_a_keeper_that_fails(rt: HostRuntime) -> Result<(), Fail>
         ),
         ("file c1 matching Z csv o t", 8, "keeperfault\n"),
     ] {
-        let mut book = book_of(rt.alloc(), 1)?;
+        let mut book = casebook_over(rt.alloc(), 1)?;
         assert_row(&rt, row, &mut book)?;
     }
     Ok(())
@@ -293,7 +294,7 @@ fn a_read_that_fails_files_nothing(rt: HostRuntime) -> Result<(), Fail> {
         (4, "readfault,orders\n"),
         (6, "readfault,trades\n"),
     ] {
-        let mut book = book_of(rt.alloc(), 0)?;
+        let mut book = casebook_over(rt.alloc(), 0)?;
         let mut shelf = shelf_of(rt.alloc(), fails)?;
         let mut out = MemorySink::new(rt.alloc(), 4096, 4096, Vec::new(rt.alloc()))?;
         let status = run_case(rt.alloc(), &words, &mut shelf, &mut out, &mut book);
@@ -304,7 +305,8 @@ fn a_read_that_fails_files_nothing(rt: HostRuntime) -> Result<(), Fail> {
     Ok(())
 }
 
-// Words over an opener whose first call fails, or none; the status, the lines, and whether there is a casebook.
+// Words over an opener whose first call fails, or none; the status, the lines, and whether
+// there is a casebook.
 const OPENINGS: [(&str, u32, u8, &str, bool); 4] = [
     ("db list", 1, 8, "keeperfault\n", false),
     ("", 1, 2, USAGE, false),

@@ -1,6 +1,6 @@
 //! Runs of commands over a casebook in a database, beside the same over one in memory.
 use super::case_tests::{FILED, assert_row, run_line};
-use super::file_books::{Command, Visit, visit_new, visit_with_row};
+use super::file_books::{Command, VisitKeeper, visit_new, visit_with_row};
 use case_keeper::casebook::Casebook;
 use case_keeper::keeper::Keeper;
 use case_keeper::map_keeper::MapKeeper;
@@ -52,7 +52,7 @@ const COMMANDS: [&str; 30] = [
 /// The commands are answered as over a casebook in memory.
 struct AnswersAlike;
 
-impl Visit for AnswersAlike {
+impl VisitKeeper for AnswersAlike {
     type Answer = ();
 
     fn visit<R: AllocGlobal + Abort, B: Keeper>(
@@ -79,9 +79,9 @@ fn thirty_commands_are_answered_alike(rt: HostRuntime) -> Result<(), Fail> {
 }
 
 /// The keeper has a fault whatever it is asked for.
-struct Faulty;
+struct FindsForeignRow;
 
-impl Visit for Faulty {
+impl VisitKeeper for FindsForeignRow {
     type Answer = ();
 
     fn visit<R: AllocGlobal + Abort, B: Keeper>(
@@ -97,5 +97,5 @@ impl Visit for Faulty {
 // A row with rule 9 is no case.
 #[test]
 fn a_foreign_row_is_a_fault_of_the_keeper(rt: HostRuntime) -> Result<(), Fail> {
-    visit_with_row(&rt, "'c1', 9, 'Z', 0, 0, 0", &Faulty)
+    visit_with_row(&rt, "'c1', 9, 'Z', 0, 0, 0", &FindsForeignRow)
 }

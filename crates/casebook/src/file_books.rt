@@ -1,9 +1,9 @@
-//! Casebooks in databases whose files lie in memory. All tests of databases but the one of real files use these, since
-//! a database is compiled anew for each kind of file.
+//! Casebooks in databases whose files are in memory. All tests of databases but the one of real
+//! files use these, since a database is compiled anew for each kind of file.
 //!
-//! What a test does with a casebook is a visit, over any keeper. So few functions have a database by its own type, all
-//! of them here: the proof of one goes through all that a database is made of at each call that it hands one to, which
-//! takes ten seconds a call.
+//! What a test does with a casebook is a visit, over any keeper. So few functions have a
+//! database by its own type, all of them here: the proof of one goes through all that a
+//! database is made of at each call that it hands one to, which takes ten seconds a call.
 use super::case_tests::{Row, assert_row, run_line};
 use case_keeper::casebook::Casebook;
 use case_keeper::keeper::Keeper;
@@ -19,7 +19,7 @@ use std::test::Fail;
 pub(crate) type Disks = Files<Fuse<Memory>>;
 
 /// What a test does with a casebook.
-pub(crate) trait Visit {
+pub(crate) trait VisitKeeper {
     /// What is known when it is done.
     type Answer;
 
@@ -34,7 +34,7 @@ pub(crate) trait Visit {
 #[derive(Drop)]
 pub(crate) struct Command(pub(crate) Row);
 
-impl Visit for Command {
+impl VisitKeeper for Command {
     type Answer = ();
 
     fn visit<R: AllocGlobal + Abort, B: Keeper>(
@@ -49,7 +49,7 @@ impl Visit for Command {
 /// Makes the table of cases, which the first call makes.
 struct MakeTable;
 
-impl Visit for MakeTable {
+impl VisitKeeper for MakeTable {
     type Answer = ();
 
     fn visit<R: AllocGlobal + Abort, B: Keeper>(
@@ -65,7 +65,7 @@ impl Visit for MakeTable {
     }
 }
 
-/// Empty files, each of which stops after so many calls.
+/// Empty files, each of which stops after as many calls as given.
 pub(crate) fn empty_files(alloc: Global, log_calls: u64, db_calls: u64) -> Disks {
     Files {
         log: Fuse::new(Memory::new(alloc), log_calls),
@@ -113,7 +113,7 @@ fn close<D: Disk + Drop>(keeper: SqlKeeper<FileStore<D>>) -> (bool, Files<D>) {
 }
 
 /// What a visit to a casebook over the keeper answers, and the keeper.
-fn visit_keeper<R: AllocGlobal + Abort, K: Keeper, V: Visit>(
+fn visit_keeper<R: AllocGlobal + Abort, K: Keeper, V: VisitKeeper>(
     rt: &R,
     keeper: K,
     visit: &V,
@@ -123,9 +123,9 @@ fn visit_keeper<R: AllocGlobal + Abort, K: Keeper, V: Visit>(
     (answer, book.into_keeper())
 }
 
-/// Visits a casebook over the files: what the visit answers, if they could be opened, whether they were closed with
-/// no fault, and the files.
-pub(crate) fn visit_files<R: AllocGlobal + Abort, D: Disk + Drop, V: Visit>(
+/// Visits a casebook over the files: what the visit answers, if they could be opened, whether
+/// they were closed with no fault, and the files.
+pub(crate) fn visit_files<R: AllocGlobal + Abort, D: Disk + Drop, V: VisitKeeper>(
     rt: &R,
     files: Files<D>,
     visit: &V,
@@ -149,7 +149,7 @@ pub(crate) fn opened<A>(answer: Result<Option<A>, Fail>) -> Result<A, Fail> {
 }
 
 /// Visits a casebook of no cases.
-pub(crate) fn visit_new<R: AllocGlobal + Abort, V: Visit>(
+pub(crate) fn visit_new<R: AllocGlobal + Abort, V: VisitKeeper>(
     rt: &R,
     visit: &V,
 ) -> Result<V::Answer, Fail> {
@@ -157,7 +157,8 @@ pub(crate) fn visit_new<R: AllocGlobal + Abort, V: Visit>(
     opened(answer)
 }
 
-/// Puts a row into the table of a keeper, as something else may: whether it could, and a keeper over the same table.
+/// Puts a row into the table of a keeper, as something else may: whether it could, and a keeper
+/// over the same table.
 fn put_in_table<S: Alter>(
     alloc: Global,
     keeper: SqlKeeper<S>,
@@ -185,7 +186,7 @@ fn put_row<D: Disk + Drop>(
 }
 
 /// Visits a casebook into whose table something else has put this row.
-pub(crate) fn visit_with_row<R: AllocGlobal + Abort, V: Visit>(
+pub(crate) fn visit_with_row<R: AllocGlobal + Abort, V: VisitKeeper>(
     rt: &R,
     row: &str,
     visit: &V,

@@ -1,5 +1,5 @@
 //! Cases in a database: labels, filters, and rows that are no cases.
-use super::file_books::{Visit, visit_new, visit_with_row};
+use super::file_books::{VisitKeeper, visit_new, visit_with_row};
 use audit_base::findings::Property;
 use audit_base::names::{Name, read_name};
 use audit_base::terms::{Rule, Which};
@@ -40,9 +40,9 @@ fn broken(rt: &impl Abort, label: &str, symbol: &str, property: Property) -> Cas
 }
 
 /// Of two cases with one label the first is kept.
-struct FirstKept;
+struct KeepsFirstCase;
 
-impl Visit for FirstKept {
+impl VisitKeeper for KeepsFirstCase {
     type Answer = ();
 
     fn visit<R: AllocGlobal + Abort, B: Keeper>(
@@ -63,7 +63,7 @@ impl Visit for FirstKept {
 
 #[test]
 fn a_label_keeps_its_first_case(rt: HostRuntime) -> Result<(), Fail> {
-    visit_new(&rt, &FirstKept)
+    visit_new(&rt, &KeepsFirstCase)
 }
 
 /// Asserts which cases are listed, by their labels of one letter.
@@ -103,9 +103,9 @@ fn assert_filtered<R: AllocGlobal + Abort, B: Keeper>(
 }
 
 /// A filter picks cases by their symbols and marks.
-struct Filtered;
+struct FiltersCases;
 
-impl Visit for Filtered {
+impl VisitKeeper for FiltersCases {
     type Answer = ();
 
     fn visit<R: AllocGlobal + Abort, B: Keeper>(
@@ -119,7 +119,7 @@ impl Visit for Filtered {
 
 #[test]
 fn a_filter_picks_by_symbol_and_mark(rt: HostRuntime) -> Result<(), Fail> {
-    visit_new(&rt, &Filtered)
+    visit_new(&rt, &FiltersCases)
 }
 
 // Rows that something else has put into the table, each with whether it is the row of a case.
@@ -148,7 +148,7 @@ const ROWS: [(&str, bool); 19] = [
 /// How many cases are listed.
 struct CountListed;
 
-impl Visit for CountListed {
+impl VisitKeeper for CountListed {
     type Answer = Result<usize, KeepFault>;
 
     fn visit<R: AllocGlobal + Abort, B: Keeper>(

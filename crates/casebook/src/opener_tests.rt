@@ -1,5 +1,5 @@
-//! Runs over databases in files: what is under a path, what stays of it without the log, and paths under which nothing
-//! can be, or is to be.
+//! Runs over databases in files: what is under a path, what stays of it without the log, and
+//! paths under which nothing can be, or is to be.
 use super::case_tests::{Row, shelf_of, split_words};
 use case_files::closing::run_and_close;
 use case_files::file_opener::FileOpener;
@@ -9,14 +9,15 @@ use seeded_hash::seed::HashSeed;
 use std::fs;
 use std::test::Fail;
 
-/// Removes the files of the databases of the tests, which lie in the folder that they run in, if they are there.
+/// Removes the files of the databases of the tests, which are in the folder that they run in,
+/// if they are there.
 fn remove_files(rt: &HostRuntime) {
     for name in ["opened.db", "opened.db-wal", "--help", "--help-wal"] {
         let _removed = fs::remove_file(rt, name);
     }
 }
 
-/// What the words come to over databases in files, which are closed.
+/// What the words give over databases in files, which are closed: the status and the lines.
 fn run_words(rt: &HostRuntime, line: &str) -> Result<(CaseStatus, MemorySink), Fail> {
     let words = split_words(rt.alloc(), line)?;
     let mut shelf = shelf_of(rt.alloc(), 0)?;
@@ -40,7 +41,8 @@ fn holds(rt: &HostRuntime, row: Row) -> Result<bool, Fail> {
     Ok(status.number() == number && out.bytes() == lines.as_bytes())
 }
 
-/// A database that is made and opened again, a folder, which is no database, and a path that is read as an option.
+/// A database that is made and opened again, a folder, which is no database, and a path that is
+/// read as an option.
 const OPENED: [Row; 4] = [
     (
         "opened.db file c1 matching Z csv o t",
@@ -52,8 +54,8 @@ const OPENED: [Row; 4] = [
     ("--help list", 8, "keeperfault\n"),
 ];
 
-// A database that is closed has its cases in its own file alone, and nothing stands beside it. A path that is refused
-// makes no file.
+// A database that is closed has its cases in its own file alone, and nothing is beside it. A
+// path that is refused makes no file.
 #[test]
 fn databases_are_opened_by_their_paths(rt: HostRuntime) -> Result<(), Fail> {
     remove_files(&rt);

@@ -1,6 +1,8 @@
 //! Runs of commands over files whose machine stops, and which are opened again.
 use super::case_tests::run_line;
-use super::file_books::{Command, Disks, Visit, empty_files, opened, visit_files, whole_files};
+use super::file_books::{
+    Command, Disks, VisitKeeper, empty_files, opened, visit_files, whole_files,
+};
 use case_keeper::casebook::Casebook;
 use case_keeper::keeper::Keeper;
 use case_run::statuses::CaseStatus;
@@ -39,10 +41,10 @@ fn stopping_files(alloc: Global, stopped: Stopped, calls: u64) -> Disks {
     }
 }
 
-/// Does the command `file`, and tells whether it was done.
+/// Does the command `file`, and gives whether it was done.
 struct FileCase;
 
-impl Visit for FileCase {
+impl VisitKeeper for FileCase {
     type Answer = bool;
 
     fn visit<R: AllocGlobal + Abort, B: Keeper>(
@@ -58,7 +60,7 @@ impl Visit for FileCase {
 /// Does the command `list`, and gives what it writes.
 struct ListCases;
 
-impl Visit for ListCases {
+impl VisitKeeper for ListCases {
     type Answer = MemorySink;
 
     fn visit<R: AllocGlobal + Abort, B: Keeper>(
@@ -85,8 +87,8 @@ fn list_after_crash<R: AllocGlobal + Abort>(rt: &R, mut files: Disks) -> Result<
 /// More calls than one run of `file` makes of a file, from the first open to the close.
 const MOST_CALLS: u64 = 60;
 
-/// Stops a file at each of its calls in turn, up to a run that is not stopped. Whether each time no case was listed
-/// or exactly the case, and this where `file` was done.
+/// Stops a file at each of its calls in turn, up to a run that is not stopped. Whether each
+/// time no case was listed or exactly the case, and this where `file` was done.
 fn leaves_one_or_none<R: AllocGlobal + Abort>(rt: &R, stopped: Stopped) -> Result<bool, Fail> {
     for calls in 0..MOST_CALLS {
         let files = stopping_files(rt.alloc(), stopped, calls);

@@ -1,5 +1,6 @@
-//! A program of the gate: what `casebook` does, over logs that are rejected and a label that has a case, with status 1.
-//! The stored run of `casebook` itself ends with 0, and a program has one.
+//! A program of the gate: what `casebook` does, over logs that are rejected and a label that
+//! has a case, with status 1. The stored run of `casebook` itself ends with 0, and a program
+//! has one.
 #![tactic(auto)]
 
 use case_files::program::run_casebook;

@@ -9,7 +9,7 @@ use Rattle.std.proofs.lemmas.List.Splits.{length-slice_split, slice_split-cons_n
 use Rattle.audit_base.specs.Least.{only_if}
 use Rattle.session_audit.specs.declared.phases.Phase.{Phase}
 use Rattle.session_audit.specs.Phases.{ArePhases}
-use Rattle.command_words.specs.PhaseWords.{cut_at, follows, is_comma, parts_of, phase_after, phase_named, phases_after, phases_named, phases_within}
+use Rattle.command_words.specs.PhaseWords.{cut_at, first_follows, is_comma, parts_of, phase_after, phase_named, phases_after, phases_named, phases_within}
 
 none≢some : {A : Type 0} (a : A) → None ≡ Some a → ⊥
 none≢some a e = cc
@@ -43,7 +43,7 @@ pub record Rise (before : ℕ) (phases : List Phase) : Type 0 where
   pub rising : AllPairs (λ p q. p.first < q.first) phases
 
 -- what follows a place is above it
-follows-above : (before first : ℕ) → follows before first ≡ true → before < first
+follows-above : (before first : ℕ) → first_follows before first ≡ true → before < first
 follows-above zero first e = grind (arith, e)
 follows-above (suc n) first e = grind (arith, e)
 
@@ -54,12 +54,12 @@ some-same : {A : Type 0} (a b : A) → Some a ≡ Some b → a ≡ b
 some-same a b e = cc
 
 -- a phase that is kept follows
-kept-follows : (before : ℕ) (named : Option Phase) (phase : Phase) → option_and_then (λ p. only_if (follows before p.first) p) named ≡ Some phase → follows before phase.first ≡ true
+kept-follows : (before : ℕ) (named : Option Phase) (phase : Phase) → option_and_then (λ p. only_if (first_follows before p.first) p) named ≡ Some phase → first_follows before phase.first ≡ true
 kept-follows before None phase e = absurd (none≢some phase e)
-kept-follows before (Some p) phase e = by_test (follows before p.first) refl e
+kept-follows before (Some p) phase e = by_test (first_follows before p.first) refl e
   where
-    by_test : (t : Bool) → follows before p.first ≡ t → only_if t p ≡ Some phase → follows before phase.first ≡ true
-    by_test true is e = subst (λ (q : Phase). follows before q.first ≡ true) (some-same p phase e) is
+    by_test : (t : Bool) → first_follows before p.first ≡ t → only_if t p ≡ Some phase → first_follows before phase.first ≡ true
+    by_test true is e = subst (λ (q : Phase). first_follows before q.first ≡ true) (some-same p phase e) is
     by_test false is e = absurd (none≢some phase e)
 
 -- Phases that parts give: the first part gives the first phase, and the others the rest.
@@ -67,7 +67,7 @@ pub record Leads (before : ℕ) (part : List ℕ) (parts : List (List ℕ)) (pha
   pub phase : Phase
   pub rest : List Phase
   pub are : phase ∷ rest ≡ phases
-  pub follows_is : follows before phase.first ≡ true
+  pub follows_is : first_follows before phase.first ≡ true
   pub rest_is : phases_after phase.first parts ≡ Some rest
 
 leads : (before : ℕ) (part : List ℕ) (parts : List (List ℕ)) (phases : List Phase) → phases_after before (part ∷ parts) ≡ Some phases → Leads before part parts phases

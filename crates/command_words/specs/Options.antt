@@ -1,11 +1,11 @@
--- The options of a command. They stand after its positional words, in any order, each at most once, and the
--- value of an option is the next word.
+-- The options of a command. They follow its positional words, in any order, each at most once,
+-- and the value of an option is the next word.
 use Rattle.std.specs.Prelude.{ℕ, Bool, true, false, not, Option, None, Some, is_none, option_and_then, unwrap_or, List, [], ◌∷◌, codes, if◌then◌else◌}
 use Rattle.audit_base.specs.Least.{only_if}
 use Rattle.audit_base.specs.declared.terms.Form.{Form}
 use Rattle.audit_base.specs.declared.terms.Form.TheVariants.{Csv}
 use Rattle.command_words.specs.declared.options.Options.{Options}
-use Rattle.command_words.specs.WordForms.{form_named, is_word}
+use Rattle.command_words.specs.WordForms.{form_named, word_equals}
 
 -- nothing is said by options
 abbrev pub no_options : Options
@@ -30,23 +30,23 @@ with_trades_form said form =
     only_if (is_none said.trades_form) (record said { trades_form = Some form })
 
 -- `--table` has no value
-abbrev pub is_flag : List ℕ → Bool
-is_flag word = is_word word (codes "--table")
+abbrev pub is_table_option : List ℕ → Bool
+is_table_option word = word_equals word (codes "--table")
 
 -- the other options, `--orders-form` and `--trades-form`, have a form as value
-abbrev pub with_valued : List ℕ → List ℕ → Options → Option Options
-with_valued word value said =
-    if is_word word (codes "--orders-form")
+abbrev pub with_form_option : List ℕ → List ℕ → Options → Option Options
+with_form_option word value said =
+    if word_equals word (codes "--orders-form")
     then option_and_then (with_orders_form said) (form_named value)
-    else (if is_word word (codes "--trades-form")
+    else (if word_equals word (codes "--trades-form")
     then option_and_then (with_trades_form said) (form_named value)
     else None)
 
--- what these words say as options, or nothing where a word is no option, a value is missing, or an option
--- stands twice
+-- what these words say as options, or nothing where a word is no option, a value is missing, or
+-- an option is given twice
 abbrev pub options_in : List (List ℕ) → Option Options
 options_in [] = Some no_options
-options_in (word ∷ []) = if is_flag word then with_table no_options else None
+options_in (word ∷ []) = if is_table_option word then with_table no_options else None
 options_in (word ∷ value ∷ rest) =
-    if is_flag word then option_and_then with_table (options_in (value ∷ rest))
-    else option_and_then (with_valued word value) (options_in rest)
+    if is_table_option word then option_and_then with_table (options_in (value ∷ rest))
+    else option_and_then (with_form_option word value) (options_in rest)

@@ -1,22 +1,22 @@
--- The phases of a day, as one word of a command line gives them: 1 to 64 parts KIND@FIRST, joined by
--- commas, the FIRST of the first being 1 and the others rising. The code of `,` is 44, of `@` 64, and of
--- `0` 48.
+-- The phases of a day, as one word of a command line gives them: 1 to 64 parts KIND@FIRST,
+-- joined by commas, the FIRST of the first being 1 and the others rising. The code of `,` is
+-- 44, of `@` 64, and of `0` 48.
 use Rattle.std.specs.Prelude.{ℕ, Bool, ◌==◌, Option, None, Some, option_map, option_and_then, List, [], ◌∷◌, length, slice_index, codes, nat_le, nat_lt, if◌then◌else◌}
 use Rattle.std.specs.List.{slice_split, position_or_len, before_first, after_first}
-use Rattle.audit_base.specs.Least.{first_of, only_if}
+use Rattle.audit_base.specs.Least.{first_answer, only_if}
 use Rattle.session_audit.specs.declared.phases.PhaseKind.{PhaseKind}
 use Rattle.session_audit.specs.declared.phases.PhaseKind.TheVariants as kind
 use Rattle.session_audit.specs.declared.phases.Phase.{Phase}
 use Rattle.session_audit.specs.Phases.{last_place}
-use Rattle.command_words.specs.WordForms.{is_word, number_upto}
+use Rattle.command_words.specs.WordForms.{word_equals, number_upto}
 
 -- the byte that joins parts
 abbrev pub is_comma : ℕ → Bool
 is_comma byte = byte == 44
 
 -- the byte between KIND and FIRST
-abbrev pub is_at : ℕ → Bool
-is_at byte = byte == 64
+abbrev pub is_at_sign : ℕ → Bool
+is_at_sign byte = byte == 64
 
 -- the parts of a word, which commas join: one more than there are commas
 abbrev pub parts_of : List ℕ → List (List ℕ)
@@ -24,21 +24,21 @@ parts_of word = slice_split is_comma word
 
 -- KIND is the word of a kind of phase
 abbrev pub kind_named : List ℕ → Option PhaseKind
-kind_named word = first_of (only_if (is_word word (codes "uniform")) kind.Uniform
-    ∷ only_if (is_word word (codes "maximum")) kind.Maximum
-    ∷ only_if (is_word word (codes "continuous")) kind.Continuous ∷ [])
+kind_named word = first_answer (only_if (word_equals word (codes "uniform")) kind.Uniform
+    ∷ only_if (word_equals word (codes "maximum")) kind.Maximum
+    ∷ only_if (word_equals word (codes "continuous")) kind.Continuous ∷ [])
 
 -- FIRST is from 1 to 4,294,967,295, in digits of which the first is no zero
-abbrev pub first_named : List ℕ → Option ℕ
-first_named word = if slice_index word 0 == 48 then None else number_upto last_place word
+abbrev pub first_place_named : List ℕ → Option ℕ
+first_place_named word = if slice_index word 0 == 48 then None else number_upto last_place word
 
 -- the phase of a KIND and a FIRST, where both are there
-abbrev pub phase_with : Option PhaseKind → Option ℕ → Option Phase
-phase_with the_kind the_first =
+abbrev pub phase_of_kind : Option PhaseKind → Option ℕ → Option Phase
+phase_of_kind the_kind the_first =
     option_and_then (λ k. option_map (λ f. record { kind = k; first = f }) the_first) the_kind
 
--- a text cut at its first such byte, into what stands before it and what behind it; nothing where there is
--- no such byte
+-- a text cut at its first such byte, into the bytes before it and those behind it; nothing
+-- where there is no such byte
 abbrev pub cut_at : (ℕ → Bool) → List ℕ → Option (List ℕ × List ℕ)
 cut_at is_mark text =
     if nat_lt (position_or_len is_mark text) (length text)
@@ -48,25 +48,29 @@ cut_at is_mark text =
 -- a part KIND@FIRST
 abbrev pub phase_named : List ℕ → Option Phase
 phase_named part =
-    option_and_then (λ cut. phase_with (kind_named cut.0) (first_named cut.1)) (cut_at is_at part)
+    option_and_then (λ cut. phase_of_kind (kind_named cut.0) (first_place_named cut.1))
+    (cut_at is_at_sign part)
 
--- the first FIRST is 1, and each other is above the one before it; 0 stands before the first
-abbrev pub follows : ℕ → ℕ → Bool
-follows before first = if before == 0 then first == 1 else nat_lt before first
+-- the first FIRST is 1, and each other is above the one before it; 0 is given as the one before
+-- the first
+abbrev pub first_follows : ℕ → ℕ → Bool
+first_follows before first = if before == 0 then first == 1 else nat_lt before first
 
 -- a phase whose FIRST follows another
 abbrev pub phase_after : ℕ → List ℕ → Option Phase
 phase_after before part =
-    option_and_then (λ phase. only_if (follows before phase.first) phase) (phase_named part)
+    option_and_then (λ phase. only_if (first_follows before phase.first) phase) (phase_named part)
 
--- the phases of parts, each FIRST following the one before it; nothing where a part is no such phase
+-- the phases of parts, each FIRST following the one before it; nothing where a part is no such
+-- phase
 abbrev pub phases_after : ℕ → List (List ℕ) → Option (List Phase)
 phases_after before [] = Some []
 phases_after before (part ∷ parts) =
-    option_and_then (λ phase. option_map (λ rest. phase ∷ rest) (phases_after phase.first parts))
+    option_and_then (λ phase.
+    option_map (λ rest. phase ∷ rest) (phases_after phase.first parts))
     (phase_after before part)
 
--- the phases of parts, of which there are at most so many
+-- the phases of parts, of which there are at most as many as given
 abbrev pub phases_within : ℕ → ℕ → List (List ℕ) → Option (List Phase)
 phases_within most before parts =
     if nat_le (length parts) most then phases_after before parts else None
@@ -76,6 +80,6 @@ abbrev pub phases_named : List ℕ → Option (List Phase)
 phases_named word = phases_within 64 0 (parts_of word)
 
 -- the parts behind a first one, where any are
-abbrev pub parts_behind : Option (List ℕ) → List (List ℕ)
-parts_behind None = []
-parts_behind (Some rest) = parts_of rest
+abbrev pub parts_after_first : Option (List ℕ) → List (List ℕ)
+parts_after_first None = []
+parts_after_first (Some rest) = parts_of rest

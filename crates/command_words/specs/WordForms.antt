@@ -2,7 +2,7 @@
 use Rattle.std.specs.Prelude.{ℕ, Bool, not, ◌==◌, ◌&&◌, Option, List, [], ◌∷◌, length, slice_index, slice_index_or, codes, nat_le, option_and_then}
 use Rattle.std.specs.Cmp.Lexicographic.{pointwise}
 use Rattle.audit_base.specs.Digits.{digits_form}
-use Rattle.audit_base.specs.Least.{first_of, only_if}
+use Rattle.audit_base.specs.Least.{first_answer, only_if}
 use Rattle.audit_base.specs.Names.{is_name}
 use Rattle.audit_base.specs.Words.{rule_word}
 use Rattle.audit_base.specs.declared.terms.Form.{Form}
@@ -13,12 +13,12 @@ use Rattle.audit_base.specs.declared.terms.Which.{Which}
 use Rattle.audit_base.specs.declared.terms.Which.TheVariants.{Orders, Trades}
 
 -- the word at a place, from 0
-abbrev pub word_at : List (List ℕ) → ℕ → List ℕ
-word_at words place = slice_index_or words place []
+abbrev pub nth_word : List (List ℕ) → ℕ → List ℕ
+nth_word words place = slice_index_or words place []
 
 -- a word is this text
-abbrev pub is_word : List ℕ → List ℕ → Bool
-is_word word text = pointwise ◌==◌ word text
+abbrev pub word_equals : List ℕ → List ℕ → Bool
+word_equals word text = pointwise ◌==◌ word text
 
 -- a word that begins with `-` is read as an option
 abbrev pub is_option : List ℕ → Bool
@@ -38,21 +38,21 @@ is_path word = not (length word == 0) && not (is_option word)
 
 -- RULE is the word of a rule
 abbrev pub rule_named : List ℕ → Option Rule
-rule_named word = first_of (only_if (is_word word (rule_word rule.Matching)) rule.Matching
-    ∷ only_if (is_word word (rule_word rule.Fair)) rule.Fair
-    ∷ only_if (is_word word (rule_word rule.Uniform)) rule.Uniform
-    ∷ only_if (is_word word (rule_word rule.Maximum)) rule.Maximum
-    ∷ only_if (is_word word (rule_word rule.Continuous)) rule.Continuous ∷ [])
+rule_named word = first_answer (only_if (word_equals word (rule_word rule.Matching)) rule.Matching
+    ∷ only_if (word_equals word (rule_word rule.Fair)) rule.Fair
+    ∷ only_if (word_equals word (rule_word rule.Uniform)) rule.Uniform
+    ∷ only_if (word_equals word (rule_word rule.Maximum)) rule.Maximum
+    ∷ only_if (word_equals word (rule_word rule.Continuous)) rule.Continuous ∷ [])
 
 -- LOG is `orders` or `trades`
 abbrev pub log_named : List ℕ → Option Which
-log_named word = first_of (only_if (is_word word (codes "orders")) Orders
-    ∷ only_if (is_word word (codes "trades")) Trades ∷ [])
+log_named word = first_answer (only_if (word_equals word (codes "orders")) Orders
+    ∷ only_if (word_equals word (codes "trades")) Trades ∷ [])
 
 -- FORM is `csv` or `fix`
 abbrev pub form_named : List ℕ → Option Form
-form_named word = first_of (only_if (is_word word (codes "csv")) Csv
-    ∷ only_if (is_word word (codes "fix")) Fix ∷ [])
+form_named word = first_answer (only_if (word_equals word (codes "csv")) Csv
+    ∷ only_if (word_equals word (codes "fix")) Fix ∷ [])
 
 -- the number from 1 to a greatest one that a word of 1 to 10 digits writes
 abbrev pub number_upto : ℕ → List ℕ → Option ℕ

@@ -1,7 +1,8 @@
--- What the words of a command line without the program's name ask for, where they are well-formed. The
--- first word names the command; there is one definition a command of what its words ask for.
+-- What the words of a command line without the program's name ask for, where they are
+-- well-formed. The first word names the command; there is one definition a command of what its
+-- words ask for.
 use Rattle.std.specs.Prelude.{ℕ, Bool, not, ◌==◌, ◌&&◌, ◌||◌, ◌+◌, Option, None, Some, option_and_then, is_none, List, [], ◌∷◌, length, drop, codes, nat_le, if◌then◌else◌, IsTrue}
-use Rattle.audit_base.specs.Least.{first_of, only_if}
+use Rattle.audit_base.specs.Least.{first_answer, only_if}
 use Rattle.audit_base.specs.RuleKinds.{asks_for_greatest, has_table}
 use Rattle.log_maker.specs.Generator.{IsCount, IsStart}
 use Rattle.session_audit.specs.Phases.{ArePhases}
@@ -13,46 +14,46 @@ use Rattle.command_words.specs.declared.requests.Request.{Request}
 use Rattle.command_words.specs.declared.requests.Request.TheVariants.{Audit, Expect, Convert, Generate, Certify, Verify, Session}
 use Rattle.command_words.specs.Options.{options_in, or_csv}
 use Rattle.command_words.specs.PhaseWords.{phases_named}
-use Rattle.command_words.specs.WordForms.{form_named, is_path, is_word, log_named, number_upto, rule_named, symbol_named, word_at}
+use Rattle.command_words.specs.WordForms.{form_named, is_path, word_equals, log_named, number_upto, rule_named, symbol_named, nth_word}
 
--- what is made of an answer, where there is one
-abbrev pub given : {A B : Type 0} → Option A → (A → Option B) → Option B
-given answer make = option_and_then make answer
+-- what is made of a value, where there is one
+abbrev pub when_some : {A B : Type 0} → Option A → (A → Option B) → Option B
+when_some answer make = option_and_then make answer
 
--- the same of two answers that come together
-abbrev pub given_both : {A B C : Type 0} → Option (A × B) → (A → B → Option C) → Option C
-given_both answers make = option_and_then (λ both. make both.0 both.1) answers
+-- the same of two values that are given together
+abbrev pub when_both : {A B C : Type 0} → Option (A × B) → (A → B → Option C) → Option C
+when_both answers make = option_and_then (λ both. make both.0 both.1) answers
 
 -- the command that a word names
 abbrev pub command_named : List ℕ → Option Command
-command_named word = first_of (only_if (is_word word (codes "audit")) command.Audit
-    ∷ only_if (is_word word (codes "expect")) command.Expect
-    ∷ only_if (is_word word (codes "convert")) command.Convert
-    ∷ only_if (is_word word (codes "generate")) command.Generate
-    ∷ only_if (is_word word (codes "certify")) command.Certify
-    ∷ only_if (is_word word (codes "verify")) command.Verify
-    ∷ only_if (is_word word (codes "session")) command.Session ∷ [])
+command_named word = first_answer (only_if (word_equals word (codes "audit")) command.Audit
+    ∷ only_if (word_equals word (codes "expect")) command.Expect
+    ∷ only_if (word_equals word (codes "convert")) command.Convert
+    ∷ only_if (word_equals word (codes "generate")) command.Generate
+    ∷ only_if (word_equals word (codes "certify")) command.Certify
+    ∷ only_if (word_equals word (codes "verify")) command.Verify
+    ∷ only_if (word_equals word (codes "session")) command.Session ∷ [])
 
 -- ORDERS and TRADES, at a place and behind it
 abbrev pub names_logs : List (List ℕ) → ℕ → Bool
-names_logs words place = is_path (word_at words place) && is_path (word_at words (place + 1))
+names_logs words place = is_path (nth_word words place) && is_path (nth_word words (place + 1))
 
 -- SYMBOL, and what the words behind all others say as options
 abbrev pub symbol_and_options : List ℕ → List (List ℕ) → Option (List ℕ × Options)
 symbol_and_options word behind =
-    given (symbol_named word) (λ symbol.
-    given (options_in behind) (λ options. Some (symbol, options)))
+    when_some (symbol_named word) (λ symbol.
+    when_some (options_in behind) (λ options. Some (symbol, options)))
 
 -- RULE and SYMBOL behind the command, and what the words behind all others say as options
 abbrev pub rule_words : List (List ℕ) → List (List ℕ) → Option RuleWords
 rule_words words behind =
-    given (rule_named (word_at words 1)) (λ the_rule.
-    given_both (symbol_and_options (word_at words 2) behind) (λ symbol options.
+    when_some (rule_named (nth_word words 1)) (λ the_rule.
+    when_both (symbol_and_options (nth_word words 2) behind) (λ symbol options.
     Some (record { rule = the_rule; symbol = symbol; options = options })))
 
 -- these words, where they pass a test
 abbrev pub passing_words : (RuleWords → Bool) → Option RuleWords → Option RuleWords
-passing_words test said = given said (λ w. only_if (test w) w)
+passing_words test said = when_some said (λ w. only_if (test w) w)
 
 -- of `audit`, `--table` where the rule has one
 abbrev pub audit_words : List (List ℕ) → Option RuleWords
@@ -63,8 +64,8 @@ audit_words words = passing_words (λ w. not w.options.table || has_table w.rule
 abbrev pub audit_asked : List (List ℕ) → Option Request
 audit_asked words =
     if nat_le 5 (length words) && names_logs words 3 then
-    given (audit_words words) (λ w.
-    Some (Audit w.rule w.symbol (word_at words 3) (word_at words 4)
+    when_some (audit_words words) (λ w.
+    Some (Audit w.rule w.symbol (nth_word words 3) (nth_word words 4)
     (or_csv w.options.orders_form) (or_csv w.options.trades_form) w.options.table))
     else None
 
@@ -77,26 +78,26 @@ expect_words words = passing_words
 -- `expect RULE SYMBOL ORDERS` and options
 abbrev pub expect_asked : List (List ℕ) → Option Request
 expect_asked words =
-    if nat_le 4 (length words) && is_path (word_at words 3) then
-    given (expect_words words) (λ w.
-    Some (Expect w.rule w.symbol (word_at words 3) (or_csv w.options.orders_form)))
+    if nat_le 4 (length words) && is_path (nth_word words 3) then
+    when_some (expect_words words) (λ w.
+    Some (Expect w.rule w.symbol (nth_word words 3) (or_csv w.options.orders_form)))
     else None
 
 -- `convert LOG FORM PATH`
 abbrev pub convert_asked : List (List ℕ) → Option Request
 convert_asked words =
-    if length words == 4 && is_path (word_at words 3) then
-    given (log_named (word_at words 1)) (λ log.
-    given (form_named (word_at words 2)) (λ form.
-    Some (Convert log form (word_at words 3))))
+    if length words == 4 && is_path (nth_word words 3) then
+    when_some (log_named (nth_word words 1)) (λ log.
+    when_some (form_named (nth_word words 2)) (λ form.
+    Some (Convert log form (nth_word words 3))))
     else None
 
 -- `generate START COUNT`, START from 1 to 2,147,483,646 and COUNT from 1 to 1,000,000
 abbrev pub generate_asked : List (List ℕ) → Option Request
 generate_asked words =
     if length words == 3 then
-    given (number_upto 2147483646 (word_at words 1)) (λ start.
-    given (number_upto 1000000 (word_at words 2)) (λ count.
+    when_some (number_upto 2147483646 (nth_word words 1)) (λ start.
+    when_some (number_upto 1000000 (nth_word words 2)) (λ count.
     Some (Generate start count)))
     else None
 
@@ -109,23 +110,23 @@ certify_words words = passing_words (λ w. asks_for_greatest w.rule && not w.opt
 abbrev pub certify_asked : List (List ℕ) → Option Request
 certify_asked words =
     if nat_le 5 (length words) && names_logs words 3 then
-    given (certify_words words) (λ w.
-    Some (Certify w.rule w.symbol (word_at words 3) (word_at words 4)
+    when_some (certify_words words) (λ w.
+    Some (Certify w.rule w.symbol (nth_word words 3) (nth_word words 4)
     (or_csv w.options.orders_form) (or_csv w.options.trades_form)))
     else None
 
 -- of `verify`, SYMBOL, and of the options the forms alone
 abbrev pub verify_words : List (List ℕ) → Option (List ℕ × Options)
 verify_words words =
-    given_both (symbol_and_options (word_at words 1) (drop 5 words)) (λ symbol options.
+    when_both (symbol_and_options (nth_word words 1) (drop 5 words)) (λ symbol options.
     only_if (not options.table) (symbol, options))
 
 -- `verify SYMBOL ORDERS TRADES CERTIFICATE` and options
 abbrev pub verify_asked : List (List ℕ) → Option Request
 verify_asked words =
-    if nat_le 5 (length words) && names_logs words 2 && is_path (word_at words 4) then
-    given_both (verify_words words) (λ symbol options.
-    Some (Verify symbol (word_at words 2) (word_at words 3) (word_at words 4)
+    if nat_le 5 (length words) && names_logs words 2 && is_path (nth_word words 4) then
+    when_both (verify_words words) (λ symbol options.
+    Some (Verify symbol (nth_word words 2) (nth_word words 3) (nth_word words 4)
     (or_csv options.orders_form) (or_csv options.trades_form)))
     else None
 
@@ -133,9 +134,9 @@ verify_asked words =
 abbrev pub session_asked : List (List ℕ) → Option Request
 session_asked words =
     if nat_le 5 (length words) && names_logs words 3 then
-    given_both (symbol_and_options (word_at words 1) (drop 5 words)) (λ symbol options.
-    given (phases_named (word_at words 2)) (λ phases.
-    Some (Session symbol phases (word_at words 3) (word_at words 4)
+    when_both (symbol_and_options (nth_word words 1) (drop 5 words)) (λ symbol options.
+    when_some (phases_named (nth_word words 2)) (λ phases.
+    Some (Session symbol phases (nth_word words 3) (nth_word words 4)
     (or_csv options.orders_form) (or_csv options.trades_form) options.table)))
     else None
 
@@ -149,13 +150,15 @@ asked_by command.Certify words = certify_asked words
 asked_by command.Verify words = verify_asked words
 asked_by command.Session words = session_asked words
 
--- what words ask for, by the command that the first of them names; nothing where they are not well-formed
+-- what words ask for, by the command that the first of them names; nothing where they are not
+-- well-formed
 abbrev pub request_of : List (List ℕ) → Option Request
 request_of words =
-    given (command_named (word_at words 0)) (λ command. asked_by command words)
+    when_some (command_named (nth_word words 0)) (λ command. asked_by command words)
 
--- what well-formed words ask for is Expected trades of a rule that has such, a log of numbers in their
--- limits, a certificate of a rule that asks for a greatest volume, and phases that are those of a day
+-- what well-formed words ask for is Expected trades of a rule that has such, a log of numbers
+-- in their limits, a certificate of a rule that asks for a greatest volume, and phases that are
+-- those of a day
 abbrev pub MayBeAsked : Request → Type 0
 MayBeAsked (Audit rule symbol orders trades orders_form trades_form table) = Unit {0}
 MayBeAsked (Expect rule symbol orders orders_form) = IsTrue (has_table rule)

@@ -8,8 +8,9 @@ use std::io::ErrorKind;
 use std::random::RandomSource;
 use std::rt::Env;
 
-/// The words of the command line without the program's name. A command line that is not text is a faulty
-/// one, and gives no words, which no program takes. `NoMemory` comes only where memory ran out.
+/// The words of the command line without the program's name. A command line that is not text is
+/// a faulty one, and gives no words, which no program takes. `NoMemory` comes only where memory
+/// ran out.
 pub fn words_of<R: Env + AllocGlobal>(rt: &R) -> Result<Vec<String>, NoMemory> {
     let mut words = Vec::new(rt.alloc());
     match env::args(rt) {
@@ -24,8 +25,8 @@ pub fn words_of<R: Env + AllocGlobal>(rt: &R) -> Result<Vec<String>, NoMemory> {
     Ok(words)
 }
 
-/// A seed that whoever made the logs did not know. Where the system gives no random bytes it is the fixed
-/// one: the answer is the same, and only logs that were made for that seed are slow.
+/// A seed that whoever made the logs did not know. Where the system gives no random bytes it is
+/// the fixed one: the answer is the same, and only logs that were made for that seed are slow.
 pub fn seed_of(source: &impl RandomSource) -> HashSeed
     ensures { IsOfTwoNumbers result }
 {

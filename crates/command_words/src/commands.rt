@@ -1,9 +1,10 @@
-//! The words of each command. The first word names the command. A function gives the request where the
-//! words behind it are those of its command, and nothing, with no memory taken, where they are not.
+//! The words of each command. The first word names the command. A function gives the request
+//! where the words behind it are those of its command, and nothing, with no memory taken, where
+//! they are not.
 ghost use Rattle.std.specs.Prelude.{◌≡◌, ◌+◌, ◌<◌, ◌≤◌, length, map, IfOk, IfSome, IsErr, IsSome, IsTrue};
 ghost use Rattle.audit_base.specs.RuleKinds.{asks_for_greatest, has_table};
 ghost use Rattle.std.specs.String.{string_bytes};
-ghost use Rattle.command_words.specs.WordForms.{word_at};
+ghost use Rattle.command_words.specs.WordForms.{nth_word};
 ghost use Rattle.command_words.specs.Words as spec;
 
 use super::options::{Options, options_in, or_csv};
@@ -60,13 +61,13 @@ fn command_named(word: &str) -> Option<Command>
 
 /// The command that the first word names, where there is one.
 pub(crate) fn command_in(words: &[String]) -> Option<Command>
-    ensures { result ≡ spec.command_named (word_at (map string_bytes words.now) 0) }
+    ensures { result ≡ spec.command_named (nth_word (map string_bytes words.now) 0) }
 {
     let first = words.first()?;
     command_named(first.as_str())
 }
 
-/// Whether ORDERS and TRADES stand at a place and behind it.
+/// Whether the words at a place and behind it are paths, as ORDERS and TRADES are.
 fn names_logs(words: &[String], place: usize) -> bool
     requires { place + 1 < length words.now }
     ensures { result ≡ spec.names_logs (map string_bytes words.now) place }
@@ -81,12 +82,13 @@ struct LogPaths {
     trades: PathText,
 }
 
-/// The paths that stand at a place and behind it.
+/// The paths that the words at a place and behind it are.
 fn log_paths(alloc: Global, words: &[String], place: usize) -> Result<LogPaths, NoMemory>
     requires { place + 1 < length words.now }
-    ensures orders { IfOk result (λ paths. paths.orders ≡ word_at (map string_bytes words.now) place) }
+    ensures orders { IfOk result (λ paths.
+        paths.orders ≡ nth_word (map string_bytes words.now) place) }
     ensures trades { IfOk result
-        (λ paths. paths.trades ≡ word_at (map string_bytes words.now) (place + 1)) }
+        (λ paths. paths.trades ≡ nth_word (map string_bytes words.now) (place + 1)) }
 {
     let orders = path_of(alloc, word_at(words, place))?;
     let trades = path_of(alloc, word_at(words, place + 1))?;
@@ -299,8 +301,8 @@ fn verify_request(alloc: Global, words: &[String]) -> Result<Option<Request>, No
     }))
 }
 
-/// `session SYMBOL PHASES ORDERS TRADES` with its options. The phases are read last, since they take
-/// memory where they are well-formed.
+/// `session SYMBOL PHASES ORDERS TRADES` with its options. The phases are read last, since they
+/// take memory where they are well-formed.
 fn session_request(alloc: Global, words: &[String]) -> Result<Option<Request>, NoMemory>
     ensures request { IfOk result (λ made. made ≡ spec.session_asked (map string_bytes words.now)) }
     ensures memory { IsErr result → IsSome (spec.session_asked (map string_bytes words.now)) }

@@ -1,4 +1,4 @@
-//! The options of a command: they stand after its positional words, in any order, each at most once,
+//! The options of a command: they follow its positional words, in any order, each at most once,
 //! and the value of an option is the next word.
 ghost use Rattle.std.specs.Prelude.{◌≡◌, map};
 ghost use Rattle.std.specs.String.{string_bytes};
@@ -37,8 +37,8 @@ fn no_options() -> Options
 }
 
 /// Whether the word is an option that has no value.
-fn is_flag(word: &str) -> bool
-    ensures { result ≡ spec.is_flag word.now }
+fn is_table_option(word: &str) -> bool
+    ensures { result ≡ spec.is_table_option word.now }
 {
     is_word(word, b"--table")
 }
@@ -83,8 +83,8 @@ fn with_trades_form(said: Options, form: Form) -> Option<Options>
 }
 
 /// What is said with an option and its value too.
-fn with_valued(word: &str, value: &str, said: Options) -> Option<Options>
-    ensures { result ≡ spec.with_valued word.now value.now said }
+fn with_form_option(word: &str, value: &str, said: Options) -> Option<Options>
+    ensures { result ≡ spec.with_form_option word.now value.now said }
 {
     if is_word(word, b"--orders-form") {
         return with_orders_form(said, form_named(value)?);
@@ -95,17 +95,17 @@ fn with_valued(word: &str, value: &str, said: Options) -> Option<Options>
     None
 }
 
-/// What these words say as options. There is nothing where a word is no option, a value is missing, or
-/// an option stands twice.
+/// What these words say as options. There is nothing where a word is no option, a value is
+/// missing, or an option is given twice.
 pub(crate) fn options_in(words: &[String]) -> Option<Options>
     ensures { result ≡ spec.options_in (map string_bytes words.now) }
 {
     let Some((word, rest)) = words.split_first() else {
         return Some(no_options());
     };
-    if is_flag(word.as_str()) {
+    if is_table_option(word.as_str()) {
         return with_table(options_in(rest)?);
     }
     let (value, rest) = rest.split_first()?;
-    with_valued(word.as_str(), value.as_str(), options_in(rest)?)
+    with_form_option(word.as_str(), value.as_str(), options_in(rest)?)
 }

@@ -1,4 +1,5 @@
-//! The phases of a day, as one word of a command line gives them: parts `KIND@FIRST`, joined by commas.
+//! The phases of a day, as one word of a command line gives them: parts `KIND@FIRST`, joined by
+//! commas.
 ghost use Rattle.std.specs.Prelude.{◌≡◌, ◌<◌, ◌∷◌, length, option_map, IfOk, IfSome, IsErr, IsSome};
 ghost use Rattle.session_audit.specs.Phases.{ArePhases};
 ghost use Rattle.command_words.specs.PhaseWords as spec;
@@ -28,8 +29,8 @@ fn kind_named(word: &str) -> Option<PhaseKind>
 }
 
 /// The place, from 1 on, that the word writes without a zero at its front.
-fn first_named(word: &str) -> Option<u32>
-    ensures { result ≡ spec.first_named word.now }
+fn first_place_named(word: &str) -> Option<u32>
+    ensures { result ≡ spec.first_place_named word.now }
 {
     match word.as_bytes() {
         [b'0', ..] => None,
@@ -37,14 +38,14 @@ fn first_named(word: &str) -> Option<u32>
     }
 }
 
-/// What stands before the first `@` of the text, and behind it.
-fn cut_at_mark(text: &str) -> Option<(&str, &str)>
-    ensures { option_map (λ cut. (cut.0.now, cut.1.now)) result ≡ spec.cut_at spec.is_at text.now }
+/// The text before its first `@`, and the text behind it.
+fn cut_at_sign(text: &str) -> Option<(&str, &str)>
+    ensures { option_map (λ cut. (cut.0.now, cut.1.now)) result ≡ spec.cut_at spec.is_at_sign text.now }
 {
     text.split_once('@')
 }
 
-/// What stands before the first comma of the text, and behind it.
+/// The text before its first comma, and the text behind it.
 fn cut_at_comma(text: &str) -> Option<(&str, &str)>
     ensures cut { option_map (λ cut. (cut.0.now, cut.1.now)) result
         ≡ spec.cut_at spec.is_comma text.now }
@@ -57,16 +58,16 @@ fn cut_at_comma(text: &str) -> Option<(&str, &str)>
 fn phase_named(part: &str) -> Option<Phase>
     ensures { result ≡ spec.phase_named part.now }
 {
-    let (kind, first) = cut_at_mark(part)?;
+    let (kind, first) = cut_at_sign(part)?;
     let kind = kind_named(kind)?;
-    let first = first_named(first)?;
+    let first = first_place_named(first)?;
     Some(Phase { kind, first })
 }
 
-/// Whether a phase may begin with this place after one that begins with `before`: the first phase, before
-/// which 0 stands, begins with 1, and the others with a greater place.
+/// Whether a phase may begin with this place after one that begins with `before`: the first
+/// phase, for which `before` is 0, begins with 1, and the others with a greater place.
 fn follows(before: u32, first: u32) -> bool
-    ensures { result ≡ spec.follows before first }
+    ensures { result ≡ spec.first_follows before first }
 {
     if before == 0 {
         return first == 1;
@@ -88,7 +89,7 @@ fn phase_after(before: u32, part: &str) -> Option<Phase>
 /// The first part of a word, and what is behind its comma.
 fn first_part(word: &str) -> (&str, Option<&str>)
     ensures parts { spec.parts_of word.now
-        ≡ result.0.now ∷ spec.parts_behind (option_map (λ rest. rest.now) result.1) }
+        ≡ result.0.now ∷ spec.parts_after_first (option_map (λ rest. rest.now) result.1) }
     ensures shorter { IfSome result.1 (λ rest. length rest.now < length word.now) }
 {
     match cut_at_comma(word) {
@@ -97,18 +98,19 @@ fn first_part(word: &str) -> (&str, Option<&str>)
     }
 }
 
-/// The phases of a text, each following the one before it, and at most so many; none are behind a word
-/// without a comma. They are put into a list, from the last on, once all of them are read.
+/// The phases of a text, each following the one before it, and at most `most` of them; none are
+/// behind a word without a comma. They are put into a list, from the last on, once all of them
+/// are read.
 fn phases_within(
     alloc: Global,
     text: Option<&str>,
     before: u32,
     most: usize,
 ) -> Result<Option<Vec<Phase>>, NoMemory>
-    ensures phases { let parts = spec.parts_behind (option_map (λ word. word.now) text.entry) in
+    ensures phases { let parts = spec.parts_after_first (option_map (λ word. word.now) text.entry) in
         IfOk result (λ made. option_map (λ phases. phases.items) made
         ≡ spec.phases_within most before parts) }
-    ensures memory { let parts = spec.parts_behind (option_map (λ word. word.now) text.entry) in
+    ensures memory { let parts = spec.parts_after_first (option_map (λ word. word.now) text.entry) in
         IsErr result → IsSome (spec.phases_within most before parts) }
 {
     let Some(word) = text else {
@@ -128,9 +130,10 @@ fn phases_within(
     Ok(Some(phases))
 }
 
-/// The phases of a day that the word gives: 1 to 64 parts `KIND@FIRST`, joined by commas, where KIND is
-/// `uniform`, `maximum` or `continuous` and FIRST is from 1 to 4,294,967,295, without zeros at its front.
-/// The first FIRST is 1, and they rise. A word that gives none takes no memory.
+/// The phases of a day that the word gives: 1 to 64 parts `KIND@FIRST`, joined by commas, where
+/// KIND is `uniform`, `maximum` or `continuous` and FIRST is from 1 to 4,294,967,295, without
+/// zeros at its front. The first FIRST is 1, and they rise. A word that gives none takes no
+/// memory.
 pub(crate) fn phases_named(alloc: Global, word: &str) -> Result<Option<PhaseList>, NoMemory>
     ensures phases { IfOk result (λ phases. phases ≡ spec.phases_named word.now) }
     ensures memory { IsErr result → IsSome (spec.phases_named word.now) }

@@ -12,8 +12,8 @@ use session_audit::phases::PhaseList;
 use std::alloc::Global;
 use thiserror::Error;
 
-/// What well-formed words ask for. A symbol is a name that does not begin with `-`, and a path a word of
-/// one byte or more that does not begin with it.
+/// What well-formed words ask for. A symbol is a name that does not begin with `-`, and a path
+/// a word of one byte or more that does not begin with it.
 #[derive(Drop)]
 pub enum Request {
     /// To judge the trades of a symbol by a rule. A table is asked for only where the rule has one.
@@ -40,15 +40,15 @@ pub enum Request {
         form: Form,
         path: PathText,
     },
-    /// To generate a log and say what its Expected trades come to.
+    /// To generate a log and write a summary of its Expected trades.
     Generate {
         /// From 1 to 2,147,483,646.
         start: u32,
         /// From 1 to 1,000,000.
         count: u32,
     },
-    /// To judge the trades of a symbol by `uniform` or `maximum` and, where they conform, to write their
-    /// certificate.
+    /// To judge the trades of a symbol by `uniform` or `maximum` and, where they conform, to
+    /// write their certificate.
     Certify {
         rule: Rule,
         symbol: Name,
@@ -104,17 +104,18 @@ impl From<NoMemory> for WordsFault {
 ///
 /// - `audit RULE SYMBOL ORDERS TRADES`, and after them, in any order and each at most once,
 ///   `--orders-form FORM`, `--trades-form FORM` and, where the rule has one, `--table`;
-/// - `expect RULE SYMBOL ORDERS` of a rule with Expected trades, and after them `--orders-form FORM`;
+/// - `expect RULE SYMBOL ORDERS` of a rule with Expected trades, and after them
+///   `--orders-form FORM`;
 /// - `convert orders|trades FORM PATH`;
-/// - `generate START COUNT`, START from 1 to 2,147,483,646 and COUNT from 1 to 1,000,000, each of 1 to 10
-///   digits;
-/// - `certify RULE SYMBOL ORDERS TRADES`, where RULE is `uniform` or `maximum`, and after them, in any
-///   order and each at most once, `--orders-form FORM` and `--trades-form FORM`;
+/// - `generate START COUNT`, START from 1 to 2,147,483,646 and COUNT from 1 to 1,000,000, each
+///   of 1 to 10 digits;
+/// - `certify RULE SYMBOL ORDERS TRADES`, where RULE is `uniform` or `maximum`, and after them,
+///   in any order and each at most once, `--orders-form FORM` and `--trades-form FORM`;
 /// - `verify SYMBOL ORDERS TRADES CERTIFICATE`, and after them the same options;
-/// - `session SYMBOL PHASES ORDERS TRADES`, and after them the options of `audit`. PHASES is 1 to 64 parts
-///   `KIND@FIRST`, joined by commas: KIND is `uniform`, `maximum` or `continuous`, and FIRST the place with
-///   which the phase begins, from 1 to 4,294,967,295 without zeros at its front. The first FIRST is 1, and
-///   each is above the one before it.
+/// - `session SYMBOL PHASES ORDERS TRADES`, and after them the options of `audit`. PHASES is 1
+///   to 64 parts `KIND@FIRST`, joined by commas: KIND is `uniform`, `maximum` or `continuous`,
+///   and FIRST the place with which the phase begins, from 1 to 4,294,967,295 without zeros at
+///   its front. The first FIRST is 1, and each is above the one before it.
 ///
 /// RULE is the word of a rule, and FORM is `csv` or `fix`. `Usage` comes exactly where they are not
 /// well-formed, and takes no memory. `Memory` comes only where they are, and there was not enough.

@@ -10,14 +10,14 @@ use audit_base::terms::{Form, Rule, Which};
 /// The word at a place, from 0.
 pub fn word_at(words: &[String], place: usize) -> &str
     requires { place < length words.now }
-    ensures { result.now ≡ spec.word_at (map string_bytes words.now) place }
+    ensures { result.now ≡ spec.nth_word (map string_bytes words.now) place }
 {
     words[place].as_str()
 }
 
 /// Whether the word is this text.
 pub fn is_word(word: &str, text: &[u8]) -> bool
-    ensures { result ≡ spec.is_word word.now text.now }
+    ensures { result ≡ spec.word_equals word.now text.now }
 {
     word.as_bytes() == text
 }

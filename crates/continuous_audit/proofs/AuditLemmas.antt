@@ -8,26 +8,26 @@ use Rattle.audit_base.specs.declared.terms.Side.TheVariants.{Buy, Sell}
 use Rattle.audit_base.specs.declared.orders.Order.{Order}
 use Rattle.audit_base.specs.declared.orders.Deal.{Deal}
 use Rattle.audit_base.specs.Orders.{place_at, IsOrderList}
-use Rattle.audit_base.specs.Deals.{AreTotals, names, traded, part_of, IsDealList}
+use Rattle.audit_base.specs.Deals.{AreTotals, names_order, traded, quantity_traded_by, IsDealList}
 use Rattle.audit_base.specs.Continuous.{cause, traded_before}
 use Rattle.audit_base.specs.ContinuousRules.{ConformsAt, ConformsContinuous}
 use Rattle.audit_base.proofs.OrderLemmas.{place-rises}
 use Rattle.audit_base.proofs.SumLemmas.{sum_by-same}
 use Rattle.audit_base.proofs.ContinuousOffenceLemmas.{late-conforms}
 use Rattle.order_book.specs.declared.books.Resting.{Resting}
-use Rattle.continuous_audit.specs.declared.books.Standing.{Standing}
+use Rattle.continuous_audit.specs.declared.books.BooksSoFar.{BooksSoFar}
 use Rattle.continuous_audit.specs.declared.causes.Cause.{Cause}
 use Rattle.continuous_audit.specs.declared.endings.Ending.{Ending}
 use Rattle.continuous_audit.specs.declared.market.Market.{Market}
 use Rattle.continuous_audit.specs.declared.state.State.{State}
 use Rattle.continuous_audit.specs.Markets.{IsMarket}
-use Rattle.continuous_audit.specs.Books.{AreEmptyBooks, HoldAt, ready_place}
+use Rattle.continuous_audit.specs.Books.{AreEmptyBooks, AreBooksBefore, ready_place}
 use Rattle.continuous_audit.specs.Causes.{AreCauses}
-use Rattle.continuous_audit.specs.Chains.{AreClosed}
+use Rattle.continuous_audit.specs.Chains.{HaveChainsEnded}
 use Rattle.continuous_audit.specs.Endings.{AreEndings}
-use Rattle.continuous_audit.specs.Holding.{Holds, resting_left}
-use Rattle.continuous_audit.specs.Progress.{IsFirstState, IsReady}
-use Rattle.continuous_audit.specs.Records.{AreBefore, AreLeft, AreSizes, IsCalm}
+use Rattle.continuous_audit.specs.Holding.{IsListOfAmounts, resting_left_before}
+use Rattle.continuous_audit.specs.Progress.{IsFirstState, IsReadyAt}
+use Rattle.continuous_audit.specs.Records.{AreBeforeNumbers, AreLeftBefore, AreSizes, ConformsAndIsApart}
 use Rattle.continuous_audit.specs.Scans.{AreRunningTotals, IsSplitAt, number_in}
 use Rattle.continuous_audit.proofs.NumberLemmas.{traded-at}
 use Rattle.continuous_audit.proofs.RestLemmas.{resting_left-future}
@@ -47,14 +47,14 @@ module _ (orders : List Order) (list : IsOrderList orders) (deals : List Deal) w
     | inr ne ↦ let up = place-rises orders list 0 k (omega (arith, ne)) lt in omega arith
   ]
 
-  nothing-held : (side : Side) (xs : List Resting) → xs ≡ [] → Holds orders side (resting_left orders (traded_before orders deals) (place_at orders 0)) xs
-  nothing-held side xs e = subst (Holds orders side (resting_left orders (traded_before orders deals) (place_at orders 0))) (sym e) (record {
+  nothing-held : (side : Side) (xs : List Resting) → xs ≡ [] → IsListOfAmounts orders side (resting_left_before orders (traded_before orders deals) (place_at orders 0)) xs
+  nothing-held side xs e = subst (IsListOfAmounts orders side (resting_left_before orders (traded_before orders deals) (place_at orders 0))) (sym e) (record {
     only = λ i d lt. absurd (omega arith);
     each = λ i lt of some. let z = resting_left-future orders (traded_before orders deals) (place_at orders 0) i (first-place i lt) in absurd (omega arith);
     ranked = λ i j d lt below. absurd (omega arith);
   })
 
-  pub empty-hold : (standing : Standing) → AreEmptyBooks standing → HoldAt orders deals (place_at orders 0) standing.books
+  pub empty-hold : (standing : BooksSoFar) → AreEmptyBooks standing → AreBooksBefore orders deals (place_at orders 0) standing.books
   empty-hold standing bare = record { bid_side = bare.bid_side; ask_side = bare.ask_side; bids = nothing-held Buy standing.books.bids.resting bare.bids; asks = nothing-held Sell standing.books.asks.resting bare.asks }
 
 -- a market, of the lists that the code has made
@@ -74,19 +74,19 @@ module _ (m : Market) (is : IsMarket m) where
   abbrev deals : List Deal
   deals = m.deals.now
 
-  pub ready-first : (state : State) → IsFirstState (length orders) state → IsReady m 0 (ready_place orders 0) state
+  pub ready-first : (state : State) → IsFirstState (length orders) state → IsReadyAt m 0 (ready_place orders 0) state
   ready-first state bare = record {
     calm = calm-first orders deals (place_at orders 0) is.deal_list.named (first-place orders is.list deals);
     known = record {
-      before = subst (AreBefore orders deals 0) (sym bare.numbers.sheet.before) (record {
+      before = subst (AreBeforeNumbers orders deals 0) (sym bare.numbers.sheet.before) (record {
         count = length-replicate {A = ℕ} (length orders) 0;
         is = λ x lt. absurd (omega arith);
         fits = λ x. let z = zero-in (length orders) x in omega arith;
         bounded = λ x. let z = zero-in (length orders) x in omega arith;
       });
-      closed = subst (AreClosed orders 0) (sym bare.numbers.sheet.closed) (record { count = length-replicate {A = Bool} (length orders) false; is = λ x lt. absurd (omega arith) });
+      closed = subst (HaveChainsEnded orders 0) (sym bare.numbers.sheet.closed) (record { count = length-replicate {A = Bool} (length orders) false; is = λ x lt. absurd (omega arith) });
       sizes = subst (AreSizes orders deals 0) (sym bare.numbers.sheet.sizes) (record { count = length-replicate {A = ℕ} (length orders) 0; is = λ x lt. absurd (omega arith) });
-      left = subst (AreLeft orders deals 0 (place_at orders 0)) (sym bare.numbers.sheet.left) (record { count = length-replicate {A = ℕ} (length orders) 0; is = λ x lt. absurd (omega arith) });
+      left = subst (AreLeftBefore orders deals 0 (place_at orders 0)) (sym bare.numbers.sheet.left) (record { count = length-replicate {A = ℕ} (length orders) 0; is = λ x lt. absurd (omega arith) });
       running = record {
         totals = subst (λ (at : ℕ). AreRunningTotals orders deals m.causes.now at state.numbers.running.traded.items) (sym bare.numbers.at) (subst (AreRunningTotals orders deals m.causes.now 0) (sym bare.numbers.traded) (record {
           inside = omega arith;
@@ -111,7 +111,7 @@ module _ (m : Market) (is : IsMarket m) where
         | inr ne ↦ let up = place-rises orders is.list k last (omega (arith, ne)) (omega arith) in omega arith
       ]
 
-  pub end-conforms : (q : ℕ) → ((k : ℕ) → k < length orders → place_at orders k < q) → IsCalm orders deals q → ConformsContinuous orders deals
+  pub end-conforms : (q : ℕ) → ((k : ℕ) → k < length orders → place_at orders k < q) → ConformsAndIsApart orders deals q → ConformsContinuous orders deals
   end-conforms zero top calm = record { named = is.deal_list.named; each = λ i. (calm-first orders deals (suc i) is.deal_list.named (λ x lt. let t = top x lt in absurd (omega arith))).conforms i (omega arith) }
   end-conforms (suc last) top calm = record {
     named = is.deal_list.named;
@@ -124,19 +124,19 @@ module _ (m : Market) (is : IsMarket m) where
   -- what is traded before a place that follows all is all that is traded
   all-traded : (q : ℕ) → ((k : ℕ) → k < length orders → place_at orders k < q) → (x : ℕ) → traded_before orders deals q x ≡ traded deals x
   unfolding traded_before
-  all-traded q top x = sum_by-same (λ d. cond (names x d && nat_lt (cause orders d) q) d.quantity 0) (part_of x) deals (λ k e lt.
+  all-traded q top x = sum_by-same (λ d. cond (names_order x d && nat_lt (cause orders d) q) d.quantity 0) (quantity_traded_by x) deals (λ k e lt.
       let d = get_or deals k e in
       let ends = is.deal_list.named k e lt in
       let b = top d.bid ends.bid_inside in
       let a = top d.ask ends.ask_inside in
       let t : nat_lt (cause orders d) q ≡ true = lt-ltb _ _ (omega arith) in
-      ap (λ (c : Bool). cond c d.quantity 0) (ap (λ (c : Bool). names x d && c) t ∙ and-always (names x d)))
+      ap (λ (c : Bool). cond c d.quantity 0) (ap (λ (c : Bool). names_order x d && c) t ∙ and-always (names_order x d)))
     where
       and-always : (c : Bool) → (c && true) ≡ c
       and-always true = refl
       and-always false = refl
 
-  module _ (state : State) (ready : IsReady m (length orders) (ready_place orders (length orders)) state) where
+  module _ (state : State) (ready : IsReadyAt m (length orders) (ready_place orders (length orders)) state) where
     abbrev q : ℕ
     q = ready_place orders (length orders)
 

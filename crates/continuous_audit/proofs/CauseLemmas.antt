@@ -1,4 +1,4 @@
--- What the first of the sorted causes come to.
+-- What the first of the sorted causes add up to.
 use Rattle.std.proofs.Common.{◌≡◌, ◌≢◌, ◌<◌, ◌≤◌, ◌+◌, ℕ, zero, suc, List, [], ◌∷◌, ◌++◌, length, Bool, true, false, cond, refl, sym, ap, ◌∙◌, arith, inl, inr, subst, All, AllPairs, get_or, take, sum_by, eqb, is_lt, IsPermutation, IsSorted, add-one}
 use Rattle.std.specs.Prelude.{nat_lt, nat_le, ◌==◌, ◌&&◌, ◌||◌, Contains}
 use Rattle.std.specs.Cmp.{IsStrictWeakOrder}
@@ -14,13 +14,13 @@ use Rattle.audit_base.specs.declared.orders.Order.{Order}
 use Rattle.audit_base.specs.declared.orders.Deal.{Deal}
 use Rattle.audit_base.specs.Sums.{sum_below}
 use Rattle.audit_base.specs.Orders.{place_at, IsOrderList}
-use Rattle.audit_base.specs.Deals.{names, deal_at, missing_deal, part_of, NamesOrders}
-use Rattle.audit_base.specs.Continuous.{cause, incoming, traded_before, traded_at}
+use Rattle.audit_base.specs.Deals.{names_order, deal_at, deal_past_end, quantity_traded_by, NamesOrders}
+use Rattle.audit_base.specs.Continuous.{cause, incoming_order, traded_before, traded_at}
 use Rattle.audit_base.proofs.OffenceLemmas.{get_or-default}
 use Rattle.audit_base.proofs.OrderLemmas.{place-rises}
 use Rattle.audit_base.proofs.SumLemmas.{below-same, below-list, below-add, sum_by-same, AllPairs-head, AllPairs-tail, AllPairs-cons}
 use Rattle.continuous_audit.specs.declared.causes.Cause.{Cause}
-use Rattle.continuous_audit.specs.Causes.{AreCauses, IsSooner, cause_cmp, cause_of, causes_upto, running_total}
+use Rattle.continuous_audit.specs.Causes.{AreCauses, CauseBefore, cause_cmp, cause_of, causes_upto, running_total}
 
 module _ (orders : List Order) (deals : List Deal) where
   upto-only : (n : ℕ) → All (λ c. (c.deal < n) × (c ≡ cause_of orders deals c.deal)) (causes_upto orders deals n)
@@ -62,7 +62,7 @@ same_deal a b = eqb a.deal b.deal
 weak : IsStrictWeakOrder (λ (a b : Cause). is_lt (cause_cmp a b))
 weak = ranks_by (then_total (on_total (λ (c : Cause). c.order) nat_cmp_total) (on_total (λ (c : Cause). c.deal) nat_cmp_total)) (λ (c : Cause). c)
 
-sooner : (a b : Cause) → a.deal ≢ b.deal → is_lt (cause_cmp b a) ≡ false → IsSooner a b
+sooner : (a b : Cause) → a.deal ≢ b.deal → is_lt (cause_cmp b a) ≡ false → CauseBefore a b
 sooner a b apart h = elim (cases_lt a.order b.order) [
   | inl lt ↦ inl lt
   | inr le ↦ inr (grind (arith, nat_tests), elim (cases_lt a.deal b.deal) [ inl lt ↦ lt | inr ge ↦ absurd (apart (grind (arith, nat_tests))) ])
@@ -130,13 +130,13 @@ split_or true false q h = omega arith
 split_or false true q h = omega arith
 split_or false false q h = omega arith
 
-pub incoming-cause : (orders : List Order) (d : Deal) → place_at orders (incoming orders d) ≡ cause orders d
+pub incoming-cause : (orders : List Order) (d : Deal) → place_at orders (incoming_order orders d) ≡ cause orders d
 incoming-cause orders d = elim (cases_lt (place_at orders d.bid) (place_at orders d.ask)) [
   | inl lt ↦ ap (place_at orders) (cond-true (nat_lt (place_at orders d.bid) (place_at orders d.ask)) d.ask d.bid (lt-ltb _ _ lt)) ∙ (omega arith)
   | inr le ↦ ap (place_at orders) (cond-false (nat_lt (place_at orders d.bid) (place_at orders d.ask)) d.ask d.bid (le-ltb _ _ le)) ∙ (omega arith)
 ]
 
-pub incoming-inside : (orders : List Order) (d : Deal) → NamesOrders orders d → incoming orders d < length orders
+pub incoming-inside : (orders : List Order) (d : Deal) → NamesOrders orders d → incoming_order orders d < length orders
 incoming-inside orders d n = cond_both (nat_lt (place_at orders d.bid) (place_at orders d.ask)) d.ask d.bid (λ x. x < length orders) (λ t. n.ask_inside) (λ t. n.bid_inside)
 
 module _ (orders : List Order) (list : IsOrderList orders) (deals : List Deal) (named : All (NamesOrders orders) deals) (causes : List Cause) (are : AreCauses orders deals causes) where
@@ -148,12 +148,12 @@ module _ (orders : List Order) (list : IsOrderList orders) (deals : List Deal) (
   cause-inside i d lt =
       let h = are.only i d lt in
       let c = get_or causes i d in
-      let inside = incoming-inside orders (deal_at deals c.deal) (named c.deal missing_deal h.0) in
-      let same : c.order ≡ incoming orders (deal_at deals c.deal) = ap (λ (x : Cause). x.order) h.1 in
+      let inside = incoming-inside orders (deal_at deals c.deal) (named c.deal deal_past_end h.0) in
+      let same : c.order ≡ incoming_order orders (deal_at deals c.deal) = ap (λ (x : Cause). x.order) h.1 in
       omega arith
 
   part : ℕ → Cause → ℕ
-  part x c = part_of x (deal_at deals c.deal)
+  part x c = quantity_traded_by x (deal_at deals c.deal)
 
   -- the first causes, those of orders of places below p: what is traded before p
   pub running-before : (p at x : ℕ) → ((i : ℕ) (d : Cause) → i < at → i < length causes → place_at orders (get_or causes i d).order < p) → ((i : ℕ) (d : Cause) → at ≤ i → i < length causes → p ≤ place_at orders (get_or causes i d).order)
@@ -161,16 +161,17 @@ module _ (orders : List Order) (list : IsOrderList orders) (deals : List Deal) (
   unfolding traded_before part
   running-before p at x first later =
       let test : Cause → Bool = λ c. nat_lt (place_at orders c.order) p in
-      let h : Deal → ℕ = λ d. cond (nat_lt (place_at orders (incoming orders d)) p) (part_of x d) 0 in
+      let h : Deal → ℕ = λ d. cond (nat_lt (place_at orders (incoming_order orders d)) p) (quantity_traded_by x d) 0 in
       let one = picked (part x) test causes at (λ i d lt below. lt-ltb _ _ (first i d lt below)) (λ i d le below. le-ltb _ _ (later i d le below)) in
       let two = all-sum (λ c. cond (test c) (part x c) 0) in
-      let three : sum_below (λ k. h (deal_at deals k)) (length deals) ≡ sum_by h (take (length deals) deals) = below-list h deals missing_deal (length deals) (omega arith) in
+      let three : sum_below (λ k. h (deal_at deals k)) (length deals) ≡ sum_by h (take (length deals) deals) = below-list h deals deal_past_end (length deals) (omega arith) in
       let four : sum_by h (take (length deals) deals) ≡ sum_by h deals = ap (sum_by h) (take_all (length deals) deals (omega arith)) in
-      let five : sum_by h deals ≡ sum_by (λ d. cond (names x d && nat_lt (cause orders d) p) d.quantity 0) deals = sum_by-same h (λ d. cond (names x d && nat_lt (cause orders d) p) d.quantity 0) deals (λ k e lt.
-      let d = get_or deals k e in nested (nat_lt (place_at orders (incoming orders d)) p) (names x d) d.quantity ∙ ap (λ (q : ℕ). cond (names x d && nat_lt q p) d.quantity 0) (incoming-cause orders d)) in
+      let five : sum_by h deals ≡ sum_by (λ d. cond (names_order x d && nat_lt (cause orders d) p) d.quantity 0) deals = sum_by-same h (λ d. cond (names_order x d && nat_lt (cause orders d) p) d.quantity 0) deals (λ k e lt.
+      let d = get_or deals k e in nested (nat_lt (place_at orders (incoming_order orders d)) p) (names_order x d) d.quantity ∙ ap (λ (q : ℕ). cond (names_order x d && nat_lt q p) d.quantity 0) (incoming-cause orders d)) in
       sym one ∙ two ∙ three ∙ four ∙ five
 
-  -- up to the cause at an index, of the order at n: what is traded before its place, and in its deals up to this one
+  -- up to the cause at an index, of the order at n: what is traded before its place, and in its
+  -- deals up to this one
   module _ (at : ℕ) (e : Cause) (lt : at < length causes) where
     abbrev here : Cause
     here = get_or causes at e
@@ -202,14 +203,14 @@ module _ (orders : List Order) (list : IsOrderList orders) (deals : List Deal) (
       ]
     ]
       where
-        before-at : (i : ℕ) (d : Cause) → i < at → i < length causes → IsSooner (get_or causes i d) here
-        before-at i d less below = subst (λ (c : Cause). IsSooner (get_or causes i d) c) (default-at at d lt) (are.rising i at d less lt)
+        before-at : (i : ℕ) (d : Cause) → i < at → i < length causes → CauseBefore (get_or causes i d) here
+        before-at i d less below = subst (λ (c : Cause). CauseBefore (get_or causes i d) c) (default-at at d lt) (are.rising i at d less lt)
 
     upto-later : (i : ℕ) (d : Cause) → suc at ≤ i → i < length causes → upto (get_or causes i d) ≡ false
     unfolding upto
     upto-later i d le below =
         let c = get_or causes i d in
-        let after : IsSooner here c = subst (λ (x : Cause). IsSooner x c) (default-at at d lt) (are.rising at i d (omega arith) below) in
+        let after : CauseBefore here c = subst (λ (x : Cause). CauseBefore x c) (default-at at d lt) (are.rising at i d (omega arith) below) in
         elim after [
           | inl more ↦
               let above = higher i d below more in
@@ -228,27 +229,27 @@ module _ (orders : List Order) (list : IsOrderList orders) (deals : List Deal) (
     running-upto x =
         let k = here.deal in
         let inside : k < length deals = (are.only at e lt).0 in
-        let h : Deal → ℕ = λ d. cond (nat_lt (place_at orders (incoming orders d)) p) (part_of x d) 0 in
-        let g : Deal → ℕ = λ d. cond (place_at orders (incoming orders d) == p) (part_of x d) 0 in
+        let h : Deal → ℕ = λ d. cond (nat_lt (place_at orders (incoming_order orders d)) p) (quantity_traded_by x d) 0 in
+        let g : Deal → ℕ = λ d. cond (place_at orders (incoming_order orders d) == p) (quantity_traded_by x d) 0 in
         let one = picked (part x) upto causes (suc at) upto-first upto-later in
         let two = all-sum (λ c. cond (upto c) (part x c) 0) in
-        let three : sum_below (λ j. cond (upto (cause_of orders deals j)) (part_of x (deal_at deals j)) 0) (length deals) ≡ sum_below (λ j. h (deal_at deals j) + cond (nat_le j k) (g (deal_at deals j)) 0) (length deals) =
+        let three : sum_below (λ j. cond (upto (cause_of orders deals j)) (quantity_traded_by x (deal_at deals j)) 0) (length deals) ≡ sum_below (λ j. h (deal_at deals j) + cond (nat_le j k) (g (deal_at deals j)) 0) (length deals) =
         below-same _ _ (length deals) (λ j below.
         let d = deal_at deals j in
-        let q = place_at orders (incoming orders d) in
-        split_or (nat_lt q p) ((q == p) && nat_le j k) (part_of x d) (λ t. and_left (q == p) (nat_le j k) (ne_eqb q p (λ f. let l = ltb-true q p t in omega arith)))
-        ∙ ap (λ (y : ℕ). cond (nat_lt q p) (part_of x d) 0 + y) (sym (nested (nat_le j k) (q == p) (part_of x d)))) in
+        let q = place_at orders (incoming_order orders d) in
+        split_or (nat_lt q p) ((q == p) && nat_le j k) (quantity_traded_by x d) (λ t. and_left (q == p) (nat_le j k) (ne_eqb q p (λ f. let l = ltb-true q p t in omega arith)))
+        ∙ ap (λ (y : ℕ). cond (nat_lt q p) (quantity_traded_by x d) 0 + y) (sym (nested (nat_le j k) (q == p) (quantity_traded_by x d)))) in
         let four = below-add (λ j. h (deal_at deals j)) (λ j. cond (nat_le j k) (g (deal_at deals j)) 0) (length deals) in
-        let h1 : sum_below (λ j. h (deal_at deals j)) (length deals) ≡ sum_by h (take (length deals) deals) = below-list h deals missing_deal (length deals) (omega arith) in
+        let h1 : sum_below (λ j. h (deal_at deals j)) (length deals) ≡ sum_by h (take (length deals) deals) = below-list h deals deal_past_end (length deals) (omega arith) in
         let h2 : sum_by h (take (length deals) deals) ≡ sum_by h deals = ap (sum_by h) (take_all (length deals) deals (omega arith)) in
-        let h3 : sum_by h deals ≡ sum_by (λ d. cond (names x d && nat_lt (cause orders d) p) d.quantity 0) deals = sum_by-same h (λ d. cond (names x d && nat_lt (cause orders d) p) d.quantity 0) deals (λ j f below.
-        let d = get_or deals j f in nested (nat_lt (place_at orders (incoming orders d)) p) (names x d) d.quantity ∙ ap (λ (q : ℕ). cond (names x d && nat_lt q p) d.quantity 0) (incoming-cause orders d)) in
+        let h3 : sum_by h deals ≡ sum_by (λ d. cond (names_order x d && nat_lt (cause orders d) p) d.quantity 0) deals = sum_by-same h (λ d. cond (names_order x d && nat_lt (cause orders d) p) d.quantity 0) deals (λ j f below.
+        let d = get_or deals j f in nested (nat_lt (place_at orders (incoming_order orders d)) p) (names_order x d) d.quantity ∙ ap (λ (q : ℕ). cond (names_order x d && nat_lt q p) d.quantity 0) (incoming-cause orders d)) in
         let g1 = cut (λ j. g (deal_at deals j)) k (length deals) inside in
-        let g2 : sum_below (λ j. g (deal_at deals j)) (k + 1) ≡ sum_by g (take (k + 1) deals) = below-list g deals missing_deal (k + 1) (omega arith) in
-        let g3 : sum_by g (take (k + 1) deals) ≡ sum_by (λ d. cond (names x d && (cause orders d == p)) d.quantity 0) (take (k + 1) deals) = sum_by-same g (λ d. cond (names x d && (cause orders d == p)) d.quantity 0) (take (k + 1) deals) (λ j f below.
-        let d = get_or (take (k + 1) deals) j f in nested (place_at orders (incoming orders d) == p) (names x d) d.quantity ∙ ap (λ (q : ℕ). cond (names x d && (q == p)) d.quantity 0) (incoming-cause orders d)) in
+        let g2 : sum_below (λ j. g (deal_at deals j)) (k + 1) ≡ sum_by g (take (k + 1) deals) = below-list g deals deal_past_end (k + 1) (omega arith) in
+        let g3 : sum_by g (take (k + 1) deals) ≡ sum_by (λ d. cond (names_order x d && (cause orders d == p)) d.quantity 0) (take (k + 1) deals) = sum_by-same g (λ d. cond (names_order x d && (cause orders d == p)) d.quantity 0) (take (k + 1) deals) (λ j f below.
+        let d = get_or (take (k + 1) deals) j f in nested (place_at orders (incoming_order orders d) == p) (names_order x d) d.quantity ∙ ap (λ (q : ℕ). cond (names_order x d && (q == p)) d.quantity 0) (incoming-cause orders d)) in
         let g0 : sum_below (λ j. g (deal_at deals j)) (suc k) ≡ sum_below (λ j. g (deal_at deals j)) (k + 1) = ap (sum_below (λ j. g (deal_at deals j))) (sym (add-one k)) in
         let whole : sum_by (part x) (take (suc at) causes) ≡ sum_below (λ j. h (deal_at deals j)) (length deals) + sum_below (λ j. cond (nat_le j k) (g (deal_at deals j)) 0) (length deals) = sym one ∙ two ∙ three ∙ four in
         let left_is = h1 ∙ h2 ∙ h3 in
         let right_is = g1 ∙ g0 ∙ g2 ∙ g3 in
-        whole ∙ ap (λ (a : ℕ). a + sum_below (λ j. cond (nat_le j k) (g (deal_at deals j)) 0) (length deals)) left_is ∙ ap (λ (b : ℕ). sum_by (λ d. cond (names x d && nat_lt (cause orders d) p) d.quantity 0) deals + b) right_is
+        whole ∙ ap (λ (a : ℕ). a + sum_below (λ j. cond (nat_le j k) (g (deal_at deals j)) 0) (length deals)) left_is ∙ ap (λ (b : ℕ). sum_by (λ d. cond (names_order x d && nat_lt (cause orders d) p) d.quantity 0) deals + b) right_is

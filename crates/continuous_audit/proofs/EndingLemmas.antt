@@ -18,16 +18,16 @@ use Rattle.audit_base.proofs.LeastLemmas.{any-at, any-none, cases_Option}
 use Rattle.audit_base.proofs.OffenceLemmas.{get_or-default}
 use Rattle.audit_base.specs.Priority.{better_limit}
 use Rattle.order_book.specs.declared.books.Resting.{Resting}
-use Rattle.order_book.specs.Books.{BookSide, is_pair, with_added, with_order, without_order}
+use Rattle.order_book.specs.Books.{BookSide, has_index_and_limit, book_with_order, with_order, without_order}
 use Rattle.continuous_audit.specs.declared.endings.Ending.{Ending}
 use Rattle.continuous_audit.specs.declared.books.Books.{Books}
-use Rattle.continuous_audit.specs.Books.{BooksHold, books_without, resting_count}
-use Rattle.continuous_audit.specs.Endings.{AreEndings, IsEnding, amount_without, ending_at, ending_cmp, endings_of, endings_upto, index_in, is_gone, missing_ending, place_in}
+use Rattle.continuous_audit.specs.Books.{AreBooksOfAmounts, books_without_order, resting_count}
+use Rattle.continuous_audit.specs.Endings.{AreEndings, IsEnding, amount_without, ending_at, ending_cmp, endings_of, endings_upto, ending_index_at, is_ended_between, ending_past_end, ending_place_at}
 use Rattle.continuous_audit.proofs.HoldLemmas.{hold-same, hold-without}
 
 -- the books without one order
 module _ (orders : List Order) (amount amount' : ℕ → ℕ) (j : ℕ) (none : amount' j ≡ 0) (same : (k : ℕ) → k ≢ j → amount' k ≡ amount k) where
-  without-one : (s : Side) → side_at orders j ≡ s → (b : Books) → BooksHold orders amount b → BooksHold orders amount' (books_without s j (limit_at orders j) b)
+  without-one : (s : Side) → side_at orders j ≡ s → (b : Books) → AreBooksOfAmounts orders amount b → AreBooksOfAmounts orders amount' (books_without_order s j (limit_at orders j) b)
   without-one Buy e b h = record {
     bid_side = h.bid_side;
     ask_side = h.ask_side;
@@ -41,7 +41,7 @@ module _ (orders : List Order) (amount amount' : ℕ → ℕ) (j : ℕ) (none : 
     asks = hold-without orders Sell amount amount' j (λ k lt of ne. same k ne) b.asks.resting h.asks none;
   }
 
-pub hold-amounts : (orders : List Order) (amount amount' : ℕ → ℕ) (b : Books) → ((k : ℕ) → k < length orders → amount' k ≡ amount k) → BooksHold orders amount b → BooksHold orders amount' b
+pub hold-amounts : (orders : List Order) (amount amount' : ℕ → ℕ) (b : Books) → ((k : ℕ) → k < length orders → amount' k ≡ amount k) → AreBooksOfAmounts orders amount b → AreBooksOfAmounts orders amount' b
 hold-amounts orders amount amount' b same h = record {
   bid_side = h.bid_side;
   ask_side = h.ask_side;
@@ -50,21 +50,21 @@ hold-amounts orders amount amount' b same h = record {
 }
 
 -- from the first on, before any
-pub standing-first : (orders : List Order) (endings : List Ending) (from : ℕ) (amount : ℕ → ℕ) (b : Books) → BooksHold orders amount b → BooksHold orders (amount_without endings from from amount) b
-standing-first orders endings from amount b h = hold-amounts orders amount (amount_without endings from from amount) b (λ k lt. cond-false (is_gone endings from from k) 0 (amount k) (any-none (λ i. nat_le from i && (index_in endings i == k)) from (λ i below.
-    and_left (nat_le from i) (index_in endings i == k) (false_from_ne_true _ (λ t. let le = leb-true from i t in omega arith))))) h
+pub standing-first : (orders : List Order) (endings : List Ending) (from : ℕ) (amount : ℕ → ℕ) (b : Books) → AreBooksOfAmounts orders amount b → AreBooksOfAmounts orders (amount_without endings from from amount) b
+standing-first orders endings from amount b h = hold-amounts orders amount (amount_without endings from from amount) b (λ k lt. cond-false (is_ended_between endings from from k) 0 (amount k) (any-none (λ i. nat_le from i && (ending_index_at endings i == k)) from (λ i below.
+    and_left (nat_le from i) (ending_index_at endings i == k) (false_from_ne_true _ (λ t. let le = leb-true from i t in omega arith))))) h
 
 -- one further
-pub standing-more : (orders : List Order) (endings : List Ending) (from at : ℕ) (amount : ℕ → ℕ) (b : Books) → from ≤ at → BooksHold orders (amount_without endings from at amount) b
-    → BooksHold orders (amount_without endings from (suc at) amount) (books_without (side_at orders (index_in endings at)) (index_in endings at) (limit_at orders (index_in endings at)) b)
+pub standing-more : (orders : List Order) (endings : List Ending) (from at : ℕ) (amount : ℕ → ℕ) (b : Books) → from ≤ at → AreBooksOfAmounts orders (amount_without endings from at amount) b
+    → AreBooksOfAmounts orders (amount_without endings from (suc at) amount) (books_without_order (side_at orders (ending_index_at endings at)) (ending_index_at endings at) (limit_at orders (ending_index_at endings at)) b)
 standing-more orders endings from at amount b le h =
-    let j = index_in endings at in
+    let j = ending_index_at endings at in
     let reached : nat_le from at ≡ true = le-leb from at le in
     without-one orders (amount_without endings from at amount) (amount_without endings from (suc at) amount) j
-    (cond-true (is_gone endings from (suc at) j) 0 (amount j) (or_right (is_gone endings from at j) (nat_le from at && (j == j)) (and_from _ _ reached (eq-eqb j j refl))))
+    (cond-true (is_ended_between endings from (suc at) j) 0 (amount j) (or_right (is_ended_between endings from at j) (nat_le from at && (j == j)) (and_from _ _ reached (eq-eqb j j refl))))
     (λ k ne.
     let off : (nat_le from at && (j == k)) ≡ false = and_right (nat_le from at) (j == k) (ne_eqb j k (λ e. ne (sym e))) in
-    ap (λ (t : Bool). cond t 0 (amount k)) (or-off (is_gone endings from at k) (nat_le from at && (j == k)) off))
+    ap (λ (t : Bool). cond t 0 (amount k)) (or-off (is_ended_between endings from at k) (nat_le from at && (j == k)) off))
     (side_at orders j) refl b h
   where
     or-off : (a b : Bool) → b ≡ false → (a || b) ≡ a
@@ -72,11 +72,11 @@ standing-more orders endings from at amount b le h =
     or-off false b e = e
 
 -- the same, in the words of the code
-pub standing-read : (orders : List Order) (endings : List Ending) (from at : ℕ) (amount : ℕ → ℕ) (b after : Books) (o : Order) → from ≤ at → index_in endings at < length orders → o ≡ order_at orders (index_in endings at)
-    → after ≡ books_without o.side (index_in endings at) o.limit b → BooksHold orders (amount_without endings from at amount) b → BooksHold orders (amount_without endings from (at + 1) amount) after
+pub standing-read : (orders : List Order) (endings : List Ending) (from at : ℕ) (amount : ℕ → ℕ) (b after : Books) (o : Order) → from ≤ at → ending_index_at endings at < length orders → o ≡ order_at orders (ending_index_at endings at)
+    → after ≡ books_without_order o.side (ending_index_at endings at) o.limit b → AreBooksOfAmounts orders (amount_without endings from at amount) b → AreBooksOfAmounts orders (amount_without endings from (at + 1) amount) after
 standing-read orders endings from at amount b after o le inside here e h =
-    let same : after ≡ books_without (side_at orders (index_in endings at)) (index_in endings at) (limit_at orders (index_in endings at)) b = e ∙ ap (λ (x : Order). books_without x.side (index_in endings at) x.limit b) here in
-    subst (λ (n : ℕ). BooksHold orders (amount_without endings from n amount) after) (sym (add-one at)) (subst (BooksHold orders (amount_without endings from (suc at) amount)) (sym same) (standing-more orders endings from at amount b le h))
+    let same : after ≡ books_without_order (side_at orders (ending_index_at endings at)) (ending_index_at endings at) (limit_at orders (ending_index_at endings at)) b = e ∙ ap (λ (x : Order). books_without_order x.side (ending_index_at endings at) x.limit b) here in
+    subst (λ (n : ℕ). AreBooksOfAmounts orders (amount_without endings from n amount) after) (sym (add-one at)) (subst (AreBooksOfAmounts orders (amount_without endings from (suc at) amount)) (sym same) (standing-more orders endings from at amount b le h))
 
 -- All that are ended, sorted.
 
@@ -114,26 +114,27 @@ module _ (orders : List Order) where
         | inl lt ↦ let t : is_lt (ending_cmp b a) ≡ true = grind (arith, nat_tests) in absurd (both_ways _ h t)
       ]
 
-  -- from the first that is ended at p or later, up to the first that is ended at q or later: what no record below q ends
+  -- from the first that is ended at p or later, up to the first that is ended at q or later: what
+  -- no record below q ends
   module _ (endings : List Ending) (are : AreEndings orders endings) (from at p q : ℕ) (amount : ℕ → ℕ) where
-    later : (i j : ℕ) → i ≤ j → j < length endings → place_in endings i ≤ place_in endings j
+    later : (i j : ℕ) → i ≤ j → j < length endings → ending_place_at endings i ≤ ending_place_at endings j
     later i j le below = elim (cases_eq i j) [
-      | inl e ↦ let same : place_in endings i ≡ place_in endings j = ap (place_in endings) e in omega arith
-      | inr ne ↦ are.rising i j missing_ending (omega (arith, ne)) below
+      | inl e ↦ let same : ending_place_at endings i ≡ ending_place_at endings j = ap (ending_place_at endings) e in omega arith
+      | inr ne ↦ are.rising i j ending_past_end (omega (arith, ne)) below
     ]
 
-    pub standing-is : ((i : ℕ) → i < from → i < length endings → place_in endings i < p) → ((i : ℕ) → from ≤ i → i < at → place_in endings i < q) → at ≤ length endings → (at < length endings → q ≤ place_in endings at)
+    pub standing-is : ((i : ℕ) → i < from → i < length endings → ending_place_at endings i < p) → ((i : ℕ) → from ≤ i → i < at → ending_place_at endings i < q) → at ≤ length endings → (at < length endings → q ≤ ending_place_at endings at)
         → ((k : ℕ) → k < length orders → uncancelled_before (order_at orders k).cancelled p ≡ false → amount k ≡ 0)
         → (k : ℕ) → k < length orders → amount_without endings from at amount k ≡ cond (uncancelled_before (order_at orders k).cancelled q) (amount k) 0
     standing-is early between whole next gone k inside = elim (cases_Option (order_at orders k).cancelled) [
       | inl free ↦
-          let stays : is_gone endings from at k ≡ false = any-none (λ i. nat_le from i && (index_in endings i == k)) at (λ i below. false_from_ne_true _ (λ t.
-          let parts = and_parts (nat_le from i) (index_in endings i == k) t in
-          let ending = are.only i missing_ending (omega arith) in
-          let index : index_in endings i ≡ k = eqb-true _ _ parts.1 in
-          let some : (order_at orders k).cancelled ≡ Some (place_in endings i) = ap (λ (j : ℕ). (order_at orders j).cancelled) (sym index) ∙ ending.is in
+          let stays : is_ended_between endings from at k ≡ false = any-none (λ i. nat_le from i && (ending_index_at endings i == k)) at (λ i below. false_from_ne_true _ (λ t.
+          let parts = and_parts (nat_le from i) (ending_index_at endings i == k) t in
+          let ending = are.only i ending_past_end (omega arith) in
+          let index : ending_index_at endings i ≡ k = eqb-true _ _ parts.1 in
+          let some : (order_at orders k).cancelled ≡ Some (ending_place_at endings i) = ap (λ (j : ℕ). (order_at orders j).cancelled) (sym index) ∙ ending.is in
           absurd (cc))) in
-          cond-false (is_gone endings from at k) 0 (amount k) stays ∙ sym (ap (λ (c : Option ℕ). cond (uncancelled_before c q) (amount k) 0) free)
+          cond-false (is_ended_between endings from at k) 0 (amount k) stays ∙ sym (ap (λ (c : Option ℕ). cond (uncancelled_before c q) (amount k) 0) free)
       | inr ends ↦
           let c = ends.0 in
           let e : (order_at orders k).cancelled ≡ Some c = ends.1 in
@@ -143,9 +144,9 @@ module _ (orders : List Order) where
                 let nothing : cond (uncancelled_before (order_at orders k).cancelled q) (amount k) 0 ≡ 0 = cond-false _ (amount k) 0 off in
                 let has = are.each k c inside e in
                 let i = has.0 in
-                let here : get_or endings i missing_ending ≡ record { place = c; index = k } = get_or-default endings i missing_ending (record { place = c; index = k }) has.1 ∙ has.2 in
-                let place_is : place_in endings i ≡ c = ap (λ (x : Ending). x.place) here in
-                let index_is : index_in endings i ≡ k = ap (λ (x : Ending). x.index) here in
+                let here : get_or endings i ending_past_end ≡ record { place = c; index = k } = get_or-default endings i ending_past_end (record { place = c; index = k }) has.1 ∙ has.2 in
+                let place_is : ending_place_at endings i ≡ c = ap (λ (x : Ending). x.place) here in
+                let index_is : ending_index_at endings i ≡ k = ap (λ (x : Ending). x.index) here in
                 let below : i < at = elim (cases_lt i at) [
                   | inl lt ↦ lt
                   | inr ge ↦ let in_list = has.1 in let far = next (omega arith) in let up = later at i ge has.1 in absurd (omega arith)
@@ -155,22 +156,22 @@ module _ (orders : List Order) where
                       let early_place = early i old has.1 in
                       let was : uncancelled_before (order_at orders k).cancelled p ≡ false = ap (λ (o : Option ℕ). uncancelled_before o p) e ∙ false_from_ne_true _ (λ t. let le = leb-true p c t in omega arith) in
                       let z = gone k inside was in
-                      both_zero (is_gone endings from at k) (amount k) z ∙ sym nothing
+                      both_zero (is_ended_between endings from at k) (amount k) z ∙ sym nothing
                   | inr new ↦
-                      let t : is_gone endings from at k ≡ true = any-at (λ i. nat_le from i && (index_in endings i == k)) at i below (and_from _ _ (le-leb from i new) (eq-eqb _ _ index_is)) in
-                      cond-true (is_gone endings from at k) 0 (amount k) t ∙ sym nothing
+                      let t : is_ended_between endings from at k ≡ true = any-at (λ i. nat_le from i && (ending_index_at endings i == k)) at i below (and_from _ _ (le-leb from i new) (eq-eqb _ _ index_is)) in
+                      cond-true (is_ended_between endings from at k) 0 (amount k) t ∙ sym nothing
                 ]
             | inr after ↦
                 let on : uncancelled_before (order_at orders k).cancelled q ≡ true = ap (λ (o : Option ℕ). uncancelled_before o q) e ∙ le-leb q c after in
-                let stays : is_gone endings from at k ≡ false = any-none (λ i. nat_le from i && (index_in endings i == k)) at (λ i below. false_from_ne_true _ (λ t.
-                let parts = and_parts (nat_le from i) (index_in endings i == k) t in
-                let ending = are.only i missing_ending (omega arith) in
-                let index : index_in endings i ≡ k = eqb-true _ _ parts.1 in
-                let some : Some c ≡ Some (place_in endings i) = sym e ∙ ap (λ (j : ℕ). (order_at orders j).cancelled) (sym index) ∙ ending.is in
-                let same : c ≡ place_in endings i = cc in
+                let stays : is_ended_between endings from at k ≡ false = any-none (λ i. nat_le from i && (ending_index_at endings i == k)) at (λ i below. false_from_ne_true _ (λ t.
+                let parts = and_parts (nat_le from i) (ending_index_at endings i == k) t in
+                let ending = are.only i ending_past_end (omega arith) in
+                let index : ending_index_at endings i ≡ k = eqb-true _ _ parts.1 in
+                let some : Some c ≡ Some (ending_place_at endings i) = sym e ∙ ap (λ (j : ℕ). (order_at orders j).cancelled) (sym index) ∙ ending.is in
+                let same : c ≡ ending_place_at endings i = cc in
                 let early_place = between i (leb-true from i parts.0) below in
                 omega arith)) in
-                cond-false (is_gone endings from at k) 0 (amount k) stays ∙ sym (cond-true _ (amount k) 0 on)
+                cond-false (is_ended_between endings from at k) 0 (amount k) stays ∙ sym (cond-true _ (amount k) 0 on)
           ]
     ]
       where
@@ -181,17 +182,17 @@ module _ (orders : List Order) where
 -- taking one out leaves no more
 shorter-without : (i l : ℕ) (xs : List Resting) → length (without_order i l xs) ≤ length xs
 shorter-without i l [] = omega arith
-shorter-without i l (x ∷ xs) = elim (cases_Bool (is_pair i l x)) [
+shorter-without i l (x ∷ xs) = elim (cases_Bool (has_index_and_limit i l x)) [
   | inl t ↦ rw t (omega arith)
   | inr f ↦ rw f (omega (arith, shorter-without i l xs))
 ]
 
-pub fewer-without : (side : Side) (i l : ℕ) (b : Books) → resting_count (books_without side i l b) ≤ resting_count b
+pub fewer-without : (side : Side) (i l : ℕ) (b : Books) → resting_count (books_without_order side i l b) ≤ resting_count b
 fewer-without Buy i l b = omega (arith, shorter-without i l b.bids.resting)
 fewer-without Sell i l b = omega (arith, shorter-without i l b.asks.resting)
 
 -- the same, in the words of the code
-pub fewer-read : (side : Side) (i l : ℕ) (old new : Books) → new ≡ books_without side i l old → resting_count new ≤ resting_count old
+pub fewer-read : (side : Side) (i l : ℕ) (old new : Books) → new ≡ books_without_order side i l old → resting_count new ≤ resting_count old
 fewer-read side i l old new e = subst (λ (b : Books). resting_count b ≤ resting_count old) (sym e) (fewer-without side i l old)
 
 -- one more is one more
@@ -202,5 +203,5 @@ longer-with side r (x ∷ xs) = elim (cases_Bool (better_limit side r.limit x.li
   | inr f ↦ rw f (omega (arith, longer-with side r xs))
 ]
 
-pub longer-added : (old new : BookSide) (index limit left : ℕ) → new ≡ with_added old index limit left → length new.resting ≡ length old.resting + 1
+pub longer-added : (old new : BookSide) (index limit left : ℕ) → new ≡ book_with_order old index limit left → length new.resting ≡ length old.resting + 1
 longer-added old new index limit left e = ap (λ (b : BookSide). length b.resting) e ∙ longer-with old.side (record { index = index; limit = limit; left = left }) old.resting

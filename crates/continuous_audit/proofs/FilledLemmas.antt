@@ -9,15 +9,15 @@ use Rattle.audit_base.specs.declared.orders.Order.{Order}
 use Rattle.audit_base.specs.Sums.{sum_below}
 use Rattle.audit_base.proofs.SumLemmas.{AllPairs-head, AllPairs-tail, AllPairs-cons, sum_by-below, below-single, some_part, sum_by-same}
 use Rattle.order_book.specs.declared.books.Resting.{Resting}
-use Rattle.order_book.specs.Books.{IsAhead}
+use Rattle.order_book.specs.Books.{IsAheadInBook}
 use Rattle.continuous_audit.specs.declared.fills.Fill.{Fill}
-use Rattle.continuous_audit.specs.Fills.{fill_of, filled, fills_of, rest_of, total_filled, trades_with}
-use Rattle.continuous_audit.specs.Holding.{IsPart}
+use Rattle.continuous_audit.specs.Fills.{fill_of, quantity_filled, fills_of, resting_after_fills, total_filled, trades_with}
+use Rattle.continuous_audit.specs.Holding.{IsRestingOn}
 use Rattle.continuous_audit.proofs.HoldLemmas.{parts-apart}
 use Rattle.continuous_audit.proofs.WalkLemmas.{none-left, filled-cons}
 
 -- what is filled of one order is within all that is filled
-pub filled-le : (fills : List Fill) (k : ℕ) → filled fills k ≤ total_filled fills
+pub filled-le : (fills : List Fill) (k : ℕ) → quantity_filled fills k ≤ total_filled fills
 filled-le fills k = sum_by-le-sum_by (λ (f : Fill). cond (f.index == k) f.quantity 0) (λ (f : Fill). f.quantity) fills (λ f. part (f.index == k) f.quantity)
   where
     part : (b : Bool) (q : ℕ) → cond b q 0 ≤ q
@@ -25,7 +25,7 @@ filled-le fills k = sum_by-le-sum_by (λ (f : Fill). cond (f.index == k) f.quant
     part false q = omega arith
 
 -- the fills so far and the next are within all of them
-pub filled-next : (fills : List Fill) (i k : ℕ) (d : Fill) → i < length fills → filled (take i fills) k + (get_or fills i d).quantity ≤ total_filled fills
+pub filled-next : (fills : List Fill) (i k : ℕ) (d : Fill) → i < length fills → quantity_filled (take i fills) k + (get_or fills i d).quantity ≤ total_filled fills
 filled-next fills i k d lt = sum_by_more_le_part (λ (f : Fill). cond (f.index == k) f.quantity 0) (λ (f : Fill). f.quantity) fills i d lt (λ f. part (f.index == k) f.quantity)
   where
     part : (b : Bool) (q : ℕ) → cond b q 0 ≤ q
@@ -33,7 +33,7 @@ filled-next fills i k d lt = sum_by_more_le_part (λ (f : Fill). cond (f.index =
     part false q = omega arith
 
 -- all that is filled is what is filled of each order below a count
-pub total-by-order : (fills : List Fill) (count : ℕ) → All (λ f. f.index < count) fills → sum_below (filled fills) count ≡ total_filled fills
+pub total-by-order : (fills : List Fill) (count : ℕ) → All (λ f. f.index < count) fills → sum_below (quantity_filled fills) count ≡ total_filled fills
 total-by-order fills count inside =
     sym (sum_by-below (λ (f : Fill) (i : ℕ). cond (f.index == i) f.quantity 0) fills count)
     ∙ sum_by-same (λ (f : Fill). sum_below (λ i. cond (f.index == i) f.quantity 0) count) (λ (f : Fill). f.quantity) fills (λ k d lt.
@@ -42,7 +42,7 @@ total-by-order fills count inside =
     ∙ cond-true (f.index == f.index) f.quantity 0 (eq-eqb f.index f.index refl))
 
 -- where no two fills are of one order, each is all that is filled of its order
-filled-off : (fills : List Fill) (k : ℕ) → All (λ (f : Fill). f.index ≢ k) fills → filled fills k ≡ 0
+filled-off : (fills : List Fill) (k : ℕ) → All (λ (f : Fill). f.index ≢ k) fills → quantity_filled fills k ≡ 0
 filled-off [] k off = refl
 filled-off (f ∷ fills) k off =
     let here : cond (f.index == k) f.quantity 0 ≡ 0 = cond-false (f.index == k) f.quantity 0 (ne_eqb f.index k (All-head (λ (f : Fill). f.index ≢ k) f fills off)) in
@@ -53,23 +53,23 @@ filled-off (f ∷ fills) k off =
 abbrev pub FillsDiffer : Fill → Fill → Type 0
 FillsDiffer f g = f.index ≢ g.index
 
-pub own-filled : (fills : List Fill) → AllPairs FillsDiffer fills → All (λ f. f.quantity ≡ filled fills f.index) fills
-own-filled [] apart = All-nil (λ (f : Fill). f.quantity ≡ filled [] f.index)
+pub own-filled : (fills : List Fill) → AllPairs FillsDiffer fills → All (λ f. f.quantity ≡ quantity_filled fills f.index) fills
+own-filled [] apart = All-nil (λ (f : Fill). f.quantity ≡ quantity_filled [] f.index)
 own-filled (f ∷ fills) apart =
     let behind = AllPairs-head FillsDiffer f fills apart in
-    let here : f.quantity ≡ filled (f ∷ fills) f.index =
+    let here : f.quantity ≡ quantity_filled (f ∷ fills) f.index =
     let none = filled-off fills f.index (λ k d lt e. behind k d lt (sym e)) in
     let one : cond (f.index == f.index) f.quantity 0 ≡ f.quantity = cond-true (f.index == f.index) f.quantity 0 (eq-eqb f.index f.index refl) in
     let sum = filled-cons f fills f.index in omega arith in
-    let later : All (λ g. g.quantity ≡ filled (f ∷ fills) g.index) fills = λ k d lt.
+    let later : All (λ g. g.quantity ≡ quantity_filled (f ∷ fills) g.index) fills = λ k d lt.
     let g = get_or fills k d in
-    let is : g.quantity ≡ filled fills g.index = own-filled fills (AllPairs-tail FillsDiffer f fills apart) k d lt in
+    let is : g.quantity ≡ quantity_filled fills g.index = own-filled fills (AllPairs-tail FillsDiffer f fills apart) k d lt in
     let off : cond (f.index == g.index) f.quantity 0 ≡ 0 = cond-false (f.index == g.index) f.quantity 0 (ne_eqb f.index g.index (behind k d lt)) in
     let sum = filled-cons f fills g.index in omega arith in
-    All-cons (λ g. g.quantity ≡ filled (f ∷ fills) g.index) f fills here later
+    All-cons (λ g. g.quantity ≡ quantity_filled (f ∷ fills) g.index) f fills here later
 
 -- where something is filled of an order, some fill is of it
-pub some-filled : (fills : List Fill) (k : ℕ) → 0 < filled fills k → (f : Fill) × Contains fills f × (f.index ≡ k)
+pub some-filled : (fills : List Fill) (k : ℕ) → 0 < quantity_filled fills k → (f : Fill) × Contains fills f × (f.index ≡ k)
 some-filled fills k some =
     let found = some_part (Contains fills) (λ (f : Fill). f.index == k) (λ (f : Fill). f.quantity) fills (All-contains_itself fills) some in
     (found.0, found.1, eqb-true found.0.index k found.2)
@@ -103,27 +103,27 @@ module _ (side : Side) (limit : ℕ) where
   ]
 
   -- no two are of one order
-  pub fills-apart : (orders : List Order) (t : Side) (amount : ℕ → ℕ) (size : ℕ) (xs : List Resting) → All (IsPart orders t amount) xs → AllPairs (IsAhead t) xs → AllPairs FillsDiffer (fills_of side limit size xs)
+  pub fills-apart : (orders : List Order) (t : Side) (amount : ℕ → ℕ) (size : ℕ) (xs : List Resting) → All (IsRestingOn orders t amount) xs → AllPairs (IsAheadInBook t) xs → AllPairs FillsDiffer (fills_of side limit size xs)
   fills-apart orders t amount size [] parts ranked = λ i j d lt below. absurd (omega arith)
   fills-apart orders t amount size (x ∷ xs) parts ranked = elim (cases_Bool (trades_with side limit size x)) [
     | inr f ↦ subst (AllPairs FillsDiffer) (sym (cond-false _ _ _ f)) (λ i j d lt below. absurd (omega arith))
     | inl h ↦
-        let here = All-head (IsPart orders t amount) x xs parts in
-        let later = All-tail (IsPart orders t amount) x xs parts in
-        let behind = AllPairs-head (IsAhead t) x xs ranked in
+        let here = All-head (IsRestingOn orders t amount) x xs parts in
+        let later = All-tail (IsRestingOn orders t amount) x xs parts in
+        let behind = AllPairs-head (IsAheadInBook t) x xs ranked in
         let off : All (λ (r : Resting). x.index ≢ r.index) xs = λ k d lt e. parts-apart orders t amount x (get_or xs k d) here (later k d lt) (behind k d lt) (sym e) in
         subst (AllPairs FillsDiffer) (sym (cond-true _ _ _ h))
         (AllPairs-cons FillsDiffer (fill_of size x) (fills_of side limit (size - x.left) xs) (fills-all (λ i. x.index ≢ i) (size - x.left) xs off)
-        (fills-apart orders t amount (size - x.left) xs later (AllPairs-tail (IsAhead t) x xs ranked)))
+        (fills-apart orders t amount (size - x.left) xs later (AllPairs-tail (IsAheadInBook t) x xs ranked)))
   ]
 
   -- each fill takes an order out of the book, but for one that uses the size up
-  pub walk-count : (size : ℕ) (xs : List Resting) → length (fills_of side limit size xs) + length (rest_of side limit size xs) + min 1 (size - total_filled (fills_of side limit size xs)) ≤ length xs + 1
+  pub walk-count : (size : ℕ) (xs : List Resting) → length (fills_of side limit size xs) + length (resting_after_fills side limit size xs) + min 1 (size - total_filled (fills_of side limit size xs)) ≤ length xs + 1
   walk-count size [] = omega arith
   walk-count size (x ∷ xs) = elim (cases_Bool (trades_with side limit size x)) [
     | inr f ↦
         let a : length (fills_of side limit size (x ∷ xs)) ≡ 0 = ap (λ (gs : List Fill). length gs) (cond-false _ _ _ f) in
-        let b : length (rest_of side limit size (x ∷ xs)) ≡ suc (length xs) = ap (λ (ys : List Resting). length ys) (cond-false _ _ _ f) in
+        let b : length (resting_after_fills side limit size (x ∷ xs)) ≡ suc (length xs) = ap (λ (ys : List Resting). length ys) (cond-false _ _ _ f) in
         omega arith
     | inl h ↦
         let later = fills_of side limit (size - x.left) xs in
@@ -132,11 +132,11 @@ module _ (side : Side) (limit : ℕ) where
         let sum : total_filled (fills_of side limit size (x ∷ xs)) ≡ min size x.left + total_filled later = ap total_filled fills ∙ sum_by-cons (λ (g : Fill). g.quantity) (fill_of size x) later in
         elim (cases_lt size x.left) [
           | inl less ↦
-              let b : length (rest_of side limit size (x ∷ xs)) ≡ suc (length xs) = ap (λ (ys : List Resting). length ys) (cond-true _ _ _ h ∙ cond-true _ _ _ (lt-ltb size x.left less)) in
+              let b : length (resting_after_fills side limit size (x ∷ xs)) ≡ suc (length xs) = ap (λ (ys : List Resting). length ys) (cond-true _ _ _ h ∙ cond-true _ _ _ (lt-ltb size x.left less)) in
               let none : length later ≡ 0 = ap (λ (gs : List Fill). length gs) (none-left side limit (size - x.left) xs (omega arith)).0 in
               omega arith
           | inr more ↦
-              let b : length (rest_of side limit size (x ∷ xs)) ≡ length (rest_of side limit (size - x.left) xs) = ap (λ (ys : List Resting). length ys) (cond-true _ _ _ h ∙ cond-false _ _ _ (le-ltb size x.left more)) in
+              let b : length (resting_after_fills side limit size (x ∷ xs)) ≡ length (resting_after_fills side limit (size - x.left) xs) = ap (λ (ys : List Resting). length ys) (cond-true _ _ _ h ∙ cond-false _ _ _ (le-ltb size x.left more)) in
               let ih = walk-count (size - x.left) xs in
               omega arith
         ]

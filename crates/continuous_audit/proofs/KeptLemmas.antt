@@ -8,13 +8,13 @@ use Rattle.audit_base.specs.declared.orders.Deal.{Deal}
 use Rattle.audit_base.specs.declared.terms.Side.{Side}
 use Rattle.audit_base.specs.declared.terms.Side.TheVariants.{Buy, Sell}
 use Rattle.audit_base.specs.Orders.{order_at, place_at, side_at, other_side, IsOrderList}
-use Rattle.audit_base.specs.Deals.{names, NamesOrders}
-use Rattle.audit_base.specs.Continuous.{cause, chain, chain_within, before, resting, traded_before, before_of, rests, uncancelled_before}
+use Rattle.audit_base.specs.Deals.{names_order, NamesOrders}
+use Rattle.audit_base.specs.Continuous.{cause, chain, chain_within, before_quantity_by_past, resting_order, traded_before, before_quantity, rests_before_by_past, uncancelled_before}
 use Rattle.audit_base.specs.ContinuousRules.{ConformsAt}
 use Rattle.audit_base.proofs.SumLemmas.{sum_by-same}
 use Rattle.audit_base.proofs.OrderLemmas.{place-rises}
 use Rattle.audit_base.proofs.ContinuousLemmas.{target-below, chain-none, chain-some, before-is, before-some}
-use Rattle.continuous_audit.specs.Chains.{IsClosed, ends_by}
+use Rattle.continuous_audit.specs.Chains.{HasChainEnded, ends_by}
 use Rattle.continuous_audit.specs.Scans.{number_in}
 use Rattle.continuous_laws.proofs.StepLemmas.{rests-parts}
 use Rattle.continuous_audit.proofs.RecordLemmas.{ends}
@@ -47,7 +47,7 @@ own-side Buy e = absurd (cc)
 own-side Sell e = absurd (cc)
 
 module _ (orders : List Order) (list : IsOrderList orders) where
-  -- the orders of a chain stand ahead and are of the side
+  -- the orders of a chain are earlier in the list, and of the side
   abbrev IsAheadOf : ℕ → ℕ → Type 0
   IsAheadOf x u = (u < x) × (side_at orders u ≡ side_at orders x)
 
@@ -65,10 +65,10 @@ module _ (orders : List Order) (list : IsOrderList orders) where
   chain-ahead x inside = chain-ahead-within (suc x) x (order_at orders x).target inside (λ t e. list.targets x t inside e)
 
   -- a chain is closed where it is empty, or the target is ended and the target's chain is closed
-  pub closed-none : (x : ℕ) → (order_at orders x).target ≡ None → IsClosed orders x
+  pub closed-none : (x : ℕ) → (order_at orders x).target ≡ None → HasChainEnded orders x
   closed-none x e = subst (All (λ u. ends_by (order_at orders u).cancelled (place_at orders x) ≡ true)) (sym (chain-none orders list x e)) (All-nil (λ u. ends_by (order_at orders u).cancelled (place_at orders x) ≡ true))
 
-  pub closed-some : (x t : ℕ) → x < length orders → (order_at orders x).target ≡ Some t → ends_by (order_at orders t).cancelled (place_at orders x) ≡ true → IsClosed orders t → IsClosed orders x
+  pub closed-some : (x t : ℕ) → x < length orders → (order_at orders x).target ≡ Some t → ends_by (order_at orders t).cancelled (place_at orders x) ≡ true → HasChainEnded orders t → HasChainEnded orders x
   closed-some x t inside e ended closed =
       let lower = target-below orders list x inside t e in
       let up = place-rises orders list t x lower inside in
@@ -81,9 +81,10 @@ module _ (orders : List Order) (list : IsOrderList orders) where
     abbrev past : ℕ → ℕ → ℕ
     past = traded_before orders deals
 
-    -- an order that the record of the one at t ends, or an earlier one, isn't named by a deal of a later cause
+    -- an order that the record of the one at t ends, or an earlier one, isn't named by a
+    -- deal of a later cause
     no-deal : (q t u : ℕ) → t < length orders → IsAheadOf t u → ends_by (order_at orders u).cancelled (place_at orders t) ≡ true → ((i : ℕ) → i < q → ConformsAt orders deals i)
-        → (k : ℕ) (e : Deal) → k < length deals → names u (get_or deals k e) ≡ true → place_at orders t ≤ cause orders (get_or deals k e) → cause orders (get_or deals k e) < q → ⊥
+        → (k : ℕ) (e : Deal) → k < length deals → names_order u (get_or deals k e) ≡ true → place_at orders t ≤ cause orders (get_or deals k e) → cause orders (get_or deals k e) < q → ⊥
     no-deal q t u inside ahead ended conforms k e lt named_here from below =
         let d = get_or deals k e in
         let is = named k e lt in
@@ -95,20 +96,20 @@ module _ (orders : List Order) (list : IsOrderList orders) where
           | inl b ↦
               let b_is : d.bid ≡ u = eqb-true d.bid u b in
               let place_is : place_at orders d.bid ≡ place_at orders u = ap (place_at orders) b_is in
-              let r_is : resting orders d ≡ d.bid = cond-true (nat_lt (place_at orders d.bid) (place_at orders d.ask)) d.bid d.ask (lt-ltb _ _ (omega arith)) in
-              let at = rests-parts orders past (cause orders d) u (subst (λ (r : ℕ). rests orders past (cause orders d) r ≡ true) (r_is ∙ b_is) rest) in
+              let r_is : resting_order orders d ≡ d.bid = cond-true (nat_lt (place_at orders d.bid) (place_at orders d.ask)) d.bid d.ask (lt-ltb _ _ (omega arith)) in
+              let at = rests-parts orders past (cause orders d) u (subst (λ (r : ℕ). rests_before_by_past orders past (cause orders d) r ≡ true) (r_is ∙ b_is) rest) in
               let late = ended-late (order_at orders u).cancelled (place_at orders t) (cause orders d) ended at.stands_yet in
               let end = ends orders list deals named t inside d is (omega arith) in
-              let side_is : side_at orders (resting orders d) ≡ other_side (side_at orders t) = ap (side_at orders) end.1.resting_is ∙ end.1.of_side in
+              let side_is : side_at orders (resting_order orders d) ≡ other_side (side_at orders t) = ap (side_at orders) end.1.resting_is ∙ end.1.of_side in
               own-side (side_at orders t) (sym ahead.1 ∙ ap (side_at orders) (sym (r_is ∙ b_is)) ∙ side_is)
           | inr a ↦
               let a_is : d.ask ≡ u = eqb-true d.ask u a in
               let place_is : place_at orders d.ask ≡ place_at orders u = ap (place_at orders) a_is in
-              let r_is : resting orders d ≡ d.ask = cond-false (nat_lt (place_at orders d.bid) (place_at orders d.ask)) d.bid d.ask (le-ltb _ _ (omega arith)) in
-              let at = rests-parts orders past (cause orders d) u (subst (λ (r : ℕ). rests orders past (cause orders d) r ≡ true) (r_is ∙ a_is) rest) in
+              let r_is : resting_order orders d ≡ d.ask = cond-false (nat_lt (place_at orders d.bid) (place_at orders d.ask)) d.bid d.ask (le-ltb _ _ (omega arith)) in
+              let at = rests-parts orders past (cause orders d) u (subst (λ (r : ℕ). rests_before_by_past orders past (cause orders d) r ≡ true) (r_is ∙ a_is) rest) in
               let late = ended-late (order_at orders u).cancelled (place_at orders t) (cause orders d) ended at.stands_yet in
               let end = ends orders list deals named t inside d is (omega arith) in
-              let side_is : side_at orders (resting orders d) ≡ other_side (side_at orders t) = ap (side_at orders) end.1.resting_is ∙ end.1.of_side in
+              let side_is : side_at orders (resting_order orders d) ≡ other_side (side_at orders t) = ap (side_at orders) end.1.resting_is ∙ end.1.of_side in
               own-side (side_at orders t) (sym ahead.1 ∙ ap (side_at orders) (sym (r_is ∙ a_is)) ∙ side_is)
         ]
 
@@ -118,23 +119,23 @@ module _ (orders : List Order) (list : IsOrderList orders) where
     unfolding traded_before
     trades-no-more q t u inside le ahead ended conforms =
         let p = place_at orders t in
-        sum_by-same (λ d. cond (names u d && nat_lt (cause orders d) q) d.quantity 0) (λ d. cond (names u d && nat_lt (cause orders d) p) d.quantity 0) deals (λ k e lt.
+        sum_by-same (λ d. cond (names_order u d && nat_lt (cause orders d) q) d.quantity 0) (λ d. cond (names_order u d && nat_lt (cause orders d) p) d.quantity 0) deals (λ k e lt.
         let d = get_or deals k e in
-        let same : (names u d && nat_lt (cause orders d) q) ≡ (names u d && nat_lt (cause orders d) p) = elim (cases_lt (cause orders d) p) [
-          | inl less ↦ ap (λ (b : Bool). names u d && b) (lt-ltb _ _ (omega arith) ∙ sym (lt-ltb _ _ less))
-          | inr from ↦ elim (cases_Bool (names u d)) [
-            | inr f ↦ and_left (names u d) (nat_lt (cause orders d) q) f ∙ sym (and_left (names u d) (nat_lt (cause orders d) p) f)
+        let same : (names_order u d && nat_lt (cause orders d) q) ≡ (names_order u d && nat_lt (cause orders d) p) = elim (cases_lt (cause orders d) p) [
+          | inl less ↦ ap (λ (b : Bool). names_order u d && b) (lt-ltb _ _ (omega arith) ∙ sym (lt-ltb _ _ less))
+          | inr from ↦ elim (cases_Bool (names_order u d)) [
+            | inr f ↦ and_left (names_order u d) (nat_lt (cause orders d) q) f ∙ sym (and_left (names_order u d) (nat_lt (cause orders d) p) f)
             | inl t' ↦ elim (cases_lt (cause orders d) q) [
               | inl below ↦ absurd (no-deal q t u inside ahead ended conforms k e lt t' from below)
-              | inr above ↦ ap (λ (b : Bool). names u d && b) (le-ltb _ _ above ∙ sym (le-ltb _ _ from))
+              | inr above ↦ ap (λ (b : Bool). names_order u d && b) (le-ltb _ _ above ∙ sym (le-ltb _ _ from))
             ]
           ]
         ] in
         ap (λ (b : Bool). cond b d.quantity 0) same)
 
     -- Before, where the chain of the target is closed
-    pub before-kept : (n t : ℕ) → n < length orders → (order_at orders n).target ≡ Some t → IsClosed orders t → ((i : ℕ) → i < place_at orders n → ConformsAt orders deals i)
-        → before_of orders deals n ≡ past (place_at orders n) t + before_of orders deals t
+    pub before-kept : (n t : ℕ) → n < length orders → (order_at orders n).target ≡ Some t → HasChainEnded orders t → ((i : ℕ) → i < place_at orders n → ConformsAt orders deals i)
+        → before_quantity orders deals n ≡ past (place_at orders n) t + before_quantity orders deals t
     before-kept n t inside e closed conforms =
         let lower = target-below orders list n inside t e in
         let up = place-rises orders list t n lower inside in
@@ -143,7 +144,7 @@ module _ (orders : List Order) (list : IsOrderList orders) where
         trades-no-more (place_at orders n) t (get_or (chain orders t) k d) t_in (omega arith) (chain-ahead t t_in k d lt) (closed k d lt) conforms) ∙ sym (before-is orders list past t))
 
     -- Before, by going along the chain
-    pub before-walked : (n : ℕ) (traded : List ℕ) → n < length orders → ((x : ℕ) → x < length orders → number_in traded x ≡ past (place_at orders n) x) → sum_by (number_in traded) (chain orders n) ≡ before_of orders deals n
-    unfolding before
+    pub before-walked : (n : ℕ) (traded : List ℕ) → n < length orders → ((x : ℕ) → x < length orders → number_in traded x ≡ past (place_at orders n) x) → sum_by (number_in traded) (chain orders n) ≡ before_quantity orders deals n
+    unfolding before_quantity_by_past
     before-walked n traded inside is = sum_by-same (number_in traded) (past (place_at orders n)) (chain orders n) (λ k d lt.
         let ahead = chain-ahead n inside k d lt in let low : get_or (chain orders n) k d < n = ahead.0 in is (get_or (chain orders n) k d) (omega arith))

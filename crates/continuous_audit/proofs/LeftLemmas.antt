@@ -7,22 +7,22 @@ use Rattle.audit_base.specs.declared.terms.Side.{Side}
 use Rattle.audit_base.specs.declared.orders.Order.{Order}
 use Rattle.audit_base.specs.declared.orders.Deal.{Deal}
 use Rattle.audit_base.specs.Orders.{place_at, IsOrderList}
-use Rattle.audit_base.specs.Deals.{names, deal_at}
-use Rattle.audit_base.specs.Continuous.{traded_before, size, left_after}
+use Rattle.audit_base.specs.Deals.{names_order, deal_at}
+use Rattle.audit_base.specs.Continuous.{traded_before, size_by_past, left_after}
 use Rattle.audit_base.proofs.OrderLemmas.{place-rises}
 use Rattle.audit_base.proofs.ContinuousOffenceLemmas.{traded-more}
 use Rattle.order_book.specs.declared.books.Resting.{Resting}
 use Rattle.continuous_audit.specs.declared.causes.Cause.{Cause}
-use Rattle.continuous_audit.specs.Holding.{Holds, IsFilledInFront, IsPart, IsWithin, after_fills, left_in, resting_left, resting_left_after}
-use Rattle.continuous_audit.specs.Scans.{IsRefreshed, deal_in, number_in}
+use Rattle.continuous_audit.specs.Holding.{IsListOfAmounts, IsFilledInFront, IsRestingOn, IsWithinBook, after_fills, resting_left_before, resting_left_after}
+use Rattle.continuous_audit.specs.Scans.{IsLeftRefreshed, cause_deal_at, number_in}
 use Rattle.continuous_laws.proofs.StepLemmas.{rests-parts}
 use Rattle.continuous_audit.proofs.RestLemmas.{resting_left-parts}
 use Rattle.continuous_audit.proofs.HeadLemmas.{after_fills-holds}
 
-pub refreshed-more : (deals : List Deal) (causes : List Cause) (start at : ℕ) (sizes traded old xs ys : List ℕ) (d : Deal) → d ≡ deal_at deals (deal_in causes at) → d.bid < length xs → d.ask < length xs
+pub refreshed-more : (deals : List Deal) (causes : List Cause) (start at : ℕ) (sizes traded old xs ys : List ℕ) (d : Deal) → d ≡ deal_at deals (cause_deal_at causes at) → d.bid < length xs → d.ask < length xs
     → ys ≡ slice_set (slice_set xs d.bid (number_in sizes d.bid - number_in traded d.bid)) d.ask (number_in sizes d.ask - number_in traded d.ask)
-    → IsRefreshed deals causes start at sizes traded old xs → IsRefreshed deals causes start (at + 1) sizes traded old ys
-refreshed-more deals causes start at sizes traded old xs ys d d_is bid ask made is = subst (IsRefreshed deals causes start (at + 1) sizes traded old) (sym made) (record {
+    → IsLeftRefreshed deals causes start at sizes traded old xs → IsLeftRefreshed deals causes start (at + 1) sizes traded old ys
+refreshed-more deals causes start at sizes traded old xs ys d d_is bid ask made is = subst (IsLeftRefreshed deals causes start (at + 1) sizes traded old) (sym made) (record {
   count = length-set {A = ℕ} (slice_set xs d.bid (number_in sizes d.bid - number_in traded d.bid)) d.ask (number_in sizes d.ask - number_in traded d.ask) ∙ length-set {A = ℕ} xs d.bid (number_in sizes d.bid - number_in traded d.bid) ∙ is.count;
   each = λ x. elim (cases_eq x d.ask) [
     | inl e ↦ inl (subst (λ (y : ℕ). get_or (slice_set (slice_set xs d.bid (number_in sizes d.bid - number_in traded d.bid)) d.ask (number_in sizes d.ask - number_in traded d.ask)) y 0 ≡ number_in sizes y - number_in traded y) (sym e)
@@ -39,8 +39,8 @@ refreshed-more deals causes start at sizes traded old xs ys d d_is bid ask made 
                   same ∙ kept.0,
                   λ i le lt. elim (cases_eq i at) [
                     | inl e ↦
-                        let off : names x d ≡ false = or_from _ _ (ne_eqb d.bid x (λ f. not_bid (sym f))) (ne_eqb d.ask x (λ f. not_ask (sym f))) in
-                        subst (λ j. names x (deal_at deals (deal_in causes j)) ≡ false) (sym e) (ap (names x) (sym d_is) ∙ off)
+                        let off : names_order x d ≡ false = or_from _ _ (ne_eqb d.bid x (λ f. not_bid (sym f))) (ne_eqb d.ask x (λ f. not_ask (sym f))) in
+                        subst (λ j. names_order x (deal_at deals (cause_deal_at causes j)) ≡ false) (sym e) (ap (names_order x) (sym d_is) ∙ off)
                     | inr ne ↦ kept.1 i le (omega (arith, ne))
                   ],
                 )
@@ -58,7 +58,7 @@ module _ (orders : List Order) (list : IsOrderList orders) (deals : List Deal) (
   abbrev past : ℕ → ℕ → ℕ
   past = traded_before orders deals
 
-  pub older : (k : ℕ) → k < length orders → 0 < resting_left orders past p k → (k < n) × (resting_left orders past p k ≡ size orders past k - past p k)
+  pub older : (k : ℕ) → k < length orders → 0 < resting_left_before orders past p k → (k < n) × (resting_left_before orders past p k ≡ size_by_past orders past k - past p k)
   older k inside some =
       let parts = resting_left-parts orders past p k some in
       let earlier = (rests-parts orders past p k parts.0).earlier in (
@@ -72,21 +72,21 @@ module _ (orders : List Order) (list : IsOrderList orders) (deals : List Deal) (
         parts.1,
       )
 
-  left-still : (k : ℕ) → k < length orders → 0 < resting_left orders past p k → left_in left k ≡ resting_left_after orders deals p k
+  left-still : (k : ℕ) → k < length orders → 0 < resting_left_before orders past p k → number_in left k ≡ resting_left_after orders deals p k
   left-still k inside some =
       let o = older k inside some in
       let l = is k o.0 in
       let e = o.1 in
       omega (arith, traded-more orders deals p k)
 
-  pub within-left : (side : Side) (xs : List Resting) → Holds orders side (resting_left orders past p) xs → All (IsWithin left) xs
+  pub within-left : (side : Side) (xs : List Resting) → IsListOfAmounts orders side (resting_left_before orders past p) xs → All (IsWithinBook left) xs
   within-left side xs holds i d lt =
-      let part : IsPart orders side (resting_left orders past p) (get_or xs i d) = holds.only i d lt in
+      let part : IsRestingOn orders side (resting_left_before orders past p) (get_or xs i d) = holds.only i d lt in
       let r = get_or xs i d in
       let l = left-still r.index part.inside part.some in
-      let e : r.left ≡ resting_left orders past p r.index = ap (λ (y : Resting). y.left) part.is in
+      let e : r.left ≡ resting_left_before orders past p r.index = ap (λ (y : Resting). y.left) part.is in
       record { inside = let w = part.inside in omega arith; most = omega arith }
 
   -- so a book that is settled by these numbers is settled to what rests after the deals
-  pub after_fills-left : (side : Side) (xs : List Resting) → Holds orders side (resting_left orders past p) xs → IsFilledInFront orders side (resting_left orders past p) (resting_left_after orders deals p) (after_fills (left_in left) xs)
-  after_fills-left side xs holds = after_fills-holds orders side (left_in left) (resting_left orders past p) (resting_left_after orders deals p) xs (record { less = λ k. omega arith; is = left-still }) holds
+  pub after_fills-left : (side : Side) (xs : List Resting) → IsListOfAmounts orders side (resting_left_before orders past p) xs → IsFilledInFront orders side (resting_left_before orders past p) (resting_left_after orders deals p) (after_fills (number_in left) xs)
+  after_fills-left side xs holds = after_fills-holds orders side (number_in left) (resting_left_before orders past p) (resting_left_after orders deals p) xs (record { less = λ k. omega arith; is = left-still }) holds

@@ -8,7 +8,7 @@ use Rattle.audit_base.specs.declared.orders.Order.{Order}
 use Rattle.audit_base.specs.declared.orders.Deal.{Deal}
 use Rattle.audit_base.specs.Orders.{place_at, IsOrderList}
 use Rattle.audit_base.specs.Deals.{IsDealList}
-use Rattle.audit_base.specs.Continuous.{traded_before, before_of, size_of, left_after}
+use Rattle.audit_base.specs.Continuous.{traded_before, before_quantity, size_of_order, left_after}
 use Rattle.audit_base.proofs.OrderLemmas.{place-rises}
 use Rattle.audit_base.proofs.OffenceLemmas.{get_or-default}
 use Rattle.continuous_audit.specs.declared.causes.Cause.{Cause}
@@ -17,9 +17,9 @@ use Rattle.continuous_audit.specs.declared.numbers.Numbers.{Numbers}
 use Rattle.continuous_audit.specs.declared.sheet.Sheet.{Sheet}
 use Rattle.continuous_audit.specs.Progress.{AreNumbers}
 use Rattle.continuous_audit.specs.Causes.{AreCauses, cause_of, causes_upto, running_total}
-use Rattle.continuous_audit.specs.Chains.{AreClosed, IsClosed, IsOpenSheet, IsOpening, flag_in}
-use Rattle.continuous_audit.specs.Records.{AreBefore, AreLeft, AreSizes, AreTraded, ConformsBelow}
-use Rattle.continuous_audit.specs.Scans.{AreSmall, AreRunningTotals, IsRefreshed, IsSplitAt, missing_cause, number_in, order_in}
+use Rattle.continuous_audit.specs.Chains.{HaveChainsEnded, HasChainEnded, IsOpenSheet, IsKnownBeforeOpening, flag_in}
+use Rattle.continuous_audit.specs.Records.{AreBeforeNumbers, AreLeftBefore, AreSizes, AreTradedBefore, ConformsBelow}
+use Rattle.continuous_audit.specs.Scans.{AreTotalsSmall, AreRunningTotals, IsLeftRefreshed, IsSplitAt, cause_past_end, number_in, cause_order_at}
 use Rattle.continuous_audit.proofs.CauseLemmas.{cause-inside, running-before}
 use Rattle.continuous_audit.proofs.RefreshLemmas.{refreshed-after}
 
@@ -33,11 +33,11 @@ ones-upto orders deals (suc n) = omega (arith, ones-upto orders deals n, ones (c
 
 -- one number more
 module _ (orders : List Order) (deals : List Deal) (n : ℕ) (n_inside : n < length orders) where
-  pub before-more : (before ys : List ℕ) (b : ℕ) → AreBefore orders deals n before → b ≡ before_of orders deals n → b ≤ n * 2 ^ 72 → length orders < 2 ^ 32 → ys ≡ slice_set before n b → AreBefore orders deals (suc n) ys
-  before-more before ys b old is most few made = subst (AreBefore orders deals (suc n)) (sym made) (record {
+  pub before-more : (before ys : List ℕ) (b : ℕ) → AreBeforeNumbers orders deals n before → b ≡ before_quantity orders deals n → b ≤ n * 2 ^ 72 → length orders < 2 ^ 32 → ys ≡ slice_set before n b → AreBeforeNumbers orders deals (suc n) ys
+  before-more before ys b old is most few made = subst (AreBeforeNumbers orders deals (suc n)) (sym made) (record {
     count = length-set {A = ℕ} before n b ∙ old.count;
     is = λ x lt. elim (cases_eq x n) [
-      | inl e ↦ subst (λ (y : ℕ). number_in (slice_set before n b) y ≡ before_of orders deals y) (sym e) (get_or-set_same {A = ℕ} before n b 0 (omega (arith, old.count)) ∙ is)
+      | inl e ↦ subst (λ (y : ℕ). number_in (slice_set before n b) y ≡ before_quantity orders deals y) (sym e) (get_or-set_same {A = ℕ} before n b 0 (omega (arith, old.count)) ∙ is)
       | inr ne ↦ get_or-set_other {A = ℕ} before n x b 0 ne ∙ old.is x (omega (arith, ne))
     ];
     fits = λ x. elim (cases_eq x n) [
@@ -50,20 +50,20 @@ module _ (orders : List Order) (deals : List Deal) (n : ℕ) (n_inside : n < len
     ];
   })
 
-  pub closed-more : (closed ys : List Bool) (b : Bool) → AreClosed orders n closed → (b ≡ true → IsClosed orders n) → ys ≡ slice_set closed n b → AreClosed orders (suc n) ys
-  closed-more closed ys b old is made = subst (AreClosed orders (suc n)) (sym made) (record {
+  pub closed-more : (closed ys : List Bool) (b : Bool) → HaveChainsEnded orders n closed → (b ≡ true → HasChainEnded orders n) → ys ≡ slice_set closed n b → HaveChainsEnded orders (suc n) ys
+  closed-more closed ys b old is made = subst (HaveChainsEnded orders (suc n)) (sym made) (record {
     count = length-set {A = Bool} closed n b ∙ old.count;
     is = λ x lt t. elim (cases_eq x n) [
-      | inl e ↦ subst (IsClosed orders) (sym e) (is (sym (ap (flag_in (slice_set closed n b)) e ∙ get_or-set_same {A = Bool} closed n b false (omega (arith, old.count))) ∙ t))
+      | inl e ↦ subst (HasChainEnded orders) (sym e) (is (sym (ap (flag_in (slice_set closed n b)) e ∙ get_or-set_same {A = Bool} closed n b false (omega (arith, old.count))) ∙ t))
       | inr ne ↦ old.is x (omega (arith, ne)) (sym (get_or-set_other {A = Bool} closed n x b false ne) ∙ t)
     ];
   })
 
-  pub sizes-more : (sizes ys : List ℕ) (z : ℕ) → AreSizes orders deals n sizes → z ≡ size_of orders deals n → ys ≡ slice_set sizes n z → AreSizes orders deals (suc n) ys
+  pub sizes-more : (sizes ys : List ℕ) (z : ℕ) → AreSizes orders deals n sizes → z ≡ size_of_order orders deals n → ys ≡ slice_set sizes n z → AreSizes orders deals (suc n) ys
   sizes-more sizes ys z old is made = subst (AreSizes orders deals (suc n)) (sym made) (record {
     count = length-set {A = ℕ} sizes n z ∙ old.count;
     is = λ x lt. elim (cases_eq x n) [
-      | inl e ↦ subst (λ (y : ℕ). number_in (slice_set sizes n z) y ≡ size_of orders deals y) (sym e) (get_or-set_same {A = ℕ} sizes n z 0 (omega (arith, old.count)) ∙ is)
+      | inl e ↦ subst (λ (y : ℕ). number_in (slice_set sizes n z) y ≡ size_of_order orders deals y) (sym e) (get_or-set_same {A = ℕ} sizes n z 0 (omega (arith, old.count)) ∙ is)
       | inr ne ↦ get_or-set_other {A = ℕ} sizes n x z 0 ne ∙ old.is x (omega (arith, ne))
     ];
   })
@@ -72,7 +72,7 @@ module _ (orders : List Order) (list : IsOrderList orders) (deals : List Deal) (
   few-causes : length causes ≤ length deals
   few-causes = omega (arith, are.sums (λ c. 1), ones causes, ones-upto orders deals (length deals))
 
-  pub running-small : (at : ℕ) (traded : List ℕ) → AreRunningTotals orders deals causes at traded → AreSmall orders traded
+  pub running-small : (at : ℕ) (traded : List ℕ) → AreRunningTotals orders deals causes at traded → AreTotalsSmall orders traded
   running-small at traded run = record {
     count = run.count;
     most = λ x lt.
@@ -85,10 +85,10 @@ module _ (orders : List Order) (list : IsOrderList orders) (deals : List Deal) (
   -- the first causes, those of the orders below m, where these are the orders of places below q
   running-at : (q m at : ℕ) → IsSplitAt causes m at → ((k : ℕ) → k < length orders → k < m → place_at orders k < q) → ((k : ℕ) → k < length orders → m ≤ k → q ≤ place_at orders k) → (x : ℕ) → running_total deals causes at x ≡ traded_before orders deals q x
   running-at q m at split low high x = running-before orders list deals deal_list.named causes are q at x
-      (λ i d lt below. subst (λ (c : Cause). place_at orders c.order < q) (sym (get_or-default causes i d missing_cause below)) (low (order_in causes i) (cause-inside orders list deals deal_list.named causes are i missing_cause below) (split.early i lt below)))
-      (λ i d le below. subst (λ (c : Cause). q ≤ place_at orders c.order) (sym (get_or-default causes i d missing_cause below)) (high (order_in causes i) (cause-inside orders list deals deal_list.named causes are i missing_cause below) (split.late i le below)))
+      (λ i d lt below. subst (λ (c : Cause). place_at orders c.order < q) (sym (get_or-default causes i d cause_past_end below)) (low (cause_order_at causes i) (cause-inside orders list deals deal_list.named causes are i cause_past_end below) (split.early i lt below)))
+      (λ i d le below. subst (λ (c : Cause). q ≤ place_at orders c.order) (sym (get_or-default causes i d cause_past_end below)) (high (cause_order_at causes i) (cause-inside orders list deals deal_list.named causes are i cause_past_end below) (split.late i le below)))
 
-  pub traded-at : (q m at : ℕ) (traded : List ℕ) → IsSplitAt causes m at → AreRunningTotals orders deals causes at traded → ((k : ℕ) → k < length orders → k < m → place_at orders k < q) → ((k : ℕ) → k < length orders → m ≤ k → q ≤ place_at orders k) → AreTraded orders deals q traded
+  pub traded-at : (q m at : ℕ) (traded : List ℕ) → IsSplitAt causes m at → AreRunningTotals orders deals causes at traded → ((k : ℕ) → k < length orders → k < m → place_at orders k < q) → ((k : ℕ) → k < length orders → m ≤ k → q ≤ place_at orders k) → AreTradedBefore orders deals q traded
   traded-at q m at traded split run low high = record {
     small = running-small at traded run;
     is = λ x lt. run.sums x lt ∙ running-at q m at split low high x;
@@ -98,13 +98,13 @@ module _ (orders : List Order) (list : IsOrderList orders) (deals : List Deal) (
     abbrev p : ℕ
     p = place_at orders n
 
-    pub traded-then : (at : ℕ) (traded : List ℕ) → IsSplitAt causes n at → AreRunningTotals orders deals causes at traded → AreTraded orders deals p traded
+    pub traded-then : (at : ℕ) (traded : List ℕ) → IsSplitAt causes n at → AreRunningTotals orders deals causes at traded → AreTradedBefore orders deals p traded
     traded-then at traded split run = traded-at p n at traded split run (λ k inside lt. place-rises orders list k n lt n_inside) (λ k inside le. elim (cases_eq k n) [
       | inl e ↦ let same : place_at orders k ≡ p = ap (place_at orders) e in omega arith
       | inr ne ↦ let up = place-rises orders list n k (omega (arith, ne)) inside in omega arith
     ])
 
-    pub traded-now : (at : ℕ) (traded : List ℕ) → IsSplitAt causes (suc n) at → AreRunningTotals orders deals causes at traded → AreTraded orders deals (suc p) traded
+    pub traded-now : (at : ℕ) (traded : List ℕ) → IsSplitAt causes (suc n) at → AreRunningTotals orders deals causes at traded → AreTradedBefore orders deals (suc p) traded
     traded-now at traded split run = traded-at (suc p) (suc n) at traded split run
         (λ k inside lt. elim (cases_eq k n) [
           | inl e ↦ let same : place_at orders k ≡ p = ap (place_at orders) e in omega arith
@@ -112,7 +112,7 @@ module _ (orders : List Order) (list : IsOrderList orders) (deals : List Deal) (
         ])
         (λ k inside le. let up = place-rises orders list n k (omega arith) inside in omega arith)
 
-    pub opening : (at : ℕ) (traded traded' : List ℕ) (sheet : Sheet) → traded' ≡ traded → ConformsBelow orders deals p → AreBefore orders deals n sheet.before.items → AreLeft orders deals n p sheet.left.items → IsSplitAt causes n at → AreRunningTotals orders deals causes at traded → IsOpening orders deals n traded' sheet
+    pub opening : (at : ℕ) (traded traded' : List ℕ) (sheet : Sheet) → traded' ≡ traded → ConformsBelow orders deals p → AreBeforeNumbers orders deals n sheet.before.items → AreLeftBefore orders deals n p sheet.left.items → IsSplitAt causes n at → AreRunningTotals orders deals causes at traded → IsKnownBeforeOpening orders deals n traded' sheet
     opening at traded traded' sheet same conforms b l split run =
         let t = traded-then at traded split run in
         record {
@@ -123,12 +123,12 @@ module _ (orders : List Order) (list : IsOrderList orders) (deals : List Deal) (
           left_is = l.is;
         }
 
-    pub left-after_deals : (start at : ℕ) (sizes traded old new ys : List ℕ) (m : ℕ) → IsSplitAt causes n start → IsSplitAt causes (suc n) at → AreRunningTotals orders deals causes at traded → AreSizes orders deals (suc n) sizes → AreLeft orders deals n p old
-        → IsRefreshed deals causes start at sizes traded old new → m ≡ number_in sizes n - number_in traded n → ys ≡ slice_set new n m → AreLeft orders deals (suc n) (suc p) ys
+    pub left-after_deals : (start at : ℕ) (sizes traded old new ys : List ℕ) (m : ℕ) → IsSplitAt causes n start → IsSplitAt causes (suc n) at → AreRunningTotals orders deals causes at traded → AreSizes orders deals (suc n) sizes → AreLeftBefore orders deals n p old
+        → IsLeftRefreshed deals causes start at sizes traded old new → m ≡ number_in sizes n - number_in traded n → ys ≡ slice_set new n m → AreLeftBefore orders deals (suc n) (suc p) ys
     left-after_deals start at sizes traded old new ys m split later run z l refreshed m_is made =
         let t = traded-now at traded later run in
         let long : length new ≡ length orders = refreshed.count ∙ l.count in
-        subst (AreLeft orders deals (suc n) (suc p)) (sym made) (record {
+        subst (AreLeftBefore orders deals (suc n) (suc p)) (sym made) (record {
           count = length-set {A = ℕ} new n m ∙ long;
           is = λ x lt. elim (cases_eq x n) [
             | inl e ↦ subst (λ (y : ℕ). number_in (slice_set new n m) y ≡ left_after orders deals p y) (sym e) (get_or-set_same {A = ℕ} new n m 0 (omega (arith, long)) ∙ m_is ∙ (λ i. z.is n (omega arith) i - t.is n n_inside i))

@@ -4,15 +4,15 @@ use Rattle.std.specs.Prelude.{◌&&◌, not}
 use Rattle.audit_base.specs.declared.orders.Order.{Order}
 use Rattle.audit_base.specs.declared.orders.Deal.{Deal}
 use Rattle.audit_base.specs.Orders.{order_at, place_at, IsOrderList}
-use Rattle.audit_base.specs.Continuous.{rests, traded_before, before_of, entered_of, is_own_place}
+use Rattle.audit_base.specs.Continuous.{rests_before_by_past, traded_before, before_quantity, has_entered, is_cancelled_at_place}
 use Rattle.audit_base.proofs.OrderLemmas.{place-rises}
 use Rattle.audit_base.proofs.LeastLemmas.{cases_Option}
 use Rattle.audit_base.proofs.ContinuousLemmas.{target-below, entered-none, entered-some, size-is}
 use Rattle.continuous_audit.specs.declared.opening.Opening.{Opening}
 use Rattle.continuous_audit.specs.declared.sheet.Sheet.{Sheet}
 use Rattle.continuous_audit.specs.DealFindings as by_deal
-use Rattle.continuous_audit.specs.Chains.{IsOpening}
-use Rattle.continuous_audit.specs.Sheets.{IsOpened}
+use Rattle.continuous_audit.specs.Chains.{IsKnownBeforeOpening}
+use Rattle.continuous_audit.specs.Sheets.{IsOpeningOfOrder}
 use Rattle.continuous_audit.specs.Scans.{number_in}
 use Rattle.continuous_audit.proofs.ScanLemmas.{waits-is}
 
@@ -20,30 +20,30 @@ and-true : (b c : Bool) → c ≡ true → (b && c) ≡ b
 and-true true c e = e
 and-true false c e = refl
 
-module _ (orders : List Order) (list : IsOrderList orders) (deals : List Deal) (n : ℕ) (n_inside : n < length orders) (traded : List ℕ) (sheet : Sheet) (is : IsOpening orders deals n traded sheet) where
+module _ (orders : List Order) (list : IsOrderList orders) (deals : List Deal) (n : ℕ) (n_inside : n < length orders) (traded : List ℕ) (sheet : Sheet) (is : IsKnownBeforeOpening orders deals n traded sheet) where
   abbrev past : ℕ → ℕ → ℕ
   past = traded_before orders deals
 
   pub entered-opened : (r : Bool) → ((order_at orders n).target ≡ None → r ≡ true) → ((t : ℕ) → (order_at orders n).target ≡ Some t → r ≡ by_deal.waits_in orders sheet.left.items (place_at orders n) t)
-      → by_deal.enters (order_at orders n) r ≡ entered_of orders deals n
+      → by_deal.enters (order_at orders n) r ≡ has_entered orders deals n
   entered-opened r none some = elim (cases_Option (order_at orders n).target) [
-    | inl e ↦ and-true (not (is_own_place (order_at orders n).cancelled (place_at orders n))) r (none e) ∙ sym (entered-none orders list past n e)
+    | inl e ↦ and-true (not (is_cancelled_at_place (order_at orders n).cancelled (place_at orders n))) r (none e) ∙ sym (entered-none orders list past n e)
     | inr found ↦
         let t = found.0 in
         let e : (order_at orders n).target ≡ Some t = found.1 in
         let lower = target-below orders list n n_inside t e in
-        let waits : by_deal.waits_in orders sheet.left.items (place_at orders n) t ≡ rests orders past (place_at orders n) t = waits-is orders past (place_at orders n) t (number_in sheet.left.items t) (place-rises orders list t n lower n_inside) (is.left_is t lower) in
-        ap (λ (b : Bool). not (is_own_place (order_at orders n).cancelled (place_at orders n)) && b) (some t e ∙ waits) ∙ sym (entered-some orders list past n t n_inside e)
+        let waits : by_deal.waits_in orders sheet.left.items (place_at orders n) t ≡ rests_before_by_past orders past (place_at orders n) t = waits-is orders past (place_at orders n) t (number_in sheet.left.items t) (place-rises orders list t n lower n_inside) (is.left_is t lower) in
+        ap (λ (b : Bool). not (is_cancelled_at_place (order_at orders n).cancelled (place_at orders n)) && b) (some t e ∙ waits) ∙ sym (entered-some orders list past n t n_inside e)
   ]
 
   -- the same, in the words of the code: the order that it reads
   pub opened : (o : Order) → o ≡ order_at orders n → (r : Bool) → (o.target ≡ None → r ≡ true) → ((t : ℕ) → o.target ≡ Some t → r ≡ by_deal.waits_in orders sheet.left.items o.place t)
-      → (opening : Opening) → opening.entered ≡ by_deal.enters o r → opening.before ≡ before_of orders deals n → opening.size ≡ by_deal.size_left opening.entered o.quantity opening.before
-      → IsOpened orders deals n opening
+      → (opening : Opening) → opening.entered ≡ by_deal.enters o r → opening.before ≡ before_quantity orders deals n → opening.size ≡ by_deal.size_left opening.entered o.quantity opening.before
+      → IsOpeningOfOrder orders deals n opening
   opened o o_is r none some opening e_is b_is z_is =
       let target_is = ap (λ (x : Order). x.target) o_is in
       let place_is = ap (λ (x : Order). x.place) o_is in
-      let entry : opening.entered ≡ entered_of orders deals n = e_is ∙ ap (λ (x : Order). by_deal.enters x r) o_is ∙ entered-opened r (λ f. none (target_is ∙ f)) (λ t f. some t (target_is ∙ f) ∙ ap (λ (p : ℕ). by_deal.waits_in orders sheet.left.items p t) place_is) in
+      let entry : opening.entered ≡ has_entered orders deals n = e_is ∙ ap (λ (x : Order). by_deal.enters x r) o_is ∙ entered-opened r (λ f. none (target_is ∙ f)) (λ t f. some t (target_is ∙ f) ∙ ap (λ (p : ℕ). by_deal.waits_in orders sheet.left.items p t) place_is) in
       record {
         entered_is = entry;
         before_is = b_is;

@@ -8,21 +8,21 @@ use Rattle.audit_base.specs.declared.orders.Order.{Order}
 use Rattle.audit_base.specs.declared.orders.Deal.{Deal}
 use Rattle.audit_base.specs.declared.findings.Finding.{Finding}
 use Rattle.audit_base.specs.Least.{any_below, least_answer}
-use Rattle.audit_base.specs.Orders.{order_at, side_at, place_at, other_side, is_rests, IsOrderList}
-use Rattle.audit_base.specs.Priority.{better, best}
-use Rattle.audit_base.specs.Deals.{names, deal_at, missing_deal, NamesOrders}
-use Rattle.audit_base.specs.Continuous.{cause, resting, incoming, traded_before, traded_at, uncancelled_before, size}
+use Rattle.audit_base.specs.Orders.{order_at, side_at, place_at, other_side, may_rest, IsOrderList}
+use Rattle.audit_base.specs.Priority.{better, best_order}
+use Rattle.audit_base.specs.Deals.{names_order, deal_at, deal_past_end, NamesOrders}
+use Rattle.audit_base.specs.Continuous.{cause, resting_order, incoming_order, traded_before, traded_at, uncancelled_before, size_by_past}
 use Rattle.audit_base.specs.ContinuousRules.{ConformsAt}
-use Rattle.audit_base.specs.ContinuousOffences.{conservation_finding, waits_ahead, priority_finding, spread_finding, shown_after, finding_at_place}
-use Rattle.audit_base.specs.Shows.{priority_of}
-use Rattle.audit_base.specs.Shows.{at_deal, show_order, show_found}
+use Rattle.audit_base.specs.ContinuousOffences.{conservation_finding, waits_ahead, resting_priority_finding, spread_finding, traded_shown_after, finding_at_place}
+use Rattle.audit_base.specs.Shows.{priority_property}
+use Rattle.audit_base.specs.Shows.{finding_at_trade, show_order, show_if_found}
 use Rattle.audit_base.proofs.SumLemmas.{some_part}
 use Rattle.audit_base.proofs.OrderLemmas.{same_place, place-rises, not_both_sides, side-other}
 use Rattle.audit_base.proofs.LeastLemmas.{option_or-none, option_or-some}
 use Rattle.audit_base.proofs.OffenceLemmas.{get_or-default, none-only, option_or-none_both}
 use Rattle.audit_base.proofs.ContinuousOffenceLemmas.{traded-more, quiet-conforms}
 use Rattle.order_book.specs.declared.books.Resting.{Resting}
-use Rattle.continuous_audit.specs.Holding.{Holds, IsFilledInFront, resting_left}
+use Rattle.continuous_audit.specs.Holding.{IsListOfAmounts, IsFilledInFront, resting_left_before}
 use Rattle.continuous_audit.proofs.HoldLemmas.{hold-same}
 use Rattle.continuous_audit.proofs.RestLemmas.{resting_left-older, resting_left-newest, resting_left-future, traded-gap}
 use Rattle.continuous_audit.proofs.HeadLemmas.{after_fills-clear, after_fills-empty, none-over, over-first, best-over, rested_now, rested_still, still-less}
@@ -34,7 +34,7 @@ module _ (orders : List Order) (deals : List Deal) (p : ℕ) where
   conservation = least_answer (conservation_finding orders deals p) (length deals)
 
   abbrev priority : Option Finding
-  priority = least_answer (priority_finding orders deals p) (length deals)
+  priority = least_answer (resting_priority_finding orders deals p) (length deals)
 
   pub conservation-shown : (f : Finding) → conservation ≡ Some f → finding_at_place orders deals p ≡ Some f
   conservation-shown f e = option_or-some _ _ f e
@@ -64,12 +64,13 @@ module _ (orders : List Order) (list : IsOrderList orders) (deals : List Deal) (
     pub at : cause orders (deal_at deals j) ≡ p
 
   named-at : (j : ℕ) → j < length deals → NamesOrders orders (deal_at deals j)
-  named-at j lt = named j missing_deal lt
+  named-at j lt = named j deal_past_end lt
 
-  -- its incoming order is that of the record, and its resting order is an earlier one of the other side
+  -- its incoming order is that of the record, and its resting order is an earlier
+  -- one of the other side
   pub record Ends (d : Deal) (r : ℕ) : Type 0 where
-    pub incoming_is : incoming orders d ≡ n
-    pub resting_is : resting orders d ≡ r
+    pub incoming_is : incoming_order orders d ≡ n
+    pub resting_is : resting_order orders d ≡ r
     pub inside : r < length orders
     pub of_side : side_at orders r ≡ s'
     pub earlier : place_at orders r < p
@@ -108,17 +109,17 @@ module _ (orders : List Order) (list : IsOrderList orders) (deals : List Deal) (
   ]
 
   -- what trades in the deals of the record but its own order is the resting order of one
-  traded-deal : (k : ℕ) → 0 < traded_at orders deals p k → (j : ℕ) × IsOfCause j × (names k (deal_at deals j) ≡ true)
+  traded-deal : (k : ℕ) → 0 < traded_at orders deals p k → (j : ℕ) × IsOfCause j × (names_order k (deal_at deals j) ≡ true)
   unfolding traded_at
   traded-deal k some =
-      let found = some_part (Contains deals) (λ d. names k d && (cause orders d == p)) (λ d. d.quantity) deals (All-contains_itself deals) some in
+      let found = some_part (Contains deals) (λ d. names_order k d && (cause orders d == p)) (λ d. d.quantity) deals (All-contains_itself deals) some in
       let d = found.0 in
       let c : Contains deals d = found.1 in
-      let parts = and_parts (names k d) (cause orders d == p) found.2 in
-      let is : deal_at deals c.0 ≡ d = get_or-default deals c.0 missing_deal d c.1 ∙ c.2 in
-      (c.0, record { inside = c.1; at = ap (cause orders) is ∙ eqb-true _ _ parts.1 }, ap (names k) is ∙ parts.0)
+      let parts = and_parts (names_order k d) (cause orders d == p) found.2 in
+      let is : deal_at deals c.0 ≡ d = get_or-default deals c.0 deal_past_end d c.1 ∙ c.2 in
+      (c.0, record { inside = c.1; at = ap (cause orders) is ∙ eqb-true _ _ parts.1 }, ap (names_order k) is ∙ parts.0)
 
-  pub traded-resting : (k : ℕ) → k ≢ n → 0 < traded_at orders deals p k → (j : ℕ) × IsOfCause j × (resting orders (deal_at deals j) ≡ k) × (side_at orders k ≡ s')
+  pub traded-resting : (k : ℕ) → k ≢ n → 0 < traded_at orders deals p k → (j : ℕ) × IsOfCause j × (resting_order orders (deal_at deals j) ≡ k) × (side_at orders k ≡ s')
   traded-resting k ne some =
       let found = traded-deal k some in
       let j = found.0 in
@@ -155,7 +156,7 @@ module _ (orders : List Order) (list : IsOrderList orders) (deals : List Deal) (
   n-waits = resting_left-future orders past p n (omega arith)
 
   -- the book of its own side is as before
-  pub own-holds : (xs : List Resting) → Holds orders (side_at orders n) now xs → Holds orders (side_at orders n) resting_left_after xs
+  pub own-holds : (xs : List Resting) → IsListOfAmounts orders (side_at orders n) now xs → IsListOfAmounts orders (side_at orders n) resting_left_after xs
   own-holds xs holds = hold-same orders (side_at orders n) now resting_left_after xs (λ k lt of. elim (cases_eq k n) [
     | inl e ↦ let z : now k ≡ 0 = ap now e ∙ n-waits in omega arith
     | inr ne ↦ let z = own-still k ne of in omega arith
@@ -163,51 +164,51 @@ module _ (orders : List Order) (list : IsOrderList orders) (deals : List Deal) (
 
   -- The priority of the deals, by the first order of the settled book of the other side.
 
-  pub priority-away : (j : ℕ) → cause orders (deal_at deals j) ≢ p → priority_finding orders deals p j ≡ None
-  unfolding priority_finding
-  priority-away j ne = none-only _ _ (and_left (cause orders (deal_at deals j) == p) (any_below (waits_ahead orders deals p (resting orders (deal_at deals j))) (length orders)) (ne_eqb _ _ ne))
+  pub priority-away : (j : ℕ) → cause orders (deal_at deals j) ≢ p → resting_priority_finding orders deals p j ≡ None
+  unfolding resting_priority_finding
+  priority-away j ne = none-only _ _ (and_left (cause orders (deal_at deals j) == p) (any_below (waits_ahead orders deals p (resting_order orders (deal_at deals j))) (length orders)) (ne_eqb _ _ ne))
 
   module _ (j : ℕ) (of : IsOfCause j) where
     abbrev r : ℕ
-    r = resting orders (deal_at deals j)
+    r = resting_order orders (deal_at deals j)
 
     r-ends : Ends (deal_at deals j) r
     r-ends = let e = ends (deal_at deals j) (named-at j of.inside) of.at in subst (Ends (deal_at deals j)) (sym e.1.resting_is) e.1
 
-    pub priority-none : IsFilledInFront orders s' now resting_left_after [] → priority_finding orders deals p j ≡ None
-    unfolding priority_finding
+    pub priority-none : IsFilledInFront orders s' now resting_left_after [] → resting_priority_finding orders deals p j ≡ None
+    unfolding resting_priority_finding
     priority-none s = none-only _ _ (and_right (cause orders (deal_at deals j) == p) (any_below (waits_ahead orders deals p r) (length orders)) (none-over orders list deals p s' r r-ends.inside r-ends.of_side s))
 
     module _ (h : Resting) (zs : List Resting) (s : IsFilledInFront orders s' now resting_left_after (h ∷ zs)) where
       over : any_below (waits_ahead orders deals p r) (length orders) ≡ better (order_at orders h.index) (order_at orders r)
       over = over-first orders list deals p s' r r-ends.inside r-ends.of_side h zs s
 
-      pub priority-clear : better (order_at orders h.index) (order_at orders r) ≡ false → priority_finding orders deals p j ≡ None
-      unfolding priority_finding
+      pub priority-clear : better (order_at orders h.index) (order_at orders r) ≡ false → resting_priority_finding orders deals p j ≡ None
+      unfolding resting_priority_finding
       priority-clear f = none-only _ _ (and_right (cause orders (deal_at deals j) == p) (any_below (waits_ahead orders deals p r) (length orders)) (over ∙ f))
 
       pub priority-found : better (order_at orders h.index) (order_at orders r) ≡ true
-          → priority_finding orders deals p j ≡ Some (at_deal (priority_of (side_at orders r)) (deal_at deals j) (show_order orders (shown_after orders deals p) h.index) (show_order orders (shown_after orders deals p) r))
-      unfolding priority_finding
+          → resting_priority_finding orders deals p j ≡ Some (finding_at_trade (priority_property (side_at orders r)) (deal_at deals j) (show_order orders (traded_shown_after orders deals p) h.index) (show_order orders (traded_shown_after orders deals p) r))
+      unfolding resting_priority_finding
       priority-found t =
           let on : ((cause orders (deal_at deals j) == p) && any_below (waits_ahead orders deals p r) (length orders)) ≡ true = and_from _ _ (eq-eqb _ _ of.at) (over ∙ t) in
           let b = best-over orders list deals p s' r r-ends.inside r-ends.of_side h zs s t in
-          cond-true _ (Some (at_deal (priority_of (side_at orders r)) (deal_at deals j) (show_found orders (shown_after orders deals p) (best orders (waits_ahead orders deals p r))) (show_order orders (shown_after orders deals p) r))) None on
-          ∙ ap (λ (o : Option ℕ). Some (at_deal (priority_of (side_at orders r)) (deal_at deals j) (show_found orders (shown_after orders deals p) o) (show_order orders (shown_after orders deals p) r))) b
+          cond-true _ (Some (finding_at_trade (priority_property (side_at orders r)) (deal_at deals j) (show_if_found orders (traded_shown_after orders deals p) (best_order orders (waits_ahead orders deals p r))) (show_order orders (traded_shown_after orders deals p) r))) None on
+          ∙ ap (λ (o : Option ℕ). Some (finding_at_trade (priority_property (side_at orders r)) (deal_at deals j) (show_if_found orders (traded_shown_after orders deals p) o) (show_order orders (traded_shown_after orders deals p) r))) b
 
   -- where no deal passes the first over, the book holds what is left
-  pub other-holds : (h : Resting) (zs : List Resting) → IsFilledInFront orders s' now resting_left_after (h ∷ zs) → ((j : ℕ) → IsOfCause j → better (order_at orders h.index) (order_at orders (resting orders (deal_at deals j))) ≡ false) → Holds orders s' resting_left_after (h ∷ zs)
+  pub other-holds : (h : Resting) (zs : List Resting) → IsFilledInFront orders s' now resting_left_after (h ∷ zs) → ((j : ℕ) → IsOfCause j → better (order_at orders h.index) (order_at orders (resting_order orders (deal_at deals j))) ≡ false) → IsListOfAmounts orders s' resting_left_after (h ∷ zs)
   other-holds h zs s clear = after_fills-clear orders list s' now resting_left_after h zs (still-less orders list deals p) s (λ k inside of less over.
       let ne : k ≢ n = λ e. side-other (side_at orders n) (sym (ap (side_at orders) e) ∙ of) in
       let t = traded-resting k ne (omega arith) in
       both_ways _ (clear t.0 t.1) (subst (λ m. better (order_at orders h.index) (order_at orders m) ≡ true) (sym t.2) over))
 
-  pub other-empty : IsFilledInFront orders s' now resting_left_after [] → Holds orders s' resting_left_after []
+  pub other-empty : IsFilledInFront orders s' now resting_left_after [] → IsListOfAmounts orders s' resting_left_after []
   other-empty s = after_fills-empty orders list s' now resting_left_after (still-less orders list deals p) s
 
   -- What rests after the record and before the next order.
 
-  pub resting_left-after : (k : ℕ) → k < length orders → k ≢ n → resting_left orders past (suc p) k ≡ cond (uncancelled_before (order_at orders k).cancelled (suc p)) (resting_left_after k) 0
+  pub resting_left-after : (k : ℕ) → k < length orders → k ≢ n → resting_left_before orders past (suc p) k ≡ cond (uncancelled_before (order_at orders k).cancelled (suc p)) (resting_left_after k) 0
   resting_left-after k inside ne = elim (cases_lt (place_at orders k) p) [
     | inl earlier ↦ resting_left-older orders past p (suc p) k (traded_at orders deals p k) (omega arith) earlier (traded-more orders deals p k)
     | inr later ↦
@@ -222,7 +223,7 @@ module _ (orders : List Order) (list : IsOrderList orders) (deals : List Deal) (
       nothing true = refl
       nothing false = refl
 
-  pub resting_left-own : resting_left orders past (suc p) n ≡ cond (is_rests (order_at orders n).life && uncancelled_before (order_at orders n).cancelled (suc p)) (size orders past n - past (suc p) n) 0
+  pub resting_left-own : resting_left_before orders past (suc p) n ≡ cond (may_rest (order_at orders n).life && uncancelled_before (order_at orders n).cancelled (suc p)) (size_by_past orders past n - past (suc p) n) 0
   resting_left-own = resting_left-newest orders past (suc p) n (past (suc p) n) (omega arith) refl
 
   -- up to a place q before which no other order comes
@@ -247,7 +248,7 @@ module _ (orders : List Order) (list : IsOrderList orders) (deals : List Deal) (
           ]
         ]
 
-    pub resting_left-next : (k : ℕ) → k < length orders → resting_left orders past q k ≡ cond (uncancelled_before (order_at orders k).cancelled q) (resting_left orders past (suc p) k) 0
+    pub resting_left-next : (k : ℕ) → k < length orders → resting_left_before orders past q k ≡ cond (uncancelled_before (order_at orders k).cancelled q) (resting_left_before orders past (suc p) k) 0
     resting_left-next k inside = elim (cases_lt (place_at orders k) (suc p)) [
       | inl earlier ↦
           let same = traded-gap orders deals (suc p) q k le no-cause in

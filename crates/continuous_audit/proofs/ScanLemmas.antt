@@ -12,25 +12,25 @@ use Rattle.audit_base.specs.declared.flaws.TradedOrder.{TradedOrder}
 use Rattle.audit_base.specs.declared.flaws.Evidence.{Evidence}
 use Rattle.audit_base.specs.declared.flaws.Evidence.TheVariants.{Inactive, Limit, Quantity}
 use Rattle.audit_base.specs.declared.terms.Side.TheVariants.{Buy, Sell}
-use Rattle.audit_base.specs.Least.{least_answer, first_of, only_if}
-use Rattle.audit_base.specs.Orders.{order_at, place_at, side_at, is_rests, IsOrderList}
-use Rattle.audit_base.specs.Deals.{is_within, names, deal_at, missing_deal, part_of, NamesOrders, IsDealList}
-use Rattle.audit_base.specs.Continuous.{cause, resting, incoming, traded_before, traded_at, entered_of, size_of, rests, size, uncancelled_before}
+use Rattle.audit_base.specs.Least.{least_answer, first_answer, only_if}
+use Rattle.audit_base.specs.Orders.{order_at, place_at, side_at, may_rest, IsOrderList}
+use Rattle.audit_base.specs.Deals.{is_price_within, names_order, deal_at, deal_past_end, quantity_traded_by, NamesOrders, IsDealList}
+use Rattle.audit_base.specs.Continuous.{cause, resting_order, incoming_order, traded_before, traded_at, has_entered, size_of_order, rests_before_by_past, size_by_past, uncancelled_before}
 use Rattle.audit_base.specs.CallOffences.{keeps_limits}
-use Rattle.audit_base.specs.Flaws.{IsInside, finding_of}
-use Rattle.audit_base.specs.ContinuousOffences.{continuous_inactive, continuous_off_limit, over_size, traded_upto, shown_upto, conservation_finding}
+use Rattle.audit_base.specs.Flaws.{IsEvidenceInside, finding_of}
+use Rattle.audit_base.specs.ContinuousOffences.{continuous_inactive_finding, continuous_limit_finding, size_finding, traded_upto, traded_shown_upto, conservation_finding}
 use Rattle.audit_base.proofs.OrderLemmas.{not_both_sides}
 use Rattle.audit_base.proofs.LeastLemmas.{least-none, least-at}
 use Rattle.audit_base.proofs.OffenceLemmas.{get_or-default}
 use Rattle.continuous_audit.specs.declared.causes.Cause.{Cause}
 use Rattle.continuous_audit.specs.declared.checking.Account.{Account}
 use Rattle.continuous_audit.specs.declared.checking.Accounts.{Accounts}
-use Rattle.continuous_audit.specs.declared.checking.Coming.{Coming}
+use Rattle.continuous_audit.specs.declared.checking.Arrival.{Arrival}
 use Rattle.continuous_audit.specs.declared.sheet.Sheet.{Sheet}
 use Rattle.continuous_audit.specs.Causes.{AreCauses, cause_of, running_total}
-use Rattle.continuous_audit.specs.Flaws.{traded_order}
-use Rattle.continuous_audit.specs.Records.{IsKnown}
-use Rattle.continuous_audit.specs.Scans.{AreRunningTotals, IsSplitAt, deal_in, missing_cause, number_in, order_in}
+use Rattle.continuous_audit.specs.Flaws.{order_with_shown}
+use Rattle.continuous_audit.specs.Records.{IsKnownBeforeDeals}
+use Rattle.continuous_audit.specs.Scans.{AreRunningTotals, IsSplitAt, cause_deal_at, cause_past_end, number_in, cause_order_at}
 use Rattle.continuous_audit.specs.DealFindings as by_deal
 use Rattle.continuous_audit.proofs.FlawLemmas.{IsDealUpto, upto-n, deal-upto}
 use Rattle.continuous_audit.proofs.CauseLemmas.{incoming-cause, running-upto}
@@ -43,49 +43,50 @@ wait-bools true false s a = refl
 wait-bools false true s a = refl
 wait-bools false false s a = refl
 
-pub waits-is : (orders : List Order) (past : ℕ → ℕ → ℕ) (p r left : ℕ) → place_at orders r < p → left ≡ size orders past r - past p r → by_deal.waits (order_at orders r) p left ≡ rests orders past p r
-unfolding rests size
+pub waits-is : (orders : List Order) (past : ℕ → ℕ → ℕ) (p r left : ℕ) → place_at orders r < p → left ≡ size_by_past orders past r - past p r → by_deal.waits (order_at orders r) p left ≡ rests_before_by_past orders past p r
+unfolding rests_before_by_past size_by_past
 waits-is orders past p r left earlier e =
     let now : nat_lt (place_at orders r) p ≡ true = lt-ltb _ _ earlier in
-    rw (e, now) (wait-bools (is_rests (order_at orders r).life) (uncancelled_before (order_at orders r).cancelled p) (size orders past r) (past p r))
+    rw (e, now) (wait-bools (may_rest (order_at orders r).life) (uncancelled_before (order_at orders r).cancelled p) (size_by_past orders past r) (past p r))
 
--- the first rule that is broken, and its finding
+-- the first property that a deal does not keep, and its finding
 abbrev first_broken : TradedOrder → TradedOrder → TradedOrder → TradedOrder → Bool → Bool → Bool → Bool → Bool → Option Evidence
-first_broken resting incoming bid ask r e w b a = first_of (only_if (not r) (Inactive resting) ∷ only_if (not e) (Inactive incoming) ∷ only_if (not w) (Limit bid ask) ∷ only_if b (Quantity Buy bid) ∷ only_if a (Quantity Sell ask) ∷ [])
+first_broken resting_order incoming_order bid ask r e w b a = first_answer (only_if (not r) (Inactive resting_order) ∷ only_if (not e) (Inactive incoming_order) ∷ only_if (not w) (Limit bid ask) ∷ only_if b (Quantity Buy bid) ∷ only_if a (Quantity Sell ask) ∷ [])
 
-first-broken : (f : Evidence → Finding) (resting incoming bid ask : TradedOrder) (r e w b a : Bool)
-    → first_of (first_of (only_if (not r) (f (Inactive resting)) ∷ only_if (not e) (f (Inactive incoming)) ∷ []) ∷ only_if (not w) (f (Limit bid ask)) ∷ only_if b (f (Quantity Buy bid)) ∷ only_if a (f (Quantity Sell ask)) ∷ [])
-    ≡ option_map f (first_broken resting incoming bid ask r e w b a)
-first-broken f resting incoming bid ask false e w b a = refl
-first-broken f resting incoming bid ask true false w b a = refl
-first-broken f resting incoming bid ask true true false b a = refl
-first-broken f resting incoming bid ask true true true true a = refl
-first-broken f resting incoming bid ask true true true false true = refl
-first-broken f resting incoming bid ask true true true false false = refl
+first-broken : (f : Evidence → Finding) (resting_order incoming_order bid ask : TradedOrder) (r e w b a : Bool)
+    → first_answer (first_answer (only_if (not r) (f (Inactive resting_order)) ∷ only_if (not e) (f (Inactive incoming_order)) ∷ []) ∷ only_if (not w) (f (Limit bid ask)) ∷ only_if b (f (Quantity Buy bid)) ∷ only_if a (f (Quantity Sell ask)) ∷ [])
+    ≡ option_map f (first_broken resting_order incoming_order bid ask r e w b a)
+first-broken f resting_order incoming_order bid ask false e w b a = refl
+first-broken f resting_order incoming_order bid ask true false w b a = refl
+first-broken f resting_order incoming_order bid ask true true false b a = refl
+first-broken f resting_order incoming_order bid ask true true true true a = refl
+first-broken f resting_order incoming_order bid ask true true true false true = refl
+first-broken f resting_order incoming_order bid ask true true true false false = refl
 
--- of two accounts that are shown as two orders, that which a test picks is shown as the one that it picks
-shown-picked : (shown : ℕ → ℕ) (t : Bool) (x y : Account) (i j : ℕ) → x.shown ≡ traded_order shown i → y.shown ≡ traded_order shown j → (cond t x y).shown ≡ traded_order shown (cond t i j)
+-- of two accounts that are shown as two orders, that which a test picks is shown as
+-- the one that it picks
+shown-picked : (shown : ℕ → ℕ) (t : Bool) (x y : Account) (i j : ℕ) → x.shown ≡ order_with_shown shown i → y.shown ≡ order_with_shown shown j → (cond t x y).shown ≡ order_with_shown shown (cond t i j)
 shown-picked shown true x y i j first second = first
 shown-picked shown false x y i j first second = second
 
--- the orders of the first rule that is broken are in the list
-broken-inside : (orders : List Order) (resting incoming bid ask : TradedOrder) (r e w b a : Bool) → resting.index < length orders → incoming.index < length orders → bid.index < length orders → ask.index < length orders
-    → IfSome (first_broken resting incoming bid ask r e w b a) (IsInside orders)
-broken-inside orders resting incoming bid ask false e w b a rest come buys sells = rest
-broken-inside orders resting incoming bid ask true false w b a rest come buys sells = come
-broken-inside orders resting incoming bid ask true true false b a rest come buys sells = (buys, sells)
-broken-inside orders resting incoming bid ask true true true true a rest come buys sells = buys
-broken-inside orders resting incoming bid ask true true true false true rest come buys sells = sells
-broken-inside orders resting incoming bid ask true true true false false rest come buys sells = tt
+-- the orders are in the list that the first property shows which a deal does not keep
+broken-inside : (orders : List Order) (resting_order incoming_order bid ask : TradedOrder) (r e w b a : Bool) → resting_order.index < length orders → incoming_order.index < length orders → bid.index < length orders → ask.index < length orders
+    → IfSome (first_broken resting_order incoming_order bid ask r e w b a) (IsEvidenceInside orders)
+broken-inside orders resting_order incoming_order bid ask false e w b a rest come buys sells = rest
+broken-inside orders resting_order incoming_order bid ask true false w b a rest come buys sells = come
+broken-inside orders resting_order incoming_order bid ask true true false b a rest come buys sells = (buys, sells)
+broken-inside orders resting_order incoming_order bid ask true true true true a rest come buys sells = buys
+broken-inside orders resting_order incoming_order bid ask true true true false true rest come buys sells = sells
+broken-inside orders resting_order incoming_order bid ask true true true false false rest come buys sells = tt
 
 picked-inside : (n : ℕ) (t : Bool) (x y : Account) → x.shown.index < n → y.shown.index < n → (cond t x y).shown.index < n
 picked-inside n true x y first second = first
 picked-inside n false x y first second = second
 
-evidence-inside : (orders : List Order) (d : Deal) (bid ask : Order) (coming : Coming) (known : Accounts) → known.bid.shown.index < length orders → known.ask.shown.index < length orders → IfSome (by_deal.deal_evidence d bid ask coming known) (IsInside orders)
+evidence-inside : (orders : List Order) (d : Deal) (bid ask : Order) (coming : Arrival) (known : Accounts) → known.bid.shown.index < length orders → known.ask.shown.index < length orders → IfSome (by_deal.deal_evidence d bid ask coming known) (IsEvidenceInside orders)
 evidence-inside orders d bid ask coming known buys sells =
     let earlier = nat_lt bid.place ask.place in
-    broken-inside orders (by_deal.resting_account bid ask known).shown (by_deal.incoming_account bid ask known).shown known.bid.shown known.ask.shown (by_deal.resting_waits bid ask coming.place known) coming.entered (is_within bid ask d) (by_deal.is_over known.bid) (by_deal.is_over known.ask)
+    broken-inside orders (by_deal.resting_account bid ask known).shown (by_deal.incoming_account bid ask known).shown known.bid.shown known.ask.shown (by_deal.resting_waits bid ask coming.place known) coming.entered (is_price_within bid ask d) (by_deal.is_over_size known.bid) (by_deal.is_over_size known.ask)
     (picked-inside (length orders) earlier known.bid known.ask buys sells) (picked-inside (length orders) earlier known.ask known.bid sells buys) buys sells
 
 module _ (orders : List Order) (list : IsOrderList orders) (deals : List Deal) (deal_list : IsDealList orders deals) (causes : List Cause) (are : AreCauses orders deals causes) (n : ℕ) (n_inside : n < length orders) where
@@ -99,40 +100,40 @@ module _ (orders : List Order) (list : IsOrderList orders) (deals : List Deal) (
   abbrev pub finding_by : Deal → Evidence → Finding
   finding_by d e = finding_of orders (record { place = d.place; evidence = e })
 
-  -- the finding at a deal of this cause, by the first rule that it breaks
+  -- the finding at a deal of this cause, by the first property that it does not keep
   finding-is : (k : ℕ) → cause orders (deal_at deals k) ≡ p → conservation_finding orders deals p k
-      ≡ option_map (finding_by (deal_at deals k)) (first_broken (traded_order (shown_upto orders deals p k) (resting orders (deal_at deals k))) (traded_order (shown_upto orders deals p k) (incoming orders (deal_at deals k)))
-      (traded_order (shown_upto orders deals p k) (deal_at deals k).bid) (traded_order (shown_upto orders deals p k) (deal_at deals k).ask)
-      (rests orders past p (resting orders (deal_at deals k))) (entered_of orders deals (incoming orders (deal_at deals k))) (keeps_limits orders (deal_at deals k))
-      (nat_lt (size_of orders deals (deal_at deals k).bid) (traded_upto orders deals p k (deal_at deals k).bid)) (nat_lt (size_of orders deals (deal_at deals k).ask) (traded_upto orders deals p k (deal_at deals k).ask)))
-  unfolding continuous_inactive continuous_off_limit over_size
+      ≡ option_map (finding_by (deal_at deals k)) (first_broken (order_with_shown (traded_shown_upto orders deals p k) (resting_order orders (deal_at deals k))) (order_with_shown (traded_shown_upto orders deals p k) (incoming_order orders (deal_at deals k)))
+      (order_with_shown (traded_shown_upto orders deals p k) (deal_at deals k).bid) (order_with_shown (traded_shown_upto orders deals p k) (deal_at deals k).ask)
+      (rests_before_by_past orders past p (resting_order orders (deal_at deals k))) (has_entered orders deals (incoming_order orders (deal_at deals k))) (keeps_limits orders (deal_at deals k))
+      (nat_lt (size_of_order orders deals (deal_at deals k).bid) (traded_upto orders deals p k (deal_at deals k).bid)) (nat_lt (size_of_order orders deals (deal_at deals k).ask) (traded_upto orders deals p k (deal_at deals k).ask)))
+  unfolding continuous_inactive_finding continuous_limit_finding size_finding
   finding-is k at = cond-true (cause orders (deal_at deals k) == p) _ None (eq-eqb _ _ at)
-      ∙ first-broken (finding_by (deal_at deals k)) (traded_order (shown_upto orders deals p k) (resting orders (deal_at deals k))) (traded_order (shown_upto orders deals p k) (incoming orders (deal_at deals k)))
-      (traded_order (shown_upto orders deals p k) (deal_at deals k).bid) (traded_order (shown_upto orders deals p k) (deal_at deals k).ask)
-      (rests orders past p (resting orders (deal_at deals k))) (entered_of orders deals (incoming orders (deal_at deals k))) (keeps_limits orders (deal_at deals k))
-      (nat_lt (size_of orders deals (deal_at deals k).bid) (traded_upto orders deals p k (deal_at deals k).bid)) (nat_lt (size_of orders deals (deal_at deals k).ask) (traded_upto orders deals p k (deal_at deals k).ask))
+      ∙ first-broken (finding_by (deal_at deals k)) (order_with_shown (traded_shown_upto orders deals p k) (resting_order orders (deal_at deals k))) (order_with_shown (traded_shown_upto orders deals p k) (incoming_order orders (deal_at deals k)))
+      (order_with_shown (traded_shown_upto orders deals p k) (deal_at deals k).bid) (order_with_shown (traded_shown_upto orders deals p k) (deal_at deals k).ask)
+      (rests_before_by_past orders past p (resting_order orders (deal_at deals k))) (has_entered orders deals (incoming_order orders (deal_at deals k))) (keeps_limits orders (deal_at deals k))
+      (nat_lt (size_of_order orders deals (deal_at deals k).bid) (traded_upto orders deals p k (deal_at deals k).bid)) (nat_lt (size_of_order orders deals (deal_at deals k).ask) (traded_upto orders deals p k (deal_at deals k).ask))
 
-  module _ (entered : Bool) (sheet : Sheet) (known : IsKnown orders deals n entered sheet) (at : ℕ) (lt : at < length causes) (of : order_in causes at ≡ n) where
+  module _ (entered : Bool) (sheet : Sheet) (known : IsKnownBeforeDeals orders deals n entered sheet) (at : ℕ) (lt : at < length causes) (of : cause_order_at causes at ≡ n) where
     abbrev k : ℕ
-    k = deal_in causes at
+    k = cause_deal_at causes at
 
     abbrev d : Deal
     d = deal_at deals k
 
     k_inside : k < length deals
-    k_inside = (are.only at missing_cause lt).0
+    k_inside = (are.only at cause_past_end lt).0
 
     named_here : NamesOrders orders d
-    named_here = deal_list.named k missing_deal k_inside
+    named_here = deal_list.named k deal_past_end k_inside
 
-    incoming_here : incoming orders d ≡ n
-    incoming_here = sym (ap (λ (c : Cause). c.order) (are.only at missing_cause lt).1) ∙ of
+    incoming_here : incoming_order orders d ≡ n
+    incoming_here = sym (ap (λ (c : Cause). c.order) (are.only at cause_past_end lt).1) ∙ of
 
     cause_here : cause orders d ≡ p
     cause_here = sym (incoming-cause orders d) ∙ ap (place_at orders) incoming_here
 
     running_here : (x : ℕ) → running_total deals causes (at + 1) x ≡ traded_upto orders deals p k x
-    running_here x = ap (λ (m : ℕ). running_total deals causes m x) (add-one at) ∙ running-upto orders list deals deal_list.named causes are at missing_cause lt x
+    running_here x = ap (λ (m : ℕ). running_total deals causes m x) (add-one at) ∙ running-upto orders list deals deal_list.named causes are at cause_past_end lt x
         ∙ ap (λ (m : ℕ). traded_before orders deals (place_at orders m) x + traded_at orders (take (k + 1) deals) (place_at orders m) x) of
 
     below-n : (x : ℕ) → x < length orders → place_at orders x < p → x < n
@@ -149,56 +150,56 @@ module _ (orders : List Order) (list : IsOrderList orders) (deals : List Deal) (
     accounts bt at' = record { bid = by_deal.account_of sheet d.bid bt; ask = by_deal.account_of sheet d.ask at' }
 
     -- whether its resting order rests
-    waits-here : (bt at' : ℕ) → by_deal.resting_waits (order_at orders d.bid) (order_at orders d.ask) p (accounts bt at') ≡ rests orders past p (resting orders d)
+    waits-here : (bt at' : ℕ) → by_deal.resting_waits (order_at orders d.bid) (order_at orders d.ask) p (accounts bt at') ≡ rests_before_by_past orders past p (resting_order orders d)
     waits-here bt at' =
         let e = ends orders list deals deal_list.named n n_inside d named_here cause_here in
         elim (cases_lt (place_at orders d.bid) (place_at orders d.ask)) [
           | inl less ↦
               let t : nat_lt (place_at orders d.bid) (place_at orders d.ask) ≡ true = lt-ltb _ _ less in
-              let r_is : d.bid ≡ resting orders d = sym (cond-true _ d.bid d.ask t) in
+              let r_is : d.bid ≡ resting_order orders d = sym (cond-true _ d.bid d.ask t) in
               let earlier : place_at orders d.bid < p = omega (arith, cause_here) in
-              cond-true _ _ _ t ∙ waits-is orders past p d.bid (number_in sheet.left.items d.bid) earlier (known.left.is d.bid (below-n d.bid named_here.bid_inside earlier)) ∙ ap (rests orders past p) r_is
+              cond-true _ _ _ t ∙ waits-is orders past p d.bid (number_in sheet.left.items d.bid) earlier (known.left.is d.bid (below-n d.bid named_here.bid_inside earlier)) ∙ ap (rests_before_by_past orders past p) r_is
           | inr le ↦
               let f : nat_lt (place_at orders d.bid) (place_at orders d.ask) ≡ false = le-ltb _ _ le in
-              let r_is : d.ask ≡ resting orders d = sym (cond-false _ d.bid d.ask f) in
+              let r_is : d.ask ≡ resting_order orders d = sym (cond-false _ d.bid d.ask f) in
               let earlier : place_at orders d.ask < p = subst (λ x. place_at orders x < p) (sym (r_is ∙ e.1.resting_is)) e.1.earlier in
-              cond-false _ _ _ f ∙ waits-is orders past p d.ask (number_in sheet.left.items d.ask) earlier (known.left.is d.ask (below-n d.ask named_here.ask_inside earlier)) ∙ ap (rests orders past p) r_is
+              cond-false _ _ _ f ∙ waits-is orders past p d.ask (number_in sheet.left.items d.ask) earlier (known.left.is d.ask (below-n d.ask named_here.ask_inside earlier)) ∙ ap (rests_before_by_past orders past p) r_is
         ]
 
     checked : (bt at' : ℕ) → bt ≡ running_total deals causes (at + 1) d.bid → at' ≡ running_total deals causes (at + 1) d.ask
         → conservation_finding orders deals p k ≡ option_map (finding_by d)
         (by_deal.deal_evidence d (order_at orders d.bid) (order_at orders d.ask) (record { place = p; entered = entered }) (accounts bt at'))
     checked bt at' bt_is at_is =
-        let shown = shown_upto orders deals p k in
+        let shown = traded_shown_upto orders deals p k in
         let tb : bt ≡ traded_upto orders deals p k d.bid = bt_is ∙ running_here d.bid in
         let ta : at' ≡ traded_upto orders deals p k d.ask = at_is ∙ running_here d.ask in
         let zb = known.sizes.is d.bid (let le = here-upto.bid_upto in omega arith) in
         let za = known.sizes.is d.ask (let le = here-upto.ask_upto in omega arith) in
         let before_bid = known.before.is d.bid (let le = here-upto.bid_upto in omega arith) in
         let before_ask = known.before.is d.ask (let le = here-upto.ask_upto in omega arith) in
-        let bid : (accounts bt at').bid.shown ≡ traded_order shown d.bid = λ i. record { index = d.bid; traded = tb i + before_bid i } in
-        let ask : (accounts bt at').ask.shown ≡ traded_order shown d.ask = λ i. record { index = d.ask; traded = ta i + before_ask i } in
+        let bid : (accounts bt at').bid.shown ≡ order_with_shown shown d.bid = λ i. record { index = d.bid; traded = tb i + before_bid i } in
+        let ask : (accounts bt at').ask.shown ≡ order_with_shown shown d.ask = λ i. record { index = d.ask; traded = ta i + before_ask i } in
         let earlier = nat_lt (place_at orders d.bid) (place_at orders d.ask) in
         let rest = shown-picked shown earlier (accounts bt at').bid (accounts bt at').ask d.bid d.ask bid ask in
         let come = shown-picked shown earlier (accounts bt at').ask (accounts bt at').bid d.ask d.bid ask bid in
-        let a : entered ≡ entered_of orders deals (incoming orders d) = known.arrived ∙ ap (entered_of orders deals) (sym incoming_here) in
+        let a : entered ≡ has_entered orders deals (incoming_order orders d) = known.arrived ∙ ap (has_entered orders deals) (sym incoming_here) in
         finding-is k cause_here
         ∙ sym (λ i. option_map (finding_by d) (first_broken (rest i) (come i) (bid i) (ask i) (waits-here bt at' i) (a i) (keeps_limits orders d) (nat_lt (zb i) (tb i)) (nat_lt (za i) (ta i))))
 
-  -- deals of other causes have no finding, and those of this one stand among its causes
-  module _ (start at : ℕ) (split : IsSplitAt causes n start) (clean : (i : ℕ) → start ≤ i → i < at → conservation_finding orders deals p (deal_in causes i) ≡ None) where
-    -- a deal with a finding stands at this cause or later
-    later-cause : (j : ℕ) → j < length deals → (conservation_finding orders deals p j ≡ None) ⊎ ((i : ℕ) × (at ≤ i) × (i < length causes) × (order_in causes i ≡ n) × (deal_in causes i ≡ j))
+  -- deals of other causes have no finding, and those of this one are among its causes
+  module _ (start at : ℕ) (split : IsSplitAt causes n start) (clean : (i : ℕ) → start ≤ i → i < at → conservation_finding orders deals p (cause_deal_at causes i) ≡ None) where
+    -- a deal with a finding is at this cause or later
+    later-cause : (j : ℕ) → j < length deals → (conservation_finding orders deals p j ≡ None) ⊎ ((i : ℕ) × (at ≤ i) × (i < length causes) × (cause_order_at causes i ≡ n) × (cause_deal_at causes i ≡ j))
     later-cause j lt = elim (cases_eq (cause orders (deal_at deals j)) p) [
       | inr away ↦ inl (cond-false (cause orders (deal_at deals j) == p) _ None (ne_eqb _ _ away))
       | inl here ↦
           let has = are.each j lt in
           let i = has.0 in
-          let is : get_or causes i missing_cause ≡ cause_of orders deals j = get_or-default causes i missing_cause (cause_of orders deals j) has.1 ∙ has.2 in
-          let deal_is : deal_in causes i ≡ j = ap (λ (c : Cause). c.deal) is in
-          let named_j = deal_list.named j missing_deal lt in
+          let is : get_or causes i cause_past_end ≡ cause_of orders deals j = get_or-default causes i cause_past_end (cause_of orders deals j) has.1 ∙ has.2 in
+          let deal_is : cause_deal_at causes i ≡ j = ap (λ (c : Cause). c.deal) is in
+          let named_j = deal_list.named j deal_past_end lt in
           let e = ends orders list deals deal_list.named n n_inside (deal_at deals j) named_j here in
-          let order_is : order_in causes i ≡ n = ap (λ (c : Cause). c.order) is ∙ e.1.incoming_is in
+          let order_is : cause_order_at causes i ≡ n = ap (λ (c : Cause). c.order) is ∙ e.1.incoming_is in
           let from : start ≤ i = elim (cases_lt i start) [ inr ok ↦ ok | inl early ↦ let l = split.early i early has.1 in absurd (omega arith) ] in
           elim (cases_lt i at) [
             | inl done ↦ inl (subst (λ m. conservation_finding orders deals p m ≡ None) deal_is (clean i from done))
@@ -206,7 +207,7 @@ module _ (orders : List Order) (list : IsOrderList orders) (deals : List Deal) (
           ]
     ]
 
-    pub all-clean : (at < length causes → order_in causes at ≢ n) → start ≤ at → least_answer (conservation_finding orders deals p) (length deals) ≡ None
+    pub all-clean : (at < length causes → cause_order_at causes at ≢ n) → start ≤ at → least_answer (conservation_finding orders deals p) (length deals) ≡ None
     all-clean stop from = least-none (conservation_finding orders deals p) (length deals) (λ j lt. elim (later-cause j lt) [
       | inl none ↦ none
       | inr found ↦
@@ -214,25 +215,25 @@ module _ (orders : List Order) (list : IsOrderList orders) (deals : List Deal) (
           let inside : at < length causes = omega (arith, found.1, found.2) in
           let low = split.late at from inside in
           elim (cases_eq i at) [
-            | inl e ↦ absurd (stop inside (ap (order_in causes) (sym e) ∙ found.3))
-            | inr ne ↦ elim (are.rising at i missing_cause (omega (arith, ne, found.1)) found.2) [
+            | inl e ↦ absurd (stop inside (ap (cause_order_at causes) (sym e) ∙ found.3))
+            | inr ne ↦ elim (are.rising at i cause_past_end (omega (arith, ne, found.1)) found.2) [
               | inl less ↦ let same = found.3 in absurd (omega arith)
               | inr tie ↦ absurd (stop inside (tie.0 ∙ found.3))
             ]
           ]
     ])
 
-    pub first-finding : (f : Finding) → at < length causes → order_in causes at ≡ n → conservation_finding orders deals p (deal_in causes at) ≡ Some f → least_answer (conservation_finding orders deals p) (length deals) ≡ Some f
+    pub first-finding : (f : Finding) → at < length causes → cause_order_at causes at ≡ n → conservation_finding orders deals p (cause_deal_at causes at) ≡ Some f → least_answer (conservation_finding orders deals p) (length deals) ≡ Some f
     first-finding f inside of e =
-        let k = deal_in causes at in
-        let k_in : k < length deals = (are.only at missing_cause inside).0 in
+        let k = cause_deal_at causes at in
+        let k_in : k < length deals = (are.only at cause_past_end inside).0 in
         least-at (conservation_finding orders deals p) (length deals) k f k_in (least-none (conservation_finding orders deals p) k (λ j lt. elim (later-cause j (omega arith)) [
           | inl none ↦ none
           | inr found ↦
               let i = found.0 in
               elim (cases_eq i at) [
-                | inl same ↦ let d : k ≡ j = ap (deal_in causes) (sym same) ∙ found.4 in absurd (omega arith)
-                | inr ne ↦ elim (are.rising at i missing_cause (omega (arith, ne, found.1)) found.2) [
+                | inl same ↦ let d : k ≡ j = ap (cause_deal_at causes) (sym same) ∙ found.4 in absurd (omega arith)
+                | inr ne ↦ elim (are.rising at i cause_past_end (omega (arith, ne, found.1)) found.2) [
                   | inl less ↦ let o = found.3 in absurd (omega arith)
                   | inr tie ↦ let d = found.4 in let l = tie.1 in absurd (omega arith)
                 ]
@@ -242,7 +243,7 @@ module _ (orders : List Order) (list : IsOrderList orders) (deals : List Deal) (
 -- One deal more is added.
 
 module _ (orders : List Order) (deals : List Deal) (causes : List Cause) (at : ℕ) (lt : at < length causes) (xs : List ℕ) (is : AreRunningTotals orders deals causes at xs)
-    (d : Deal) (d_is : d ≡ deal_at deals (deal_in causes at)) (named : NamesOrders orders d) (q : ℕ) (q_is : q ≡ d.quantity) (q_most : q ≤ 10 ^ 12) where
+    (d : Deal) (d_is : d ≡ deal_at deals (cause_deal_at causes at)) (named : NamesOrders orders d) (q : ℕ) (q_is : q ≡ d.quantity) (q_most : q ≤ 10 ^ 12) where
   abbrev ys : List ℕ
   ys = slice_set (slice_set xs d.bid (get_or xs d.bid 0 + q)) d.ask (get_or xs d.ask 0 + q)
 
@@ -265,59 +266,59 @@ module _ (orders : List Order) (deals : List Deal) (causes : List Cause) (at : �
   at_other i not_bid not_ask =
       get_or-set_other {A = ℕ} (slice_set xs d.bid (get_or xs d.bid 0 + q)) d.ask i (get_or xs d.ask 0 + q) 0 not_ask ∙ get_or-set_other {A = ℕ} xs d.bid i (get_or xs d.bid 0 + q) 0 not_bid
 
-  added-at : (x : ℕ) → (get_or ys x 0 ≡ get_or xs x 0 + part_of x d) × (part_of x d ≤ 10 ^ 12)
+  added-at : (x : ℕ) → (get_or ys x 0 ≡ get_or xs x 0 + quantity_traded_by x d) × (quantity_traded_by x d ≤ 10 ^ 12)
   added-at x = elim (cases_eq x d.bid) [
     | inl e ↦
-        let on : part_of x d ≡ d.quantity = cond-true (names x d) d.quantity 0 (or_left _ _ (eq-eqb d.bid x (sym e))) in
-        (subst (λ (y : ℕ). get_or ys y 0 ≡ get_or xs y 0 + part_of x d) (sym e) (omega (arith, at_bid)), omega arith)
+        let on : quantity_traded_by x d ≡ d.quantity = cond-true (names_order x d) d.quantity 0 (or_left _ _ (eq-eqb d.bid x (sym e))) in
+        (subst (λ (y : ℕ). get_or ys y 0 ≡ get_or xs y 0 + quantity_traded_by x d) (sym e) (omega (arith, at_bid)), omega arith)
     | inr not_bid ↦ elim (cases_eq x d.ask) [
       | inl e ↦
-          let on : part_of x d ≡ d.quantity = cond-true (names x d) d.quantity 0 (or_right (d.bid == x) _ (eq-eqb d.ask x (sym e))) in
-          (subst (λ (y : ℕ). get_or ys y 0 ≡ get_or xs y 0 + part_of x d) (sym e) (omega (arith, at_ask)), omega arith)
+          let on : quantity_traded_by x d ≡ d.quantity = cond-true (names_order x d) d.quantity 0 (or_right (d.bid == x) _ (eq-eqb d.ask x (sym e))) in
+          (subst (λ (y : ℕ). get_or ys y 0 ≡ get_or xs y 0 + quantity_traded_by x d) (sym e) (omega (arith, at_ask)), omega arith)
       | inr not_ask ↦
-          let off : part_of x d ≡ 0 = cond-false (names x d) d.quantity 0 (or_from _ _ (ne_eqb d.bid x (λ e. not_bid (sym e))) (ne_eqb d.ask x (λ e. not_ask (sym e)))) in
+          let off : quantity_traded_by x d ≡ 0 = cond-false (names_order x d) d.quantity 0 (or_from _ _ (ne_eqb d.bid x (λ e. not_bid (sym e))) (ne_eqb d.ask x (λ e. not_ask (sym e)))) in
           (omega (arith, at_other x not_bid not_ask), omega arith)
     ]
   ]
 
-  more : (x : ℕ) → running_total deals causes (at + 1) x ≡ running_total deals causes at x + part_of x d
-  more x = sum_by_more (λ (c : Cause). part_of x (deal_at deals c.deal)) causes at missing_cause lt ∙ ap (λ (e : Deal). running_total deals causes at x + part_of x e) (sym d_is)
+  more : (x : ℕ) → running_total deals causes (at + 1) x ≡ running_total deals causes at x + quantity_traded_by x d
+  more x = sum_by_more (λ (c : Cause). quantity_traded_by x (deal_at deals c.deal)) causes at cause_past_end lt ∙ ap (λ (e : Deal). running_total deals causes at x + quantity_traded_by x e) (sym d_is)
 
   bid-now : get_or xs d.bid 0 + q ≡ running_total deals causes (at + 1) d.bid
-  bid-now = sym at_bid ∙ (added-at d.bid).0 ∙ ap (λ (m : ℕ). m + part_of d.bid d) (is.sums d.bid named.bid_inside) ∙ sym (more d.bid)
+  bid-now = sym at_bid ∙ (added-at d.bid).0 ∙ ap (λ (m : ℕ). m + quantity_traded_by d.bid d) (is.sums d.bid named.bid_inside) ∙ sym (more d.bid)
 
   ask-now : get_or xs d.ask 0 + q ≡ running_total deals causes (at + 1) d.ask
-  ask-now = sym at_ask ∙ (added-at d.ask).0 ∙ ap (λ (m : ℕ). m + part_of d.ask d) (is.sums d.ask named.ask_inside) ∙ sym (more d.ask)
+  ask-now = sym at_ask ∙ (added-at d.ask).0 ∙ ap (λ (m : ℕ). m + quantity_traded_by d.ask d) (is.sums d.ask named.ask_inside) ∙ sym (more d.ask)
 
   running-after : (zs : List ℕ) → zs ≡ ys → AreRunningTotals orders deals causes (at + 1) zs
   running-after zs same = subst (AreRunningTotals orders deals causes (at + 1)) (sym same) (record {
     inside = omega arith;
     count = length-set {A = ℕ} (slice_set xs d.bid (get_or xs d.bid 0 + q)) d.ask (get_or xs d.ask 0 + q) ∙ length-set {A = ℕ} xs d.bid (get_or xs d.bid 0 + q) ∙ is.count;
-    sums = λ x inside. (added-at x).0 ∙ ap (λ (m : ℕ). m + part_of x d) (is.sums x inside) ∙ sym (more x);
+    sums = λ x inside. (added-at x).0 ∙ ap (λ (m : ℕ). m + quantity_traded_by x d) (is.sums x inside) ∙ sym (more x);
     fits = λ x inside. let a = added-at x in let f = is.fits x inside in omega (arith, a.0, a.1);
   })
 
 -- the same, in the words of the code: the deal and the orders that it reads, and what it adds
 module _ (orders : List Order) (list : IsOrderList orders) (deals : List Deal) (deal_list : IsDealList orders deals) (causes : List Cause) (are : AreCauses orders deals causes) (n : ℕ) (n_inside : n < length orders)
     (at : ℕ) (lt : at < length causes) (xs : List ℕ) (run : AreRunningTotals orders deals causes at xs)
-    (d : Deal) (d_read : d ≡ get_or deals (deal_in causes at) d) (q : ℕ) (q_is : q ≡ d.quantity) (q_most : d.quantity ≤ 10 ^ 12) where
-  k_in : deal_in causes at < length deals
-  k_in = (are.only at missing_cause lt).0
+    (d : Deal) (d_read : d ≡ get_or deals (cause_deal_at causes at) d) (q : ℕ) (q_is : q ≡ d.quantity) (q_most : d.quantity ≤ 10 ^ 12) where
+  k_in : cause_deal_at causes at < length deals
+  k_in = (are.only at cause_past_end lt).0
 
-  d_is : d ≡ deal_at deals (deal_in causes at)
-  d_is = d_read ∙ get_or-default deals (deal_in causes at) d missing_deal k_in
+  d_is : d ≡ deal_at deals (cause_deal_at causes at)
+  d_is = d_read ∙ get_or-default deals (cause_deal_at causes at) d deal_past_end k_in
 
   named : NamesOrders orders d
-  named = subst (NamesOrders orders) (sym d_is) (deal_list.named (deal_in causes at) missing_deal k_in)
+  named = subst (NamesOrders orders) (sym d_is) (deal_list.named (cause_deal_at causes at) deal_past_end k_in)
 
   pub running-read : (zs : List ℕ) → zs ≡ slice_set (slice_set xs d.bid (get_or xs d.bid 0 + q)) d.ask (get_or xs d.ask 0 + q) → AreRunningTotals orders deals causes (at + 1) zs
   running-read zs made = running-after orders deals causes at lt xs run d d_is named q q_is (omega arith) zs made
 
-  pub finding-read : (of : order_in causes at ≡ n) (coming : Coming) (sheet : Sheet) (known : IsKnown orders deals n coming.entered sheet) (own bid ask : Order) → own ≡ order_at orders n → bid ≡ order_at orders d.bid → ask ≡ order_at orders d.ask → coming.place ≡ own.place
+  pub finding-read : (of : cause_order_at causes at ≡ n) (coming : Arrival) (sheet : Sheet) (known : IsKnownBeforeDeals orders deals n coming.entered sheet) (own bid ask : Order) → own ≡ order_at orders n → bid ≡ order_at orders d.bid → ask ≡ order_at orders d.ask → coming.place ≡ own.place
       → (accounts : Accounts) (bt at' : ℕ) → accounts.bid ≡ by_deal.account_of sheet d.bid bt → accounts.ask ≡ by_deal.account_of sheet d.ask at' → bt ≡ get_or xs d.bid 0 + q → at' ≡ get_or xs d.ask 0 + q
-      → conservation_finding orders deals (place_at orders n) (deal_in causes at) ≡ option_map (finding_by orders list deals deal_list causes are n n_inside d) (by_deal.deal_evidence d bid ask coming accounts)
+      → conservation_finding orders deals (place_at orders n) (cause_deal_at causes at) ≡ option_map (finding_by orders list deals deal_list causes are n n_inside d) (by_deal.deal_evidence d bid ask coming accounts)
   finding-read of coming sheet known own bid ask own_read bid_read ask_read p_is accounts bt at' b_is a_is bt_is at_is =
-      let e = deal_at deals (deal_in causes at) in
+      let e = deal_at deals (cause_deal_at causes at) in
       let place : coming.place ≡ place_at orders n = p_is ∙ ap (λ (o : Order). o.place) own_read in
       let b : bid ≡ order_at orders e.bid = bid_read ∙ ap (λ (x : Deal). order_at orders x.bid) d_is in
       let a : ask ≡ order_at orders e.ask = ask_read ∙ ap (λ (x : Deal). order_at orders x.ask) d_is in
@@ -329,7 +330,7 @@ module _ (orders : List Order) (list : IsOrderList orders) (deals : List Deal) (
       ∙ sym (λ i. option_map (finding_by orders list deals deal_list causes are n n_inside (d_is i)) (by_deal.deal_evidence (d_is i) (b i) (a i) (record { place = place i; entered = coming.entered }) (record { bid = kb i; ask = ka i })))
 
   -- the orders that it shows are in the list
-  pub inside-read : (bid ask : Order) (coming : Coming) (sheet : Sheet) (accounts : Accounts) (bt at' : ℕ) → accounts.bid ≡ by_deal.account_of sheet d.bid bt → accounts.ask ≡ by_deal.account_of sheet d.ask at' → IfSome (by_deal.deal_evidence d bid ask coming accounts) (IsInside orders)
+  pub inside-read : (bid ask : Order) (coming : Arrival) (sheet : Sheet) (accounts : Accounts) (bt at' : ℕ) → accounts.bid ≡ by_deal.account_of sheet d.bid bt → accounts.ask ≡ by_deal.account_of sheet d.ask at' → IfSome (by_deal.deal_evidence d bid ask coming accounts) (IsEvidenceInside orders)
   inside-read bid ask coming sheet accounts bt at' b_is a_is = evidence-inside orders d bid ask coming accounts
       (subst (λ (x : Account). x.shown.index < length orders) (sym b_is) named.bid_inside)
       (subst (λ (x : Account). x.shown.index < length orders) (sym a_is) named.ask_inside)

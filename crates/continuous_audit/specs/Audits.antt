@@ -15,7 +15,8 @@ use Rattle.matching_core.specs.declared.outcomes.Outcome.TheVariants as outcome
 
 -- the deals conform, with what each order traded and the volume; on a regular order list what each
 -- pair trades is the only quantity that the rule allows it
-pub record IsConforming (orders : List Order) (deals : List Deal) (reached : Reached) : Type 0 where
+pub record IsConformingContinuous (orders : List Order) (deals : List Deal)
+    (reached : Reached) : Type 0 where
   pub conforms : ConformsContinuous orders deals
   pub totals : AreTotals orders deals reached.traded.0
   pub volume_is : reached.traded.1 ≡ volume deals
@@ -24,11 +25,14 @@ pub record IsConforming (orders : List Order) (deals : List Deal) (reached : Rea
       → OnlyPair rule.Continuous orders bid ask (pair deals bid ask)
 
 -- the deals don't conform, and this is the first offence
-pub record IsOffending (orders : List Order) (deals : List Deal) (finding : Finding) : Type 0 where
+pub record IsOffendingContinuous (orders : List Order) (deals : List Deal)
+    (finding : Finding) : Type 0 where
   pub offence : IsContinuousOffence orders deals finding
   pub fails : ConformsContinuous orders deals → ⊥
 
 -- what the audit answers: that the deals conform, or their first offence
-abbrev pub IsAudited : List Order → List Deal → Outcome → Type 0
-IsAudited orders deals (outcome.Conforms reached) = IsConforming orders deals reached
-IsAudited orders deals (outcome.Broken finding) = IsOffending orders deals finding
+abbrev pub IsAuditedContinuous : List Order → List Deal → Outcome → Type 0
+IsAuditedContinuous orders deals (outcome.Conforms reached) =
+    IsConformingContinuous orders deals reached
+IsAuditedContinuous orders deals (outcome.Broken finding) =
+    IsOffendingContinuous orders deals finding

@@ -9,70 +9,74 @@ use Rattle.audit_base.specs.Continuous.{traded_before}
 use Rattle.order_book.specs.declared.books.Resting.{Resting}
 use Rattle.order_book.specs.Books.{without_order, with_order}
 use Rattle.continuous_audit.specs.declared.books.Books.{Books}
-use Rattle.continuous_audit.specs.declared.books.Standing.{Standing}
-use Rattle.continuous_audit.specs.Holding.{Holds, after_fills, left_in, resting_left, resting_left_after}
+use Rattle.continuous_audit.specs.declared.books.BooksSoFar.{BooksSoFar}
+use Rattle.continuous_audit.specs.Holding.{IsListOfAmounts, after_fills, resting_left_before, resting_left_after}
+use Rattle.continuous_audit.specs.Scans.{number_in}
 
--- the list of a side
-abbrev pub list_of : Side → Books → List Resting
-list_of Buy b = b.bids.resting
-list_of Sell b = b.asks.resting
+-- the list of the book of a side
+abbrev pub book_list : Side → Books → List Resting
+book_list Buy b = b.bids.resting
+book_list Sell b = b.asks.resting
 
 -- the books with another list on one side
-abbrev pub with_list : Side → List Resting → Books → Books
-with_list Buy xs b = record b { bids = record b.bids { resting = xs } }
-with_list Sell xs b = record b { asks = record b.asks { resting = xs } }
+abbrev pub books_with_list : Side → List Resting → Books → Books
+books_with_list Buy xs b = record b { bids = record b.bids { resting = xs } }
+books_with_list Sell xs b = record b { asks = record b.asks { resting = xs } }
 
 -- the books without an order
-abbrev pub books_without : Side → ℕ → ℕ → Books → Books
-books_without side index limit b = with_list side (without_order index limit (list_of side b)) b
+abbrev pub books_without_order : Side → ℕ → ℕ → Books → Books
+books_without_order side index limit b =
+    books_with_list side (without_order index limit (book_list side b)) b
 
 -- the books with one order more
-abbrev pub books_with : Side → Resting → Books → Books
-books_with Buy r b =
+abbrev pub books_with_order : Side → Resting → Books → Books
+books_with_order Buy r b =
     record b { bids = record b.bids { resting = with_order b.bids.side r b.bids.resting } }
-books_with Sell r b =
+books_with_order Sell r b =
     record b { asks = record b.asks { resting = with_order b.asks.side r b.asks.resting } }
 
 -- the books with what is left now of the best orders of a side
-abbrev pub with_fills : Side → List ℕ → Books → Books
-with_fills side left b = with_list side (after_fills (left_in left) (list_of side b)) b
+abbrev pub books_with_fills : Side → List ℕ → Books → Books
+books_with_fills side left b =
+    books_with_list side (after_fills (number_in left) (book_list side b)) b
 
 -- how many orders rest in both books
 abbrev pub resting_count : Books → ℕ
 resting_count b = length b.bids.resting + length b.asks.resting
 
--- each order in a book stands before the one at n in the order list
-pub record HoldBelow (n : ℕ) (b : Books) : Type 0 where
+-- each order in a book is before the one at n in the order list
+pub record AreBooksBelow (n : ℕ) (b : Books) : Type 0 where
   pub bids : All (λ r. r.index < n) b.bids.resting
   pub asks : All (λ r. r.index < n) b.asks.resting
 
 -- both books hold these amounts
-pub record BooksHold (orders : List Order) (amount : ℕ → ℕ) (b : Books) : Type 0 where
+pub record AreBooksOfAmounts (orders : List Order) (amount : ℕ → ℕ) (b : Books) : Type 0 where
   pub bid_side : b.bids.side ≡ Buy
   pub ask_side : b.asks.side ≡ Sell
-  pub bids : Holds orders Buy amount b.bids.resting
-  pub asks : Holds orders Sell amount b.asks.resting
+  pub bids : IsListOfAmounts orders Buy amount b.bids.resting
+  pub asks : IsListOfAmounts orders Sell amount b.asks.resting
 
 -- both books hold what rests before place q
-abbrev pub HoldAt : List Order → List Deal → ℕ → Books → Type 0
-HoldAt orders deals q b = BooksHold orders (resting_left orders (traded_before orders deals) q) b
+abbrev pub AreBooksBefore : List Order → List Deal → ℕ → Books → Type 0
+AreBooksBefore orders deals q b =
+    AreBooksOfAmounts orders (resting_left_before orders (traded_before orders deals) q) b
 
 -- both books hold what rests of the orders before that at n, after its deals
-abbrev pub HoldAfterDeals : List Order → List Deal → ℕ → Books → Type 0
-HoldAfterDeals orders deals n b = BooksHold orders
+abbrev pub AreBooksAfterDeals : List Order → List Deal → ℕ → Books → Type 0
+AreBooksAfterDeals orders deals n b = AreBooksOfAmounts orders
     (resting_left_after orders deals (place_at orders n)) b
 
 -- what rests after the record of the order at n, without this order
-abbrev pub without_own : List Order → List Deal → ℕ → ℕ → ℕ
-without_own orders deals n k = if k == n then 0
-    else resting_left orders (traded_before orders deals) (suc (place_at orders n)) k
+abbrev pub rest_without_own : List Order → List Deal → ℕ → ℕ → ℕ
+rest_without_own orders deals n k = if k == n then 0
+    else resting_left_before orders (traded_before orders deals) (suc (place_at orders n)) k
 
-abbrev pub HoldWithoutOwn : List Order → List Deal → ℕ → Books → Type 0
-HoldWithoutOwn orders deals n b = BooksHold orders (without_own orders deals n) b
+abbrev pub AreBooksWithoutOwn : List Order → List Deal → ℕ → Books → Type 0
+AreBooksWithoutOwn orders deals n b = AreBooksOfAmounts orders (rest_without_own orders deals n) b
 
--- both books hold what rests after its record
-abbrev pub HoldAfter : List Order → List Deal → ℕ → Books → Type 0
-HoldAfter orders deals n b = HoldAt orders deals (suc (place_at orders n)) b
+-- both books hold what rests after the record of the order at n
+abbrev pub AreBooksAfter : List Order → List Deal → ℕ → Books → Type 0
+AreBooksAfter orders deals n b = AreBooksBefore orders deals (suc (place_at orders n)) b
 
 -- where the order at n comes, or one past the last place if there is none
 abbrev pub ready_place : List Order → ℕ → ℕ
@@ -80,12 +84,12 @@ ready_place orders zero = place_at orders 0
 ready_place orders (suc n) = if nat_lt (suc n) (length orders) then place_at orders (suc n)
     else suc (place_at orders n)
 
--- both books hold what rests when it comes
-abbrev pub HoldNext : List Order → List Deal → ℕ → Books → Type 0
-HoldNext orders deals n b = HoldAt orders deals (ready_place orders n) b
+-- both books hold what rests when the order at n comes
+abbrev pub AreBooksForNext : List Order → List Deal → ℕ → Books → Type 0
+AreBooksForNext orders deals n b = AreBooksBefore orders deals (ready_place orders n) b
 
 -- empty books, before the first order
-pub record AreEmptyBooks (standing : Standing) : Type 0 where
+pub record AreEmptyBooks (standing : BooksSoFar) : Type 0 where
   pub bid_side : standing.books.bids.side ≡ Buy
   pub ask_side : standing.books.asks.side ≡ Sell
   pub bids : standing.books.bids.resting ≡ []

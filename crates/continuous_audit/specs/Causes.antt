@@ -4,8 +4,8 @@ use Rattle.std.specs.Ordering.{nat_cmp, ordering_then}
 use Rattle.std.specs.declared.cmp.Ordering.{Ordering}
 use Rattle.audit_base.specs.declared.orders.Order.{Order}
 use Rattle.audit_base.specs.declared.orders.Deal.{Deal}
-use Rattle.audit_base.specs.Deals.{deal_at, part_of}
-use Rattle.audit_base.specs.Continuous.{incoming}
+use Rattle.audit_base.specs.Deals.{deal_at, quantity_traded_by}
+use Rattle.audit_base.specs.Continuous.{incoming_order}
 use Rattle.continuous_audit.specs.declared.causes.Cause.{Cause}
 
 -- how causes compare
@@ -14,24 +14,25 @@ cause_cmp a b = ordering_then (nat_cmp a.order b.order) (nat_cmp a.deal b.deal)
 
 -- the cause of the deal at an index
 abbrev pub cause_of : List Order → List Deal → ℕ → Cause
-cause_of orders deals k = record { order = incoming orders (deal_at deals k); deal = k }
+cause_of orders deals k = record { order = incoming_order orders (deal_at deals k); deal = k }
 
--- those of the first n deals, in log order
+-- the causes of the first n deals, in log order
 abbrev pub causes_upto : List Order → List Deal → ℕ → List Cause
 causes_upto orders deals zero = []
 causes_upto orders deals (suc n) = causes_upto orders deals n ++ cause_of orders deals n ∷ []
 
--- the first stands before the second: a lesser order, or the same and a lesser deal
-abbrev pub IsSooner : Cause → Cause → Type 0
-IsSooner a b = (a.order < b.order) ⊎ ((a.order ≡ b.order) × (a.deal < b.deal))
+-- the first is before the second: an earlier order, or the same and an earlier deal
+abbrev pub CauseBefore : Cause → Cause → Type 0
+CauseBefore a b = (a.order < b.order) ⊎ ((a.order ≡ b.order) × (a.deal < b.deal))
 
--- each deal once, with its incoming order, sooner ones first
+-- each deal once, with its incoming order, those of earlier orders first
 pub record AreCauses (orders : List Order) (deals : List Deal) (causes : List Cause) : Type 0 where
   pub only : All (λ c. (c.deal < length deals) × (c ≡ cause_of orders deals c.deal)) causes
   pub each : (k : ℕ) → k < length deals → Contains causes (cause_of orders deals k)
-  pub rising : AllPairs IsSooner causes
+  pub rising : AllPairs CauseBefore causes
   pub sums : (f : Cause → ℕ) → sum_by f causes ≡ sum_by f (causes_upto orders deals (length deals))
 
 -- what an order trades in the deals of the first causes
 abbrev pub running_total : List Deal → List Cause → ℕ → ℕ → ℕ
-running_total deals causes at x = sum_by (λ c. part_of x (deal_at deals c.deal)) (take at causes)
+running_total deals causes at x =
+    sum_by (λ c. quantity_traded_by x (deal_at deals c.deal)) (take at causes)

@@ -1,9 +1,9 @@
--- What is kept of the chains of orders, so that none is gone along anew.
+-- What is kept of the chains of orders, so that none is followed anew.
 use Rattle.std.specs.Prelude.{◌≡◌, ◌<◌, ◌≤◌, ◌*◌, ◌^◌, ℕ, Bool, true, false, nat_le, List, Option, None, Some, All, length, slice_index_or}
 use Rattle.audit_base.specs.declared.orders.Order.{Order}
 use Rattle.audit_base.specs.declared.orders.Deal.{Deal}
 use Rattle.audit_base.specs.Orders.{order_at, place_at}
-use Rattle.audit_base.specs.Continuous.{chain, traded_before, before_of, left_before}
+use Rattle.audit_base.specs.Continuous.{chain, traded_before, before_quantity, left_before}
 use Rattle.audit_base.specs.Deals.{NamesOrders}
 use Rattle.audit_base.specs.ContinuousRules.{ConformsAt}
 use Rattle.continuous_audit.specs.declared.sheet.Sheet.{Sheet}
@@ -15,8 +15,8 @@ ends_by None p = false
 ends_by (Some c) p = nat_le c p
 
 -- the record of an order ends each order of its chain, or an earlier one does
-abbrev pub IsClosed : List Order → ℕ → Type 0
-IsClosed orders x =
+abbrev pub HasChainEnded : List Order → ℕ → Type 0
+HasChainEnded orders x =
     All (λ u. ends_by (order_at orders u).cancelled (place_at orders x) ≡ true) (chain orders x)
 
 -- the flag at an index of a list
@@ -24,13 +24,13 @@ abbrev pub flag_in : List Bool → ℕ → Bool
 flag_in flags i = slice_index_or flags i false
 
 -- of the first m orders, those whose flag is set have such a chain
-pub record AreClosed (orders : List Order) (m : ℕ) (closed : List Bool) : Type 0 where
+pub record HaveChainsEnded (orders : List Order) (m : ℕ) (closed : List Bool) : Type 0 where
   pub count : length closed ≡ length orders
-  pub is : (x : ℕ) → x < m → flag_in closed x ≡ true → IsClosed orders x
+  pub is : (x : ℕ) → x < m → flag_in closed x ≡ true → HasChainEnded orders x
 
 -- Before of an order is at most 2^72 for each order ahead of it in the list
-abbrev pub AreBounded : List ℕ → Type 0
-AreBounded before = (x : ℕ) → number_in before x ≤ x * 2 ^ 72
+abbrev pub IsBeforeBounded : List ℕ → Type 0
+IsBeforeBounded before = (x : ℕ) → number_in before x ≤ x * 2 ^ 72
 
 -- whatever the deals are, the sheet has a place for each order, no Before is too great, and of the
 -- first m orders those whose flag is set have such a chain
@@ -38,17 +38,17 @@ pub record IsOpenSheet (orders : List Order) (m : ℕ) (sheet : Sheet) : Type 0 
   pub before_count : length sheet.before.items ≡ length orders
   pub sizes_count : length sheet.sizes.items ≡ length orders
   pub left_count : length sheet.left.items ≡ length orders
-  pub closed : AreClosed orders m sheet.closed.items
-  pub bounded : AreBounded sheet.before.items
+  pub closed : HaveChainsEnded orders m sheet.closed.items
+  pub bounded : IsBeforeBounded sheet.before.items
 
 -- before the order at n comes, where the rule holds at each earlier place: what the orders have
 -- traded, and of the earlier ones Before and what is left
-pub record IsOpening (orders : List Order) (deals : List Deal) (n : ℕ)
+pub record IsKnownBeforeOpening (orders : List Order) (deals : List Deal) (n : ℕ)
     (traded : List ℕ) (sheet : Sheet) : Type 0 where
   pub conforms : (i : ℕ) → i < place_at orders n → ConformsAt orders deals i
   pub named : All (NamesOrders orders) deals
   pub traded_is : (x : ℕ) → x < length orders
       → number_in traded x ≡ traded_before orders deals (place_at orders n) x
-  pub before_is : (x : ℕ) → x < n → number_in sheet.before.items x ≡ before_of orders deals x
+  pub before_is : (x : ℕ) → x < n → number_in sheet.before.items x ≡ before_quantity orders deals x
   pub left_is : (x : ℕ) → x < n
       → number_in sheet.left.items x ≡ left_before orders deals (place_at orders n) x

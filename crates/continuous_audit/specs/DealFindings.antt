@@ -5,22 +5,22 @@ use Rattle.audit_base.specs.declared.orders.Order.{Order}
 use Rattle.audit_base.specs.declared.orders.Deal.{Deal}
 use Rattle.audit_base.specs.declared.flaws.Evidence.{Evidence}
 use Rattle.audit_base.specs.declared.flaws.Evidence.TheVariants.{Inactive, Limit, Quantity}
-use Rattle.audit_base.specs.Least.{first_of, only_if}
+use Rattle.audit_base.specs.Least.{first_answer, only_if}
 use Rattle.audit_base.specs.Orders.{order_at}
-use Rattle.audit_base.specs.Deals.{is_within}
-use Rattle.audit_base.specs.Continuous.{is_own_place}
+use Rattle.audit_base.specs.Deals.{is_price_within}
+use Rattle.audit_base.specs.Continuous.{is_cancelled_at_place}
 use Rattle.continuous_audit.specs.declared.checking.Account.{Account}
 use Rattle.continuous_audit.specs.declared.checking.Accounts.{Accounts}
-use Rattle.continuous_audit.specs.declared.checking.Coming.{Coming}
+use Rattle.continuous_audit.specs.declared.checking.Arrival.{Arrival}
 use Rattle.continuous_audit.specs.declared.sheet.Sheet.{Sheet}
-pub use Rattle.audit_base.specs.Orders.{is_rests}
+pub use Rattle.audit_base.specs.Orders.{may_rest}
 pub use Rattle.audit_base.specs.Continuous.{uncancelled_before}
 
--- an earlier order with so much left rests before p
+-- an earlier order with this much left rests before p
 abbrev pub waits : Order → ℕ → ℕ → Bool
-waits o p left = is_rests o.life && uncancelled_before o.cancelled p && nat_lt 0 left
+waits o p left = may_rest o.life && uncancelled_before o.cancelled p && nat_lt 0 left
 
--- of a bid and an ask that trade the earlier one rests before p, with so much left of each
+-- of a bid and an ask that trade, the earlier one rests before p, with this much left of each
 abbrev pub resting_waits : Order → Order → ℕ → Accounts → Bool
 resting_waits bid ask p known =
     if nat_lt bid.place ask.place then waits bid p known.bid.left else waits ask p known.ask.left
@@ -33,21 +33,21 @@ abbrev pub incoming_account : Order → Order → Accounts → Account
 incoming_account bid ask known = if nat_lt bid.place ask.place then known.ask else known.bid
 
 -- an order trades more than its Size
-abbrev pub is_over : Account → Bool
-is_over account = nat_lt account.size account.traded
+abbrev pub is_over_size : Account → Bool
+is_over_size account = nat_lt account.size account.traded
 
--- the first rule that a deal breaks: 7 its resting order rests, and its incoming one entered; 8 its price
--- is within the limits; 10 and 11 neither order trades more than its Size
-abbrev pub deal_evidence : Deal → Order → Order → Coming → Accounts → Option Evidence
-deal_evidence d bid ask coming known = first_of
+-- the first property that a deal does not keep: 7 its resting order rests, and its incoming one
+-- entered; 8 its price is within the limits; 10 and 11 neither order trades more than its Size
+abbrev pub deal_evidence : Deal → Order → Order → Arrival → Accounts → Option Evidence
+deal_evidence d bid ask coming known = first_answer
     (only_if (not (resting_waits bid ask coming.place known))
     (Inactive (resting_account bid ask known).shown)
     ∷ only_if (not coming.entered) (Inactive (incoming_account bid ask known).shown)
-    ∷ only_if (not (is_within bid ask d)) (Limit known.bid.shown known.ask.shown)
-    ∷ only_if (is_over known.bid) (Quantity Buy known.bid.shown)
-    ∷ only_if (is_over known.ask) (Quantity Sell known.ask.shown) ∷ [])
+    ∷ only_if (not (is_price_within bid ask d)) (Limit known.bid.shown known.ask.shown)
+    ∷ only_if (is_over_size known.bid) (Quantity Buy known.bid.shown)
+    ∷ only_if (is_over_size known.ask) (Quantity Sell known.ask.shown) ∷ [])
 
--- what is known of the order at an index that has traded so much
+-- what is known of the order at an index that has traded this much
 abbrev pub account_of : Sheet → ℕ → ℕ → Account
 account_of sheet i traded = record {
   shown = record { index = i; traded = traded + slice_index_or sheet.before.items i 0 };
@@ -58,9 +58,9 @@ account_of sheet i traded = record {
 
 -- an order is placed, and its target rests if it has one
 abbrev pub enters : Order → Bool → Bool
-enters o target_rests = not (is_own_place o.cancelled o.place) && target_rests
+enters o target_rests = not (is_cancelled_at_place o.cancelled o.place) && target_rests
 
--- the same test of an order of a list
+-- the order at t of a list rests before p, with what a list says is left of it
 abbrev pub waits_in : List Order → List ℕ → ℕ → ℕ → Bool
 waits_in orders left p t = waits (order_at orders t) p (slice_index_or left t 0)
 

@@ -15,53 +15,54 @@ ending_at i (Some place) = record { place = place; index = i } ∷ []
 abbrev pub endings_of : ℕ → Order → List Ending
 endings_of i o = ending_at i o.cancelled
 
--- those of the first n orders
+-- the endings of the first n orders
 abbrev pub endings_upto : List Order → ℕ → List Ending
 endings_upto orders zero = []
 endings_upto orders (suc n) = endings_upto orders n ++ endings_of n (order_at orders n)
 
--- how they compare
+-- how endings compare
 abbrev pub ending_cmp : Ending → Ending → Ordering
 ending_cmp a b = ordering_then (nat_cmp a.place b.place) (nat_cmp a.index b.index)
 
--- a record ends the order there
+-- a record at this place ends the order at this index
 pub record IsEnding (orders : List Order) (e : Ending) : Type 0 where
   pub inside : e.index < length orders
   pub is : (order_at orders e.index).cancelled ≡ Some e.place
 
--- all of them, by the places of the records
+-- all endings of the orders, by the places of the records
 pub record AreEndings (orders : List Order) (endings : List Ending) : Type 0 where
   pub only : All (IsEnding orders) endings
   pub each : (k c : ℕ) → k < length orders → (order_at orders k).cancelled ≡ Some c
       → Contains endings (record { place = c; index = k })
   pub rising : AllPairs (λ a b. a.place ≤ b.place) endings
 
--- what stands for one past the end
-abbrev pub missing_ending : Ending
-missing_ending = record { place = 0; index = 0 }
+-- what is given for an ending past the end, and the place and the index of the ending at i
+abbrev pub ending_past_end : Ending
+ending_past_end = record { place = 0; index = 0 }
 
-abbrev pub place_in : List Ending → ℕ → ℕ
-place_in endings i = (slice_index_or endings i missing_ending).place
+abbrev pub ending_place_at : List Ending → ℕ → ℕ
+ending_place_at endings i = (slice_index_or endings i ending_past_end).place
 
-abbrev pub index_in : List Ending → ℕ → ℕ
-index_in endings i = (slice_index_or endings i missing_ending).index
+abbrev pub ending_index_at : List Ending → ℕ → ℕ
+ending_index_at endings i = (slice_index_or endings i ending_past_end).index
 
 -- of the endings those before an index come before a place
-pub record AreDropped (endings : List Ending) (start q : ℕ) : Type 0 where
+pub record AreEndingsDropped (endings : List Ending) (start q : ℕ) : Type 0 where
   pub inside : start ≤ length endings
-  pub early : (i : ℕ) → i < start → i < length endings → place_in endings i < q
+  pub early : (i : ℕ) → i < start → i < length endings → ending_place_at endings i < q
 
 -- those from one index on and below another come before a place, and no later one does
-pub record AreEndedBelow (endings : List Ending) (start at upto : ℕ) : Type 0 where
+pub record AreEndingsBelow (endings : List Ending) (start at upto : ℕ) : Type 0 where
   pub from : start ≤ at
   pub inside : at ≤ length endings
-  pub early : (i : ℕ) → start ≤ i → i < at → place_in endings i < upto
-  pub next : at < length endings → upto ≤ place_in endings at
+  pub early : (i : ℕ) → start ≤ i → i < at → ending_place_at endings i < upto
+  pub next : at < length endings → upto ≤ ending_place_at endings at
 
 -- the order is one of those from an index on and below another
-abbrev pub is_gone : List Ending → ℕ → ℕ → ℕ → Bool
-is_gone endings from at k = any_below (λ i. nat_le from i && (index_in endings i == k)) at
+abbrev pub is_ended_between : List Ending → ℕ → ℕ → ℕ → Bool
+is_ended_between endings from at k =
+    any_below (λ i. nat_le from i && (ending_index_at endings i == k)) at
 
 -- nothing of these, and of others what there is
 abbrev pub amount_without : List Ending → ℕ → ℕ → (ℕ → ℕ) → ℕ → ℕ
-amount_without endings from at amount k = if is_gone endings from at k then 0 else amount k
+amount_without endings from at amount k = if is_ended_between endings from at k then 0 else amount k

@@ -6,35 +6,35 @@ use Rattle.audit_base.specs.Expected.{limits_meet}
 use Rattle.order_book.specs.declared.books.Resting.{Resting}
 use Rattle.continuous_audit.specs.declared.fills.Fill.{Fill}
 
--- an order of a side with this limit, of which so much is left, trades with one that rests
+-- an order of a side with this limit, of which this much is left, trades with one that rests
 abbrev pub trades_with : Side → ℕ → ℕ → Resting → Bool
 trades_with side limit size r = nat_lt 0 size && limits_meet side limit r.limit
 
--- what they trade: the lesser of what is left of both
+-- what they trade: the smaller of what is left of both
 abbrev pub fill_of : ℕ → Resting → Fill
 fill_of size r = record { index = r.index; quantity = min size r.left }
 
--- what it trades next
+-- what an order trades next with the best of the orders that rest
 abbrev pub next_fill : Side → ℕ → ℕ → List Resting → Option Fill
 next_fill side limit size [] = None
 next_fill side limit size (x ∷ xs) = only_if (trades_with side limit size x) (fill_of size x)
 
--- all that it trades, the best orders first
+-- all that an order trades, the best orders first
 abbrev pub fills_of : Side → ℕ → ℕ → List Resting → List Fill
 fills_of side limit size [] = []
 fills_of side limit size (x ∷ xs) = if trades_with side limit size x
     then fill_of size x ∷ fills_of side limit (size - x.left) xs else []
 
--- the orders that rest afterwards
-abbrev pub rest_of : Side → ℕ → ℕ → List Resting → List Resting
-rest_of side limit size [] = []
-rest_of side limit size (x ∷ xs) = if trades_with side limit size x
+-- the orders that rest after these fills
+abbrev pub resting_after_fills : Side → ℕ → ℕ → List Resting → List Resting
+resting_after_fills side limit size [] = []
+resting_after_fills side limit size (x ∷ xs) = if trades_with side limit size x
     then (if nat_lt size x.left then record x { left = x.left - size } ∷ xs
-    else rest_of side limit (size - x.left) xs) else x ∷ xs
+    else resting_after_fills side limit (size - x.left) xs) else x ∷ xs
 
 -- what an order trades in these fills, and what all of them trade
-abbrev pub filled : List Fill → ℕ → ℕ
-filled fills i = sum_by (λ f. if f.index == i then f.quantity else 0) fills
+abbrev pub quantity_filled : List Fill → ℕ → ℕ
+quantity_filled fills i = sum_by (λ f. if f.index == i then f.quantity else 0) fills
 
 abbrev pub total_filled : List Fill → ℕ
 total_filled fills = sum_by (λ f. f.quantity) fills

@@ -10,59 +10,62 @@ use Rattle.audit_base.specs.declared.flaws.Evidence.{Evidence}
 use Rattle.audit_base.specs.declared.flaws.Evidence.TheVariants.{Priority, Spread}
 use Rattle.audit_base.specs.declared.flaws.Flaw.{Flaw}
 use Rattle.audit_base.specs.Orders.{place_at, side_at}
-use Rattle.audit_base.specs.Continuous.{resting}
-use Rattle.audit_base.specs.ContinuousOffences.{finding_at_place, shown_after}
-use Rattle.audit_base.specs.Flaws.{IsInside, finding_of}
+use Rattle.audit_base.specs.Continuous.{resting_order}
+use Rattle.audit_base.specs.ContinuousOffences.{finding_at_place, traded_shown_after}
+use Rattle.audit_base.specs.Flaws.{IsEvidenceInside, finding_of}
 use Rattle.continuous_audit.specs.declared.market.Market.{Market}
 use Rattle.continuous_audit.specs.declared.numbers.Numbers.{Numbers}
 use Rattle.continuous_audit.specs.Scans.{number_in}
 
 -- the number that is shown with an order: what it has traded, and its Before added
-abbrev pub shown_in : Numbers → ℕ → ℕ
-shown_in numbers x = number_in numbers.running.traded.items x
+abbrev pub shown_number : Numbers → ℕ → ℕ
+shown_number numbers x = number_in numbers.running.traded.items x
     + number_in numbers.sheet.before.items x
 
--- both are there for the order, and their sum fits
-pub record HasShown (numbers : Numbers) (x : ℕ) : Type 0 where
+-- the two numbers are there for the order, and their sum fits 128 bits
+pub record HasShownNumber (numbers : Numbers) (x : ℕ) : Type 0 where
   pub traded_inside : x < length numbers.running.traded.items
   pub before_inside : x < length numbers.sheet.before.items
-  pub fits : shown_in numbers x < 2 ^ 128
+  pub fits : shown_number numbers x < 2 ^ 128
 
 -- an order with the number that is shown with it
-abbrev pub traded_order : (ℕ → ℕ) → ℕ → TradedOrder
-traded_order shown x = record { index = x; traded = shown x }
+abbrev pub order_with_shown : (ℕ → ℕ) → ℕ → TradedOrder
+order_with_shown shown x = record { index = x; traded = shown x }
 
--- a deal passes over the order at an index
+-- the flaw of a deal that passes over the order at an index
 abbrev pub priority_flaw : List Order → (ℕ → ℕ) → Deal → ℕ → Flaw
 priority_flaw orders shown d over = record {
   place = d.place;
-  evidence = Priority (side_at orders (resting orders d)) (traded_order shown over)
-      (traded_order shown (resting orders d));
+  evidence = Priority (side_at orders (resting_order orders d)) (order_with_shown shown over)
+      (order_with_shown shown (resting_order orders d));
 }
 
--- an order of a side and another one meet
-abbrev pub spread_by : Side → TradedOrder → TradedOrder → Evidence
-spread_by Buy own other = Spread own other
-spread_by Sell own other = Spread other own
+-- the evidence that an order of a side and another one meet
+abbrev pub spread_evidence : Side → TradedOrder → TradedOrder → Evidence
+spread_evidence Buy own other = Spread own other
+spread_evidence Sell own other = Spread other own
 
--- the order at n meets another one at its own record
+-- the flaw of the order at n, which meets another one at its own record
 abbrev pub spread_flaw : List Order → (ℕ → ℕ) → ℕ → ℕ → Flaw
 spread_flaw orders shown n other = record {
   place = place_at orders n;
-  evidence = spread_by (side_at orders n) (traded_order shown n) (traded_order shown other);
+  evidence = spread_evidence (side_at orders n)
+      (order_with_shown shown n) (order_with_shown shown other);
 }
 
--- the same, with what the orders have traded after the deals of the record
-abbrev pub spread_after : List Order → List Deal → ℕ → ℕ → Flaw
-spread_after orders deals n = spread_flaw orders (shown_after orders deals (place_at orders n)) n
+-- the flaw of the spread, with what the orders have traded after the deals of the record
+abbrev pub spread_flaw_after : List Order → List Deal → ℕ → ℕ → Flaw
+spread_flaw_after orders deals n =
+    spread_flaw orders (traded_shown_after orders deals (place_at orders n)) n
 
--- the finding is that of the flaw, whose orders are in the list; there is none where there is no flaw
-pub record IsFindingOf (orders : List Order) (flaw : Option Flaw) (finding : Option Finding)
+-- the finding is that of the flaw, whose orders are in the list; there is none
+-- where there is no flaw
+pub record IsFindingOfFlaw (orders : List Order) (flaw : Option Flaw) (finding : Option Finding)
     : Type 0 where
-  pub inside : IfSome flaw (λ f. IsInside orders f.evidence)
+  pub inside : IfSome flaw (λ f. IsEvidenceInside orders f.evidence)
   pub same : finding ≡ option_map (finding_of orders) flaw
 
 -- the finding at the record of the order at n is that of this flaw
 abbrev pub IsFlawAt : Market → ℕ → Flaw → Type 0
-IsFlawAt m n flaw = IsFindingOf m.orders.now (Some flaw)
+IsFlawAt m n flaw = IsFindingOfFlaw m.orders.now (Some flaw)
     (finding_at_place m.orders.now m.deals.now (place_at m.orders.now n))

@@ -5,39 +5,42 @@ use Rattle.audit_base.specs.declared.terms.Side.TheVariants.{Buy, Sell}
 use Rattle.audit_base.specs.declared.orders.Order.{Order}
 use Rattle.audit_base.specs.declared.orders.Deal.{Deal}
 use Rattle.audit_base.specs.Orders.{order_at, place_at, side_at, limit_at}
-use Rattle.audit_base.specs.Continuous.{traded_before, traded_at, rests, left, uncancelled_before}
+use Rattle.audit_base.specs.Continuous.{traded_before, traded_at, rests_before_by_past, left_before_by_past, uncancelled_before}
 use Rattle.audit_base.specs.Expected.{limits_meet}
 use Rattle.order_book.specs.declared.books.Resting.{Resting}
-use Rattle.order_book.specs.Books.{IsAhead, first}
+use Rattle.order_book.specs.Books.{IsAheadInBook, best_resting}
+use Rattle.continuous_audit.specs.Scans.{number_in}
 
--- the order at i in a book, with so much left
+-- the order at i in a book, with this much left
 abbrev pub resting_with : List Order → ℕ → ℕ → Resting
 resting_with orders i n = record { index = i; limit = limit_at orders i; left = n }
 
--- the same, with what rests of each order
-abbrev pub resting_of : List Order → (ℕ → ℕ) → ℕ → Resting
-resting_of orders amount i = resting_with orders i (amount i)
+-- the order at i in a book, by what rests of each order
+abbrev pub resting_with_amount : List Order → (ℕ → ℕ) → ℕ → Resting
+resting_with_amount orders amount i = resting_with orders i (amount i)
 
--- it is an order of the side of which something rests
-pub record IsPart (orders : List Order) (side : Side) (amount : ℕ → ℕ) (r : Resting) : Type 0 where
+-- an order in a book is one of the side of which something rests
+pub record IsRestingOn (orders : List Order) (side : Side) (amount : ℕ → ℕ)
+    (r : Resting) : Type 0 where
   pub inside : r.index < length orders
   pub of_side : side_at orders r.index ≡ side
   pub some : 0 < amount r.index
-  pub is : r ≡ resting_of orders amount r.index
+  pub is : r ≡ resting_with_amount orders amount r.index
 
 -- exactly the orders of a side of which something rests, in rank order
-pub record Holds (orders : List Order) (side : Side) (amount : ℕ → ℕ)
+pub record IsListOfAmounts (orders : List Order) (side : Side) (amount : ℕ → ℕ)
     (xs : List Resting) : Type 0 where
-  pub only : All (IsPart orders side amount) xs
+  pub only : All (IsRestingOn orders side amount) xs
   pub each : (i : ℕ) → i < length orders → side_at orders i ≡ side → 0 < amount i
-      → Contains xs (resting_of orders amount i)
-  pub ranked : AllPairs (IsAhead side) xs
+      → Contains xs (resting_with_amount orders amount i)
+  pub ranked : AllPairs (IsAheadInBook side) xs
 
 -- what rests of an order before place p: its Left where it rests, else nothing
-unfoldable pub resting_left : List Order → (ℕ → ℕ → ℕ) → ℕ → ℕ → ℕ
-resting_left orders past p i = if rests orders past p i then left orders past p i else 0
+unfoldable pub resting_left_before : List Order → (ℕ → ℕ → ℕ) → ℕ → ℕ → ℕ
+resting_left_before orders past p i =
+    if rests_before_by_past orders past p i then left_before_by_past orders past p i else 0
 
--- with so much left of the first, which goes where this is nothing
+-- with this much left of the first, which is taken out where this is nothing
 abbrev pub with_best_left : ℕ → List Resting → List Resting
 with_best_left now [] = []
 with_best_left now (x ∷ xs) = if nat_lt 0 now then record x { left = now } ∷ xs else xs
@@ -48,26 +51,24 @@ after_fills left [] = []
 after_fills left (x ∷ xs) = if nat_lt 0 (left x.index)
     then record x { left = left x.index } ∷ xs else after_fills left xs
 
--- what a list says is left of the order at an index
-abbrev pub left_in : List ℕ → ℕ → ℕ
-left_in left i = slice_index_or left i 0
-
 -- the list has the order, and not more than the book
-pub record IsWithin (left : List ℕ) (r : Resting) : Type 0 where
+pub record IsWithinBook (left : List ℕ) (r : Resting) : Type 0 where
   pub inside : r.index < length left
-  pub most : left_in left r.index ≤ r.left
+  pub most : number_in left r.index ≤ r.left
 
 -- of the orders that rest before place p, no bid meets an ask
-abbrev pub IsApart : List Order → (ℕ → ℕ → ℕ) → ℕ → Type 0
-IsApart orders past p = (b a : ℕ) → b < length orders → a < length orders
+abbrev pub AreApartBefore : List Order → (ℕ → ℕ → ℕ) → ℕ → Type 0
+AreApartBefore orders past p = (b a : ℕ) → b < length orders → a < length orders
     → side_at orders b ≡ Buy → side_at orders a ≡ Sell
-    → rests orders past p b ≡ true → rests orders past p a ≡ true
+    → rests_before_by_past orders past p b ≡ true → rests_before_by_past orders past p a ≡ true
     → limit_at orders b < limit_at orders a
 
--- the order at n is active after its own record: no record up to it cancels it, and something is left
-abbrev pub is_active : List Order → (ℕ → ℕ → ℕ) → ℕ → Bool
-is_active orders past n = uncancelled_before (order_at orders n).cancelled (suc (place_at orders n))
-    && nat_lt 0 (left orders past (suc (place_at orders n)) n)
+-- the order at n is active after its own record: no record up to it cancels it,
+-- and something is left
+abbrev pub is_active_after_own : List Order → (ℕ → ℕ → ℕ) → ℕ → Bool
+is_active_after_own orders past n =
+    uncancelled_before (order_at orders n).cancelled (suc (place_at orders n))
+    && nat_lt 0 (left_before_by_past orders past (suc (place_at orders n)) n)
 
 -- a limit of a side meets that of the first order of a book of the other side
 abbrev pub meets_first : Side → ℕ → Option Resting → Bool
@@ -75,23 +76,23 @@ meets_first side limit None = false
 meets_first side limit (Some h) = limits_meet side limit h.limit
 
 -- of two orders, that of the side Buy and that of the side Sell, where the first is of this side
-abbrev pub bid_of : Side → ℕ → ℕ → ℕ
-bid_of Buy i j = i
-bid_of Sell i j = j
+abbrev pub bid_of_two : Side → ℕ → ℕ → ℕ
+bid_of_two Buy i j = i
+bid_of_two Sell i j = j
 
-abbrev pub ask_of : Side → ℕ → ℕ → ℕ
-ask_of Buy i j = j
-ask_of Sell i j = i
+abbrev pub ask_of_two : Side → ℕ → ℕ → ℕ
+ask_of_two Buy i j = j
+ask_of_two Sell i j = i
 
 -- some amounts between those before and those after, with those after at the first
 pub record IsFilledInFront (orders : List Order) (side : Side) (before after : ℕ → ℕ)
     (ys : List Resting) : Type 0 where
   pub amount : ℕ → ℕ
-  pub holds : Holds orders side amount ys
+  pub holds : IsListOfAmounts orders side amount ys
   pub either : (k : ℕ) → (amount k ≡ after k) ⊎ (amount k ≡ before k)
-  pub first_now : (y : Resting) → first ys ≡ Some y → amount y.index ≡ after y.index
+  pub first_now : (y : Resting) → best_resting ys ≡ Some y → amount y.index ≡ after y.index
 
 -- what rests of an order before place p, less what it trades in the deals of cause p
 abbrev pub resting_left_after : List Order → List Deal → ℕ → ℕ → ℕ
 resting_left_after orders deals p k =
-    resting_left orders (traded_before orders deals) p k - traded_at orders deals p k
+    resting_left_before orders (traded_before orders deals) p k - traded_at orders deals p k

@@ -3,17 +3,18 @@ use Rattle.std.specs.Prelude.{◌≡◌, ◌<◌, ℕ, List, None}
 use Rattle.audit_base.specs.declared.orders.Deal.{Deal}
 use Rattle.audit_base.specs.Orders.{IsOrderList, other_side, place_at, side_at}
 use Rattle.audit_base.specs.Deals.{IsDealList, deal_at}
-use Rattle.audit_base.specs.Continuous.{resting, traded_before}
+use Rattle.audit_base.specs.Continuous.{resting_order, traded_before}
 use Rattle.order_book.specs.declared.books.Resting.{Resting}
 use Rattle.continuous_audit.specs.declared.market.Market.{Market}
 use Rattle.continuous_audit.specs.declared.scanning.RunningTotals.{RunningTotals}
 use Rattle.continuous_audit.specs.Causes.{AreCauses}
 use Rattle.continuous_audit.specs.Endings.{AreEndings}
-use Rattle.continuous_audit.specs.Holding.{IsFilledInFront, resting_left, resting_left_after}
+use Rattle.continuous_audit.specs.Holding.{IsFilledInFront, resting_left_before, resting_left_after}
 use Rattle.continuous_audit.specs.Records.{ConformsBelow, conservation_at}
-use Rattle.continuous_audit.specs.Scans.{AreRunningTotals, IsRefreshed, IsSplitAt, deal_in}
+use Rattle.continuous_audit.specs.Scans.{AreRunningTotals, IsLeftRefreshed, IsSplitAt, cause_deal_at}
 
--- the deals are over the order list, and each deal and each order that is ended belongs to its record
+-- the deals are over the order list, and each deal and each order that is ended
+-- belongs to its record
 pub record IsMarket (m : Market) : Type 0 where
   pub list : IsOrderList m.orders.now
   pub deal_list : IsDealList m.orders.now m.deals.now
@@ -34,20 +35,21 @@ pub record HaveTraded (m : Market) (n : ℕ) (running : RunningTotals) : Type 0 
       running.traded.items
   pub split : IsSplitAt m.causes.now n running.at
 
--- what is left of the orders of the deals from a cause on, as far as these are added, is their size less
--- what they have traded, and of the others what it was
-abbrev pub AreRefreshed : Market → ℕ → RunningTotals → List ℕ → List ℕ → List ℕ → Type 0
-AreRefreshed m start running sizes old new = IsRefreshed m.deals.now m.causes.now start running.at
+-- what is left of the orders of the deals from a cause on, as far as these are added, is their size
+-- less what they have traded, and of the others what it was
+abbrev pub IsLeftRefreshedIn : Market → ℕ → RunningTotals → List ℕ → List ℕ → List ℕ → Type 0
+IsLeftRefreshedIn m start running sizes old new =
+    IsLeftRefreshed m.deals.now m.causes.now start running.at
     sizes running.traded.items old new
 
 -- the deal of the cause at an index, and its resting order
-abbrev pub caused_at : Market → ℕ → Deal
-caused_at m i = deal_at m.deals.now (deal_in m.causes.now i)
+abbrev pub caused_deal_at : Market → ℕ → Deal
+caused_deal_at m i = deal_at m.deals.now (cause_deal_at m.causes.now i)
 
-abbrev pub resting_at : Market → ℕ → ℕ
-resting_at m i = resting m.orders.now (caused_at m i)
+abbrev pub resting_order_at : Market → ℕ → ℕ
+resting_order_at m i = resting_order m.orders.now (caused_deal_at m i)
 
--- an order that stands before the one at n in the order list, and is of the other side
+-- an order that is before the one at n in the order list, and is of the other side
 pub record IsOpposite (m : Market) (n : ℕ) (r : Resting) : Type 0 where
   pub earlier : r.index < n
   pub of_side : side_at m.orders.now r.index ≡ other_side (side_at m.orders.now n)
@@ -55,5 +57,6 @@ pub record IsOpposite (m : Market) (n : ℕ) (r : Resting) : Type 0 where
 -- a list of the other side shows at its first order what is left after the deals of the order at n
 abbrev pub IsFilledAgainst : Market → ℕ → List Resting → Type 0
 IsFilledAgainst m n ys = IsFilledInFront m.orders.now (other_side (side_at m.orders.now n))
-    (resting_left m.orders.now (traded_before m.orders.now m.deals.now) (place_at m.orders.now n))
+    (resting_left_before m.orders.now (traded_before m.orders.now m.deals.now)
+    (place_at m.orders.now n))
     (resting_left_after m.orders.now m.deals.now (place_at m.orders.now n)) ys

@@ -10,62 +10,63 @@ use Rattle.audit_base.specs.Deals.{deal_at}
 use Rattle.audit_base.specs.Continuous.{traded_before}
 use Rattle.audit_base.specs.Expected.{pair_share, resting_limit}
 use Rattle.continuous_audit.specs.declared.fills.Fill.{Fill}
-use Rattle.continuous_audit.specs.declared.pairs.Pair.{Pair}
+use Rattle.continuous_audit.specs.declared.pairs.FillPair.{FillPair}
 
--- what stands for a pair past the end of a list, and the pair at an index
-abbrev pub missing_pair : Pair
-missing_pair = record { bid = 0; ask = 0; quantity = 0 }
+-- what is given past the end of a list of pairs, and the pair at an index
+abbrev pub fill_pair_past_end : FillPair
+fill_pair_past_end = record { bid = 0; ask = 0; quantity = 0 }
 
-abbrev pub pair_at : List Pair → ℕ → Pair
-pair_at pairs k = slice_index_or pairs k missing_pair
+abbrev pub fill_pair_at : List FillPair → ℕ → FillPair
+fill_pair_at pairs k = slice_index_or pairs k fill_pair_past_end
 
 -- the pair of an incoming order of a side and a fill
-abbrev pub pair_of : Side → ℕ → Fill → Pair
-pair_of Buy n f = record { bid = n; ask = f.index; quantity = f.quantity }
-pair_of Sell n f = record { bid = f.index; ask = n; quantity = f.quantity }
+abbrev pub fill_pair : Side → ℕ → Fill → FillPair
+fill_pair Buy n f = record { bid = n; ask = f.index; quantity = f.quantity }
+fill_pair Sell n f = record { bid = f.index; ask = n; quantity = f.quantity }
 
 -- the bid and the ask of a pair
-abbrev pub ends_of : Pair → ℕ × ℕ
-ends_of p = (p.bid, p.ask)
+abbrev pub fill_pair_orders : FillPair → ℕ × ℕ
+fill_pair_orders p = (p.bid, p.ask)
 
--- a pair stands before another: by the bid, and then by the ask
-abbrev pub PairBefore : Pair → Pair → Type 0
-PairBefore p q = (p.bid < q.bid) ⊎ ((p.bid ≡ q.bid) × (p.ask < q.ask))
+-- a pair is before another: by the bid, and then by the ask
+abbrev pub FillPairBefore : FillPair → FillPair → Type 0
+FillPairBefore p q = (p.bid < q.bid) ⊎ ((p.bid ≡ q.bid) × (p.ask < q.ask))
 
 -- two pairs differ in the bid or in the ask
-abbrev pub PairsDiffer : Pair → Pair → Type 0
-PairsDiffer p q = (p.bid ≡ q.bid) → (p.ask ≡ q.ask) → ⊥
+abbrev pub FillPairsDiffer : FillPair → FillPair → Type 0
+FillPairsDiffer p q = (p.bid ≡ q.bid) → (p.ask ≡ q.ask) → ⊥
 
 -- how pairs compare
-abbrev pub pair_cmp : Pair → Pair → Ordering
-pair_cmp p q = ordering_then (nat_cmp p.bid q.bid)
+abbrev pub fill_pair_cmp : FillPair → FillPair → Ordering
+fill_pair_cmp p q = ordering_then (nat_cmp p.bid q.bid)
     (ordering_then (nat_cmp p.ask q.ask) (nat_cmp p.quantity q.quantity))
 
 -- a pair of two of the first n orders, with its share under these deals
-pub record IsSharedPair (orders : List Order) (deals : List Deal) (n : ℕ) (p : Pair) : Type 0 where
+pub record IsSharedPair (orders : List Order) (deals : List Deal) (n : ℕ)
+    (p : FillPair) : Type 0 where
   pub bid_inside : p.bid < n
   pub ask_inside : p.ask < n
   pub is : p.quantity ≡ pair_share orders (traded_before orders deals) p.bid p.ask
 
 -- of the first n orders exactly the pairs that have a share, each once
 pub record AreSharedPairs (orders : List Order) (deals : List Deal) (n : ℕ)
-    (pairs : List Pair) : Type 0 where
+    (pairs : List FillPair) : Type 0 where
   pub each : All (IsSharedPair orders deals n) pairs
   pub complete : (bid ask : ℕ) → bid < n → ask < n
       → 0 < pair_share orders (traded_before orders deals) bid ask
-      → Contains (map ends_of pairs) (bid, ask)
-  pub apart : AllPairs PairsDiffer pairs
+      → Contains (map fill_pair_orders pairs) (bid, ask)
+  pub apart : AllPairs FillPairsDiffer pairs
 
 -- a pair of orders below a count, of a quantity that a deal may have
-pub record IsDealt (count : ℕ) (p : Pair) : Type 0 where
+pub record IsFillPairDealt (count : ℕ) (p : FillPair) : Type 0 where
   pub bid_inside : p.bid < count
   pub ask_inside : p.ask < count
   pub some : 0 < p.quantity
   pub most : p.quantity ≤ 10 ^ 12
 
 -- the deal of a pair, with a number, at the limit of the earlier order
-abbrev pub deal_of : List Order → ℕ → Pair → Deal
-deal_of orders number p = record {
+abbrev pub fill_pair_deal : List Order → ℕ → FillPair → Deal
+fill_pair_deal orders number p = record {
   place = number;
   bid = p.bid;
   ask = p.ask;
@@ -74,6 +75,8 @@ deal_of orders number p = record {
 }
 
 -- one deal for each pair, numbered from 1
-pub record AreNumbered (orders : List Order) (pairs : List Pair) (deals : List Deal) : Type 0 where
+pub record AreFillPairDeals (orders : List Order) (pairs : List FillPair)
+    (deals : List Deal) : Type 0 where
   pub count : length deals ≡ length pairs
-  pub each : EachIndex pairs (λ k. deal_at deals k ≡ deal_of orders (k + 1) (pair_at pairs k))
+  pub each : EachIndex pairs (λ k. deal_at deals k
+      ≡ fill_pair_deal orders (k + 1) (fill_pair_at pairs k))

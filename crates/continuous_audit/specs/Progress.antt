@@ -4,20 +4,20 @@ use Rattle.audit_base.specs.Orders.{place_at}
 use Rattle.continuous_audit.specs.declared.market.Market.{Market}
 use Rattle.continuous_audit.specs.declared.numbers.Numbers.{Numbers}
 use Rattle.continuous_audit.specs.declared.state.State.{State}
-use Rattle.continuous_audit.specs.Books.{AreEmptyBooks, HoldAfterDeals, HoldAt, ready_place}
-use Rattle.continuous_audit.specs.Chains.{AreClosed}
-use Rattle.continuous_audit.specs.Endings.{AreDropped}
+use Rattle.continuous_audit.specs.Books.{AreEmptyBooks, AreBooksAfterDeals, AreBooksBefore, ready_place}
+use Rattle.continuous_audit.specs.Chains.{HaveChainsEnded}
+use Rattle.continuous_audit.specs.Endings.{AreEndingsDropped}
 use Rattle.continuous_audit.specs.Markets.{HaveTraded, IsConserved}
-use Rattle.continuous_audit.specs.Records.{AreBefore, AreLeft, AreSizes, AreTraded, IsCalm, priority_at}
+use Rattle.continuous_audit.specs.Records.{AreBeforeNumbers, AreLeftBefore, AreSizes, AreTradedBefore, ConformsAndIsApart, priority_at}
 use Rattle.continuous_audit.specs.Scans.{IsSplitAt}
-use Rattle.continuous_audit.specs.Sheets.{IsBlank}
+use Rattle.continuous_audit.specs.Sheets.{IsBlankSheet}
 
 -- the numbers of the first n orders before place q
 pub record AreNumbers (m : Market) (n q : ℕ) (numbers : Numbers) : Type 0 where
-  pub before : AreBefore m.orders.now m.deals.now n numbers.sheet.before.items
-  pub closed : AreClosed m.orders.now n numbers.sheet.closed.items
+  pub before : AreBeforeNumbers m.orders.now m.deals.now n numbers.sheet.before.items
+  pub closed : HaveChainsEnded m.orders.now n numbers.sheet.closed.items
   pub sizes : AreSizes m.orders.now m.deals.now n numbers.sheet.sizes.items
-  pub left : AreLeft m.orders.now m.deals.now n q numbers.sheet.left.items
+  pub left : AreLeftBefore m.orders.now m.deals.now n q numbers.sheet.left.items
   pub running : HaveTraded m n numbers.running
 
 -- before the order at n comes, at its own place; and after its deals
@@ -33,36 +33,36 @@ pub record HasDealt (m : Market) (n : ℕ) (numbers : Numbers) : Type 0 where
   pub split : IsSplitAt m.causes.now n numbers.start
   pub from : numbers.start ≤ numbers.running.at
   pub known : AreNumbersAfter m n numbers
-  pub traded : AreTraded m.orders.now m.deals.now (suc (place_at m.orders.now n))
+  pub traded : AreTradedBefore m.orders.now m.deals.now (suc (place_at m.orders.now n))
       numbers.running.traded.items
 
 -- before the order at n comes, at place q
-pub record IsReady (m : Market) (n q : ℕ) (state : State) : Type 0 where
-  pub calm : IsCalm m.orders.now m.deals.now q
+pub record IsReadyAt (m : Market) (n q : ℕ) (state : State) : Type 0 where
+  pub calm : ConformsAndIsApart m.orders.now m.deals.now q
   pub known : AreNumbers m n q state.numbers
-  pub books : HoldAt m.orders.now m.deals.now q state.standing.books
-  pub dropped : AreDropped m.endings.now state.standing.start q
+  pub books : AreBooksBefore m.orders.now m.deals.now q state.standing.books
+  pub dropped : AreEndingsDropped m.endings.now state.standing.start q
 
 -- after the deals of the order at n, which show no finding
 pub record IsAfterDeals (m : Market) (n : ℕ) (state : State) : Type 0 where
   pub dealt : HasDealt m n state.numbers
   pub ranked : priority_at m.orders.now m.deals.now n ≡ None
-  pub holds : HoldAfterDeals m.orders.now m.deals.now n state.standing.books
-  pub dropped : AreDropped m.endings.now state.standing.start (place_at m.orders.now n)
+  pub holds : AreBooksAfterDeals m.orders.now m.deals.now n state.standing.books
+  pub dropped : AreEndingsDropped m.endings.now state.standing.start (place_at m.orders.now n)
 
 -- before the order at n comes, at its own place; and after the order before it
 abbrev pub IsReadyFor : Market → ℕ → State → Type 0
-IsReadyFor m n state = IsReady m n (place_at m.orders.now n) state
+IsReadyFor m n state = IsReadyAt m n (place_at m.orders.now n) state
 
 abbrev pub IsReadyNext : Market → ℕ → State → Type 0
-IsReadyNext m n state = IsReady m n (ready_place m.orders.now n) state
+IsReadyNext m n state = IsReadyAt m n (ready_place m.orders.now n) state
 
--- before the first order of so many
-pub record AreAtStart (count : ℕ) (numbers : Numbers) : Type 0 where
-  pub sheet : IsBlank count numbers.sheet
+-- before the first of this many orders
+pub record AreNumbersAtStart (count : ℕ) (numbers : Numbers) : Type 0 where
+  pub sheet : IsBlankSheet count numbers.sheet
   pub traded : numbers.running.traded.items ≡ replicate count 0
   pub at : numbers.running.at ≡ 0
 
 pub record IsFirstState (count : ℕ) (state : State) : Type 0 where
-  pub numbers : AreAtStart count state.numbers
+  pub numbers : AreNumbersAtStart count state.numbers
   pub standing : AreEmptyBooks state.standing

@@ -4,57 +4,57 @@ use Rattle.audit_base.specs.declared.orders.Order.{Order}
 use Rattle.audit_base.specs.declared.orders.Deal.{Deal}
 use Rattle.audit_base.specs.declared.findings.Finding.{Finding}
 use Rattle.audit_base.specs.Orders.{place_at}
-use Rattle.audit_base.specs.Continuous.{traded_before, before_of, entered_of, size_of, left_before}
+use Rattle.audit_base.specs.Continuous.{traded_before, before_quantity, has_entered, size_of_order, left_before}
 use Rattle.audit_base.specs.ContinuousRules.{ConformsAt}
 use Rattle.audit_base.specs.Least.{least_answer}
-use Rattle.audit_base.specs.ContinuousOffences.{conservation_finding, priority_finding}
+use Rattle.audit_base.specs.ContinuousOffences.{conservation_finding, resting_priority_finding}
 use Rattle.continuous_audit.specs.declared.sheet.Sheet.{Sheet}
-use Rattle.continuous_audit.specs.Holding.{IsApart}
-use Rattle.continuous_audit.specs.Chains.{AreBounded}
-use Rattle.continuous_audit.specs.Scans.{AreSmall, number_in}
+use Rattle.continuous_audit.specs.Holding.{AreApartBefore}
+use Rattle.continuous_audit.specs.Chains.{IsBeforeBounded}
+use Rattle.continuous_audit.specs.Scans.{AreTotalsSmall, number_in}
 
 -- the rule holds at each place below q
 abbrev pub ConformsBelow : List Order → List Deal → ℕ → Type 0
 ConformsBelow orders deals q = (i : ℕ) → i < q → ConformsAt orders deals i
 
 -- the rule holds at each place below q, and of the orders that rest before q none meet
-pub record IsCalm (orders : List Order) (deals : List Deal) (q : ℕ) : Type 0 where
+pub record ConformsAndIsApart (orders : List Order) (deals : List Deal) (q : ℕ) : Type 0 where
   pub conforms : ConformsBelow orders deals q
-  pub apart : IsApart orders (traded_before orders deals) q
+  pub apart : AreApartBefore orders (traded_before orders deals) q
 
 -- Before of each of the first m orders
-pub record AreBefore (orders : List Order) (deals : List Deal) (m : ℕ)
+pub record AreBeforeNumbers (orders : List Order) (deals : List Deal) (m : ℕ)
     (before : List ℕ) : Type 0 where
   pub count : length before ≡ length orders
-  pub is : (x : ℕ) → x < m → number_in before x ≡ before_of orders deals x
+  pub is : (x : ℕ) → x < m → number_in before x ≡ before_quantity orders deals x
   pub fits : (x : ℕ) → number_in before x ≤ 2 ^ 126
-  pub bounded : AreBounded before
+  pub bounded : IsBeforeBounded before
 
 -- Size of each of the first m orders
 pub record AreSizes (orders : List Order) (deals : List Deal) (m : ℕ)
     (sizes : List ℕ) : Type 0 where
   pub count : length sizes ≡ length orders
-  pub is : (x : ℕ) → x < m → number_in sizes x ≡ size_of orders deals x
+  pub is : (x : ℕ) → x < m → number_in sizes x ≡ size_of_order orders deals x
 
 -- what is left of each of the first m orders before place q
-pub record AreLeft (orders : List Order) (deals : List Deal) (m q : ℕ)
+pub record AreLeftBefore (orders : List Order) (deals : List Deal) (m q : ℕ)
     (left : List ℕ) : Type 0 where
   pub count : length left ≡ length orders
   pub is : (x : ℕ) → x < m → number_in left x ≡ left_before orders deals q x
 
--- before the deals of the order at n: whether it entered, Before and Size of each order up to it, and what
--- is left of the earlier ones
-pub record IsKnown (orders : List Order) (deals : List Deal) (n : ℕ) (entered : Bool)
+-- before the deals of the order at n: whether it entered, Before and Size of each order up to it,
+-- and what is left of the earlier ones
+pub record IsKnownBeforeDeals (orders : List Order) (deals : List Deal) (n : ℕ) (entered : Bool)
     (sheet : Sheet) : Type 0 where
-  pub arrived : entered ≡ entered_of orders deals n
-  pub before : AreBefore orders deals (suc n) sheet.before.items
+  pub arrived : entered ≡ has_entered orders deals n
+  pub before : AreBeforeNumbers orders deals (suc n) sheet.before.items
   pub sizes : AreSizes orders deals (suc n) sheet.sizes.items
-  pub left : AreLeft orders deals n (place_at orders n) sheet.left.items
+  pub left : AreLeftBefore orders deals n (place_at orders n) sheet.left.items
 
 -- what each order has traded before place q
-pub record AreTraded (orders : List Order) (deals : List Deal) (q : ℕ)
+pub record AreTradedBefore (orders : List Order) (deals : List Deal) (q : ℕ)
     (traded : List ℕ) : Type 0 where
-  pub small : AreSmall orders traded
+  pub small : AreTotalsSmall orders traded
   pub is : (x : ℕ) → x < length orders → number_in traded x ≡ traded_before orders deals q x
 
 -- the first finding of conservation, and the first of priority, at the record of the order at n
@@ -63,5 +63,5 @@ conservation_at orders deals n = least_answer
     (conservation_finding orders deals (place_at orders n)) (length deals)
 
 abbrev pub priority_at : List Order → List Deal → ℕ → Option Finding
-priority_at orders deals n = least_answer (priority_finding orders deals (place_at orders n))
+priority_at orders deals n = least_answer (resting_priority_finding orders deals (place_at orders n))
     (length deals)

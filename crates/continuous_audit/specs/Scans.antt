@@ -1,8 +1,8 @@
--- What the first deals come to, and where the deals of an order begin.
+-- What the first deals add up to, and where the deals of an order begin.
 use Rattle.std.specs.Prelude.{◌≡◌, ◌<◌, ◌≤◌, ◌-◌, ◌*◌, ◌^◌, ◌⊎◌, ℕ, suc, false, List, Option, None, Some, length, slice_index_or}
 use Rattle.audit_base.specs.declared.orders.Order.{Order}
 use Rattle.audit_base.specs.declared.orders.Deal.{Deal}
-use Rattle.audit_base.specs.Deals.{names, deal_at}
+use Rattle.audit_base.specs.Deals.{names_order, deal_at}
 use Rattle.continuous_audit.specs.declared.causes.Cause.{Cause}
 use Rattle.continuous_audit.specs.Causes.{running_total}
 
@@ -10,15 +10,15 @@ use Rattle.continuous_audit.specs.Causes.{running_total}
 abbrev pub number_in : List ℕ → ℕ → ℕ
 number_in numbers i = slice_index_or numbers i 0
 
--- what stands for a cause past the end, and the order of the cause at an index
-abbrev pub missing_cause : Cause
-missing_cause = record { order = 0; deal = 0 }
+-- what is given for a cause past the end, and the order of the cause at an index
+abbrev pub cause_past_end : Cause
+cause_past_end = record { order = 0; deal = 0 }
 
-abbrev pub order_in : List Cause → ℕ → ℕ
-order_in causes i = (slice_index_or causes i missing_cause).order
+abbrev pub cause_order_at : List Cause → ℕ → ℕ
+cause_order_at causes i = (slice_index_or causes i cause_past_end).order
 
-abbrev pub deal_in : List Cause → ℕ → ℕ
-deal_in causes i = (slice_index_or causes i missing_cause).deal
+abbrev pub cause_deal_at : List Cause → ℕ → ℕ
+cause_deal_at causes i = (slice_index_or causes i cause_past_end).deal
 
 -- what each order has traded in the first causes
 pub record AreRunningTotals (orders : List Order) (deals : List Deal) (causes : List Cause)
@@ -30,8 +30,8 @@ pub record AreRunningTotals (orders : List Order) (deals : List Deal) (causes : 
 
 -- the first causes are those of the orders below n
 pub record IsSplitAt (causes : List Cause) (n at : ℕ) : Type 0 where
-  pub early : (i : ℕ) → i < at → i < length causes → order_in causes i < n
-  pub late : (i : ℕ) → at ≤ i → i < length causes → n ≤ order_in causes i
+  pub early : (i : ℕ) → i < at → i < length causes → cause_order_at causes i < n
+  pub late : (i : ℕ) → at ≤ i → i < length causes → n ≤ cause_order_at causes i
 
 -- how many steps lead back from a target at most
 abbrev pub steps_of : Option ℕ → ℕ
@@ -40,19 +40,20 @@ steps_of (Some t) = suc t
 
 -- the causes name deals of the list, and these name orders below a count
 pub record HasDeals (deals : List Deal) (causes : List Cause) (count : ℕ) : Type 0 where
-  pub deal : (i : ℕ) → i < length causes → deal_in causes i < length deals
-  pub bid : (i : ℕ) → i < length causes → (deal_at deals (deal_in causes i)).bid < count
-  pub ask : (i : ℕ) → i < length causes → (deal_at deals (deal_in causes i)).ask < count
+  pub deal : (i : ℕ) → i < length causes → cause_deal_at causes i < length deals
+  pub bid : (i : ℕ) → i < length causes → (deal_at deals (cause_deal_at causes i)).bid < count
+  pub ask : (i : ℕ) → i < length causes → (deal_at deals (cause_deal_at causes i)).ask < count
 
--- what is left of the orders of these deals is their size less what they have traded, and of the others what it was
-pub record IsRefreshed (deals : List Deal) (causes : List Cause) (start at : ℕ)
+-- what is left of the orders of these deals is their size less what they have traded, and of the
+-- others what it was
+pub record IsLeftRefreshed (deals : List Deal) (causes : List Cause) (start at : ℕ)
     (sizes traded old new : List ℕ) : Type 0 where
   pub count : length new ≡ length old
   pub each : (x : ℕ) → (number_in new x ≡ number_in sizes x - number_in traded x)
       ⊎ ((number_in new x ≡ number_in old x) × ((i : ℕ) → start ≤ i → i < at
-      → names x (deal_at deals (deal_in causes i)) ≡ false))
+      → names_order x (deal_at deals (cause_deal_at causes i)) ≡ false))
 
 -- what each order has traded is there, and at most 2^72
-pub record AreSmall (orders : List Order) (traded : List ℕ) : Type 0 where
+pub record AreTotalsSmall (orders : List Order) (traded : List ℕ) : Type 0 where
   pub count : length traded ≡ length orders
   pub most : (x : ℕ) → x < length orders → number_in traded x ≤ 2 ^ 72

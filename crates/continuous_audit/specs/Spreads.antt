@@ -1,24 +1,24 @@
--- An order after its own record, where so much is left of it.
+-- An order after its own record, where this much is left of it.
 use Rattle.std.specs.Prelude.{◌≡◌, ℕ, suc, Bool, ◌&&◌, nat_lt, List, All}
 use Rattle.audit_base.specs.declared.orders.Order.{Order}
 use Rattle.audit_base.specs.declared.orders.Deal.{Deal}
-use Rattle.audit_base.specs.Orders.{place_at, is_rests}
+use Rattle.audit_base.specs.Orders.{place_at, may_rest}
 use Rattle.audit_base.specs.Continuous.{left_after, uncancelled_before}
 use Rattle.audit_base.specs.Deals.{NamesOrders}
 use Rattle.continuous_audit.specs.declared.books.Books.{Books}
-use Rattle.continuous_audit.specs.Books.{HoldWithoutOwn}
+use Rattle.continuous_audit.specs.Books.{AreBooksWithoutOwn}
 
--- it is active
-abbrev pub is_active_with : Order → ℕ → Bool
-is_active_with o left = uncancelled_before o.cancelled (suc o.place) && nat_lt 0 left
+-- an order is active after its own record, where this much is left of it
+abbrev pub is_active_after_with : Order → ℕ → Bool
+is_active_after_with o left = uncancelled_before o.cancelled (suc o.place) && nat_lt 0 left
 
--- it rests
-abbrev pub stays_with : Order → ℕ → Bool
-stays_with o left = is_rests o.life && is_active_with o left
+-- an order rests after its own record, where this much is left of it
+abbrev pub rests_after_with : Order → ℕ → Bool
+rests_after_with o left = may_rest o.life && is_active_after_with o left
 
--- so much is left of the order at n, which isn't in the books yet
+-- this much is left of the order at n, which isn't in the books yet
 pub record IsAfterOwn (orders : List Order) (deals : List Deal) (n own_left : ℕ)
     (b : Books) : Type 0 where
   pub named : All (NamesOrders orders) deals
   pub left_is : own_left ≡ left_after orders deals (place_at orders n) n
-  pub holds : HoldWithoutOwn orders deals n b
+  pub holds : AreBooksWithoutOwn orders deals n b

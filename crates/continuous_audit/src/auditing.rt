@@ -2,7 +2,7 @@
 ghost use Rattle.std.specs.Prelude.{IfOk};
 ghost use Rattle.audit_base.specs.Orders.{IsOrderList};
 ghost use Rattle.audit_base.specs.Deals.{IsDealList};
-ghost use Rattle.continuous_audit.specs.Audits.{IsAudited};
+ghost use Rattle.continuous_audit.specs.Audits.{IsAuditedContinuous};
 
 use super::causes::sort_causes;
 use super::endings::sort_endings;
@@ -17,9 +17,9 @@ use matching_core::totals::{Totals, volume_of};
 use order_list::lists::OrderList;
 use std::alloc::Global;
 
-/// The audit of the rule of continuous trading. Conforms exactly where it holds, unless it is out of memory: with
-/// what each order traded, and the volume. Else Broken has the first offence: an order that is inactive, a limit, a
-/// quantity, a priority or the spread.
+/// The audit of the rule of continuous trading. Conforms exactly where it holds, unless it is out
+/// of memory: with what each order traded, and the volume. Else Broken has the first offence: an
+/// order that is inactive, a limit, a quantity, a priority or the spread.
 pub fn audit_continuous(
     alloc: Global,
     orders: &OrderList<'_>,
@@ -27,7 +27,7 @@ pub fn audit_continuous(
 ) -> Result<Outcome, NoMemory>
     requires order_list { IsOrderList orders.now }
     requires deal_list { IsDealList orders.now deals.now }
-    ensures { IfOk result (IsAudited orders.now deals.now) }
+    ensures { IfOk result (IsAuditedContinuous orders.now deals.now) }
 {
     // A law and the ranges that the answer rests on. They compute nothing.
     continuous_uniqueness();

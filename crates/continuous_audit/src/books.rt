@@ -3,12 +3,12 @@ ghost use Rattle.std.specs.Prelude.{◌≡◌, ◌<◌, ◌≤◌, ◌+◌, ℕ,
 ghost use Rattle.audit_base.specs.declared.orders.Deal.{Deal as ADeal};
 ghost use Rattle.audit_base.specs.Orders.{IsOrderList, place_at};
 ghost use Rattle.audit_base.specs.Deals.{NamesOrders};
-ghost use Rattle.order_book.specs.Books.{first};
-ghost use Rattle.continuous_audit.specs.Endings.{AreDropped, AreEndedBelow, AreEndings, IsEnding, amount_without};
-ghost use Rattle.continuous_audit.specs.Books.{AreEmptyBooks, BooksHold, HoldBelow, books_with, books_without, list_of};
-ghost use Rattle.continuous_audit.specs.Books.{HoldAfter, HoldAfterDeals, HoldNext, HoldWithoutOwn, ready_place};
-ghost use Rattle.continuous_audit.specs.Books.{resting_count, with_fills};
-ghost use Rattle.continuous_audit.specs.Holding.{IsWithin};
+ghost use Rattle.order_book.specs.Books.{best_resting};
+ghost use Rattle.continuous_audit.specs.Endings.{AreEndingsDropped, AreEndingsBelow, AreEndings, IsEnding, amount_without};
+ghost use Rattle.continuous_audit.specs.Books.{AreEmptyBooks, AreBooksOfAmounts, AreBooksBelow, books_with_order, books_without_order, book_list};
+ghost use Rattle.continuous_audit.specs.Books.{AreBooksAfter, AreBooksAfterDeals, AreBooksForNext, AreBooksWithoutOwn, ready_place};
+ghost use Rattle.continuous_audit.specs.Books.{resting_count, books_with_fills};
+ghost use Rattle.continuous_audit.specs.Holding.{IsWithinBook};
 
 use super::endings::Ending;
 use super::filling::fill_best;
@@ -29,7 +29,7 @@ pub struct Books {
 impl Books {
     /// The best order of a side that rests.
     pub fn best(&self, side: Side) -> Option<Resting>
-        ensures { result ≡ first (list_of side self.now) }
+        ensures { result ≡ best_resting (book_list side self.now) }
     {
         match side {
             Side::Buy => self.bids.best(),
@@ -39,9 +39,9 @@ impl Books {
 
     /// Takes from the book of a side what its orders have traded, by what is left of them now.
     pub fn fill(&mut self, side: Side, left: &[u64])
-        requires bids { All (IsWithin left.now) self.old.bids.resting }
-        requires asks { All (IsWithin left.now) self.old.asks.resting }
-        ensures { self.new ≡ with_fills side left.now self.old }
+        requires bids { All (IsWithinBook left.now) self.old.bids.resting }
+        requires asks { All (IsWithinBook left.now) self.old.asks.resting }
+        ensures { self.new ≡ books_with_fills side left.now self.old }
     {
         match side {
             Side::Buy => fill_best(&mut self.bids, left),
@@ -51,7 +51,7 @@ impl Books {
 
     /// Takes an order out of the book of its side.
     fn cancel(&mut self, side: Side, index: usize, limit: Price)
-        ensures { self.new ≡ books_without side index limit self.old }
+        ensures { self.new ≡ books_without_order side index limit self.old }
     {
         match side {
             Side::Buy => {
@@ -63,7 +63,8 @@ impl Books {
         }
     }
 
-    /// Adds a later order to the book of its side. Where it is out of memory the books are as before.
+    /// Adds a later order to the book of its side. Where it is out of memory the
+    /// books are as before.
     pub fn enter(
         &mut self,
         side: Side,
@@ -72,9 +73,9 @@ impl Books {
         left: u64,
     ) -> Result<(), NoMemory>
         requires some { 0 < left }
-        requires earlier { HoldBelow index self.old }
+        requires earlier { AreBooksBelow index self.old }
         ensures ok { OnOk result
-            (self.new ≡ books_with side (record { index = index; limit = limit; left = left })
+            (self.new ≡ books_with_order side (record { index = index; limit = limit; left = left })
             self.old) }
         ensures err { OnErr result (self.new ≡ self.old) }
         ensures more { OnOk result (resting_count self.new ≡ resting_count self.old + 1) }
@@ -88,7 +89,7 @@ impl Books {
 
 /// The books, and how many of the orders that records end have been taken out of them.
 #[derive(Drop)]
-pub struct Standing {
+pub struct BooksSoFar {
     pub books: Books,
     pub start: usize,
 }
@@ -107,12 +108,12 @@ fn next_place(orders: &OrderList<'_>, order: usize) -> u64
     }
 }
 
-impl Standing {
+impl BooksSoFar {
     /// Empty books, before the first order.
-    pub fn new(alloc: Global) -> Standing
+    pub fn new(alloc: Global) -> BooksSoFar
         ensures { AreEmptyBooks result }
     {
-        Standing {
+        BooksSoFar {
             books: Books {
                 bids: Book::new(alloc, Side::Buy),
                 asks: Book::new(alloc, Side::Sell),
@@ -125,9 +126,9 @@ impl Standing {
     fn drop_ended(&mut self, orders: &OrderList<'_>, endings: &[Ending], upto: u64)
         requires inside { All (IsEnding orders.now) endings.now }
         requires from { self.old.start ≤ length endings.now }
-        ensures ended { AreEndedBelow endings.now self.old.start self.new.start upto }
-        ensures holds { (amount : ℕ → ℕ) → BooksHold orders.now amount self.old.books
-            → BooksHold orders.now
+        ensures ended { AreEndingsBelow endings.now self.old.start self.new.start upto }
+        ensures holds { (amount : ℕ → ℕ) → AreBooksOfAmounts orders.now amount self.old.books
+            → AreBooksOfAmounts orders.now
             (amount_without endings.now self.old.start self.new.start amount) self.new.books }
         ensures fewer { resting_count self.new.books ≤ resting_count self.old.books }
     {
@@ -148,11 +149,13 @@ impl Standing {
         requires list { IsOrderList orders.now }
         requires order { order < length orders.now }
         requires endings { AreEndings orders.now endings.now }
-        requires dropped { AreDropped endings.now self.old.start (place_at orders.now order) }
-        ensures dropped { AreDropped endings.now self.new.start (suc (place_at orders.now order)) }
+        requires dropped { AreEndingsDropped endings.now self.old.start
+            (place_at orders.now order) }
+        ensures dropped { AreEndingsDropped endings.now self.new.start
+            (suc (place_at orders.now order)) }
         ensures holds { (deals : List ADeal) → All (NamesOrders orders.now) deals
-            → HoldAfterDeals orders.now deals order self.old.books
-            → HoldWithoutOwn orders.now deals order self.new.books }
+            → AreBooksAfterDeals orders.now deals order self.old.books
+            → AreBooksWithoutOwn orders.now deals order self.new.books }
         ensures fewer { resting_count self.new.books ≤ resting_count self.old.books }
     {
         let place = orders.at(order).place();
@@ -164,12 +167,13 @@ impl Standing {
         requires list { IsOrderList orders.now }
         requires order { order < length orders.now }
         requires endings { AreEndings orders.now endings.now }
-        requires dropped { AreDropped endings.now self.old.start (suc (place_at orders.now order)) }
-        ensures dropped { AreDropped endings.now self.new.start
+        requires dropped { AreEndingsDropped endings.now self.old.start
+            (suc (place_at orders.now order)) }
+        ensures dropped { AreEndingsDropped endings.now self.new.start
             (ready_place orders.now (suc order)) }
         ensures holds { (deals : List ADeal) → All (NamesOrders orders.now) deals
-            → HoldAfter orders.now deals order self.old.books
-            → HoldNext orders.now deals (suc order) self.new.books }
+            → AreBooksAfter orders.now deals order self.old.books
+            → AreBooksForNext orders.now deals (suc order) self.new.books }
         ensures fewer { resting_count self.new.books ≤ resting_count self.old.books }
     {
         self.drop_ended(orders, endings, next_place(orders, order));

@@ -1,8 +1,8 @@
-//! The deals by their incoming orders, and those of one order as they stand in the log.
+//! The deals by their incoming orders, and those of one order in the order of the log.
 ghost use Rattle.std.specs.Prelude.{◌≡◌, ◌<◌, ◌^◌, All, IfOk, length};
 ghost use Rattle.audit_base.specs.Orders.{order_at, place_at};
 ghost use Rattle.audit_base.specs.Deals.{NamesOrders, IsDealList};
-ghost use Rattle.audit_base.specs.Continuous.{incoming, resting};
+ghost use Rattle.audit_base.specs.Continuous.{incoming_order, resting_order};
 ghost use Rattle.continuous_audit.specs.Causes.{AreCauses, causes_upto};
 
 use audit_base::faults::NoMemory;
@@ -20,7 +20,7 @@ pub struct Cause {
 /// The order of a deal whose record is the cause.
 pub fn incoming(orders: &OrderList<'_>, deal: &Deal) -> usize
     requires { NamesOrders orders.now deal.now }
-    ensures same { result ≡ incoming orders.now deal.now }
+    ensures same { result ≡ incoming_order orders.now deal.now }
     ensures inside { result < length orders.now }
 {
     if orders.at(deal.bid).place() < orders.at(deal.ask).place() {
@@ -33,7 +33,7 @@ pub fn incoming(orders: &OrderList<'_>, deal: &Deal) -> usize
 /// The order of a deal that rested.
 pub fn resting_of(orders: &OrderList<'_>, deal: &Deal) -> usize
     requires { NamesOrders orders.now deal.now }
-    ensures same { result ≡ resting orders.now deal.now }
+    ensures same { result ≡ resting_order orders.now deal.now }
     ensures inside { result < length orders.now }
 {
     if orders.at(deal.bid).place() < orders.at(deal.ask).place() {
@@ -66,7 +66,7 @@ fn collect_causes(
     Ok(causes)
 }
 
-/// The deals by their incoming orders, and those of one order as they stand in the log.
+/// The deals by their incoming orders, and those of one order in the order of the log.
 pub fn sort_causes(
     alloc: Global,
     orders: &OrderList<'_>,

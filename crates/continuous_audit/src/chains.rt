@@ -2,18 +2,19 @@
 ghost use Rattle.std.specs.Prelude.{◌≡◌, ◌<◌, ◌≤◌, ◌*◌, ◌^◌, ℕ, List, true, length, sum_by};
 ghost use Rattle.audit_base.specs.declared.orders.Deal.{Deal as ADeal};
 ghost use Rattle.audit_base.specs.Orders.{IsOrderList};
-ghost use Rattle.audit_base.specs.Continuous.{before_of, chain};
-ghost use Rattle.continuous_audit.specs.Chains.{IsClosed, IsOpenSheet, IsOpening, ends_by};
-ghost use Rattle.continuous_audit.specs.Scans.{AreSmall, number_in};
+ghost use Rattle.audit_base.specs.Continuous.{before_quantity, chain};
+ghost use Rattle.continuous_audit.specs.Chains.{HasChainEnded, IsOpenSheet, IsKnownBeforeOpening, ends_by};
+ghost use Rattle.continuous_audit.specs.Scans.{AreTotalsSmall, number_in};
 
 use super::sheet::Sheet;
 use order_list::lists::OrderList;
 
-/// What the orders of the chain of an order have traded: its target, the target's target, and so on.
+/// What the orders of the chain of an order have traded: its target, the target's
+/// target, and so on.
 fn chain_total(orders: &OrderList<'_>, traded: &[u128], order: usize) -> u128
     requires list { IsOrderList orders.now }
     requires order { order < length orders.now }
-    requires traded { AreSmall orders.now traded.now }
+    requires traded { AreTotalsSmall orders.now traded.now }
     ensures total { result ≡ sum_by (number_in traded.now) (chain orders.now order) }
     ensures bounded { result ≤ order * 2 ^ 72 }
 {
@@ -26,15 +27,16 @@ fn chain_total(orders: &OrderList<'_>, traded: &[u128], order: usize) -> u128
     total
 }
 
-/// Before of an order: what its chain has traded. Where the records of its target's chain end one another, as in
-/// every history, this is what the target has traded, and the target's own Before.
+/// Before of an order: what its chain has traded. Where the records of its target's chain end one
+/// another, as in every history, this is what the target has traded, and the target's own Before.
 pub fn chain_before(orders: &OrderList<'_>, traded: &[u128], sheet: &Sheet, order: usize) -> u128
     requires list { IsOrderList orders.now }
     requires order { order < length orders.now }
-    requires traded { AreSmall orders.now traded.now }
+    requires traded { AreTotalsSmall orders.now traded.now }
     requires sheet { IsOpenSheet orders.now order sheet.now }
-    ensures before { (deals : List ADeal) → IsOpening orders.now deals order traded.now sheet.now
-        → result ≡ before_of orders.now deals order }
+    ensures before { (deals : List ADeal)
+        → IsKnownBeforeOpening orders.now deals order traded.now sheet.now
+        → result ≡ before_quantity orders.now deals order }
     ensures bounded { result ≤ order * 2 ^ 72 }
 {
     if let Some(target) = orders.at(order).target() {
@@ -60,7 +62,7 @@ pub fn is_closed(orders: &OrderList<'_>, sheet: &Sheet, order: usize) -> bool
     requires list { IsOrderList orders.now }
     requires order { order < length orders.now }
     requires sheet { IsOpenSheet orders.now order sheet.now }
-    ensures { result ≡ true → IsClosed orders.now order }
+    ensures { result ≡ true → HasChainEnded orders.now order }
 {
     let own = orders.at(order);
     match own.target() {

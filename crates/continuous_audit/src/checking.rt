@@ -1,4 +1,5 @@
-//! Whether the deals of one record keep their limits, and no order trades that isn't there or more than its size.
+//! Whether the deals of one record keep their limits, and no order trades that isn't there or
+//! more than its size.
 ghost use Rattle.std.specs.Prelude.{◌≡◌};
 ghost use Rattle.continuous_audit.specs.DealFindings as by_deal;
 
@@ -17,7 +18,7 @@ fn is_uncancelled(cancelled: Option<u32>, place: u32) -> bool
     }
 }
 
-/// Whether an earlier order with so much left rests before a place.
+/// Whether an earlier order with this much left rests before a place.
 pub fn waits(order: &ListedOrder<'_>, place: u32, left: u64) -> bool
     ensures { result ≡ by_deal.waits order.now place left }
 {
@@ -39,8 +40,8 @@ pub struct Account {
 
 impl Account {
     /// Whether it trades more than its Size.
-    fn is_over(self) -> bool
-        ensures { result ≡ by_deal.is_over self }
+    fn is_over_size(self) -> bool
+        ensures { result ≡ by_deal.is_over_size self }
     {
         (self.size as u128) < self.traded
     }
@@ -55,7 +56,7 @@ pub struct Accounts {
 
 /// The record that a deal belongs to: its place, and whether its order enters there.
 #[derive(Clone, Copy, Debug)]
-pub struct Coming {
+pub struct Arrival {
     pub place: u32,
     pub entered: bool,
 }
@@ -93,12 +94,13 @@ fn incoming_account(bid: &ListedOrder<'_>, ask: &ListedOrder<'_>, known: Account
     }
 }
 
-/// What is wrong with a deal by itself, from what is known of its orders: the first rule that it breaks.
+/// What is wrong with a deal by itself, from what is known of its orders: the first property
+/// that it does not keep.
 pub fn deal_evidence(
     deal: &Deal,
     bid: &ListedOrder<'_>,
     ask: &ListedOrder<'_>,
-    coming: Coming,
+    coming: Arrival,
     known: Accounts,
 ) -> Option<Evidence>
     ensures { result ≡ by_deal.deal_evidence deal.now bid.now ask.now coming known }
@@ -112,10 +114,10 @@ pub fn deal_evidence(
     if !is_within(deal, bid, ask) {
         return Some(Evidence::Limit(known.bid.shown, known.ask.shown));
     }
-    if known.bid.is_over() {
+    if known.bid.is_over_size() {
         return Some(Evidence::Quantity(Side::Buy, known.bid.shown));
     }
-    if known.ask.is_over() {
+    if known.ask.is_over_size() {
         return Some(Evidence::Quantity(Side::Sell, known.ask.shown));
     }
     None

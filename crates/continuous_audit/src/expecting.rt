@@ -1,15 +1,15 @@
 //! The Expected trades of continuous trading.
 ghost use Rattle.std.specs.Prelude.{◌≡◌, ◌<◌, ◌≤◌, suc, IfOk, OnOk, length};
 ghost use Rattle.audit_base.specs.Orders.{IsOrderList};
-ghost use Rattle.audit_base.specs.Deals.{AreDeals, IsDealList};
+ghost use Rattle.audit_base.specs.Deals.{DealsInRange, IsDealList};
 ghost use Rattle.audit_base.specs.Histories.{Regular};
 ghost use Rattle.audit_base.specs.ContinuousRules.{ConformsContinuous};
 ghost use Rattle.audit_base.specs.Expected.{IsExpectedContinuous};
 ghost use Rattle.continuous_audit.specs.Books.{ready_place};
-ghost use Rattle.continuous_audit.specs.Endings.{AreDropped, AreEndings};
-ghost use Rattle.continuous_audit.specs.Matching.{AreAtFirst, IsCounted, MatchedBefore};
+ghost use Rattle.continuous_audit.specs.Endings.{AreEndingsDropped, AreEndings};
+ghost use Rattle.continuous_audit.specs.Matching.{AreTradesAtStart, AreTradesSoFar, MatchedBefore};
 
-use super::books::Standing;
+use super::books::BooksSoFar;
 use super::endings::{Ending, sort_endings};
 use super::matching::{TradesSoFar, match_record};
 use super::pairs::{number_pairs, sort_pairs};
@@ -20,16 +20,16 @@ use matching_core::totals::zeros;
 use order_list::lists::OrderList;
 use std::alloc::Global;
 
-/// Nothing has traded before the first of so many orders.
+/// Nothing has traded before the first of this many orders.
 fn no_trades(alloc: Global, count: usize) -> Result<TradesSoFar, NoMemory>
-    ensures { IfOk result (AreAtFirst count) }
+    ensures { IfOk result (AreTradesAtStart count) }
 {
     let traded = zeros(alloc, count)?;
     let sheet = Sheet::new(alloc, count)?;
     Ok(TradesSoFar {
         traded,
         sheet,
-        standing: Standing::new(alloc),
+        standing: BooksSoFar::new(alloc),
         fills: Vec::new(alloc),
         pairs: Vec::new(alloc),
     })
@@ -44,10 +44,11 @@ fn match_records(
     requires list { IsOrderList orders.now }
     requires regular { Regular orders.now }
     requires endings { AreEndings orders.now endings.now }
-    requires dropped { AreDropped endings.now so_far.old.standing.start (ready_place orders.now 0) }
-    requires counted { IsCounted orders.now 0 0 so_far.old }
+    requires dropped { AreEndingsDropped endings.now so_far.old.standing.start
+        (ready_place orders.now 0) }
+    requires counted { AreTradesSoFar orders.now 0 0 so_far.old }
     requires matched { MatchedBefore orders.now 0 (ready_place orders.now 0) so_far.old }
-    ensures counted { OnOk result (IsCounted orders.now (length orders.now) 0 so_far.new) }
+    ensures counted { OnOk result (AreTradesSoFar orders.now (length orders.now) 0 so_far.new) }
     ensures matched { OnOk result (MatchedBefore orders.now (length orders.now)
         (ready_place orders.now (length orders.now)) so_far.new) }
 {
@@ -57,17 +58,18 @@ fn match_records(
     Ok(())
 }
 
-/// The Expected trades of continuous trading over a regular order list, as deals with the places 1, 2 and so on: at
-/// its own record each order trades with the best orders that rest on the other side, as long as their limits meet,
-/// at their limits. One deal for each bid and ask that trade, in order of the bid's place, then of the ask's. They
-/// conform to the rule. In n log n steps for n orders. Err only out of memory.
+/// The Expected trades of continuous trading over a regular order list, as deals with the places 1,
+/// 2 and so on: at its own record each order trades with the best orders that rest on the other
+/// side, as long as their limits meet, at their limits. One deal for each bid and ask that trade,
+/// in order of the bid's place, then of the ask's. They conform to the rule. In n log n steps for n
+/// orders. Err only out of memory.
 pub fn continuous_matching(alloc: Global, orders: &OrderList<'_>) -> Result<Vec<Deal>, NoMemory>
     requires order_list { IsOrderList orders.now }
     requires regular { Regular orders.now }
     ensures expected { IfOk result (λ deals. IsExpectedContinuous orders.now deals.items) }
     ensures conforms { IfOk result (λ deals. ConformsContinuous orders.now deals.items) }
     ensures deal_list { IfOk result (λ deals. IsDealList orders.now deals.items) }
-    ensures ranges { IfOk result (λ deals. AreDeals deals.items) }
+    ensures ranges { IfOk result (λ deals. DealsInRange deals.items) }
 {
     let endings = sort_endings(alloc, orders)?;
     let mut so_far = no_trades(alloc, orders.len())?;

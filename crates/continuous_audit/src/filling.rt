@@ -1,13 +1,14 @@
 //! What the deals of one record take from a book.
 ghost use Rattle.std.specs.Prelude.{◌≡◌, ◌<◌, ◌≤◌, All, IfSome};
-ghost use Rattle.order_book.specs.Books.{first};
-ghost use Rattle.continuous_audit.specs.Holding.{after_fills, with_best_left, left_in, IsWithin};
+ghost use Rattle.order_book.specs.Books.{best_resting};
+ghost use Rattle.continuous_audit.specs.Holding.{after_fills, with_best_left, IsWithinBook};
+ghost use Rattle.continuous_audit.specs.Scans.{number_in};
 
 use order_book::books::Book;
 
-/// Leaves so much of the best order, which goes where nothing is left.
+/// Leaves this much of the best order, which is taken out where nothing is left.
 fn leave_of_best(book: &mut Book, left: u64, now: u64)
-    requires best { IfSome (first book.old.resting) (λ r. r.left ≡ left) }
+    requires best { IfSome (best_resting book.old.resting) (λ r. r.left ≡ left) }
     requires some { 0 < left }
     requires within { now ≤ left }
     ensures { book.new ≡ record book.old { resting = with_best_left now book.old.resting } }
@@ -17,11 +18,12 @@ fn leave_of_best(book: &mut Book, left: u64, now: u64)
     }
 }
 
-/// Takes from the book what its best orders have traded, up to the first of which something is left.
+/// Takes from the book what its best orders have traded, up to the first of which
+/// something is left.
 pub fn fill_best(book: &mut Book, left: &[u64])
-    requires within { All (IsWithin left.now) book.old.resting }
+    requires within { All (IsWithinBook left.now) book.old.resting }
     ensures { book.new ≡ record book.old {
-      resting = after_fills (left_in left.now)
+      resting = after_fills (number_in left.now)
           book.old.resting;
     } }
 {

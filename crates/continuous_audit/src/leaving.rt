@@ -1,6 +1,6 @@
 //! What is left of the orders after the deals of a record.
 ghost use Rattle.std.specs.Prelude.{◌≡◌, ◌<◌, ◌≤◌, ◌-◌, length, slice_set, vec_len};
-ghost use Rattle.continuous_audit.specs.Markets.{AreRefreshed};
+ghost use Rattle.continuous_audit.specs.Markets.{IsLeftRefreshedIn};
 ghost use Rattle.continuous_audit.specs.Scans.{HasDeals, number_in};
 
 use super::market::Market;
@@ -34,7 +34,8 @@ fn set_left(left: &mut Vec<u64>, bid: usize, ask: usize, bid_left: u64, ask_left
     left[ask] = ask_left;
 }
 
-/// Sets what is left of the orders of the deals from the causes at `start` on, as far as these are added.
+/// Sets what is left of the orders of the deals from the causes at `start` on, as far
+/// as these are added.
 pub fn refresh_left(
     market: &Market<'_>,
     start: usize,
@@ -47,7 +48,7 @@ pub fn refresh_left(
     requires deals { HasDeals market.now.deals.now market.now.causes.now (vec_len left.old) }
     requires sizes_count { length sizes.now ≡ vec_len left.old }
     requires traded_count { vec_len running.now.traded ≡ vec_len left.old }
-    ensures refreshed { AreRefreshed market.now start running.now sizes.now left.old.items
+    ensures refreshed { IsLeftRefreshedIn market.now start running.now sizes.now left.old.items
         left.new.items }
 {
     let (deals, causes) = (market.deals, market.causes);

@@ -1,19 +1,19 @@
-//! One record of an order: what it trades under the rule, and what stands after it.
+//! One record of an order: what it trades under the rule, and what is known after it.
 ghost use Rattle.std.specs.Prelude.{◌≡◌, ◌<◌, ◌≤◌, ◌+◌, ◌-◌, ◌*◌, ◌^◌, ◌∷◌, [], ℕ, suc, min, All, IfOk, OnOk, length, slice_set, vec_len};
 ghost use Rattle.audit_base.specs.Orders.{IsOrderList, limit_at, other_side, place_at, side_at};
 ghost use Rattle.audit_base.specs.Histories.{Regular};
-ghost use Rattle.continuous_audit.specs.Books.{list_of, ready_place, with_list};
-ghost use Rattle.continuous_audit.specs.Endings.{AreDropped, AreEndings};
-ghost use Rattle.continuous_audit.specs.Fills.{fills_of, rest_of, total_filled};
-ghost use Rattle.continuous_audit.specs.Matching.{AreApplied, IsCounted, MatchedAfter, MatchedBefore};
+ghost use Rattle.continuous_audit.specs.Books.{book_list, ready_place, books_with_list};
+ghost use Rattle.continuous_audit.specs.Endings.{AreEndingsDropped, AreEndings};
+ghost use Rattle.continuous_audit.specs.Fills.{fills_of, resting_after_fills, total_filled};
+ghost use Rattle.continuous_audit.specs.Matching.{AreFillsApplied, AreTradesSoFar, MatchedAfter, MatchedBefore};
 ghost use Rattle.continuous_audit.specs.Scans.{number_in};
 
-use super::books::{Books, Standing};
+use super::books::{Books, BooksSoFar};
 use super::endings::Ending;
 use super::fills::{Fill, take_fills};
 use super::leaving::set_amount;
 use super::opening::open_order;
-use super::pairs::{Pair, push_pairs};
+use super::pairs::{FillPair, push_pairs};
 use super::sheet::Sheet;
 use super::spreading::enter_own;
 use audit_base::faults::NoMemory;
@@ -22,16 +22,16 @@ use matching_core::totals::left_of;
 use order_list::listed::ListedOrder;
 use order_list::lists::OrderList;
 
-/// What the Expected trades so far come to: what is known of the orders, by their indices, the books, and the pairs
-/// that have traded.
+/// What the Expected trades leave so far: what is known of the orders, by their indices, the books,
+/// and the pairs that have traded.
 #[derive(Drop)]
 pub struct TradesSoFar {
     pub traded: Vec<u128>,
     pub sheet: Sheet,
-    pub standing: Standing,
+    pub standing: BooksSoFar,
     /// What the last order trades.
     pub fills: Vec<Fill>,
-    pub pairs: Vec<Pair>,
+    pub pairs: Vec<FillPair>,
 }
 
 /// Sets what an order has traded.
@@ -47,7 +47,7 @@ fn apply_fill(fill: &Fill, traded: &mut Vec<u128>, left: &mut Vec<u64>)
     requires traded_inside { fill.now.index < vec_len traded.old }
     requires left_inside { fill.now.index < vec_len left.old }
     requires fits { number_in traded.old.items fill.now.index + fill.now.quantity < 2 ^ 128 }
-    ensures { AreApplied (fill.now ∷ []) traded.old.items left.old.items traded.new.items
+    ensures { AreFillsApplied (fill.now ∷ []) traded.old.items left.old.items traded.new.items
         left.new.items }
 {
     let quantity = fill.quantity as u128;
@@ -60,7 +60,7 @@ fn apply_fills(fills: &[Fill], traded: &mut Vec<u128>, left: &mut Vec<u64>)
     requires traded_inside { All (λ f. f.index < vec_len traded.old) fills.now }
     requires left_inside { All (λ f. f.index < vec_len left.old) fills.now }
     requires fits { (x : ℕ) → number_in traded.old.items x + total_filled fills.now < 2 ^ 128 }
-    ensures { AreApplied fills.now traded.old.items left.old.items traded.new.items
+    ensures { AreFillsApplied fills.now traded.old.items left.old.items traded.new.items
         left.new.items }
 {
     for (index, fill) in fills.iter().enumerate() {
@@ -68,8 +68,8 @@ fn apply_fills(fills: &[Fill], traded: &mut Vec<u128>, left: &mut Vec<u64>)
     }
 }
 
-/// Trades an order with the best orders of the other side's book. `fills` is overwritten with what it trades; gives
-/// what is left of its size.
+/// Trades an order with the best orders of the other side's book. `fills` is overwritten with what
+/// it trades; gives what is left of its size.
 fn fill_order(
     own: &ListedOrder<'_>,
     size: u64,
@@ -77,9 +77,10 @@ fn fill_order(
     fills: &mut Vec<Fill>,
 ) -> Result<u64, NoMemory>
     ensures fills { OnOk result (fills.new.items
-        ≡ fills_of own.now.side own.now.limit size (list_of (other_side own.now.side) books.old)) }
-    ensures books { OnOk result (books.new ≡ with_list (other_side own.now.side)
-        (rest_of own.now.side own.now.limit size (list_of (other_side own.now.side) books.old))
+        ≡ fills_of own.now.side own.now.limit size (book_list (other_side own.now.side) books.old)) }
+    ensures books { OnOk result (books.new ≡ books_with_list (other_side own.now.side)
+        (resting_after_fills own.now.side own.now.limit size
+        (book_list (other_side own.now.side) books.old))
         books.old) }
     ensures left { IfOk result (λ left. left + total_filled fills.new.items ≡ size) }
 {
@@ -98,10 +99,10 @@ fn trade_order(
     requires list { IsOrderList orders.now }
     requires regular { Regular orders.now }
     requires order { order < length orders.now }
-    requires counted { IsCounted orders.now order 0 so_far.old }
+    requires counted { AreTradesSoFar orders.now order 0 so_far.old }
     requires matched { MatchedBefore orders.now order (place_at orders.now order) so_far.old }
     ensures started { OnOk result (so_far.new.standing.start ≡ so_far.old.standing.start) }
-    ensures counted { OnOk result (IsCounted orders.now (suc order)
+    ensures counted { OnOk result (AreTradesSoFar orders.now (suc order)
         (min 1 (number_in so_far.new.sheet.left.items order)) so_far.new) }
     ensures matched { OnOk result (MatchedAfter orders.now order so_far.new) }
 {
@@ -131,13 +132,13 @@ pub fn match_record(
     requires regular { Regular orders.now }
     requires order { order < length orders.now }
     requires endings { AreEndings orders.now endings.now }
-    requires dropped { AreDropped endings.now so_far.old.standing.start
+    requires dropped { AreEndingsDropped endings.now so_far.old.standing.start
         (place_at orders.now order) }
-    requires counted { IsCounted orders.now order 0 so_far.old }
+    requires counted { AreTradesSoFar orders.now order 0 so_far.old }
     requires matched { MatchedBefore orders.now order (place_at orders.now order) so_far.old }
-    ensures dropped { OnOk result (AreDropped endings.now so_far.new.standing.start
+    ensures dropped { OnOk result (AreEndingsDropped endings.now so_far.new.standing.start
         (ready_place orders.now (suc order))) }
-    ensures counted { OnOk result (IsCounted orders.now (suc order) 0 so_far.new) }
+    ensures counted { OnOk result (AreTradesSoFar orders.now (suc order) 0 so_far.new) }
     ensures matched { OnOk result
         (MatchedBefore orders.now (suc order) (ready_place orders.now (suc order)) so_far.new) }
 {

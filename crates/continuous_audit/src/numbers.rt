@@ -1,8 +1,8 @@
-//! What the deals of the records so far come to.
+//! What the orders have traded and have left after the deals of the records so far.
 ghost use Rattle.std.specs.Prelude.{◌≡◌, ◌<◌, ◌-◌, None, IfOk, length, slice_set, vec_len};
-ghost use Rattle.continuous_audit.specs.Flaws.{HasShown, IsFindingOf, shown_in, traded_order};
+ghost use Rattle.continuous_audit.specs.Flaws.{HasShownNumber, IsFindingOfFlaw, shown_number, order_with_shown};
 ghost use Rattle.continuous_audit.specs.Markets.{ConformsBefore, IsMarket};
-ghost use Rattle.continuous_audit.specs.Progress.{AreAtStart, AreNumbersFor, HasDealt};
+ghost use Rattle.continuous_audit.specs.Progress.{AreNumbersAtStart, AreNumbersFor, HasDealt};
 ghost use Rattle.continuous_audit.specs.Records.{conservation_at};
 ghost use Rattle.continuous_audit.specs.Scans.{number_in};
 
@@ -25,9 +25,9 @@ pub struct Numbers {
 }
 
 impl Numbers {
-    /// The numbers before the first of so many orders.
+    /// The numbers before the first of this many orders.
     pub fn new(alloc: Global, count: usize) -> Result<Numbers, NoMemory>
-        ensures { IfOk result (AreAtStart count) }
+        ensures { IfOk result (AreNumbersAtStart count) }
     {
         let sheet = Sheet::new(alloc, count)?;
         let traded = zeros(alloc, count)?;
@@ -41,8 +41,8 @@ impl Numbers {
 
     /// An order as a flaw shows it: with what it has traded, and its Before added.
     pub fn shown(&self, order: usize) -> TradedOrder
-        requires { HasShown self.now order }
-        ensures { result ≡ traded_order (shown_in self.now) order }
+        requires { HasShownNumber self.now order }
+        ensures { result ≡ order_with_shown (shown_number self.now) order }
     {
         TradedOrder {
             index: order,
@@ -50,13 +50,14 @@ impl Numbers {
         }
     }
 
-    /// Adds what the deals of the order at `order` trade and leave, up to the first that breaks a rule.
+    /// Adds what the deals of the order at `order` trade and leave, up to the
+    /// first that has a flaw.
     pub fn deal_order(&mut self, market: &Market<'_>, order: usize) -> Option<Flaw>
         requires market { IsMarket market.now }
         requires order { order < length market.now.orders.now }
         requires conforms { ConformsBefore market.now order }
         requires known { AreNumbersFor market.now order self.old }
-        ensures found { IsFindingOf market.now.orders.now result
+        ensures found { IsFindingOfFlaw market.now.orders.now result
             (conservation_at market.now.orders.now market.now.deals.now order) }
         ensures dealt { result ≡ None → HasDealt market.now order self.new }
     {

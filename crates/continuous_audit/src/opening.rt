@@ -2,10 +2,10 @@
 ghost use Rattle.std.specs.Prelude.{◌≡◌, ◌<◌, ◌≤◌, ◌^◌, ℕ, List, None, Some, true, length};
 ghost use Rattle.audit_base.specs.Orders.{IsOrderList};
 ghost use Rattle.audit_base.specs.declared.orders.Deal.{Deal as ADeal};
-ghost use Rattle.continuous_audit.specs.Chains.{IsOpening, IsOpenSheet};
+ghost use Rattle.continuous_audit.specs.Chains.{IsKnownBeforeOpening, IsOpenSheet};
 ghost use Rattle.continuous_audit.specs.DealFindings.{enters, size_left, waits_in};
-ghost use Rattle.continuous_audit.specs.Sheets.{FitsOrder, IsOpened};
-ghost use Rattle.continuous_audit.specs.Scans.{AreSmall};
+ghost use Rattle.continuous_audit.specs.Sheets.{FitsOrder, IsOpeningOfOrder};
+ghost use Rattle.continuous_audit.specs.Scans.{AreTotalsSmall};
 
 use super::chains::{chain_before, is_closed};
 use super::checking::waits;
@@ -14,7 +14,7 @@ use audit_base::numbers::Quantity;
 use order_list::listed::ListedOrder;
 use order_list::lists::OrderList;
 
-/// Whether an order is placed, where its target rests if it has one.
+/// Whether an order enters: it is placed, and its target rests if it has one.
 fn enters(order: &ListedOrder<'_>, target_rests: bool) -> bool
     ensures { result ≡ enters order.now target_rests }
 {
@@ -38,7 +38,7 @@ fn target_rests(orders: &OrderList<'_>, sheet: &Sheet, order: &ListedOrder<'_>) 
     }
 }
 
-/// What is left of a quantity of which so much is taken, and 0 where the order didn't enter.
+/// What is left of a quantity of which this much is taken, and 0 where the order didn't enter.
 fn size_left(entered: bool, quantity: Quantity, before: u128) -> u64
     ensures same { result ≡ size_left entered quantity before }
     ensures most { result ≤ 10 ^ 12 }
@@ -51,8 +51,8 @@ fn size_left(entered: bool, quantity: Quantity, before: u128) -> u64
     }
 }
 
-/// What an order brings at its own record: whether it enters, its Before, whether the records of its chain end one
-/// another, and its Size.
+/// What an order brings at its own record: whether it enters, its Before, whether the records of
+/// its chain end one another, and its Size.
 #[derive(Clone, Copy, Debug, Drop)]
 pub struct Opening {
     pub entered: bool,
@@ -65,11 +65,11 @@ pub struct Opening {
 pub fn open_order(orders: &OrderList<'_>, traded: &[u128], sheet: &Sheet, order: usize) -> Opening
     requires list { IsOrderList orders.now }
     requires order { order < length orders.now }
-    requires traded { AreSmall orders.now traded.now }
+    requires traded { AreTotalsSmall orders.now traded.now }
     requires sheet { IsOpenSheet orders.now order sheet.now }
     ensures opened { (deals : List ADeal)
-        → IsOpening orders.now deals order traded.now sheet.now
-        → IsOpened orders.now deals order result }
+        → IsKnownBeforeOpening orders.now deals order traded.now sheet.now
+        → IsOpeningOfOrder orders.now deals order result }
     ensures fits { FitsOrder orders.now order result }
 {
     let before = chain_before(orders, traded, sheet, order);

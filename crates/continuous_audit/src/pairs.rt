@@ -1,9 +1,9 @@
 //! The pairs of a bid and an ask that trade, in their order, and their deals.
 ghost use Rattle.std.specs.Prelude.{◌≡◌, ◌<◌, ◌≤◌, ◌++◌, ◌^◌, IfOk, OnOk, All, IsPermutation, IsSorted, length, map};
 ghost use Rattle.audit_base.specs.Orders.{order_at};
-ghost use Rattle.audit_base.specs.Deals.{AreDeals};
+ghost use Rattle.audit_base.specs.Deals.{DealsInRange};
 ghost use Rattle.audit_base.specs.Expected.{resting_limit};
-ghost use Rattle.continuous_audit.specs.Pairs.{AreNumbered, IsDealt, pair_cmp, pair_of};
+ghost use Rattle.continuous_audit.specs.Pairs.{AreFillPairDeals, IsFillPairDealt, fill_pair_cmp, fill_pair};
 
 use super::fills::Fill;
 use audit_base::faults::NoMemory;
@@ -16,7 +16,7 @@ use std::alloc::Global;
 
 /// A bid and an ask, by their indices, and what they trade with each other.
 #[derive(Clone, Copy, Debug, PartialEq, Eq, PartialOrd, Ord)]
-pub struct Pair {
+pub struct FillPair {
     pub bid: usize,
     pub ask: usize,
     /// From 1 to 1,000,000,000,000.
@@ -24,14 +24,14 @@ pub struct Pair {
 }
 
 /// The pair of an incoming order of a side and one that it trades with.
-fn pair_of(side: Side, order: usize, fill: &Fill) -> Pair
-    ensures { result ≡ pair_of side order fill.now }
+fn fill_pair(side: Side, order: usize, fill: &Fill) -> FillPair
+    ensures { result ≡ fill_pair side order fill.now }
 {
     let (bid, ask) = match side {
         Side::Buy => (order, fill.index),
         Side::Sell => (fill.index, order),
     };
-    Pair {
+    FillPair {
         bid,
         ask,
         quantity: fill.quantity,
@@ -43,21 +43,21 @@ pub fn push_pairs(
     side: Side,
     order: usize,
     fills: &[Fill],
-    pairs: &mut Vec<Pair>,
+    pairs: &mut Vec<FillPair>,
 ) -> Result<(), NoMemory>
     ensures { OnOk result
-        (pairs.new.items ≡ pairs.old.items ++ map (pair_of side order) fills.now) }
+        (pairs.new.items ≡ pairs.old.items ++ map (fill_pair side order) fills.now) }
 {
     for (index, fill) in fills.iter().enumerate() {
-        pairs.push(pair_of(side, order, fill))?;
+        pairs.push(fill_pair(side, order, fill))?;
     }
     Ok(())
 }
 
 /// Puts pairs in order of the bid's index, then of the ask's.
-pub fn sort_pairs(pairs: &mut Vec<Pair>) -> Result<(), NoMemory>
+pub fn sort_pairs(pairs: &mut Vec<FillPair>) -> Result<(), NoMemory>
     ensures moved { OnOk result (IsPermutation pairs.old.items pairs.new.items) }
-    ensures sorted { OnOk result (IsSorted pair_cmp pairs.new.items) }
+    ensures sorted { OnOk result (IsSorted fill_pair_cmp pairs.new.items) }
 {
     pairs.sort()?;
     Ok(())
@@ -78,7 +78,7 @@ fn resting_limit(orders: &OrderList<'_>, bid: usize, ask: usize) -> Price
 }
 
 /// The quantity of a pair.
-fn quantity_of(pair: &Pair) -> Quantity
+fn quantity_of(pair: &FillPair) -> Quantity
     requires some { 0 < pair.now.quantity }
     requires most { pair.now.quantity ≤ 10 ^ 12 }
     ensures { result ≡ pair.now.quantity }
@@ -93,12 +93,12 @@ fn quantity_of(pair: &Pair) -> Quantity
 pub fn number_pairs(
     alloc: Global,
     orders: &OrderList<'_>,
-    pairs: &[Pair],
+    pairs: &[FillPair],
 ) -> Result<Vec<Deal>, NoMemory>
     requires few { length pairs.now < 2 ^ 32 }
-    requires dealt { All (IsDealt (length orders.now)) pairs.now }
-    ensures numbered { IfOk result (λ deals. AreNumbered orders.now pairs.now deals.items) }
-    ensures ranges { IfOk result (λ deals. AreDeals deals.items) }
+    requires dealt { All (IsFillPairDealt (length orders.now)) pairs.now }
+    ensures numbered { IfOk result (λ deals. AreFillPairDeals orders.now pairs.now deals.items) }
+    ensures ranges { IfOk result (λ deals. DealsInRange deals.items) }
 {
     let mut deals = Vec::with_capacity(alloc, pairs.len())?;
     for (i, pair) in pairs.iter().enumerate() {

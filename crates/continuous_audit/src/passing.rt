@@ -1,12 +1,13 @@
-//! What the deals of a record take from the book of the other side, and whether one passes over a better order.
+//! What the deals of a record take from the book of the other side, and whether one passes
+//! over a better order.
 ghost use Rattle.std.specs.Prelude.{◌≡◌, ◌<◌, List, None, Some, length};
 ghost use Rattle.audit_base.specs.Orders.{order_at, place_at, side_at};
 ghost use Rattle.audit_base.specs.Priority.{better};
 ghost use Rattle.order_book.specs.declared.books.Resting.{Resting as RestingOrder};
-ghost use Rattle.order_book.specs.Books.{first};
-ghost use Rattle.continuous_audit.specs.Books.{HoldAfterDeals, HoldAt};
-ghost use Rattle.continuous_audit.specs.Flaws.{HasShown, IsFindingOf, priority_flaw, shown_in};
-ghost use Rattle.continuous_audit.specs.Markets.{IsFilledAgainst, IsMarket, IsOpposite, caused_at, resting_at};
+ghost use Rattle.order_book.specs.Books.{best_resting};
+ghost use Rattle.continuous_audit.specs.Books.{AreBooksAfterDeals, AreBooksBefore};
+ghost use Rattle.continuous_audit.specs.Flaws.{HasShownNumber, IsFindingOfFlaw, priority_flaw, shown_number};
+ghost use Rattle.continuous_audit.specs.Markets.{IsFilledAgainst, IsMarket, IsOpposite, caused_deal_at, resting_order_at};
 ghost use Rattle.continuous_audit.specs.Progress.{HasDealt};
 ghost use Rattle.continuous_audit.specs.Records.{priority_at};
 
@@ -24,9 +25,9 @@ fn outranks(market: &Market<'_>, over: usize, at: usize) -> bool
     requires over { over < length market.now.orders.now }
     requires at { at < length market.now.causes.now }
     requires side { side_at market.now.orders.now over
-        ≡ side_at market.now.orders.now (resting_at market.now at) }
+        ≡ side_at market.now.orders.now (resting_order_at market.now at) }
     ensures { result ≡ better (order_at market.now.orders.now over)
-        (order_at market.now.orders.now (resting_at market.now at)) }
+        (order_at market.now.orders.now (resting_order_at market.now at)) }
 {
     let (orders, deals, causes) = (market.orders, market.deals, market.causes);
     let deal = &deals[causes[at].deal as usize];
@@ -38,10 +39,10 @@ fn outranks(market: &Market<'_>, over: usize, at: usize) -> bool
 fn priority_flaw(market: &Market<'_>, numbers: &Numbers, over: usize, at: usize) -> Flaw
     requires market { IsMarket market.now }
     requires at { at < length market.now.causes.now }
-    requires over { HasShown numbers.now over }
-    requires resting { HasShown numbers.now (resting_at market.now at) }
-    ensures { result ≡ priority_flaw market.now.orders.now (shown_in numbers.now)
-        (caused_at market.now at) over }
+    requires over { HasShownNumber numbers.now over }
+    requires resting { HasShownNumber numbers.now (resting_order_at market.now at) }
+    ensures { result ≡ priority_flaw market.now.orders.now (shown_number numbers.now)
+        (caused_deal_at market.now at) over }
 {
     let (orders, deals, causes) = (market.orders, market.deals, market.causes);
     let deal = &deals[causes[at].deal as usize];
@@ -68,8 +69,8 @@ fn check_priority(
     requires order { order < length market.now.orders.now }
     requires dealt { HasDealt market.now order numbers.now }
     requires best { IsOpposite market.now order best }
-    ensures { (ys : List RestingOrder) → first ys ≡ Some best
-        → IsFilledAgainst market.now order ys → IsFindingOf market.now.orders.now result
+    ensures { (ys : List RestingOrder) → best_resting ys ≡ Some best
+        → IsFilledAgainst market.now order ys → IsFindingOfFlaw market.now.orders.now result
         (priority_at market.now.orders.now market.now.deals.now order) }
 {
     let over = best.index;
@@ -81,8 +82,8 @@ fn check_priority(
     None
 }
 
-/// Takes what the deals of the order at `order` took from the book of the other side, and gives the first of them
-/// that passes over a better order.
+/// Takes what the deals of the order at `order` took from the book of the other side, and gives the
+/// first of them that passes over a better order.
 pub fn pass_deals(
     market: &Market<'_>,
     order: usize,
@@ -92,12 +93,12 @@ pub fn pass_deals(
     requires market { IsMarket market.now }
     requires order { order < length market.now.orders.now }
     requires dealt { HasDealt market.now order numbers.now }
-    requires books { HoldAt market.now.orders.now market.now.deals.now
+    requires books { AreBooksBefore market.now.orders.now market.now.deals.now
         (place_at market.now.orders.now order) books.old }
-    ensures found { IsFindingOf market.now.orders.now result
+    ensures found { IsFindingOfFlaw market.now.orders.now result
         (priority_at market.now.orders.now market.now.deals.now order) }
     ensures holds { result ≡ None
-        → HoldAfterDeals market.now.orders.now market.now.deals.now order books.new }
+        → AreBooksAfterDeals market.now.orders.now market.now.deals.now order books.new }
 {
     let side = market.orders.at(order).side().other();
     books.fill(side, &numbers.sheet.left);

@@ -1,10 +1,10 @@
 //! The deals of one record, one after another.
 ghost use Rattle.std.specs.Prelude.{◌≡◌, ◌≤◌, ◌<◌, suc, None, length};
-ghost use Rattle.continuous_audit.specs.Flaws.{IsFindingOf};
+ghost use Rattle.continuous_audit.specs.Flaws.{IsFindingOfFlaw};
 ghost use Rattle.continuous_audit.specs.Markets.{HaveTraded, IsMarket};
-ghost use Rattle.continuous_audit.specs.Records.{IsKnown, conservation_at};
+ghost use Rattle.continuous_audit.specs.Records.{IsKnownBeforeDeals, conservation_at};
 
-use super::checking::{Accounts, Coming, deal_evidence};
+use super::checking::{Accounts, Arrival, deal_evidence};
 use super::market::Market;
 use super::sheet::Sheet;
 use audit_base::flaws::Flaw;
@@ -18,7 +18,7 @@ pub struct RunningTotals {
     pub at: usize,
 }
 
-/// Adds what the deals of the order at `order` trade, up to the first that breaks a rule.
+/// Adds what the deals of the order at `order` trade, up to the first that has a flaw.
 pub fn check_deals(
     market: &Market<'_>,
     sheet: &Sheet,
@@ -28,15 +28,16 @@ pub fn check_deals(
 ) -> Option<Flaw>
     requires market { IsMarket market.now }
     requires order { order < length market.now.orders.now }
-    requires known { IsKnown market.now.orders.now market.now.deals.now order entered sheet.now }
+    requires known { IsKnownBeforeDeals market.now.orders.now market.now.deals.now
+        order entered sheet.now }
     requires traded { HaveTraded market.now order running.old }
     ensures traded { result ≡ None → HaveTraded market.now (suc order) running.new }
     ensures from { result ≡ None → running.old.at ≤ running.new.at }
-    ensures found { IsFindingOf market.now.orders.now result
+    ensures found { IsFindingOfFlaw market.now.orders.now result
         (conservation_at market.now.orders.now market.now.deals.now order) }
 {
     let (orders, deals, causes) = (market.orders, market.deals, market.causes);
-    let coming = Coming {
+    let coming = Arrival {
         place: orders.at(order).place(),
         entered,
     };

@@ -3,7 +3,7 @@ ghost use Rattle.std.specs.Prelude.{◌≡◌, ◌<◌, ◌+◌, ◌^◌, IfOk, 
 ghost use Rattle.continuous_audit.specs.Chains.{flag_in};
 ghost use Rattle.continuous_audit.specs.DealFindings.{account_of};
 ghost use Rattle.continuous_audit.specs.Scans.{number_in};
-ghost use Rattle.continuous_audit.specs.Sheets.{IsBlank, IsNoted};
+ghost use Rattle.continuous_audit.specs.Sheets.{IsBlankSheet, IsOpeningNoted};
 
 use super::checking::Account;
 use super::opening::Opening;
@@ -23,9 +23,9 @@ pub struct Sheet {
 }
 
 impl Sheet {
-    /// The sheet of so many orders, of which none has come.
+    /// The sheet of this many orders, of which none has come.
     pub fn new(alloc: Global, count: usize) -> Result<Sheet, NoMemory>
-        ensures { IfOk result (IsBlank count) }
+        ensures { IfOk result (IsBlankSheet count) }
     {
         Ok(Sheet {
             before: zeros(alloc, count)?,
@@ -40,14 +40,14 @@ impl Sheet {
         requires before { order < vec_len self.old.before }
         requires closed { order < vec_len self.old.closed }
         requires sizes { order < vec_len self.old.sizes }
-        ensures { IsNoted order opening.now self.old self.new }
+        ensures { IsOpeningNoted order opening.now self.old self.new }
     {
         self.before[order] = opening.before;
         self.closed[order] = opening.closed;
         self.sizes[order] = opening.size;
     }
 
-    /// What is known of an order that has traded so much.
+    /// What is known of an order that has traded this much.
     pub fn account(&self, order: usize, traded: u128) -> Account
         requires before { order < vec_len self.now.before }
         requires size { order < vec_len self.now.sizes }

@@ -6,10 +6,10 @@ ghost use Rattle.audit_base.specs.Continuous.{traded_before};
 ghost use Rattle.audit_base.specs.Expected.{limits_meet};
 ghost use Rattle.audit_base.specs.ContinuousOffences.{spread_finding};
 ghost use Rattle.audit_base.specs.Flaws.{finding_of};
-ghost use Rattle.continuous_audit.specs.Books.{HoldAfter, HoldBelow, resting_count};
-ghost use Rattle.continuous_audit.specs.Flaws.{HasShown, shown_in, spread_after, spread_by, spread_flaw};
-ghost use Rattle.continuous_audit.specs.Holding.{IsApart};
-ghost use Rattle.continuous_audit.specs.Spreads.{IsAfterOwn, is_active_with, stays_with};
+ghost use Rattle.continuous_audit.specs.Books.{AreBooksAfter, AreBooksBelow, resting_count};
+ghost use Rattle.continuous_audit.specs.Flaws.{HasShownNumber, shown_number, spread_flaw_after, spread_evidence, spread_flaw};
+ghost use Rattle.continuous_audit.specs.Holding.{AreApartBefore};
+ghost use Rattle.continuous_audit.specs.Spreads.{IsAfterOwn, is_active_after_with, rests_after_with};
 
 use super::books::Books;
 use super::numbers::Numbers;
@@ -20,9 +20,9 @@ use audit_base::terms::Side;
 use order_list::listed::ListedOrder;
 use order_list::lists::OrderList;
 
-/// Whether an order is active after its own record, where so much is left of it.
+/// Whether an order is active after its own record, where this much is left of it.
 fn is_active(order: &ListedOrder<'_>, left: u64) -> bool
-    ensures { result ≡ is_active_with order.now left }
+    ensures { result ≡ is_active_after_with order.now left }
 {
     let uncancelled = match order.cancelled() {
         Some(end) => order.place() < end,
@@ -33,7 +33,7 @@ fn is_active(order: &ListedOrder<'_>, left: u64) -> bool
 
 /// Whether an order rests after its own record.
 fn stays(order: &ListedOrder<'_>, left: u64) -> bool
-    ensures { result ≡ stays_with order.now left }
+    ensures { result ≡ rests_after_with order.now left }
 {
     order.life().rests() && is_active(order, left)
 }
@@ -48,23 +48,25 @@ pub fn limits_meet(side: Side, limit: Price, other: Price) -> bool
     }
 }
 
-/// Whether an order is active after its own record, where so much is left of it, and meets a limit of the other side.
+/// Whether an order is active after its own record, where this much is left of it, and meets a
+/// limit of the other side.
 fn meets(order: &ListedOrder<'_>, left: u64, other: Price) -> bool
-    ensures { result ≡ is_active_with order.now left && limits_meet order.now.side
+    ensures { result ≡ is_active_after_with order.now left && limits_meet order.now.side
         order.now.limit other }
 {
     is_active(order, left) && limits_meet(order.side(), order.limit(), other)
 }
 
-/// The best order of the other side, by its index, if the order of a record is active after it and meets that one.
+/// The best order of the other side, by its index, if the order of a record is active after it
+/// and meets that one.
 pub fn spread_of(orders: &OrderList<'_>, order: usize, left: u64, books: &Books) -> Option<usize>
     requires list { IsOrderList orders.now }
     requires order { order < length orders.now }
-    requires earlier { HoldBelow order books.now }
+    requires earlier { AreBooksBelow order books.now }
     ensures finding { (deals : List ADeal) → IsAfterOwn orders.now deals order left books.now
-        → IsApart orders.now (traded_before orders.now deals) (place_at orders.now order)
+        → AreApartBefore orders.now (traded_before orders.now deals) (place_at orders.now order)
         → spread_finding orders.now deals (place_at orders.now order)
-        ≡ option_map (λ other. finding_of orders.now (spread_after orders.now deals order other))
+        ≡ option_map (λ other. finding_of orders.now (spread_flaw_after orders.now deals order other))
         result }
     ensures upto { (other : ℕ) → result ≡ Some other → other ≤ order }
 {
@@ -81,8 +83,8 @@ pub fn spread_of(orders: &OrderList<'_>, order: usize, left: u64, books: &Books)
 }
 
 /// What shows that an order of a side and another one meet.
-fn spread_by(side: Side, own: TradedOrder, other: TradedOrder) -> Evidence
-    ensures { result ≡ spread_by side own other }
+fn spread_evidence(side: Side, own: TradedOrder, other: TradedOrder) -> Evidence
+    ensures { result ≡ spread_evidence side own other }
 {
     match side {
         Side::Buy => Evidence::Spread(own, other),
@@ -93,14 +95,14 @@ fn spread_by(side: Side, own: TradedOrder, other: TradedOrder) -> Evidence
 /// The flaw of the record of the order at `order`, which meets the one at `other`.
 pub fn spread_flaw(orders: &OrderList<'_>, numbers: &Numbers, order: usize, other: usize) -> Flaw
     requires order { order < length orders.now }
-    requires own { HasShown numbers.now order }
-    requires other { HasShown numbers.now other }
-    ensures { result ≡ spread_flaw orders.now (shown_in numbers.now) order other }
+    requires own { HasShownNumber numbers.now order }
+    requires other { HasShownNumber numbers.now other }
+    ensures { result ≡ spread_flaw orders.now (shown_number numbers.now) order other }
 {
     let own = orders.at(order);
     Flaw {
         place: own.place(),
-        evidence: spread_by(own.side(), numbers.shown(order), numbers.shown(other)),
+        evidence: spread_evidence(own.side(), numbers.shown(order), numbers.shown(other)),
     }
 }
 
@@ -113,10 +115,10 @@ pub fn enter_own(
 ) -> Result<(), NoMemory>
     requires list { IsOrderList orders.now }
     requires order { order < length orders.now }
-    requires earlier { HoldBelow order books.old }
+    requires earlier { AreBooksBelow order books.old }
     ensures entered { OnOk result ((deals : List ADeal)
         → IsAfterOwn orders.now deals order left books.old
-        → HoldAfter orders.now deals order books.new) }
+        → AreBooksAfter orders.now deals order books.new) }
     ensures more { OnOk result (resting_count books.new ≤ resting_count books.old + min 1 left) }
 {
     let own = orders.at(order);

@@ -5,7 +5,7 @@ ghost use Rattle.continuous_audit.specs.Flaws.{IsFlawAt};
 ghost use Rattle.continuous_audit.specs.Markets.{IsMarket};
 ghost use Rattle.continuous_audit.specs.Progress.{IsAfterDeals, IsFirstState, IsReadyFor, IsReadyNext};
 
-use super::books::Standing;
+use super::books::BooksSoFar;
 use super::market::Market;
 use super::numbers::Numbers;
 use super::passing::pass_deals;
@@ -19,22 +19,22 @@ use std::alloc::Global;
 #[derive(Drop)]
 pub struct State {
     pub numbers: Numbers,
-    pub standing: Standing,
+    pub standing: BooksSoFar,
 }
 
 impl State {
-    /// The state before the first of so many orders.
+    /// The state before the first of this many orders.
     pub fn new(alloc: Global, count: usize) -> Result<State, NoMemory>
         ensures { IfOk result (IsFirstState count) }
     {
         let numbers = Numbers::new(alloc, count)?;
         Ok(State {
             numbers,
-            standing: Standing::new(alloc),
+            standing: BooksSoFar::new(alloc),
         })
     }
 
-    /// What the deals of the order at `order` do to the numbers and the books, or how they break a rule first.
+    /// What the deals of the order at `order` do to the numbers and the books, or their first flaw.
     fn trade(&mut self, market: &Market<'_>, order: usize) -> Option<Flaw>
         requires market { IsMarket market.now }
         requires order { order < length market.now.orders.now }
@@ -48,8 +48,8 @@ impl State {
         pass_deals(market, order, &self.numbers, &mut self.standing.books)
     }
 
-    /// The record of the order at `order`: how it breaks a rule if it does, and else what is known before the next
-    /// order.
+    /// The record of the order at `order`: its first flaw, if it has one, and else what is known
+    /// before the next order.
     fn audit_record(&mut self, market: &Market<'_>, order: usize) -> Result<Option<Flaw>, NoMemory>
         requires market { IsMarket market.now }
         requires order { order < length market.now.orders.now }
@@ -72,7 +72,8 @@ impl State {
         Ok(None)
     }
 
-    /// Goes over the records of the orders, up to the first that breaks a rule: the one flaw that is made a finding.
+    /// Looks at the records of the orders, up to the first that has a flaw: the one flaw that
+    /// is made a finding.
     pub fn first_offence(&mut self, market: &Market<'_>) -> Result<Option<Finding>, NoMemory>
         requires market { IsMarket market.now }
         requires ready { IsReadyNext market.now 0 self.old }

@@ -7,105 +7,116 @@ use Rattle.audit_base.specs.declared.orders.Order.{Order}
 use Rattle.audit_base.specs.declared.orders.Deal.{Deal}
 use Rattle.audit_base.specs.Orders.{order_at, place_at, other_side}
 use Rattle.audit_base.specs.Priority.{outranks}
-use Rattle.audit_base.specs.Deals.{names}
-use Rattle.audit_base.specs.Continuous.{cause, traded_before, traded_at, uncancelled_before, size, rests, left}
+use Rattle.audit_base.specs.Deals.{names_order}
+use Rattle.audit_base.specs.Continuous.{cause, traded_before, traded_at, uncancelled_before, size_by_past, rests_before_by_past, left_before_by_past}
 use Rattle.audit_base.specs.ContinuousRules.{KeepsLimits}
-use Rattle.continuous_laws.specs.Fills.{share}
+use Rattle.continuous_laws.specs.Fills.{share_by_rank}
 
 -- after the record at a place
 pub record IsActive (orders : List Order) (past : ℕ → ℕ → ℕ) (i k : ℕ) : Type 0 where
   pub here : (place_at orders k ≡ i) ⊎ (((order_at orders k).life ≡ Rests)
       × (place_at orders k < i))
   pub stands_yet : uncancelled_before (order_at orders k).cancelled (suc i) ≡ true
-  pub has_left : past (suc i) k < size orders past k
+  pub has_left : past (suc i) k < size_by_past orders past k
 
-abbrev pub meets_by : Side → Side → ℕ → ℕ → Bool
-meets_by Buy Buy a b = false
-meets_by Buy Sell a b = nat_le b a
-meets_by Sell Buy a b = nat_le a b
-meets_by Sell Sell a b = false
+abbrev pub sides_and_limits_meet : Side → Side → ℕ → ℕ → Bool
+sides_and_limits_meet Buy Buy a b = false
+sides_and_limits_meet Buy Sell a b = nat_le b a
+sides_and_limits_meet Sell Buy a b = nat_le a b
+sides_and_limits_meet Sell Sell a b = false
 
-abbrev pub meets : Order → Order → Bool
-meets o r = meets_by o.side r.side o.limit r.limit
+abbrev pub orders_meet_by_sides : Order → Order → Bool
+orders_meet_by_sides o r = sides_and_limits_meet o.side r.side o.limit r.limit
 
-pub record IsPlaced (orders : List Order) : Type 0 where
+pub record IsInLogOrder (orders : List Order) : Type 0 where
   pub rising : (i j : ℕ) → i < j → j < length orders → place_at orders i < place_at orders j
   pub targets : (k t : ℕ) → k < length orders → (order_at orders k).target ≡ Some t → t < k
 
 -- a deal of a bid and an ask
-pub record IsSound (orders : List Order) (d : Deal) : Type 0 where
+pub record NamesBidAndAsk (orders : List Order) (d : Deal) : Type 0 where
   pub bid : d.bid < length orders
   pub ask : d.ask < length orders
   pub buys : (order_at orders d.bid).side ≡ Buy
   pub sells : (order_at orders d.ask).side ≡ Sell
 
-abbrev pub IsResting : List Order → Deal → ℕ → Type 0
-IsResting orders d k = (names k d ≡ true) × (place_at orders k < cause orders d)
+abbrev pub IsRestingOrderOf : List Order → Deal → ℕ → Type 0
+IsRestingOrderOf orders d k = (names_order k d ≡ true) × (place_at orders k < cause orders d)
 
-pub record HoldsAt (orders : List Order) (deals : List Deal) (i : ℕ) : Type 0 where
+pub record RuleHoldsAt (orders : List Order) (deals : List Deal) (i : ℕ) : Type 0 where
   pub limits : All (λ d. cause orders d ≡ i → KeepsLimits orders d) deals
-  pub resting : All (λ d. cause orders d ≡ i → (k : ℕ) → IsResting orders d k
-      → rests orders (traded_before orders deals) i k ≡ true) deals
+  pub resting : All (λ d. cause orders d ≡ i → (k : ℕ) → IsRestingOrderOf orders d k
+      → rests_before_by_past orders (traded_before orders deals) i k ≡ true) deals
   pub within : (k : ℕ) → k < length orders
-      → traded_before orders deals (suc i) k ≤ size orders (traded_before orders deals) k
-  pub priority : All (λ d. cause orders d ≡ i → (j k : ℕ) → IsResting orders d j
-      → k < length orders → rests orders (traded_before orders deals) i k ≡ true
+      → traded_before orders deals (suc i) k ≤ size_by_past orders (traded_before orders deals) k
+  pub priority : All (λ d. cause orders d ≡ i → (j k : ℕ) → IsRestingOrderOf orders d j
+      → k < length orders → rests_before_by_past orders (traded_before orders deals) i k ≡ true
       → (order_at orders k).side ≡ (order_at orders j).side
       → outranks (order_at orders j).side (order_at orders k) (order_at orders j) ≡ true
-      → size orders (traded_before orders deals) k ≤ traded_before orders deals (suc i) k) deals
+      → size_by_past orders (traded_before orders deals) k
+      ≤ traded_before orders deals (suc i) k) deals
   pub spread : (j k : ℕ) → j < length orders → k < length orders
       → IsActive orders (traded_before orders deals) i j
       → IsActive orders (traded_before orders deals) i k
-      → meets (order_at orders j) (order_at orders k) ≡ false
+      → orders_meet_by_sides (order_at orders j) (order_at orders k) ≡ false
 
-pub record HoldsAll (orders : List Order) (deals : List Deal) : Type 0 where
-  pub sound : All (IsSound orders) deals
-  pub each : (i : ℕ) → HoldsAt orders deals i
+pub record RuleHoldsEverywhere (orders : List Order) (deals : List Deal) : Type 0 where
+  pub sound : All (NamesBidAndAsk orders) deals
+  pub each : (i : ℕ) → RuleHoldsAt orders deals i
 
 -- what an incoming order can take of one that rests
-unfoldable pub available : List Order → (ℕ → ℕ → ℕ) → ℕ → ℕ → ℕ
-available orders past n k = if meets (order_at orders n) (order_at orders k)
-    && rests orders past (place_at orders n) k then left orders past (place_at orders n) k else 0
+unfoldable pub available_to_incoming : List Order → (ℕ → ℕ → ℕ) → ℕ → ℕ → ℕ
+available_to_incoming orders past n k =
+    if orders_meet_by_sides (order_at orders n) (order_at orders k)
+    && rests_before_by_past orders past (place_at orders n) k
+    then left_before_by_past orders past (place_at orders n) k else 0
 
-abbrev pub ranking : List Order → ℕ → ℕ → ℕ → Bool
-ranking orders n k j = outranks (other_side (order_at orders n).side) (order_at orders k)
+abbrev pub ranks_ahead_against : List Order → ℕ → ℕ → ℕ → Bool
+ranks_ahead_against orders n k j =
+    outranks (other_side (order_at orders n).side) (order_at orders k)
     (order_at orders j)
 
 -- what the resting orders trade with the order at n
-unfoldable pub number : List Order → List Deal → ℕ → ℕ → ℕ
-number orders deals n k = if k == n then 0 else traded_at orders deals (place_at orders n) k
+unfoldable pub traded_with_incoming : List Order → List Deal → ℕ → ℕ → ℕ
+traded_with_incoming orders deals n k =
+    if k == n then 0 else traded_at orders deals (place_at orders n) k
 
 -- each pair trades its share
-pub record Shares (orders : List Order) (deals : List Deal) : Type 0 where
-  pub sound : All (IsSound orders) deals
+pub record TradesAreShares (orders : List Order) (deals : List Deal) : Type 0 where
+  pub sound : All (NamesBidAndAsk orders) deals
   pub some : All (λ d. 0 < d.quantity) deals
   pub limits : All (KeepsLimits orders) deals
   pub shares : (n k : ℕ) → n < length orders → k < length orders
-      → number orders deals n k
-      ≡ share (length orders) (ranking orders n) (available orders (traded_before orders deals) n)
-      (size orders (traded_before orders deals) n) k
+      → traded_with_incoming orders deals n k
+      ≡ share_by_rank (length orders) (ranks_ahead_against orders n)
+      (available_to_incoming orders (traded_before orders deals) n)
+      (size_by_past orders (traded_before orders deals) n) k
 
 -- The expected trades, one incoming order after another.
-abbrev pub deal_by : Side → ℕ → ℕ → ℕ → ℕ → Deal
-deal_by Buy n k quantity price = record { place = 0; bid = n; ask = k; quantity = quantity; price = price }
-deal_by Sell n k quantity price = record { place = 0; bid = k; ask = n; quantity = quantity; price = price }
+abbrev pub deal_by_side : Side → ℕ → ℕ → ℕ → ℕ → Deal
+deal_by_side Buy n k quantity price =
+    record { place = 0; bid = n; ask = k; quantity = quantity; price = price }
+deal_by_side Sell n k quantity price =
+    record { place = 0; bid = k; ask = n; quantity = quantity; price = price }
 
-abbrev pub deal_of : List Order → ℕ → ℕ → ℕ → Deal
-deal_of orders n k quantity = deal_by (order_at orders n).side n k quantity
+abbrev pub deal_with_resting : List Order → ℕ → ℕ → ℕ → Deal
+deal_with_resting orders n k quantity = deal_by_side (order_at orders n).side n k quantity
     (order_at orders k).limit
 
-abbrev pub deals_with : List Order → ℕ → (ℕ → ℕ) → ℕ → List Deal
-deals_with orders n shares zero = []
-deals_with orders n shares (suc k) = deals_with orders n shares k ++ (if nat_lt 0 (shares k)
-    then deal_of orders n k (shares k) ∷ [] else [])
+abbrev pub deals_with_resting : List Order → ℕ → (ℕ → ℕ) → ℕ → List Deal
+deals_with_resting orders n shares zero = []
+deals_with_resting orders n shares (suc k) =
+    deals_with_resting orders n shares k ++ (if nat_lt 0 (shares k)
+    then deal_with_resting orders n k (shares k) ∷ [] else [])
 
-abbrev pub share_of : List Order → List Deal → ℕ → ℕ → ℕ
-share_of orders deals n k = share (length orders) (ranking orders n)
-    (available orders (traded_before orders deals) n) (size orders (traded_before orders deals) n) k
+abbrev pub share_with_incoming : List Order → List Deal → ℕ → ℕ → ℕ
+share_with_incoming orders deals n k = share_by_rank (length orders) (ranks_ahead_against orders n)
+    (available_to_incoming orders (traded_before orders deals) n)
+    (size_by_past orders (traded_before orders deals) n) k
 
-abbrev pub extended : List Order → List Deal → ℕ → List Deal
-extended orders deals n = deals ++ deals_with orders n (share_of orders deals n) (length orders)
+abbrev pub deals_with_next_order : List Order → List Deal → ℕ → List Deal
+deals_with_next_order orders deals n =
+    deals ++ deals_with_resting orders n (share_with_incoming orders deals n) (length orders)
 
-abbrev pub expected_below : List Order → ℕ → List Deal
-expected_below orders zero = []
-expected_below orders (suc n) = extended orders (expected_below orders n) n
+abbrev pub expected_deals_below : List Order → ℕ → List Deal
+expected_deals_below orders zero = []
+expected_deals_below orders (suc n) = deals_with_next_order orders (expected_deals_below orders n) n

@@ -10,8 +10,8 @@ pub record IsRanking (count : ℕ) (better : ℕ → ℕ → Bool) : Type 0 wher
   pub total : (i j : ℕ) → i < count → j < count → (i ≡ j → ⊥)
       → (better i j ≡ true) ⊎ (better j i ≡ true)
 
--- numbers within what is left, together at most the size; better ones are whole before worse ones get
--- any; and the size is used up, or all are whole
+-- numbers within what is left, together at most the size; better ones are whole before worse ones
+-- get any; and the size is used up, or all are whole
 pub record IsFill (count : ℕ) (better : ℕ → ℕ → Bool) (left : ℕ → ℕ) (size : ℕ)
     (number : ℕ → ℕ) : Type 0 where
   pub within : (i : ℕ) → i < count → number i ≤ left i
@@ -21,9 +21,10 @@ pub record IsFill (count : ℕ) (better : ℕ → ℕ → Bool) (left : ℕ → 
   pub whole : (sum_below number count ≡ size) ⊎ ((i : ℕ) → i < count → number i ≡ left i)
 
 -- what the better ones have left
-abbrev pub ahead : ℕ → (ℕ → ℕ → Bool) → (ℕ → ℕ) → ℕ → ℕ
-ahead count better left i = sum_below (λ j. if better j i then left j else 0) count
+abbrev pub left_of_better : ℕ → (ℕ → ℕ → Bool) → (ℕ → ℕ) → ℕ → ℕ
+left_of_better count better left i = sum_below (λ j. if better j i then left j else 0) count
 
--- the share of the one at i: the lesser of what is left of it, and what the better ones leave of the size
-abbrev pub share : ℕ → (ℕ → ℕ → Bool) → (ℕ → ℕ) → ℕ → ℕ → ℕ
-share count better left size i = min (left i) (size - ahead count better left i)
+-- the share of the one at i: the smaller of what is left of it,
+-- and what the better ones leave of the size
+abbrev pub share_by_rank : ℕ → (ℕ → ℕ → Bool) → (ℕ → ℕ) → ℕ → ℕ → ℕ
+share_by_rank count better left size i = min (left i) (size - left_of_better count better left i)

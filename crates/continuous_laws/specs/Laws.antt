@@ -4,22 +4,23 @@ use Rattle.audit_base.specs.declared.terms.Rule.TheVariants as rule
 use Rattle.audit_base.specs.declared.orders.Order.{Order}
 use Rattle.audit_base.specs.declared.orders.Deal.{Deal}
 use Rattle.audit_base.specs.Orders.{IsOrderList}
-use Rattle.audit_base.specs.Deals.{AreDeals, pair}
+use Rattle.audit_base.specs.Deals.{DealsInRange, pair}
 use Rattle.audit_base.specs.Histories.{Regular}
 use Rattle.audit_base.specs.ContinuousRules.{ConformsContinuous}
 use Rattle.audit_base.specs.Rules.{OnlyPair}
 use Rattle.audit_base.specs.Expected.{IsExpectedContinuous}
-use Rattle.continuous_laws.specs.Fills.{IsRanking, IsFill, share}
+use Rattle.continuous_laws.specs.Fills.{IsRanking, IsFill, share_by_rank}
 
 -- 'one-step fill': the shares fill the lefts by rank up to the size, and no other numbers do
 abbrev pub OneStepFill : Type 0
 OneStepFill = (count : ℕ) (better : ℕ → ℕ → Bool) (left : ℕ → ℕ) (size : ℕ)
     → IsRanking count better
-    → IsFill count better left size (share count better left size)
+    → IsFill count better left size (share_by_rank count better left size)
     × ((number : ℕ → ℕ) → IsFill count better left size number
-    → (i : ℕ) → i < count → number i ≡ share count better left size i)
+    → (i : ℕ) → i < count → number i ≡ share_by_rank count better left size i)
 
--- 'continuous uniqueness': on a regular order list all lists of deals that conform have the same Pair for every pair
+-- 'continuous uniqueness': on a regular order list all lists of deals that conform have
+-- the same Pair for every pair
 abbrev pub ContinuousUniqueness : Type 0
 ContinuousUniqueness = (orders : List Order) (ds es : List Deal) → IsOrderList orders
     → Regular orders → ConformsContinuous orders ds → ConformsContinuous orders es
@@ -28,7 +29,7 @@ ContinuousUniqueness = (orders : List Order) (ds es : List Deal) → IsOrderList
 -- so what a pair trades in a list that conforms is its only quantity
 abbrev pub OnlyPairs : Type 0
 OnlyPairs = (orders : List Order) (deals : List Deal) → IsOrderList orders → Regular orders
-    → AreDeals deals → ConformsContinuous orders deals → (bid ask : ℕ)
+    → DealsInRange deals → ConformsContinuous orders deals → (bid ask : ℕ)
     → OnlyPair rule.Continuous orders bid ask (pair deals bid ask)
 
 -- 'continuous existence': on a regular order list the Expected trades conform

@@ -77,7 +77,7 @@ field-names (field ∷ fields) (suc i) all = field-names fields i (and_parts (li
 pub column-names : (number : ℕ) (fields : List (List ℕ)) (text : List ℕ) → list_all (list_all is_name_byte) fields ≡ true → text ≡ column_text number fields → list_all is_name_byte text ≡ true
 column-names number fields text all is = ap (list_all is_name_byte) is ∙ field-names fields (number - 1) all
 
--- a list of nine fields is the list of what stands at its nine places
+-- a list of nine fields is the list of what is at its nine places
 pub nine-texts : (fields : List (List ℕ)) → length fields ≡ 9 → map (λ i. unwrap_or (field_at fields i) []) (0 ∷ 1 ∷ 2 ∷ 3 ∷ 4 ∷ 5 ∷ 6 ∷ 7 ∷ 8 ∷ []) ≡ fields
 unfolding field_at
 nine-texts [] e = absurd (omega (arith, e))

@@ -4,9 +4,9 @@ use Rattle.std.specs.Prelude.{filter}
 use Rattle.std.specs.List.{list_any, starts_with}
 use Rattle.std.proofs.lemmas.Bool.{cases_Bool, eqb-true, or_parts, or_from, false_from_ne_true}
 use Rattle.std.proofs.lemmas.List.{length-drop, drop-append-le, take-append-drop, drop_more, take_rest}
-use Rattle.csv_logs.specs.Lines.{Line, mark, mark_size, join_first, cut_lines, without_cr, placed, is_full, full_lines}
+use Rattle.csv_logs.specs.Lines.{Line, byte_order_mark, mark_size, join_first, cut_lines, without_cr, lines_with_offsets, is_nonempty_line, nonempty_lines}
 use Rattle.csv_logs.specs.Steps.{line_at}
-use Rattle.csv_logs.specs.Feeds.{is_lf, is_whole}
+use Rattle.csv_logs.specs.Feeds.{is_lf, are_whole_lines}
 
 -- a text that is not empty has a first line
 join-some : (byte : ℕ) (lines : List (List ℕ)) → (line : List ℕ) × (later : List (List ℕ)) × (join_first byte lines ≡ line ∷ later)
@@ -25,7 +25,7 @@ join-append : (byte : ℕ) (lines more : List (List ℕ)) (line : List ℕ) (lat
 join-append byte lines more line later is = rw is refl
 
 -- what follows whole lines is cut by itself
-pub cut-whole : (text more : List ℕ) → is_whole text ≡ true → cut_lines (text ++ more) ≡ cut_lines text ++ cut_lines more
+pub cut-whole : (text more : List ℕ) → are_whole_lines text ≡ true → cut_lines (text ++ more) ≡ cut_lines text ++ cut_lines more
 cut-whole [] more w = refl
 cut-whole (byte ∷ []) more w = rw w refl
 cut-whole (byte ∷ next ∷ rest) more w = elim (cases_Bool (byte == 10)) [
@@ -50,7 +50,7 @@ cut-last byte (next ∷ rest) n =
     rw p.0 (ap (join_first byte) (cut-last next rest p.1))
 
 -- whole lines with one more
-pub whole-line : (text line : List ℕ) → is_whole text ≡ true → is_whole (text ++ (line ++ 10 ∷ [])) ≡ true
+pub whole-line : (text line : List ℕ) → are_whole_lines text ≡ true → are_whole_lines (text ++ (line ++ 10 ∷ [])) ≡ true
 whole-line [] [] w = refl
 whole-line [] (byte ∷ []) w = refl
 whole-line [] (byte ∷ next ∷ rest) w = whole-line [] (next ∷ rest) w
@@ -66,7 +66,7 @@ extent (line ∷ lines) = length line + 1 + extent lines
 extent-join : (byte : ℕ) (lines : List (List ℕ)) (line : List ℕ) (later : List (List ℕ)) → lines ≡ line ∷ later → extent (join_first byte lines) ≡ extent lines + 1
 extent-join byte lines line later is = rw is (omega arith)
 
-pub extent-whole : (text : List ℕ) → is_whole text ≡ true → extent (cut_lines text) ≡ length text
+pub extent-whole : (text : List ℕ) → are_whole_lines text ≡ true → extent (cut_lines text) ≡ length text
 extent-whole [] w = refl
 extent-whole (byte ∷ []) w = rw w refl
 extent-whole (byte ∷ next ∷ rest) w = elim (cases_Bool (byte == 10)) [
@@ -77,11 +77,11 @@ extent-whole (byte ∷ next ∷ rest) w = elim (cases_Bool (byte == 10)) [
       rw other (extent-join byte (cut_lines (next ∷ rest)) some.0 some.1 some.2 ∙ omega (arith, later))
 ]
 
-pub placed-append : (start : ℕ) (lines more : List (List ℕ)) → placed start (lines ++ more) ≡ placed start lines ++ placed (start + extent lines) more
-placed-append start [] more = ap (λ (n : ℕ). placed n more) (omega arith)
+pub placed-append : (start : ℕ) (lines more : List (List ℕ)) → lines_with_offsets start (lines ++ more) ≡ lines_with_offsets start lines ++ lines_with_offsets (start + extent lines) more
+placed-append start [] more = ap (λ (n : ℕ). lines_with_offsets n more) (omega arith)
 placed-append start (line ∷ lines) more =
     ap (λ (ls : List Line). record { start = start; text = without_cr line } ∷ ls) (placed-append (start + length line + 1) lines more
-    ∙ ap (λ (n : ℕ). placed (start + length line + 1) lines ++ placed n more) (omega arith))
+    ∙ ap (λ (n : ℕ). lines_with_offsets (start + length line + 1) lines ++ lines_with_offsets n more) (omega arith))
 
 pub filter-append : {T : Type 0} (test : T → Bool) (xs ys : List T) → filter test (xs ++ ys) ≡ filter test xs ++ filter test ys
 filter-append test [] ys = refl
@@ -90,8 +90,8 @@ filter-append test (x ∷ xs) ys = elim (cases_Bool (test x)) [
   | inr fails ↦ rw fails (filter-append test xs ys)
 ]
 
--- the mark stands in the first line
-pub mark_size-whole : (text more : List ℕ) → is_whole text ≡ true → (text ≡ [] → ⊥) → mark_size (text ++ more) ≡ mark_size text
+-- the mark is in the first line
+pub mark_size-whole : (text more : List ℕ) → are_whole_lines text ≡ true → (text ≡ [] → ⊥) → mark_size (text ++ more) ≡ mark_size text
 mark_size-whole [] more w n = absurd (n refl)
 mark_size-whole (a ∷ []) more w n = rw (eqb-true a 10 w) refl
 mark_size-whole (a ∷ b ∷ []) more w n = rw (eqb-true b 10 w) refl
@@ -120,13 +120,13 @@ pub mark_size-le : (log : List ℕ) → mark_size log ≤ length log
 mark_size-le [] = omega arith
 mark_size-le (a ∷ []) = three-le (239 == a) 1
 mark_size-le (a ∷ b ∷ []) = two-le (239 == a) (187 == b) 2
-mark_size-le (a ∷ b ∷ c ∷ rest) = three-le-three (starts_with ◌==◌ (a ∷ b ∷ c ∷ rest) mark) (length (a ∷ b ∷ c ∷ rest)) (omega arith)
+mark_size-le (a ∷ b ∷ c ∷ rest) = three-le-three (starts_with ◌==◌ (a ∷ b ∷ c ∷ rest) byte_order_mark) (length (a ∷ b ∷ c ∷ rest)) (omega arith)
 
-whole-rest : (byte : ℕ) (rest : List ℕ) → is_whole (byte ∷ rest) ≡ true → is_whole rest ≡ true
+whole-rest : (byte : ℕ) (rest : List ℕ) → are_whole_lines (byte ∷ rest) ≡ true → are_whole_lines rest ≡ true
 whole-rest byte [] w = refl
 whole-rest byte (next ∷ rest) w = w
 
-pub whole-drop : (n : ℕ) (text : List ℕ) → is_whole text ≡ true → is_whole (drop n text) ≡ true
+pub whole-drop : (n : ℕ) (text : List ℕ) → are_whole_lines text ≡ true → are_whole_lines (drop n text) ≡ true
 whole-drop zero text w = w
 whole-drop (suc n) [] w = refl
 whole-drop (suc n) (byte ∷ rest) w = whole-drop n rest (whole-rest byte rest w)
@@ -136,53 +136,53 @@ no-lf-drop zero line e = e
 no-lf-drop (suc n) [] e = refl
 no-lf-drop (suc n) (byte ∷ rest) e = no-lf-drop n rest (or_parts (byte == 10) (list_any is_lf rest) e).1
 
--- the lines after whole lines stand where these end
-pub after-some : (text more : List ℕ) → is_whole text ≡ true → (text ≡ [] → ⊥)
-    → full_lines (text ++ more) ≡ full_lines text ++ filter is_full (placed (length text) (cut_lines more))
-unfolding full_lines
+-- the lines after whole lines begin where these end
+pub after-some : (text more : List ℕ) → are_whole_lines text ≡ true → (text ≡ [] → ⊥)
+    → nonempty_lines (text ++ more) ≡ nonempty_lines text ++ filter is_nonempty_line (lines_with_offsets (length text) (cut_lines more))
+unfolding nonempty_lines
 after-some text more w n =
     let m : ℕ = mark_size text in
     let le : m ≤ length text = mark_size-le text in
-    let w' : is_whole (drop m text) ≡ true = whole-drop m text w in
+    let w' : are_whole_lines (drop m text) ≡ true = whole-drop m text w in
     let cuts : cut_lines (drop m (text ++ more)) ≡ cut_lines (drop m text) ++ cut_lines more =
     ap cut_lines (drop-append-le m text more le) ∙ cut-whole (drop m text) more w' in
     let ends : m + extent (cut_lines (drop m text)) ≡ length text =
     omega (arith, extent-whole (drop m text) w', length-drop m text) in
-    ap (λ (k : ℕ). filter is_full (placed k (cut_lines (drop k (text ++ more))))) (mark_size-whole text more w n)
-    ∙ ap (λ (ls : List (List ℕ)). filter is_full (placed m ls)) cuts
-    ∙ ap (filter is_full) (placed-append m (cut_lines (drop m text)) (cut_lines more))
-    ∙ filter-append is_full (placed m (cut_lines (drop m text))) (placed (m + extent (cut_lines (drop m text))) (cut_lines more))
-    ∙ ap (λ (k : ℕ). filter is_full (placed m (cut_lines (drop m text))) ++ filter is_full (placed k (cut_lines more))) ends
+    ap (λ (k : ℕ). filter is_nonempty_line (lines_with_offsets k (cut_lines (drop k (text ++ more))))) (mark_size-whole text more w n)
+    ∙ ap (λ (ls : List (List ℕ)). filter is_nonempty_line (lines_with_offsets m ls)) cuts
+    ∙ ap (filter is_nonempty_line) (placed-append m (cut_lines (drop m text)) (cut_lines more))
+    ∙ filter-append is_nonempty_line (lines_with_offsets m (cut_lines (drop m text))) (lines_with_offsets (m + extent (cut_lines (drop m text))) (cut_lines more))
+    ∙ ap (λ (k : ℕ). filter is_nonempty_line (lines_with_offsets m (cut_lines (drop m text))) ++ filter is_nonempty_line (lines_with_offsets k (cut_lines more))) ends
 
-full-cut : (start : ℕ) (text line : List ℕ) → cut_lines text ≡ line ∷ [] → filter is_full (placed start (cut_lines text)) ≡ filter is_full (record { start = start; text = without_cr line } ∷ [])
+full-cut : (start : ℕ) (text line : List ℕ) → cut_lines text ≡ line ∷ [] → filter is_nonempty_line (lines_with_offsets start (cut_lines text)) ≡ filter is_nonempty_line (record { start = start; text = without_cr line } ∷ [])
 full-cut start text line e = rw e refl
 
 -- whole lines and then one more
-pub full_lines-line : (text line : List ℕ) → is_whole text ≡ true → list_any is_lf line ≡ false
-    → full_lines (text ++ (line ++ 10 ∷ [])) ≡ full_lines text ++ filter is_full (line_at (length text) line ∷ [])
-unfolding full_lines
+pub full_lines-line : (text line : List ℕ) → are_whole_lines text ≡ true → list_any is_lf line ≡ false
+    → nonempty_lines (text ++ (line ++ 10 ∷ [])) ≡ nonempty_lines text ++ filter is_nonempty_line (line_at (length text) line ∷ [])
+unfolding nonempty_lines
 full_lines-line [] line w e =
     let m : ℕ = mark_size line in
-    ap (λ (k : ℕ). filter is_full (placed k (cut_lines (drop k (line ++ 10 ∷ []))))) (mark_size-line line)
-    ∙ ap (λ (t : List ℕ). filter is_full (placed m (cut_lines t))) (drop-append-le m line (10 ∷ []) (mark_size-le line))
-    ∙ ap (λ (ls : List (List ℕ)). filter is_full (placed m ls)) (cut-line (drop m line) (no-lf-drop m line e))
+    ap (λ (k : ℕ). filter is_nonempty_line (lines_with_offsets k (cut_lines (drop k (line ++ 10 ∷ []))))) (mark_size-line line)
+    ∙ ap (λ (t : List ℕ). filter is_nonempty_line (lines_with_offsets m (cut_lines t))) (drop-append-le m line (10 ∷ []) (mark_size-le line))
+    ∙ ap (λ (ls : List (List ℕ)). filter is_nonempty_line (lines_with_offsets m ls)) (cut-line (drop m line) (no-lf-drop m line e))
 full_lines-line (byte ∷ rest) line w e =
     after-some (byte ∷ rest) (line ++ 10 ∷ []) w (λ z. cc z)
-    ∙ ap (λ (ls : List (List ℕ)). full_lines (byte ∷ rest) ++ filter is_full (placed (length (byte ∷ rest)) ls)) (cut-line line e)
+    ∙ ap (λ (ls : List (List ℕ)). nonempty_lines (byte ∷ rest) ++ filter is_nonempty_line (lines_with_offsets (length (byte ∷ rest)) ls)) (cut-line line e)
 
 last-full : (start : ℕ) (line : List ℕ) → list_any is_lf line ≡ false
-    → filter is_full (placed start (cut_lines line)) ≡ filter is_full (record { start = start; text = without_cr line } ∷ [])
+    → filter is_nonempty_line (lines_with_offsets start (cut_lines line)) ≡ filter is_nonempty_line (record { start = start; text = without_cr line } ∷ [])
 last-full start [] e = refl
-last-full start (byte ∷ rest) e = ap (λ (ls : List (List ℕ)). filter is_full (placed start ls)) (cut-last byte rest e)
+last-full start (byte ∷ rest) e = ap (λ (ls : List (List ℕ)). filter is_nonempty_line (lines_with_offsets start ls)) (cut-last byte rest e)
 
 -- whole lines and then a last one with no LF
-pub full_lines-last : (text line : List ℕ) → is_whole text ≡ true → list_any is_lf line ≡ false
-    → full_lines (text ++ line) ≡ full_lines text ++ filter is_full (line_at (length text) line ∷ [])
-unfolding full_lines
+pub full_lines-last : (text line : List ℕ) → are_whole_lines text ≡ true → list_any is_lf line ≡ false
+    → nonempty_lines (text ++ line) ≡ nonempty_lines text ++ filter is_nonempty_line (line_at (length text) line ∷ [])
+unfolding nonempty_lines
 full_lines-last [] line w e = last-full (mark_size line) (drop (mark_size line) line) (no-lf-drop (mark_size line) line e)
 full_lines-last (byte ∷ rest) line w e =
     after-some (byte ∷ rest) line w (λ z. cc z)
-    ∙ ap (λ (ls : List Line). full_lines (byte ∷ rest) ++ ls) (last-full (length (byte ∷ rest)) line e)
+    ∙ ap (λ (ls : List Line). nonempty_lines (byte ∷ rest) ++ ls) (last-full (length (byte ∷ rest)) line e)
 
 -- a front in which no byte is an LF
 pub no-lf-take : (n : ℕ) (text : List ℕ) → ((k : ℕ) → k < n → k < length text → (get_or text k 0 == 10) ≡ true → ⊥) → list_any is_lf (take n text) ≡ false

@@ -6,9 +6,9 @@ use Rattle.std.proofs.lemmas.Bool.{cases_Bool}
 use Rattle.audit_base.specs.declared.faults.Reason.{Reason}
 use Rattle.audit_base.specs.declared.faults.Reason.TheVariants as reason
 use Rattle.audit_base.specs.declared.faults.BadPlace.{BadPlace}
-use Rattle.csv_logs.specs.Lines.{Line, is_full}
-use Rattle.csv_logs.specs.Logs.{is_header, line_entry, with_first, after_line, read_entries, read_lines}
-use Rattle.csv_logs.specs.Feeds.{IsPassed}
+use Rattle.csv_logs.specs.Lines.{Line, is_nonempty_line}
+use Rattle.csv_logs.specs.Logs.{is_header, line_entry, with_record_of_line, after_line, read_entries, read_lines}
+use Rattle.csv_logs.specs.Feeds.{AreGoodLines}
 use Rattle.csv_logs.specs.Steps.{header_says, line_says, entry_says}
 
 -- records before those that are read later
@@ -20,7 +20,7 @@ with_front-nil : {R : Type 0} (later : Result (List R) BadPlace) → with_front 
 with_front-nil (Ok entries) = refl
 with_front-nil (Err bad) = refl
 
-with_first-front : {R : Type 0} (first : R) (front : List R) (later : Result (List R) BadPlace) → with_first first (with_front front later) ≡ with_front (first ∷ front) later
+with_first-front : {R : Type 0} (first : R) (front : List R) (later : Result (List R) BadPlace) → with_record_of_line first (with_front front later) ≡ with_front (first ∷ front) later
 with_first-front first front (Ok entries) = refl
 with_first-front first front (Err bad) = refl
 
@@ -69,8 +69,8 @@ module _ {R : Type 0} (entry : List (List ℕ) → Result R Reason) where
 
   -- a bad line among these and one more
   pub read_entries-cases : (before : ℕ) (lines : List Line) (line : Line) (bad : BadPlace)
-      → read_entries entry before (lines ++ filter is_full (line ∷ [])) ≡ Err bad → (bad.offset ≡ line.start) ⊎ (read_entries entry before lines ≡ Err bad)
-  read_entries-cases before [] line bad e = elim (cases_Bool (is_full line)) [
+      → read_entries entry before (lines ++ filter is_nonempty_line (line ∷ [])) ≡ Err bad → (bad.offset ≡ line.start) ⊎ (read_entries entry before lines ≡ Err bad)
+  read_entries-cases before [] line bad e = elim (cases_Bool (is_nonempty_line line)) [
     | inl full ↦
         elim (after_line-err before line.start (line_entry entry line.text) (read_entries entry (before + 1) []) bad (rw full at e)) [
           | inl here ↦ inl (ap (λ (b : BadPlace). b.offset) here.2)
@@ -79,7 +79,7 @@ module _ {R : Type 0} (entry : List (List ℕ) → Result R Reason) where
     | inr none ↦ absurd (cc (rw none at e))
   ]
   read_entries-cases before (first ∷ lines) line bad e =
-      elim (after_line-err before first.start (line_entry entry first.text) (read_entries entry (before + 1) (lines ++ filter is_full (line ∷ []))) bad e) [
+      elim (after_line-err before first.start (line_entry entry first.text) (read_entries entry (before + 1) (lines ++ filter is_nonempty_line (line ∷ []))) bad e) [
         | inl here ↦ inr (rw (here.1, here.2) refl)
         | inr later ↦ elim (read_entries-cases (before + 1) lines line bad later.2) [
           | inl there ↦ inl there
@@ -123,8 +123,8 @@ passed-header false here good bad entries e = absurd (cc e)
 
 module _ {R : Type 0} (names : List (List ℕ)) (entry : List (List ℕ) → Result R Reason) where
   -- a good line more
-  pub passed-line : (header : Bool) (entries : List R) (lines : List Line) (line : Line) (new : Option R) → IsPassed names entry header entries lines
-      → line_says names entry header line.text ≡ Ok new → IsPassed names entry true (entries ++ option_to_list new) (lines ++ line ∷ [])
+  pub passed-line : (header : Bool) (entries : List R) (lines : List Line) (line : Line) (new : Option R) → AreGoodLines names entry header entries lines
+      → line_says names entry header line.text ≡ Ok new → AreGoodLines names entry true (entries ++ option_to_list new) (lines ++ line ∷ [])
   passed-line true entries [] line new is says = absurd (cc is)
   passed-line true entries (first ∷ lines) line new is says =
       let q = entry_says-ok (line_entry entry line.text) new says in
@@ -135,7 +135,7 @@ module _ {R : Type 0} (names : List (List ℕ)) (entry : List (List ℕ) → Res
       rw (is.0, is.1, q.1, q.0) refl
 
   -- a bad line, whatever comes after it
-  pub passed-bad : (header : Bool) (entries : List R) (lines : List Line) (line : Line) (more : List Line) (why : Reason) (size : ℕ) → IsPassed names entry header entries lines
+  pub passed-bad : (header : Bool) (entries : List R) (lines : List Line) (line : Line) (more : List Line) (why : Reason) (size : ℕ) → AreGoodLines names entry header entries lines
       → line_says names entry header line.text ≡ Err why
       → read_lines names entry size (lines ++ line ∷ more) ≡ Err (record { place = length entries + 1; offset = line.start; reason = why })
   passed-bad true entries [] line more why size is says = absurd (cc is)
@@ -149,14 +149,14 @@ module _ {R : Type 0} (names : List (List ℕ)) (entry : List (List ℕ) → Res
       rw (is.0, is.1, q.1, q.0) refl
 
   -- good lines are a good log
-  pub passed-log : (entries : List R) (lines : List Line) (size : ℕ) → IsPassed names entry true entries lines → read_lines names entry size lines ≡ Ok entries
+  pub passed-log : (entries : List R) (lines : List Line) (size : ℕ) → AreGoodLines names entry true entries lines → read_lines names entry size lines ≡ Ok entries
   passed-log entries [] size is = absurd (cc is)
   passed-log entries (first ∷ lines) size is = is
 
   -- a bad line among these and one more, or no line at all
-  pub read_lines-cases : (size : ℕ) (lines : List Line) (line : Line) (bad : BadPlace) → read_lines names entry size (lines ++ filter is_full (line ∷ [])) ≡ Err bad
+  pub read_lines-cases : (size : ℕ) (lines : List Line) (line : Line) (bad : BadPlace) → read_lines names entry size (lines ++ filter is_nonempty_line (line ∷ [])) ≡ Err bad
       → (bad.offset ≡ size) ⊎ ((bad.offset ≡ line.start) ⊎ ((other : ℕ) (more : List Line) → read_lines names entry other (lines ++ more) ≡ Err bad))
-  read_lines-cases size [] line bad e = elim (cases_Bool (is_full line)) [
+  read_lines-cases size [] line bad e = elim (cases_Bool (is_nonempty_line line)) [
     | inl full ↦ elim (cases_Bool (is_header names line.text)) [
       | inl header ↦ absurd (cc (rw (full, header) at e))
       | inr other ↦ inr (inl (cc (rw (full, other) at e)))

@@ -8,9 +8,9 @@ use Rattle.audit_base.specs.declared.terms.Life.TheVariants as life
 use Rattle.csv_logs.specs.declared.orders.Head.{Head}
 use Rattle.csv_logs.specs.declared.orders.Kind.{Kind}
 use Rattle.csv_logs.specs.declared.orders.Kind.TheVariants as kind
-use Rattle.csv_logs.specs.Columns.{◌>>=◌, column_text, in_column, name_at, side_at, quantity_at, price_at, empty_at}
+use Rattle.csv_logs.specs.Columns.{◌>>=◌, column_text, in_column, row_name, row_side, row_quantity, row_price, row_blank}
 use Rattle.audit_base.specs.Numbers.{market_price}
-use Rattle.csv_logs.specs.OrderLines.{kind_form, head_at, limit_order, market_order, cancel, replacement, order_of_kind, order_entry}
+use Rattle.csv_logs.specs.OrderLines.{kind_form, row_head, row_limit_order, row_market_order, row_cancel, row_replacement, order_of_kind, order_of_row}
 use Rattle.audit_base.specs.Histories.{HasMarketPrice}
 
 same : (a b : OrderRecord) → HasMarketPrice a → ◌≡◌ {A = Result OrderRecord Reason} (Ok a) (Ok b) → HasMarketPrice b
@@ -25,25 +25,25 @@ four (Ok w) (Ok x) (Err why) d make order e each = absurd (cc e)
 four (Ok w) (Err why) c d make order e each = absurd (cc e)
 four (Err why) b c d make order e each = absurd (cc e)
 
-limit-priced : (head : Head) (fields : List (List ℕ)) (order : OrderRecord) → limit_order head life.Rests fields ≡ Ok order → HasMarketPrice order
+limit-priced : (head : Head) (fields : List (List ℕ)) (order : OrderRecord) → row_limit_order head life.Rests fields ≡ Ok order → HasMarketPrice order
 limit-priced head fields order e =
-    four (side_at 6 fields) (quantity_at 7 fields) (price_at 8 fields) (empty_at 9 fields) (λ side quantity price none. record_of.New head.key head.time head.symbol side quantity price life.Rests) order e (λ _ _ _ _ other. cc other)
+    four (row_side 6 fields) (row_quantity 7 fields) (row_price 8 fields) (row_blank 9 fields) (λ side quantity price none. record_of.New head.key head.time head.symbol side quantity price life.Rests) order e (λ _ _ _ _ other. cc other)
 
-immediate-priced : (head : Head) (fields : List (List ℕ)) (order : OrderRecord) → limit_order head life.Immediate fields ≡ Ok order → HasMarketPrice order
+immediate-priced : (head : Head) (fields : List (List ℕ)) (order : OrderRecord) → row_limit_order head life.Immediate fields ≡ Ok order → HasMarketPrice order
 immediate-priced head fields order e =
-    four (side_at 6 fields) (quantity_at 7 fields) (price_at 8 fields) (empty_at 9 fields) (λ side quantity price none. record_of.New head.key head.time head.symbol side quantity price life.Immediate) order e (λ _ _ _ _ other. cc other)
+    four (row_side 6 fields) (row_quantity 7 fields) (row_price 8 fields) (row_blank 9 fields) (λ side quantity price none. record_of.New head.key head.time head.symbol side quantity price life.Immediate) order e (λ _ _ _ _ other. cc other)
 
-market-priced : (head : Head) (fields : List (List ℕ)) (order : OrderRecord) → market_order head fields ≡ Ok order → HasMarketPrice order
+market-priced : (head : Head) (fields : List (List ℕ)) (order : OrderRecord) → row_market_order head fields ≡ Ok order → HasMarketPrice order
 market-priced head fields order e =
-    four (side_at 6 fields) (quantity_at 7 fields) (empty_at 8 fields) (empty_at 9 fields) (λ side quantity none nothing. record_of.New head.key head.time head.symbol side quantity (market_price side) life.Market) order e (λ _ _ _ _ _. refl)
+    four (row_side 6 fields) (row_quantity 7 fields) (row_blank 8 fields) (row_blank 9 fields) (λ side quantity none nothing. record_of.New head.key head.time head.symbol side quantity (market_price side) life.Market) order e (λ _ _ _ _ _. refl)
 
-cancel-priced : (head : Head) (fields : List (List ℕ)) (order : OrderRecord) → cancel head fields ≡ Ok order → HasMarketPrice order
+cancel-priced : (head : Head) (fields : List (List ℕ)) (order : OrderRecord) → row_cancel head fields ≡ Ok order → HasMarketPrice order
 cancel-priced head fields order e =
-    four (empty_at 6 fields) (empty_at 7 fields) (empty_at 8 fields) (name_at 9 fields) (λ x y z target. record_of.Cancel head.key head.time head.symbol target) order e (λ _ _ _ _. tt)
+    four (row_blank 6 fields) (row_blank 7 fields) (row_blank 8 fields) (row_name 9 fields) (λ x y z target. record_of.Cancel head.key head.time head.symbol target) order e (λ _ _ _ _. tt)
 
-replace-priced : (head : Head) (fields : List (List ℕ)) (order : OrderRecord) → replacement head fields ≡ Ok order → HasMarketPrice order
+replace-priced : (head : Head) (fields : List (List ℕ)) (order : OrderRecord) → row_replacement head fields ≡ Ok order → HasMarketPrice order
 replace-priced head fields order e =
-    four (side_at 6 fields) (quantity_at 7 fields) (price_at 8 fields) (name_at 9 fields) (λ side quantity price target. record_of.Replace head.key head.time head.symbol target side quantity price) order e (λ _ _ _ _. tt)
+    four (row_side 6 fields) (row_quantity 7 fields) (row_price 8 fields) (row_name 9 fields) (λ side quantity price target. record_of.Replace head.key head.time head.symbol target side quantity price) order e (λ _ _ _ _. tt)
 
 order-priced : (k : Kind) (head : Head) (fields : List (List ℕ)) (order : OrderRecord) → order_of_kind k head fields ≡ Ok order → HasMarketPrice order
 order-priced kind.New head fields order e = limit-priced head fields order e
@@ -58,13 +58,13 @@ two (Ok x) (Ok y) make order e each = each x y e
 two (Ok x) (Err why) make order e each = absurd (cc e)
 two (Err why) b make order e each = absurd (cc e)
 
-pub entry-priced : (fields : List (List ℕ)) (order : OrderRecord) → order_entry fields ≡ Ok order → HasMarketPrice order
-unfolding order_entry
+pub entry-priced : (fields : List (List ℕ)) (order : OrderRecord) → order_of_row fields ≡ Ok order → HasMarketPrice order
+unfolding order_of_row
 entry-priced fields order e =
-    two (in_column 1 (kind_form (column_text 1 fields))) (head_at fields) (λ k head. order_of_kind k head fields) order e (λ k head. order-priced k head fields order)
+    two (in_column 1 (kind_form (column_text 1 fields))) (row_head fields) (λ k head. order_of_kind k head fields) order e (λ k head. order-priced k head fields order)
 
-pub meaning-priced : (fields : List (List ℕ)) → IfOk (order_entry fields) HasMarketPrice
-meaning-priced fields = each-is (order_entry fields) (entry-priced fields)
+pub meaning-priced : (fields : List (List ℕ)) → IfOk (order_of_row fields) HasMarketPrice
+meaning-priced fields = each-is (order_of_row fields) (entry-priced fields)
   where
     each-is : (reading : Result OrderRecord Reason) → ((order : OrderRecord) → reading ≡ Ok order → HasMarketPrice order) → IfOk reading HasMarketPrice
     each-is (Ok order) each = each order refl

@@ -6,16 +6,16 @@ use Rattle.audit_base.specs.declared.terms.Life.{Life}
 use Rattle.audit_base.specs.declared.terms.Life.TheVariants as life
 use Rattle.audit_base.specs.Columns.{order_columns, trade_columns}
 use Rattle.audit_base.specs.Numbers.{price_form, quantity_form}
-use Rattle.audit_base.specs.RecordRanges.{IsRecord}
-use Rattle.audit_base.specs.Trades.{IsTrade}
+use Rattle.audit_base.specs.RecordRanges.{RecordInRange}
+use Rattle.audit_base.specs.Trades.{TradeInRange}
 use Rattle.audit_base.proofs.RangeLemmas.{IsQuantity, market-range, price-range, quantity-range}
 use Rattle.csv_logs.specs.declared.orders.Head.{Head}
 use Rattle.csv_logs.specs.declared.orders.Kind.{Kind}
 use Rattle.csv_logs.specs.declared.orders.Kind.TheVariants as kind
-use Rattle.csv_logs.specs.Columns.{◌>>=◌, column_text, empty_at, in_column, name_at, price_at, quantity_at, side_at, stamp_at}
-use Rattle.csv_logs.specs.Laws.{OrdersAreInRange, TradesAreInRange}
-use Rattle.csv_logs.specs.OrderLines.{cancel, head_at, kind_form, limit_order, market_order, order_entry, order_of_kind, replacement}
-use Rattle.csv_logs.specs.TradeLines.{parties_at, trade_entry}
+use Rattle.csv_logs.specs.Columns.{◌>>=◌, column_text, row_blank, in_column, row_name, row_price, row_quantity, row_side, row_stamp}
+use Rattle.csv_logs.specs.Laws.{CsvOrdersAreInRange, CsvTradesAreInRange}
+use Rattle.csv_logs.specs.OrderLines.{row_cancel, row_head, kind_form, row_limit_order, row_market_order, order_of_row, order_of_kind, row_replacement}
+use Rattle.csv_logs.specs.TradeLines.{row_parties, trade_of_row}
 use Rattle.csv_logs.proofs.ReadingLemmas.{log_sound}
 
 -- what holds of every record that a column may lead to holds behind the column
@@ -34,57 +34,57 @@ column-known Q number (Some value) each = each value refl
 abbrev IsPrice : ℕ → Type 0
 IsPrice price = price < 10 ^ 18
 
-quantity-known : (number : ℕ) (fields : List (List ℕ)) → IfOk (quantity_at number fields) IsQuantity
+quantity-known : (number : ℕ) (fields : List (List ℕ)) → IfOk (row_quantity number fields) IsQuantity
 quantity-known number fields = column-known IsQuantity number (quantity_form (column_text number fields)) (quantity-range (column_text number fields))
 
-price-known : (number : ℕ) (fields : List (List ℕ)) → IfOk (price_at number fields) IsPrice
+price-known : (number : ℕ) (fields : List (List ℕ)) → IfOk (row_price number fields) IsPrice
 price-known number fields = column-known IsPrice number (price_form (column_text number fields)) (price-range (column_text number fields))
 
-trade-known : (fields : List (List ℕ)) → IfOk (trade_entry fields) IsTrade
-unfolding trade_entry
+trade-known : (fields : List (List ℕ)) → IfOk (trade_of_row fields) TradeInRange
+unfolding trade_of_row
 trade-known fields =
-    behind IsTrade (name_at 1 fields) _ (λ trade. behind IsTrade (stamp_at 2 fields) _ (λ time. behind IsTrade (name_at 3 fields) _ (λ symbol. behind IsTrade (parties_at fields) _ (λ parties.
-    behind-known IsQuantity IsTrade (quantity_at 8 fields) _ (quantity-known 8 fields) (λ quantity is.
-    behind-known IsPrice IsTrade (price_at 9 fields) _ (price-known 9 fields) (λ price priced. record { some = is.some; most = is.most; priced = priced }))))))
+    behind TradeInRange (row_name 1 fields) _ (λ trade. behind TradeInRange (row_stamp 2 fields) _ (λ time. behind TradeInRange (row_name 3 fields) _ (λ symbol. behind TradeInRange (row_parties fields) _ (λ parties.
+    behind-known IsQuantity TradeInRange (row_quantity 8 fields) _ (quantity-known 8 fields) (λ quantity is.
+    behind-known IsPrice TradeInRange (row_price 9 fields) _ (price-known 9 fields) (λ price priced. record { some = is.some; most = is.most; priced = priced }))))))
 
-limit-known : (head : Head) (the_life : Life) (fields : List (List ℕ)) → IfOk (limit_order head the_life fields) IsRecord
+limit-known : (head : Head) (the_life : Life) (fields : List (List ℕ)) → IfOk (row_limit_order head the_life fields) RecordInRange
 limit-known head the_life fields =
-    behind IsRecord (side_at 6 fields) _ (λ side.
-    behind-known IsQuantity IsRecord (quantity_at 7 fields) _ (quantity-known 7 fields) (λ quantity is.
-    behind-known IsPrice IsRecord (price_at 8 fields) _ (price-known 8 fields) (λ price priced.
-    behind IsRecord (empty_at 9 fields) _ (λ none. record { some = is.some; most = is.most; priced = priced }))))
+    behind RecordInRange (row_side 6 fields) _ (λ side.
+    behind-known IsQuantity RecordInRange (row_quantity 7 fields) _ (quantity-known 7 fields) (λ quantity is.
+    behind-known IsPrice RecordInRange (row_price 8 fields) _ (price-known 8 fields) (λ price priced.
+    behind RecordInRange (row_blank 9 fields) _ (λ none. record { some = is.some; most = is.most; priced = priced }))))
 
-market-known : (head : Head) (fields : List (List ℕ)) → IfOk (market_order head fields) IsRecord
+market-known : (head : Head) (fields : List (List ℕ)) → IfOk (row_market_order head fields) RecordInRange
 market-known head fields =
-    behind IsRecord (side_at 6 fields) _ (λ side.
-    behind-known IsQuantity IsRecord (quantity_at 7 fields) _ (quantity-known 7 fields) (λ quantity is.
-    behind IsRecord (empty_at 8 fields) _ (λ none.
-    behind IsRecord (empty_at 9 fields) _ (λ nothing. record { some = is.some; most = is.most; priced = market-range side }))))
+    behind RecordInRange (row_side 6 fields) _ (λ side.
+    behind-known IsQuantity RecordInRange (row_quantity 7 fields) _ (quantity-known 7 fields) (λ quantity is.
+    behind RecordInRange (row_blank 8 fields) _ (λ none.
+    behind RecordInRange (row_blank 9 fields) _ (λ nothing. record { some = is.some; most = is.most; priced = market-range side }))))
 
-cancel-known : (head : Head) (fields : List (List ℕ)) → IfOk (cancel head fields) IsRecord
+cancel-known : (head : Head) (fields : List (List ℕ)) → IfOk (row_cancel head fields) RecordInRange
 cancel-known head fields =
-    behind IsRecord (empty_at 6 fields) _ (λ _. behind IsRecord (empty_at 7 fields) _ (λ _. behind IsRecord (empty_at 8 fields) _ (λ _. behind IsRecord (name_at 9 fields) _ (λ target. tt))))
+    behind RecordInRange (row_blank 6 fields) _ (λ _. behind RecordInRange (row_blank 7 fields) _ (λ _. behind RecordInRange (row_blank 8 fields) _ (λ _. behind RecordInRange (row_name 9 fields) _ (λ target. tt))))
 
-replace-known : (head : Head) (fields : List (List ℕ)) → IfOk (replacement head fields) IsRecord
+replace-known : (head : Head) (fields : List (List ℕ)) → IfOk (row_replacement head fields) RecordInRange
 replace-known head fields =
-    behind IsRecord (side_at 6 fields) _ (λ side.
-    behind-known IsQuantity IsRecord (quantity_at 7 fields) _ (quantity-known 7 fields) (λ quantity is.
-    behind-known IsPrice IsRecord (price_at 8 fields) _ (price-known 8 fields) (λ price priced.
-    behind IsRecord (name_at 9 fields) _ (λ target. record { some = is.some; most = is.most; priced = priced }))))
+    behind RecordInRange (row_side 6 fields) _ (λ side.
+    behind-known IsQuantity RecordInRange (row_quantity 7 fields) _ (quantity-known 7 fields) (λ quantity is.
+    behind-known IsPrice RecordInRange (row_price 8 fields) _ (price-known 8 fields) (λ price priced.
+    behind RecordInRange (row_name 9 fields) _ (λ target. record { some = is.some; most = is.most; priced = priced }))))
 
-kind-known : (k : Kind) (head : Head) (fields : List (List ℕ)) → IfOk (order_of_kind k head fields) IsRecord
+kind-known : (k : Kind) (head : Head) (fields : List (List ℕ)) → IfOk (order_of_kind k head fields) RecordInRange
 kind-known kind.New head fields = limit-known head life.Rests fields
 kind-known kind.Immediate head fields = limit-known head life.Immediate fields
 kind-known kind.Market head fields = market-known head fields
 kind-known kind.Cancel head fields = cancel-known head fields
 kind-known kind.Replace head fields = replace-known head fields
 
-order-known : (fields : List (List ℕ)) → IfOk (order_entry fields) IsRecord
-unfolding order_entry
-order-known fields = behind IsRecord (in_column 1 (kind_form (column_text 1 fields))) _ (λ k. behind IsRecord (head_at fields) _ (λ head. kind-known k head fields))
+order-known : (fields : List (List ℕ)) → IfOk (order_of_row fields) RecordInRange
+unfolding order_of_row
+order-known fields = behind RecordInRange (in_column 1 (kind_form (column_text 1 fields))) _ (λ k. behind RecordInRange (row_head fields) _ (λ head. kind-known k head fields))
 
-pub orders-range : OrdersAreInRange
-orders-range log = log_sound order_entry IsRecord order-known order_columns log
+pub orders-range : CsvOrdersAreInRange
+orders-range log = log_sound order_of_row RecordInRange order-known order_columns log
 
-pub trades-range : TradesAreInRange
-trades-range log = log_sound trade_entry IsTrade trade-known trade_columns log
+pub trades-range : CsvTradesAreInRange
+trades-range log = log_sound trade_of_row TradeInRange trade-known trade_columns log

@@ -99,7 +99,7 @@ cr-cases line = elim (cases_Bool (ends_with ◌==◌ line (13 ∷ []))) [
   | inr none ↦ inl (rw none refl)
 ]
 
--- What a reader gives at a line: the line's fields, and then it stands at the next line.
+-- What a reader gives at a line: the line's fields, and then it is at the next line.
 pub record GivesLine (line later : List ℕ) (fields : List (List ℕ)) : Type 0 where
   pub state : State
   pub rest : List ℕ
@@ -178,7 +178,7 @@ no-bom line text later (inr cr) printable = rw (cr, append_assoc text (13 ∷ []
 pub line-bom : (text line later : List ℕ) → text ≡ line ++ 10 ∷ later → is_closed (without_cr line) ≡ true → strip_bom text ≡ text
 line-bom text line later is closed = rw is (no-bom line (without_cr line) later (cr-cases line) (closed-printable (without_cr line) closed))
 
--- a new reader stands at the start of its text
+-- a new reader is at the start of its text
 pub new-reading : {R : Type 0} (remaining : R → Option (List ℕ)) (reader : Reader R) (text : List ℕ) → reader_config reader ≡ default_config → reader_trim reader ≡ trim.None → is_flexible reader ≡ true
     → names_headers reader ≡ false → reader_headers reader ≡ None → has_failed reader ≡ false → reader_state reader ≡ st.StartRecord → source_of remaining reader ≡ Some (strip_bom text)
     → strip_bom text ≡ text → IsReading remaining reader text

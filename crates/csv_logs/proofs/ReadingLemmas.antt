@@ -6,8 +6,8 @@ use Rattle.audit_base.specs.declared.faults.Reason.TheVariants as reason
 use Rattle.audit_base.specs.declared.faults.BadPlace.{BadPlace}
 use Rattle.std.specs.Prelude.{All, IfOk}
 use Rattle.csv_logs.specs.Columns.{is_broken, line_fields}
-use Rattle.csv_logs.specs.Lines.{Line, full_lines}
-use Rattle.csv_logs.specs.Logs.{is_header, line_entry, read_entries, read_lines, read_log, IsGood, IsBad, IsOnlyReading}
+use Rattle.csv_logs.specs.Lines.{Line, nonempty_lines}
+use Rattle.csv_logs.specs.Logs.{is_header, line_entry, read_entries, read_lines, read_csv_log, IsGoodCsvLog, IsBadCsvLog, IsOnlyCsvReading}
 use Rattle.csv_logs.proofs.LogLemmas.{after_line-ok, after_line-err, read_entries-bad}
 
 module _ {R : Type 0} (entry : List (List ℕ) → Result R Reason) where
@@ -92,18 +92,18 @@ module _ {R : Type 0} (names : List (List ℕ)) (entry : List (List ℕ) → Res
     | inr other ↦ inr (inl (header, lines, refl, other, cc (rw other at e)))
   ]
 
-  good-read : (log : List ℕ) (entries : List R) → IsGood names entry log entries → read_log names entry log ≡ Ok entries
-  unfolding read_log
+  good-read : (log : List ℕ) (entries : List R) → IsGoodCsvLog names entry log entries → read_csv_log names entry log ≡ Ok entries
+  unfolding read_csv_log
   good-read log entries is = rw (is.cut, is.named) (records-read entry 0 is.lines entries is.records)
 
-  read-good : (log : List ℕ) (entries : List R) → read_log names entry log ≡ Ok entries → IsGood names entry log entries
-  unfolding read_log
+  read-good : (log : List ℕ) (entries : List R) → read_csv_log names entry log ≡ Ok entries → IsGoodCsvLog names entry log entries
+  unfolding read_csv_log
   read-good log entries e =
-      let q = lines-good (length log) (full_lines log) entries e in
+      let q = lines-good (length log) (nonempty_lines log) entries e in
       record { header = q.0; lines = q.1; cut = q.2; named = q.3; records = q.4 }
 
-  bad-read : (log : List ℕ) (bad : BadPlace) → IsBad names entry log bad → read_log names entry log ≡ Err bad
-  unfolding read_log
+  bad-read : (log : List ℕ) (bad : BadPlace) → IsBadCsvLog names entry log bad → read_csv_log names entry log ≡ Err bad
+  unfolding read_csv_log
   bad-read log bad (inl is) = rw (is.empty, is.place) refl
   bad-read log bad (inr (inl is)) = rw (is.cut, is.unnamed, is.place) refl
   bad-read log bad (inr (inr is)) =
@@ -111,9 +111,9 @@ module _ {R : Type 0} (names : List (List ℕ)) (entry : List (List ℕ) → Res
       (read_entries-bad entry 0 is.good is.line is.after is.entries is.why (records-read entry 0 is.good is.entries is.records) is.fails
       ∙ ap (λ (n : ℕ). let b : Result (List R) BadPlace = Err (record { place = n + 1; offset = is.line.start; reason = is.why }) in b) (zero-add (length is.entries)))
 
-  read-bad : (log : List ℕ) (bad : BadPlace) → read_log names entry log ≡ Err bad → IsBad names entry log bad
-  unfolding read_log
-  read-bad log bad e = elim (lines-bad (length log) (full_lines log) bad e) [
+  read-bad : (log : List ℕ) (bad : BadPlace) → read_csv_log names entry log ≡ Err bad → IsBadCsvLog names entry log bad
+  unfolding read_csv_log
+  read-bad log bad e = elim (lines-bad (length log) (nonempty_lines log) bad e) [
     | inl q ↦ inl (record { empty = q.0; place = q.1 })
     | inr (inl q) ↦ inr (inl (record { header = q.0; lines = q.1; cut = q.2; unnamed = q.3; place = q.4 }))
     | inr (inr q) ↦ inr (inr (record {
@@ -131,7 +131,7 @@ module _ {R : Type 0} (names : List (List ℕ)) (entry : List (List ℕ) → Res
     }))
   ]
 
-  pub only-reading : (log : List ℕ) → IsOnlyReading names entry log (read_log names entry log)
+  pub only-reading : (log : List ℕ) → IsOnlyCsvReading names entry log (read_csv_log names entry log)
   only-reading log = record {
     good = λ entries. (good-read log entries, read-good log entries);
     bad = λ place. (bad-read log place, read-bad log place);
@@ -159,10 +159,10 @@ module _ {R : Type 0} (entry : List (List ℕ) → Result R Reason) (P : R → T
       have-first first rest here later zero d h = here
       have-first first rest here later (suc k) d h = later k d (omega (arith, h))
 
-  pub log-has : (names : List (List ℕ)) (log : List ℕ) (entries : List R) → read_log names entry log ≡ Ok entries → All P entries
-  unfolding read_log
+  pub log-has : (names : List (List ℕ)) (log : List ℕ) (entries : List R) → read_csv_log names entry log ≡ Ok entries → All P entries
+  unfolding read_csv_log
   log-has names log entries e =
-      let q = lines-good names entry (length log) (full_lines log) entries e in
+      let q = lines-good names entry (length log) (nonempty_lines log) entries e in
       entries-have 0 q.1 entries (records-read entry 0 q.1 entries q.4)
 
 -- Where every record that fields mean is sound, every record of a good log is.
@@ -175,5 +175,5 @@ module _ {R : Type 0} (entry : List (List ℕ) → Result R Reason) (sound : R �
   all-sound (Ok entries) has = has entries refl
   all-sound (Err bad) has = tt
 
-  pub log_sound : (names : List (List ℕ)) (log : List ℕ) → IfOk (read_log names entry log) (All sound)
-  log_sound names log = all-sound (read_log names entry log) (log-has entry sound (λ fields. meant (entry fields) (each fields)) names log)
+  pub log_sound : (names : List (List ℕ)) (log : List ℕ) → IfOk (read_csv_log names entry log) (All sound)
+  log_sound names log = all-sound (read_csv_log names entry log) (log-has entry sound (λ fields. meant (entry fields) (each fields)) names log)

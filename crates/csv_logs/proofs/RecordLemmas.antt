@@ -16,12 +16,12 @@ use Rattle.csv_logs.specs.declared.orders.Head.{Head}
 use Rattle.csv_logs.specs.declared.orders.Kind.{Kind}
 use Rattle.csv_logs.specs.declared.orders.Kind.TheVariants as kind
 use Rattle.csv_logs.specs.declared.orders.Terms.{Terms}
-use Rattle.csv_logs.specs.Columns.{side_form}
-use Rattle.csv_logs.specs.OrderLines.{kind_form, order_entry}
-use Rattle.csv_logs.specs.TradeLines.{trade_entry}
+use Rattle.csv_logs.specs.Columns.{row_side_form}
+use Rattle.csv_logs.specs.OrderLines.{kind_form, order_of_row}
+use Rattle.csv_logs.specs.TradeLines.{trade_of_row}
 use Rattle.audit_base.specs.Histories.{HasMarketPrice}
-use Rattle.csv_logs.specs.Written.{limit_text, order_fields, trade_fields, side_text, kind_text}
-use Rattle.csv_logs.specs.WrittenLines.{IsLineOf, have_name_bytes, cancel_order, new_order, replace_order}
+use Rattle.csv_logs.specs.Written.{limit_text, order_row, trade_row, row_side_text, kind_text}
+use Rattle.csv_logs.specs.WrittenLines.{IsLineOf, have_name_bytes, csv_cancel_order, csv_new_order, csv_replace_order}
 
 pub name-unquoted : (text name : List ℕ) → text ≡ name → is_name name ≡ true → list_all is_name_byte text ≡ true
 name-unquoted text name same is =
@@ -38,11 +38,11 @@ nine-unquoted a b c d e f g h i pa pb pc pd pe pf pg ph pi = rw (pa, pb, pc, pd,
 trade-again : (trade : TradeRecord) → is_name trade.trade ≡ true → stamp_form (stamp_text trade.time) ≡ Some trade.time → is_name trade.symbol ≡ true
     → is_name trade.buy.firm ≡ true → is_name trade.buy.id ≡ true → is_name trade.sell.firm ≡ true → is_name trade.sell.id ≡ true
     → quantity_form (decimal trade.quantity) ≡ Some trade.quantity → price_form (price_text trade.price) ≡ Some trade.price
-    → trade_entry (trade_fields trade) ≡ Ok trade
-unfolding trade_entry field_at
+    → trade_of_row (trade_row trade) ≡ Ok trade
+unfolding trade_of_row field_at
 trade-again trade a b c d e f g h i = rw (a, b, c, d, e, f, g, h, i) refl
 
-side-again : (s : Side) → side_form (side_text s) ≡ Some s
+side-again : (s : Side) → row_side_form (row_side_text s) ≡ Some s
 side-again side.Buy = refl
 side-again side.Sell = refl
 
@@ -56,7 +56,7 @@ kind-again life.Rests = refl
 kind-again life.Immediate = refl
 kind-again life.Market = refl
 
-side-unquoted : (s : Side) → list_all is_name_byte (side_text s) ≡ true
+side-unquoted : (s : Side) → list_all is_name_byte (row_side_text s) ≡ true
 side-unquoted side.Buy = refl
 side-unquoted side.Sell = refl
 
@@ -67,22 +67,22 @@ kind-unquoted life.Market = refl
 
 -- a line of an order means the order
 new-again : (head : Head) (terms : Terms) (l : Life) → is_name head.key.firm ≡ true → is_name head.key.id ≡ true → stamp_form (stamp_text head.time) ≡ Some head.time → is_name head.symbol ≡ true
-    → quantity_form (decimal terms.quantity) ≡ Some terms.quantity → price_form (price_text terms.price) ≡ Some terms.price → HasMarketPrice (new_order head terms l)
-    → order_entry (order_fields (new_order head terms l)) ≡ Ok (new_order head terms l)
-unfolding order_entry field_at
+    → quantity_form (decimal terms.quantity) ≡ Some terms.quantity → price_form (price_text terms.price) ≡ Some terms.price → HasMarketPrice (csv_new_order head terms l)
+    → order_of_row (order_row (csv_new_order head terms l)) ≡ Ok (csv_new_order head terms l)
+unfolding order_of_row field_at
 new-again head terms life.Rests a b c d e f priced = rw (a, b, c, d, side-again terms.side, e, f) refl
 new-again head terms life.Immediate a b c d e f priced = rw (a, b, c, d, side-again terms.side, e, f) refl
 new-again head terms life.Market a b c d e f priced = rw (a, b, c, d, side-again terms.side, e, priced refl) refl
 
 cancel-again : (head : Head) (target : List ℕ) → is_name head.key.firm ≡ true → is_name head.key.id ≡ true → stamp_form (stamp_text head.time) ≡ Some head.time → is_name head.symbol ≡ true
-    → is_name target ≡ true → order_entry (order_fields (cancel_order head target)) ≡ Ok (cancel_order head target)
-unfolding order_entry field_at
+    → is_name target ≡ true → order_of_row (order_row (csv_cancel_order head target)) ≡ Ok (csv_cancel_order head target)
+unfolding order_of_row field_at
 cancel-again head target a b c d e = rw (a, b, c, d, e) refl
 
 replace-again : (head : Head) (terms : Terms) (target : List ℕ) → is_name head.key.firm ≡ true → is_name head.key.id ≡ true → stamp_form (stamp_text head.time) ≡ Some head.time → is_name head.symbol ≡ true
     → quantity_form (decimal terms.quantity) ≡ Some terms.quantity → price_form (price_text terms.price) ≡ Some terms.price → is_name target ≡ true
-    → order_entry (order_fields (replace_order head terms target)) ≡ Ok (replace_order head terms target)
-unfolding order_entry field_at
+    → order_of_row (order_row (csv_replace_order head terms target)) ≡ Ok (csv_replace_order head terms target)
+unfolding order_of_row field_at
 replace-again head terms target a b c d e f g = rw (a, b, c, d, side-again terms.side, e, f, g) refl
 
 -- A name's facts, and those of a canonical text.
@@ -93,18 +93,18 @@ pub new-line : (head : Head) (terms : Terms) (l : Life) → is_name head.key.fir
     → list_all is_name_byte (stamp_text head.time) ≡ true → stamp_form (stamp_text head.time) ≡ Some head.time
     → list_all is_name_byte (decimal terms.quantity) ≡ true → quantity_form (decimal terms.quantity) ≡ Some terms.quantity
     → list_all is_name_byte (limit_text l terms.price) ≡ true → price_form (price_text terms.price) ≡ Some terms.price
-    → IsLineOf order_entry HasMarketPrice (new_order head terms l) (order_fields (new_order head terms l))
+    → IsLineOf order_of_row HasMarketPrice (csv_new_order head terms l) (order_row (csv_new_order head terms l))
 new-line head terms l firm id symbol time_unquoted time quantity_unquoted quantity limit_unquoted price = record {
   nine = refl;
   unquoted =
-      nine-unquoted (kind_text l) head.key.firm head.key.id (stamp_text head.time) head.symbol (side_text terms.side) (decimal terms.quantity) (limit_text l terms.price) []
+      nine-unquoted (kind_text l) head.key.firm head.key.id (stamp_text head.time) head.symbol (row_side_text terms.side) (decimal terms.quantity) (limit_text l terms.price) []
       (kind-unquoted l) (name-bytes head.key.firm firm) (name-bytes head.key.id id) time_unquoted (name-bytes head.symbol symbol) (side-unquoted terms.side) quantity_unquoted limit_unquoted refl;
   again = λ priced. new-again head terms l firm id time symbol quantity price priced;
 }
 
 pub cancel-line : (head : Head) (target : List ℕ) → is_name head.key.firm ≡ true → is_name head.key.id ≡ true → is_name head.symbol ≡ true → is_name target ≡ true
     → list_all is_name_byte (stamp_text head.time) ≡ true → stamp_form (stamp_text head.time) ≡ Some head.time
-    → IsLineOf order_entry HasMarketPrice (cancel_order head target) (order_fields (cancel_order head target))
+    → IsLineOf order_of_row HasMarketPrice (csv_cancel_order head target) (order_row (csv_cancel_order head target))
 cancel-line head target firm id symbol name time_unquoted time = record {
   nine = refl;
   unquoted =
@@ -117,11 +117,11 @@ pub replace-line : (head : Head) (terms : Terms) (target : List ℕ) → is_name
     → list_all is_name_byte (stamp_text head.time) ≡ true → stamp_form (stamp_text head.time) ≡ Some head.time
     → list_all is_name_byte (decimal terms.quantity) ≡ true → quantity_form (decimal terms.quantity) ≡ Some terms.quantity
     → list_all is_name_byte (price_text terms.price) ≡ true → price_form (price_text terms.price) ≡ Some terms.price
-    → IsLineOf order_entry HasMarketPrice (replace_order head terms target) (order_fields (replace_order head terms target))
+    → IsLineOf order_of_row HasMarketPrice (csv_replace_order head terms target) (order_row (csv_replace_order head terms target))
 replace-line head terms target firm id symbol name time_unquoted time quantity_unquoted quantity price_unquoted price = record {
   nine = refl;
   unquoted =
-      nine-unquoted (codes "R") head.key.firm head.key.id (stamp_text head.time) head.symbol (side_text terms.side) (decimal terms.quantity) (price_text terms.price) target
+      nine-unquoted (codes "R") head.key.firm head.key.id (stamp_text head.time) head.symbol (row_side_text terms.side) (decimal terms.quantity) (price_text terms.price) target
       refl (name-bytes head.key.firm firm) (name-bytes head.key.id id) time_unquoted (name-bytes head.symbol symbol) (side-unquoted terms.side) quantity_unquoted price_unquoted (name-bytes target name);
   again = λ _. replace-again head terms target firm id time symbol quantity price name;
 }
@@ -131,7 +131,7 @@ pub trade-line : (trade : TradeRecord) → is_name trade.trade ≡ true → is_n
     → list_all is_name_byte (stamp_text trade.time) ≡ true → stamp_form (stamp_text trade.time) ≡ Some trade.time
     → list_all is_name_byte (decimal trade.quantity) ≡ true → quantity_form (decimal trade.quantity) ≡ Some trade.quantity
     → list_all is_name_byte (price_text trade.price) ≡ true → price_form (price_text trade.price) ≡ Some trade.price
-    → IsLineOf trade_entry (λ _. ⊤) trade (trade_fields trade)
+    → IsLineOf trade_of_row (λ _. ⊤) trade (trade_row trade)
 trade-line trade name symbol buy_firm buy_id sell_firm sell_id time_unquoted time quantity_unquoted quantity price_unquoted price = record {
   nine = refl;
   unquoted =

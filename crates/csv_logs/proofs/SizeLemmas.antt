@@ -15,9 +15,9 @@ use Rattle.csv.specs.declared.parser.Action.TheVariants as act
 use Rattle.log_source.specs.Collectors.{HasNineBytesEach, HasPlace}
 use Rattle.log_source.specs.Sources.{longest_read}
 use Rattle.csv_logs.specs.Columns.{is_broken, is_printable, line_fields}
-use Rattle.csv_logs.specs.Feeds.{HasRead, IsPassed}
-use Rattle.csv_logs.specs.Lines.{Line, cut_lines, full_lines, is_full, join_first, mark_size, placed, without_cr}
-use Rattle.csv_logs.specs.Logs.{fields_entry, is_header, line_entry, read_entries, read_lines, read_log}
+use Rattle.csv_logs.specs.Feeds.{HasLogRecords, AreGoodLines}
+use Rattle.csv_logs.specs.Lines.{Line, cut_lines, nonempty_lines, is_nonempty_line, join_first, mark_size, lines_with_offsets, without_cr}
+use Rattle.csv_logs.specs.Logs.{fields_entry, is_header, line_entry, read_entries, read_lines, read_csv_log}
 use Rattle.csv_logs.proofs.ClosedLemmas.{unbroken-printable}
 use Rattle.csv_logs.proofs.LineLemmas.{extent}
 use Rattle.csv_logs.proofs.LogLemmas.{after_line-ok, passed-header}
@@ -94,7 +94,7 @@ cr-size line = elim (cases_Bool (ends_with ◌==◌ line (13 ∷ []))) [
   | inr none ↦ rw none (omega arith)
 ]
 
-placed-extent : (start : ℕ) (lines : List (List ℕ)) → text_extent (placed start lines) ≤ extent lines
+placed-extent : (start : ℕ) (lines : List (List ℕ)) → text_extent (lines_with_offsets start lines) ≤ extent lines
 placed-extent start [] = omega arith
 placed-extent start (line ∷ lines) = omega (arith, cr-size line, placed-extent (start + length line + 1) lines)
 
@@ -106,12 +106,12 @@ filter-extent test (line ∷ lines) = let later = filter-extent test lines in el
 ]
 
 -- the lines of a log have no more bytes than the log, and one where the last lacks its LF
-pub full-extent : (log : List ℕ) → text_extent (full_lines log) ≤ length log + 1
-unfolding full_lines
+pub full-extent : (log : List ℕ) → text_extent (nonempty_lines log) ≤ length log + 1
+unfolding nonempty_lines
 full-extent log =
     let mark : ℕ = mark_size log in
     let lines : List (List ℕ) = cut_lines (drop mark log) in
-    omega (arith, filter-extent is_full (placed mark lines), placed-extent mark lines, cut-extent (drop mark log), length-drop mark log)
+    omega (arith, filter-extent is_nonempty_line (lines_with_offsets mark lines), placed-extent mark lines, cut-extent (drop mark log), length-drop mark log)
 
 -- How many bytes records have.
 module _ {R : Type 0} (entry : List (List ℕ) → Result R Reason) where
@@ -138,7 +138,7 @@ module _ {R : Type 0} (entry : List (List ℕ) → Result R Reason) where
       omega (arith, ap length q.4, record-size line.text q.0 q.2, read_entries-size (before + 1) lines q.1 q.3)
 
   -- good lines of a text of this size have each nine bytes of it
-  pub passed-size : (names : List (List ℕ)) (header : Bool) (entries : List R) (lines : List Line) (size : ℕ) → IsPassed names entry header entries lines → text_extent lines ≤ size + 1 → 9 * length entries ≤ size
+  pub passed-size : (names : List (List ℕ)) (header : Bool) (entries : List R) (lines : List Line) (size : ℕ) → AreGoodLines names entry header entries lines → text_extent lines ≤ size + 1 → 9 * length entries ≤ size
   passed-size names false entries lines size is most = rw is.1 (omega arith)
   passed-size names true entries [] size is most = absurd (cc is)
   passed-size names true entries (first ∷ lines) size is most =
@@ -150,19 +150,19 @@ module _ {R : Type 0} (entry : List (List ℕ) → Result R Reason) where
   read_lines-size names size (first ∷ lines) entries is most = passed-size names true entries (first ∷ lines) size is most
 
   -- each record of a good log has nine bytes of it
-  pub read_log-size : (names : List (List ℕ)) (log : List ℕ) (entries : List R) → read_log names entry log ≡ Ok entries → 9 * length entries ≤ length log
-  unfolding read_log
-  read_log-size names log entries is = read_lines-size names (length log) (full_lines log) entries is (full-extent log)
+  pub read_log-size : (names : List (List ℕ)) (log : List ℕ) (entries : List R) → read_csv_log names entry log ≡ Ok entries → 9 * length entries ≤ length log
+  unfolding read_csv_log
+  read_log-size names log entries is = read_lines-size names (length log) (nonempty_lines log) entries is (full-extent log)
 
   all-ok : (reading : Result (List R) BadPlace) (holds : List R → Type 0) → ((entries : List R) → reading ≡ Ok entries → holds entries) → IfOk reading holds
   all-ok (Ok entries) holds all = all entries refl
   all-ok (Err bad) holds all = tt
 
-  pub log_nine : (names : List (List ℕ)) (log : List ℕ) → IfOk (read_log names entry log) (λ entries. HasNineBytesEach entries log)
-  log_nine names log = all-ok (read_log names entry log) (λ entries. HasNineBytesEach entries log) (read_log-size names log)
+  pub log_nine : (names : List (List ℕ)) (log : List ℕ) → IfOk (read_csv_log names entry log) (λ entries. HasNineBytesEach entries log)
+  log_nine names log = all-ok (read_csv_log names entry log) (λ entries. HasNineBytesEach entries log) (read_log-size names log)
 
   -- a collector that was handed the records of a log has a place for one more
   pub read-place : {K : Type 0} (names : List (List ℕ)) (has_taken : K → List R → Type 0) (collector : K) (log : List ℕ) → length log ≤ longest_read
-      → HasRead (has_taken collector) (read_log names entry log) → HasPlace has_taken collector
+      → HasLogRecords (has_taken collector) (read_csv_log names entry log) → HasPlace has_taken collector
   read-place names has_taken collector log within read =
       record { entries = read.entries; has = read.has; few = omega (arith, read_log-size names log read.entries read.reads, within) }

@@ -5,7 +5,7 @@ use Rattle.std.specs.List.{list_all, list_any, starts_with, ends_with}
 use Rattle.std.proofs.lemmas.Bool.{and_parts, and_from, or_from, or_parts, both_ways, not-true, leb-true, ne_eqb, false_from_ne_true}
 use Rattle.csv.specs.Reading.{is_bom, strip_bom}
 use Rattle.csv_logs.specs.Columns.{is_printable, is_quote, is_broken, is_unquoted_byte}
-use Rattle.csv_logs.specs.Lines.{Line, mark, mark_size, without_cr}
+use Rattle.csv_logs.specs.Lines.{Line, byte_order_mark, mark_size, without_cr}
 use Rattle.csv_logs.specs.Steps.{line_at}
 use Rattle.csv_logs.specs.Feeds.{is_lf}
 use Rattle.csv_logs.specs.Readers.{is_plain_byte}
@@ -49,10 +49,10 @@ unquoted-drop zero line unquoted = unquoted
 unquoted-drop (suc n) [] unquoted = refl
 unquoted-drop (suc n) (byte ∷ rest) unquoted = unquoted-drop n rest (and_parts (is_unquoted_byte byte) (list_all is_unquoted_byte rest) unquoted).1
 
-no-mark : (line : List ℕ) → list_all is_unquoted_byte line ≡ true → starts_with ◌==◌ line mark ≡ false
-no-mark line unquoted = false_from_ne_true (starts_with ◌==◌ line mark) (λ is.
-    let same = bytes-same mark (take 3 line) is in
-    both_ways (list_all is_unquoted_byte mark) refl (ap (list_all is_unquoted_byte) same ∙ unquoted-take 3 line unquoted))
+no-mark : (line : List ℕ) → list_all is_unquoted_byte line ≡ true → starts_with ◌==◌ line byte_order_mark ≡ false
+no-mark line unquoted = false_from_ne_true (starts_with ◌==◌ line byte_order_mark) (λ is.
+    let same = bytes-same byte_order_mark (take 3 line) is in
+    both_ways (list_all is_unquoted_byte byte_order_mark) refl (ap (list_all is_unquoted_byte) same ∙ unquoted-take 3 line unquoted))
 
 pub unquoted-mark : (line : List ℕ) → list_all is_unquoted_byte line ≡ true → mark_size line ≡ 0
 unquoted-mark line unquoted = rw (no-mark line unquoted) refl
@@ -65,7 +65,7 @@ no-cr line unquoted = false_from_ne_true (ends_with ◌==◌ line (13 ∷ [])) (
 pub unquoted-cr : (line : List ℕ) → list_all is_unquoted_byte line ≡ true → without_cr line ≡ line
 unquoted-cr line unquoted = rw (no-cr line unquoted) refl
 
--- a unquoted line stands as it is
+-- an unquoted line stays as it is
 pub unquoted-line_at : (start : ℕ) (line : List ℕ) → list_all is_unquoted_byte line ≡ true → line_at start line ≡ record { start = start; text = line }
 unquoted-line_at zero line unquoted =
     ap (λ (m : ℕ). let l : Line = record { start = m; text = without_cr (drop m line) } in l) (unquoted-mark line unquoted)

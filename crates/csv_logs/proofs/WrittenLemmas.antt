@@ -10,10 +10,10 @@ use Rattle.audit_base.specs.Names.{is_name_byte}
 use Rattle.audit_base.specs.declared.faults.Reason.{Reason}
 use Rattle.csv.proofs.RoundTrip.{read-write-many}
 use Rattle.csv_logs.specs.Columns.{line_fields, is_unquoted_byte}
-use Rattle.csv_logs.specs.Logs.{is_header, line_entry, read_log}
-use Rattle.csv_logs.specs.Feeds.{IsOpen}
+use Rattle.csv_logs.specs.Logs.{is_header, line_entry, read_csv_log}
+use Rattle.csv_logs.specs.Feeds.{HasNoBadLine}
 use Rattle.csv_logs.specs.Steps.{header_says, line_says, entry_says}
-use Rattle.csv_logs.specs.Written.{line_text, log_text}
+use Rattle.csv_logs.specs.Written.{csv_line_text, log_text}
 use Rattle.csv_logs.specs.WrittenLines.{IsLineOf, have_name_bytes}
 use Rattle.csv_logs.proofs.FieldLemmas.{fields-equal}
 use Rattle.csv_logs.proofs.UnquotedLemmas.{unquoted-unbroken, unquoted-bom, unquoted-no_lf, unquoted-line_at}
@@ -53,7 +53,7 @@ unquoted-rest field (next ∷ fields) unquoted =
 
 -- what `csv` writes of unquoted fields is their line
 pub unquoted-row : (first second : List ℕ) (fields : List (List ℕ)) → have_name_bytes (first ∷ second ∷ fields) ≡ true
-    → row_text default_writer (first ∷ second ∷ fields) ≡ line_text (first ∷ second ∷ fields)
+    → row_text default_writer (first ∷ second ∷ fields) ≡ csv_line_text (first ∷ second ∷ fields)
 unfolding is_blank
 unquoted-row first second fields unquoted =
     let p = and_parts (list_all is_name_byte first) (have_name_bytes (second ∷ fields)) unquoted in
@@ -115,44 +115,44 @@ entry-again meaning fields entry nine unquoted again =
 module _ {R : Type 0} (names : List (List ℕ)) (meaning : List (List ℕ) → Result R Reason) where
   -- one more line of unquoted fields
   line-again : (entries : List R) (offset : ℕ) (header : Bool) (log : List ℕ) (fields : List (List ℕ)) (new : Option R) → length fields ≡ 9 → have_name_bytes fields ≡ true
-      → line_says names meaning header (join_with_byte 44 fields) ≡ Ok new → IsOpen names meaning entries [] offset header log
-      → IsOpen names meaning (entries ++ option_to_list new) [] (offset + length (join_with_byte 44 fields) + 1) true (log ++ line_text fields)
+      → line_says names meaning header (join_with_byte 44 fields) ≡ Ok new → HasNoBadLine names meaning entries [] offset header log
+      → HasNoBadLine names meaning (entries ++ option_to_list new) [] (offset + length (join_with_byte 44 fields) + 1) true (log ++ csv_line_text fields)
   line-again entries offset header log fields new nine unquoted says is =
       let line : List ℕ = join_with_byte 44 fields in
       let is_unquoted = join-unquoted fields unquoted in
       let at = unquoted-line_at offset line is_unquoted in
       let longer = open-rest names meaning entries [] line offset header log (unquoted-no_lf line is_unquoted) is in
-      subst (IsOpen names meaning (entries ++ option_to_list new) [] (offset + length line + 1) true) (append_assoc log line (10 ∷ []))
+      subst (HasNoBadLine names meaning (entries ++ option_to_list new) [] (offset + length line + 1) true) (append_assoc log line (10 ∷ []))
       (open-good names meaning entries line offset header (log ++ line) new longer (rw at (ap not (join-full fields nine))) (rw at says))
 
   -- lines of records, each with the fields that mean it
-  lines-again : (fields : R → List (List ℕ)) (readable : R → Type 0) (done entries : List R) (offset : ℕ) (log : List ℕ) → IsOpen names meaning done [] offset true log
+  lines-again : (fields : R → List (List ℕ)) (readable : R → Type 0) (done entries : List R) (offset : ℕ) (log : List ℕ) → HasNoBadLine names meaning done [] offset true log
       → All (λ entry. IsLineOf meaning readable entry (fields entry)) entries → All readable entries
-      → (end : ℕ) × IsOpen names meaning (done ++ entries) [] end true (log ++ flat_map (λ entry. line_text (fields entry)) entries)
+      → (end : ℕ) × HasNoBadLine names meaning (done ++ entries) [] end true (log ++ flat_map (λ entry. csv_line_text (fields entry)) entries)
   lines-again fields readable done [] offset log is lines reads =
-      (offset, subst (λ (es : List R). IsOpen names meaning es [] offset true (log ++ [])) (sym (append-nil done)) (subst (IsOpen names meaning done [] offset true) (sym (append-nil log)) is))
+      (offset, subst (λ (es : List R). HasNoBadLine names meaning es [] offset true (log ++ [])) (sym (append-nil done)) (subst (HasNoBadLine names meaning done [] offset true) (sym (append-nil log)) is))
   lines-again fields readable done (entry ∷ entries) offset log is lines reads =
       let line = lines 0 entry (omega arith) in
       let says = ap entry_says (entry-again meaning (fields entry) entry line.nine line.unquoted (line.again (reads 0 entry (omega arith)))) in
       let one = line-again done offset true log (fields entry) (Some entry) line.nine line.unquoted says is in
-      let later = flat_map (λ entry. line_text (fields entry)) entries in
-      let more = lines-again fields readable (done ++ entry ∷ []) entries _ (log ++ line_text (fields entry)) one (λ k d h. lines (suc k) d (omega (arith, h))) (λ k d h. reads (suc k) d (omega (arith, h))) in (
+      let later = flat_map (λ entry. csv_line_text (fields entry)) entries in
+      let more = lines-again fields readable (done ++ entry ∷ []) entries _ (log ++ csv_line_text (fields entry)) one (λ k d h. lines (suc k) d (omega (arith, h))) (λ k d h. reads (suc k) d (omega (arith, h))) in (
         more.0,
-        subst (λ (es : List R). IsOpen names meaning es [] more.0 true (log ++ (line_text (fields entry) ++ later))) (append_assoc done (entry ∷ []) entries)
-            (subst (IsOpen names meaning ((done ++ entry ∷ []) ++ entries) [] more.0 true) (append_assoc log (line_text (fields entry)) later) more.1),
+        subst (λ (es : List R). HasNoBadLine names meaning es [] more.0 true (log ++ (csv_line_text (fields entry) ++ later))) (append_assoc done (entry ∷ []) entries)
+            (subst (HasNoBadLine names meaning ((done ++ entry ∷ []) ++ entries) [] more.0 true) (append_assoc log (csv_line_text (fields entry)) later) more.1),
       )
 
   -- the header and these lines are a good log
   pub log-again : (fields : R → List (List ℕ)) (readable : R → Type 0) (entries : List R) → length names ≡ 9 → have_name_bytes names ≡ true
-      → All (λ entry. IsLineOf meaning readable entry (fields entry)) entries → All readable entries → read_log names meaning (log_text names fields entries) ≡ Ok entries
+      → All (λ entry. IsLineOf meaning readable entry (fields entry)) entries → All readable entries → read_csv_log names meaning (log_text names fields entries) ≡ Ok entries
   log-again fields readable entries nine unquoted lines reads =
       let says = ap (λ (t : Bool). header_says {R = R} t) (header-again names nine unquoted) in
       let header = line-again [] 0 false [] names None nine unquoted says (open-new names meaning) in
-      let all = lines-again fields readable [] entries _ (line_text names) header lines reads in
+      let all = lines-again fields readable [] entries _ (csv_line_text names) header lines reads in
       read-open names meaning entries all.0 (log_text names fields entries) all.1
 
 -- what `csv` writes of nine unquoted fields is their line
-pub row-line : (fields : List (List ℕ)) → length fields ≡ 9 → have_name_bytes fields ≡ true → row_text default_writer fields ≡ line_text fields
+pub row-line : (fields : List (List ℕ)) → length fields ≡ 9 → have_name_bytes fields ≡ true → row_text default_writer fields ≡ csv_line_text fields
 row-line [] nine unquoted = absurd (omega (arith, nine))
 row-line (first ∷ []) nine unquoted = absurd (omega (arith, nine))
 row-line (first ∷ second ∷ rest) nine unquoted = unquoted-row first second rest unquoted

@@ -20,16 +20,17 @@ abbrev pub Row : Type 0
 Row = List (List ℕ)
 
 -- what nine fields mean: a record, or why they mean none
-abbrev pub Meaning : Type 0 → Type 0
-Meaning R = Row → Result R Reason
+abbrev pub RowMeaning : Type 0 → Type 0
+RowMeaning R = Row → Result R Reason
 
 -- the first record that `csv` reads, by its defaults, from a line and one LF
-abbrev pub first_read : List ℕ → Option Read
-first_read line = next_record default_config st.StartRecord [] [] (strip_bom (line ++ 10 ∷ []))
+abbrev pub csv_read_of : List ℕ → Option Read
+csv_read_of line =
+    next_record default_config st.StartRecord [] [] (strip_bom (line ++ 10 ∷ []))
 
 -- the fields of a line: those of that record
 unfoldable pub line_fields : List ℕ → Row
-line_fields line = unwrap_or (option_map (λ read. read.0) (first_read line)) []
+line_fields line = unwrap_or (option_map (λ read. read.0) (csv_read_of line)) []
 
 abbrev pub is_printable : ℕ → Bool
 is_printable byte = nat_le 0x20 byte && nat_le byte 0x7E
@@ -61,9 +62,9 @@ Ok value >>= next = next value
 Err why >>= next = Err why
 
 -- whether there is a value, and else why not
-abbrev pub tested : {T : Type 0} → Result T Reason → Result (Unit {0}) Reason
-tested (Ok value) = Ok tt
-tested (Err why) = Err why
+abbrev pub test_result : {T : Type 0} → Result T Reason → Result (Unit {0}) Reason
+test_result (Ok value) = Ok tt
+test_result (Err why) = Err why
 
 -- the form of a column that holds nothing
 abbrev pub empty_form : List ℕ → Option (Unit {0})
@@ -71,35 +72,36 @@ empty_form [] = Some tt
 empty_form (byte ∷ rest) = None
 
 -- `B` for a bid, `S` for an ask
-abbrev pub side_form : List ℕ → Option Side
-side_form [] = None
-side_form (byte ∷ []) = if byte == 66 then Some side.Buy else if byte == 83 then Some side.Sell else None
-side_form (byte ∷ next ∷ rest) = None
+abbrev pub row_side_form : List ℕ → Option Side
+row_side_form [] = None
+row_side_form (byte ∷ []) =
+    if byte == 66 then Some side.Buy else if byte == 83 then Some side.Sell else None
+row_side_form (byte ∷ next ∷ rest) = None
 
 -- the values of a column
-abbrev pub name_at : ℕ → Row → Result (List ℕ) Reason
-name_at number fields = in_column number (name_form (column_text number fields))
+abbrev pub row_name : ℕ → Row → Result (List ℕ) Reason
+row_name number fields = in_column number (name_form (column_text number fields))
 
-abbrev pub stamp_at : ℕ → Row → Result Moment Reason
-stamp_at number fields = in_column number (stamp_form (column_text number fields))
+abbrev pub row_stamp : ℕ → Row → Result Moment Reason
+row_stamp number fields = in_column number (stamp_form (column_text number fields))
 
-abbrev pub side_at : ℕ → Row → Result Side Reason
-side_at number fields = in_column number (side_form (column_text number fields))
+abbrev pub row_side : ℕ → Row → Result Side Reason
+row_side number fields = in_column number (row_side_form (column_text number fields))
 
-abbrev pub quantity_at : ℕ → Row → Result ℕ Reason
-quantity_at number fields = in_column number (quantity_form (column_text number fields))
+abbrev pub row_quantity : ℕ → Row → Result ℕ Reason
+row_quantity number fields = in_column number (quantity_form (column_text number fields))
 
-abbrev pub price_at : ℕ → Row → Result ℕ Reason
-price_at number fields = in_column number (price_form (column_text number fields))
+abbrev pub row_price : ℕ → Row → Result ℕ Reason
+row_price number fields = in_column number (price_form (column_text number fields))
 
-abbrev pub empty_at : ℕ → Row → Result (Unit {0}) Reason
-empty_at number fields = in_column number (empty_form (column_text number fields))
+abbrev pub row_blank : ℕ → Row → Result (Unit {0}) Reason
+row_blank number fields = in_column number (empty_form (column_text number fields))
 
 -- a firm, and in the next column its id
-abbrev pub key_at : ℕ → Row → Result Key Reason
-key_at number fields = do
-  firm ← name_at number fields
-  id ← name_at (number + 1) fields
+abbrev pub row_key : ℕ → Row → Result Key Reason
+row_key number fields = do
+  firm ← row_name number fields
+  id ← row_name (number + 1) fields
   Ok (record { firm = firm; id = id })
 
 -- a column holds a name

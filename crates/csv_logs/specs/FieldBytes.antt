@@ -6,9 +6,11 @@ use Rattle.csv.specs.Records.{fields_of}
 use Rattle.csv_logs.specs.declared.fields.Fields.TheInside.{Inside}
 
 -- the fields that `csv` has read
-abbrev pub shown : Inside → List (List ℕ)
-shown fields = fields_of fields.texts
+abbrev pub texts_of_fields : Inside → List (List ℕ)
+texts_of_fields fields = fields_of fields.texts
 
 -- where it is known, each byte of each field is one that a name may hold
-abbrev pub IsTested : Inside → Type 0
-IsTested fields = fields.have_name_bytes ≡ true → IsTrue (list_all (list_all is_name_byte) (shown fields))
+abbrev pub KnowsNameBytes : Inside → Type 0
+KnowsNameBytes fields =
+    fields.have_name_bytes ≡ true
+    → IsTrue (list_all (list_all is_name_byte) (texts_of_fields fields))

@@ -1,29 +1,29 @@
 -- What holds of every CSV log, as statements: of every list of bytes, however long.
 use Rattle.std.specs.Prelude.{ℕ, IfOk, List}
-use Rattle.audit_base.specs.RecordRanges.{AreRecords}
-use Rattle.audit_base.specs.Trades.{AreTrades}
-use Rattle.csv_logs.specs.Columns.{Meaning, Row}
-use Rattle.csv_logs.specs.Logs.{IsOnlyReading, order_log, read_log, trade_log}
+use Rattle.audit_base.specs.RecordRanges.{RecordsInRange}
+use Rattle.audit_base.specs.Trades.{TradesInRange}
+use Rattle.csv_logs.specs.Columns.{RowMeaning, Row}
+use Rattle.csv_logs.specs.Logs.{IsOnlyCsvReading, csv_order_log, read_csv_log, csv_trade_log}
 use Rattle.log_source.specs.Collectors.{HasNineBytesEach}
 
 -- each log is good with exactly one list of records, or bad at exactly one place, and never both
-abbrev pub LogsAreReadOnce : {R : Type 0} → Row → Meaning R → Type 0
-LogsAreReadOnce names entry = (log : List ℕ)
-    → IsOnlyReading names entry log (read_log names entry log)
+abbrev pub CsvLogsAreReadOnce : {R : Type 0} → Row → RowMeaning R → Type 0
+CsvLogsAreReadOnce names entry = (log : List ℕ)
+    → IsOnlyCsvReading names entry log (read_csv_log names entry log)
 
 -- the numbers of each record of a good order log are in range
-abbrev pub OrdersAreInRange : Type 0
-OrdersAreInRange = (log : List ℕ) → IfOk (order_log log) AreRecords
+abbrev pub CsvOrdersAreInRange : Type 0
+CsvOrdersAreInRange = (log : List ℕ) → IfOk (csv_order_log log) RecordsInRange
 
 -- the numbers of each trade of a good trade log are in range
-abbrev pub TradesAreInRange : Type 0
-TradesAreInRange = (log : List ℕ) → IfOk (trade_log log) AreTrades
+abbrev pub CsvTradesAreInRange : Type 0
+CsvTradesAreInRange = (log : List ℕ) → IfOk (csv_trade_log log) TradesInRange
 
 -- each record of a good order log, and of a good trade log, has at least nine bytes of the log
-abbrev pub OrdersHaveNineBytes : Type 0
-OrdersHaveNineBytes = (log : List ℕ)
-    → IfOk (order_log log) (λ entries. HasNineBytesEach entries log)
+abbrev pub CsvOrdersHaveNineBytes : Type 0
+CsvOrdersHaveNineBytes = (log : List ℕ)
+    → IfOk (csv_order_log log) (λ entries. HasNineBytesEach entries log)
 
-abbrev pub TradesHaveNineBytes : Type 0
-TradesHaveNineBytes = (log : List ℕ)
-    → IfOk (trade_log log) (λ entries. HasNineBytesEach entries log)
+abbrev pub CsvTradesHaveNineBytes : Type 0
+CsvTradesHaveNineBytes = (log : List ℕ)
+    → IfOk (csv_trade_log log) (λ entries. HasNineBytesEach entries log)

@@ -1,5 +1,5 @@
--- What a CSV log says: its records, or its first bad line. The words take the names of a log's columns
--- and what nine fields mean, so that they serve order logs and trade logs.
+-- What a CSV log says: its records, or its first bad line. The definitions take the names of a
+-- log's columns and what nine fields mean, so that they serve order logs and trade logs.
 use Rattle.std.specs.Prelude.{◌≡◌, ◌⊎◌, ◌↔◌, ℕ, Bool, not, ◌+◌, ◌==◌, ◌&&◌, IsTrue, Result, Ok, Err, List, [], ◌∷◌, ◌++◌, map, length, false, if◌then◌else◌}
 use Rattle.std.specs.Cmp.Lexicographic.{pointwise}
 use Rattle.audit_base.specs.declared.faults.Reason.{Reason}
@@ -7,24 +7,26 @@ use Rattle.audit_base.specs.declared.faults.Reason.TheVariants as reason
 use Rattle.audit_base.specs.declared.faults.BadPlace.{BadPlace}
 use Rattle.audit_base.specs.declared.records.OrderRecord.{OrderRecord}
 use Rattle.audit_base.specs.declared.records.TradeRecord.{TradeRecord}
-use Rattle.csv_logs.specs.Columns.{Meaning, Row, is_broken, line_fields}
-use Rattle.csv_logs.specs.Lines.{Line, full_lines}
+use Rattle.csv_logs.specs.Columns.{RowMeaning, Row, is_broken, line_fields}
+use Rattle.csv_logs.specs.Lines.{Line, nonempty_lines}
 use Rattle.audit_base.specs.Columns.{order_columns, trade_columns}
-use Rattle.csv_logs.specs.OrderLines.{order_entry}
-use Rattle.csv_logs.specs.TradeLines.{trade_entry}
+use Rattle.csv_logs.specs.OrderLines.{order_of_row}
+use Rattle.csv_logs.specs.TradeLines.{trade_of_row}
 
 -- nine fields mean a record, or the first column that is not in its form
-abbrev pub fields_entry : {R : Type 0} → Meaning R → Row → Result R Reason
+abbrev pub fields_entry : {R : Type 0} → RowMeaning R → Row → Result R Reason
 fields_entry entry fields = if length fields == 9 then entry fields else Err reason.Columns
 
--- a line that is not empty is a record, or the first test that it fails: its bytes and quotes, its nine
--- fields, each column in turn
-unfoldable pub line_entry : {R : Type 0} → Meaning R → List ℕ → Result R Reason
-line_entry entry line = if is_broken line then Err reason.Break else fields_entry entry (line_fields line)
+-- a line that is not empty is a record, or the first test that it fails: its bytes and quotes,
+-- its nine fields, each column in turn
+unfoldable pub line_entry : {R : Type 0} → RowMeaning R → List ℕ → Result R Reason
+line_entry entry line =
+    if is_broken line then Err reason.Break else fields_entry entry (line_fields line)
 
 -- this is the symbol of the record that was read, if one was
 abbrev pub IsSymbolOf : {R : Type 0} → (R → List ℕ) → Result R Reason → List ℕ → Type 0
-IsSymbolOf symbol_of reading symbol = (entry : _) → reading ≡ Ok entry → symbol_of entry ≡ symbol
+IsSymbolOf symbol_of reading symbol =
+    (entry : _) → reading ≡ Ok entry → symbol_of entry ≡ symbol
 
 -- these are the same fields, byte for byte
 abbrev pub same_fields : Row → Row → Bool
@@ -35,84 +37,92 @@ unfoldable pub is_header : Row → List ℕ → Bool
 is_header names line = not (is_broken line) && same_fields (line_fields line) names
 
 -- what a log says: its records, or its first bad line
-abbrev pub Reading : Type 0 → Type 0
-Reading R = Result (List R) BadPlace
+abbrev pub LogResult : Type 0 → Type 0
+LogResult R = Result (List R) BadPlace
 
 -- one record before others
-abbrev pub with_first : {R : Type 0} → R → Reading R → Reading R
-with_first entry (Ok entries) = Ok (entry ∷ entries)
-with_first entry (Err bad) = Err bad
+abbrev pub with_record_of_line : {R : Type 0} → R → LogResult R → LogResult R
+with_record_of_line entry (Ok entries) = Ok (entry ∷ entries)
+with_record_of_line entry (Err bad) = Err bad
 
 -- a line with `before` records before it, and what the lines after it say
-abbrev pub after_line : {R : Type 0} → ℕ → ℕ → Result R Reason → Reading R → Reading R
-after_line before start (Ok entry) later = with_first entry later
-after_line before start (Err why) later = Err (record { place = before + 1; offset = start; reason = why })
+abbrev pub after_line : {R : Type 0} → ℕ → ℕ → Result R Reason → LogResult R → LogResult R
+after_line before start (Ok entry) later = with_record_of_line entry later
+after_line before start (Err why) later =
+    Err (record { place = before + 1; offset = start; reason = why })
 
 -- the records of these lines, or the first of them that is none
-abbrev pub read_entries : {R : Type 0} → Meaning R → ℕ → List Line → Reading R
+abbrev pub read_entries : {R : Type 0} → RowMeaning R → ℕ → List Line → LogResult R
 read_entries entry before [] = Ok []
 read_entries entry before (line ∷ lines) =
-    after_line before line.start (line_entry entry line.text) (read_entries entry (before + 1) lines)
+    after_line before line.start (line_entry entry line.text)
+    (read_entries entry (before + 1) lines)
 
 -- the header, and the records of the lines after it; `size` is the log's length
-abbrev pub read_lines : {R : Type 0} → Row → Meaning R → ℕ → List Line → Reading R
-read_lines names entry size [] = Err (record { place = 1; offset = size; reason = reason.Header })
+abbrev pub read_lines : {R : Type 0} → Row → RowMeaning R → ℕ → List Line → LogResult R
+read_lines names entry size [] =
+    Err (record { place = 1; offset = size; reason = reason.Header })
 read_lines names entry size (header ∷ lines) =
     if is_header names header.text then read_entries entry 0 lines
     else Err (record { place = 1; offset = header.start; reason = reason.Header })
 
 -- what a log says: its records, or its first bad place
-unfoldable pub read_log : {R : Type 0} → Row → Meaning R → List ℕ → Reading R
-read_log names entry log = read_lines names entry (length log) (full_lines log)
+unfoldable pub read_csv_log : {R : Type 0} → Row → RowMeaning R → List ℕ → LogResult R
+read_csv_log names entry log = read_lines names entry (length log) (nonempty_lines log)
 
-abbrev pub order_log : List ℕ → Result (List OrderRecord) BadPlace
-order_log log = read_log order_columns order_entry log
+abbrev pub csv_order_log : List ℕ → Result (List OrderRecord) BadPlace
+csv_order_log log = read_csv_log order_columns order_of_row log
 
-abbrev pub trade_log : List ℕ → Result (List TradeRecord) BadPlace
-trade_log log = read_log trade_columns trade_entry log
+abbrev pub csv_trade_log : List ℕ → Result (List TradeRecord) BadPlace
+csv_trade_log log = read_csv_log trade_columns trade_of_row log
 
--- The log is good with these records: its first line that is not empty is the header, and each further one is a record.
-pub record IsGood {R : Type 0} (names : Row) (entry : Meaning R) (log : List ℕ) (entries : List R) : Type 0 where
+-- The log is good with these records: its first line that is not empty is the header, and each
+-- further one is a record.
+pub record IsGoodCsvLog {R : Type 0} (names : Row) (entry : RowMeaning R) (log : List ℕ)
+    (entries : List R) : Type 0 where
   pub header : Line
   pub lines : List Line
-  pub cut : full_lines log ≡ header ∷ lines
+  pub cut : nonempty_lines log ≡ header ∷ lines
   pub named : IsTrue (is_header names header.text)
   pub records : map (λ line. line_entry entry line.text) lines ≡ map Ok entries
 
 -- Every line of the log is empty: the header is missing at its end.
 pub record LacksHeader (log : List ℕ) (bad : BadPlace) : Type 0 where
-  pub empty : full_lines log ≡ []
+  pub empty : nonempty_lines log ≡ []
   pub place : bad ≡ record { place = 1; offset = length log; reason = reason.Header }
 
 -- The first line that is not empty is no header.
 pub record HasBadHeader (names : Row) (log : List ℕ) (bad : BadPlace) : Type 0 where
   pub header : Line
   pub lines : List Line
-  pub cut : full_lines log ≡ header ∷ lines
+  pub cut : nonempty_lines log ≡ header ∷ lines
   pub unnamed : is_header names header.text ≡ false
   pub place : bad ≡ record { place = 1; offset = header.start; reason = reason.Header }
 
 -- After the header and lines that are records, a line fails a test: its place is one more than the
 -- number of those records.
-pub record HasBadLine {R : Type 0} (names : Row) (entry : Meaning R) (log : List ℕ) (bad : BadPlace) : Type 0 where
+pub record HasBadLine {R : Type 0} (names : Row) (entry : RowMeaning R) (log : List ℕ)
+    (bad : BadPlace) : Type 0 where
   pub header : Line
   pub good : List Line
   pub line : Line
   pub after : List Line
   pub entries : List R
   pub why : Reason
-  pub cut : full_lines log ≡ header ∷ (good ++ line ∷ after)
+  pub cut : nonempty_lines log ≡ header ∷ (good ++ line ∷ after)
   pub named : IsTrue (is_header names header.text)
   pub records : map (λ line. line_entry entry line.text) good ≡ map Ok entries
   pub fails : line_entry entry line.text ≡ Err why
   pub place : bad ≡ record { place = length entries + 1; offset = line.start; reason = why }
 
 -- the log is bad there
-abbrev pub IsBad : {R : Type 0} → Row → Meaning R → List ℕ → BadPlace → Type 0
-IsBad names entry log bad = LacksHeader log bad ⊎ (HasBadHeader names log bad ⊎ HasBadLine names entry log bad)
+abbrev pub IsBadCsvLog : {R : Type 0} → Row → RowMeaning R → List ℕ → BadPlace → Type 0
+IsBadCsvLog names entry log bad =
+    LacksHeader log bad ⊎ (HasBadHeader names log bad ⊎ HasBadLine names entry log bad)
 
--- A log is read in one way: it is good with one list of records or bad at one place, and never both.
-pub record IsOnlyReading {R : Type 0} (names : Row) (entry : Meaning R) (log : List ℕ)
-    (reading : Reading R) : Type 0 where
-  pub good : (entries : List R) → IsGood names entry log entries ↔ (reading ≡ Ok entries)
-  pub bad : (place : BadPlace) → IsBad names entry log place ↔ (reading ≡ Err place)
+-- A log is read in one way: it is good with one list of records
+-- or bad at one place, and never both.
+pub record IsOnlyCsvReading {R : Type 0} (names : Row) (entry : RowMeaning R) (log : List ℕ)
+    (reading : LogResult R) : Type 0 where
+  pub good : (entries : List R) → IsGoodCsvLog names entry log entries ↔ (reading ≡ Ok entries)
+  pub bad : (place : BadPlace) → IsBadCsvLog names entry log place ↔ (reading ≡ Err place)

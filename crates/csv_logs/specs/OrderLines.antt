@@ -1,4 +1,5 @@
--- What a line of an order log means. The codes of `N`, `X`, `R`, `I` and `M` are 78, 88, 82, 73 and 77.
+-- What a line of an order log means. The codes of `N`, `X`, `R`, `I`
+-- and `M` are 78, 88, 82, 73 and 77.
 use Rattle.std.specs.Prelude.{ℕ, ◌==◌, Option, Some, None, Result, Ok, List, [], ◌∷◌, if◌then◌else◌}
 use Rattle.audit_base.specs.declared.faults.Reason.{Reason}
 use Rattle.audit_base.specs.declared.records.OrderRecord.{OrderRecord}
@@ -10,7 +11,7 @@ use Rattle.audit_base.specs.Numbers.{market_price}
 use Rattle.csv_logs.specs.declared.orders.Kind.{Kind}
 use Rattle.csv_logs.specs.declared.orders.Kind.TheVariants as kind
 use Rattle.csv_logs.specs.declared.orders.Head.{Head}
-use Rattle.csv_logs.specs.Columns.{Row, column_text, in_column, ◌>>=◌, name_at, stamp_at, side_at, quantity_at, price_at, empty_at, key_at, HasKey, HasName, written_key}
+use Rattle.csv_logs.specs.Columns.{Row, column_text, in_column, ◌>>=◌, row_name, row_stamp, row_side, row_quantity, row_price, row_blank, row_key, HasKey, HasName, written_key}
 
 abbrev pub kind_of : ℕ → Option Kind
 kind_of letter =
@@ -25,11 +26,11 @@ kind_form (letter ∷ []) = kind_of letter
 kind_form (letter ∷ next ∷ rest) = None
 
 -- columns 2 to 5, which every kind has: firm and id, time, symbol
-abbrev pub head_at : Row → Result Head Reason
-head_at fields = do
-  key ← key_at 2 fields
-  time ← stamp_at 4 fields
-  symbol ← name_at 5 fields
+abbrev pub row_head : Row → Result Head Reason
+row_head fields = do
+  key ← row_key 2 fields
+  time ← row_stamp 4 fields
+  symbol ← row_name 5 fields
   Ok (record { key = key; time = time; symbol = symbol })
 
 -- columns 2, 3 and 5 hold names
@@ -42,52 +43,52 @@ written_head time fields =
     record { key = written_key 2 fields; time = time; symbol = column_text 5 fields }
 
 -- a new order with a limit has a side, a quantity and a price, and no target
-abbrev pub limit_order : Head → Life → Row → Result OrderRecord Reason
-limit_order head life fields = do
-  side ← side_at 6 fields
-  quantity ← quantity_at 7 fields
-  price ← price_at 8 fields
-  none ← empty_at 9 fields
+abbrev pub row_limit_order : Head → Life → Row → Result OrderRecord Reason
+row_limit_order head life fields = do
+  side ← row_side 6 fields
+  quantity ← row_quantity 7 fields
+  price ← row_price 8 fields
+  none ← row_blank 9 fields
   Ok (record_of.New head.key head.time head.symbol side quantity price life)
 
 -- a market order has a side and a quantity, and no price and no target
-abbrev pub market_order : Head → Row → Result OrderRecord Reason
-market_order head fields = do
-  side ← side_at 6 fields
-  quantity ← quantity_at 7 fields
-  no_price ← empty_at 8 fields
-  no_target ← empty_at 9 fields
+abbrev pub row_market_order : Head → Row → Result OrderRecord Reason
+row_market_order head fields = do
+  side ← row_side 6 fields
+  quantity ← row_quantity 7 fields
+  no_price ← row_blank 8 fields
+  no_target ← row_blank 9 fields
   Ok (record_of.New head.key head.time head.symbol side quantity (market_price side) life.Market)
 
 -- a cancel has a target alone
-abbrev pub cancel : Head → Row → Result OrderRecord Reason
-cancel head fields = do
-  no_side ← empty_at 6 fields
-  no_quantity ← empty_at 7 fields
-  no_price ← empty_at 8 fields
-  target ← name_at 9 fields
+abbrev pub row_cancel : Head → Row → Result OrderRecord Reason
+row_cancel head fields = do
+  no_side ← row_blank 6 fields
+  no_quantity ← row_blank 7 fields
+  no_price ← row_blank 8 fields
+  target ← row_name 9 fields
   Ok (record_of.Cancel head.key head.time head.symbol target)
 
 -- a replacement has a side, a quantity, a price and a target
-abbrev pub replacement : Head → Row → Result OrderRecord Reason
-replacement head fields = do
-  side ← side_at 6 fields
-  quantity ← quantity_at 7 fields
-  price ← price_at 8 fields
-  target ← name_at 9 fields
+abbrev pub row_replacement : Head → Row → Result OrderRecord Reason
+row_replacement head fields = do
+  side ← row_side 6 fields
+  quantity ← row_quantity 7 fields
+  price ← row_price 8 fields
+  target ← row_name 9 fields
   Ok (record_of.Replace head.key head.time head.symbol target side quantity price)
 
 -- columns 6 to 9, by the kind
 abbrev pub order_of_kind : Kind → Head → Row → Result OrderRecord Reason
-order_of_kind kind.New head fields = limit_order head life.Rests fields
-order_of_kind kind.Immediate head fields = limit_order head life.Immediate fields
-order_of_kind kind.Market head fields = market_order head fields
-order_of_kind kind.Cancel head fields = cancel head fields
-order_of_kind kind.Replace head fields = replacement head fields
+order_of_kind kind.New head fields = row_limit_order head life.Rests fields
+order_of_kind kind.Immediate head fields = row_limit_order head life.Immediate fields
+order_of_kind kind.Market head fields = row_market_order head fields
+order_of_kind kind.Cancel head fields = row_cancel head fields
+order_of_kind kind.Replace head fields = row_replacement head fields
 
 -- what nine fields mean in an order log: a record, or the first column that is not in its form
-unfoldable pub order_entry : Row → Result OrderRecord Reason
-order_entry fields = do
+unfoldable pub order_of_row : Row → Result OrderRecord Reason
+order_of_row fields = do
   kind ← in_column 1 (kind_form (column_text 1 fields))
-  head ← head_at fields
+  head ← row_head fields
   order_of_kind kind head fields

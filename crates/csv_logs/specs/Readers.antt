@@ -1,5 +1,5 @@
--- Lines that are read one after another by one reader of `csv`: what the private functions that share
--- a reader say.
+-- Lines that are read one after another by one reader of `csv`: what the private
+-- functions that share a reader say.
 use Rattle.std.specs.Prelude.{◌≡◌, ◌==◌, ◌&&◌, ◌||◌, not, ℕ, Bool, true, false, Option, Some, List, [], ◌∷◌, ◌++◌, length}
 use Rattle.std.specs.List.{list_all}
 use Rattle.csv.specs.Machine.{Read, next_record, step}
@@ -14,8 +14,8 @@ use Rattle.csv_logs.specs.Columns.{Row, is_broken, is_unquoted_byte, line_fields
 use Rattle.csv_logs.specs.Lines.{without_cr}
 
 -- what a reader underneath has left, where that is known
-abbrev pub Remaining : Type 0 → Type 0
-Remaining R = R → Option (List ℕ)
+abbrev pub RemainingBytes : Type 0 → Type 0
+RemainingBytes R = R → Option (List ℕ)
 
 -- the first record of a text, for a reader in this state
 abbrev pub record_from : State → List ℕ → Option Read
@@ -41,15 +41,15 @@ is_quoted st.InEscape = false
 is_quoted st.InComment = false
 is_quoted st.AfterCr = false
 
--- where a reader stands within a line, as a state of `csv`'s machine
+-- where a reader is within a line, as a state of `csv`'s machine
 abbrev pub state_of : Place → State
 state_of place.FieldStart = st.StartField
 state_of place.InField = st.InField
 state_of place.InQuotes = st.InQuoted
 state_of place.AfterQuote = st.AfterQuote
 
--- a line whose fields do not depend on what follows it: it isn't broken, and its quotes close before
--- its end
+-- a line whose fields do not depend on what follows it: it isn't broken,
+-- and its quotes close before its end
 abbrev pub is_closed : List ℕ → Bool
 is_closed line = not (is_broken line) && not (is_quoted (state_behind st.StartField line))
 
@@ -62,19 +62,21 @@ pub record IsSetUp {R : Type 0} (reader : Reader R) : Type 0 where
   pub sound : has_failed reader ≡ false
 
 -- The next record of the reader is that of this text.
-pub record IsReading {R : Type 0} (remaining : Remaining R) (reader : Reader R) (text : List ℕ) : Type 0 where
+pub record IsReading {R : Type 0} (remaining : RemainingBytes R) (reader : Reader R)
+    (text : List ℕ) : Type 0 where
   pub setup : IsSetUp reader
   pub source : List ℕ
   pub known : source_of remaining reader ≡ Some source
   pub next : record_from (reader_state reader) source ≡ record_from st.StartRecord text
 
 -- It is that of a text that begins with this line.
-pub record IsReadingLine {R : Type 0} (remaining : Remaining R) (reader : Reader R) (line : List ℕ) : Type 0 where
+pub record IsReadingLine {R : Type 0} (remaining : RemainingBytes R) (reader : Reader R)
+    (line : List ℕ) : Type 0 where
   pub later : List ℕ
   pub reads : IsReading remaining reader (line ++ 10 ∷ later)
 
--- The reader stands at a closed line that is not empty, and that is unquoted where this is true.
-pub record IsAtClosed {R : Type 0} (remaining : Remaining R) (reader : Reader R)
+-- The reader is at a closed line that is not empty, and that is unquoted where this is true.
+pub record IsAtClosedLine {R : Type 0} (remaining : RemainingBytes R) (reader : Reader R)
     (unquoted : Bool) : Type 0 where
   pub line : List ℕ
   pub later : List ℕ
@@ -83,13 +85,14 @@ pub record IsAtClosed {R : Type 0} (remaining : Remaining R) (reader : Reader R)
   pub full : (length (without_cr line) == 0) ≡ false
   pub reads : IsReading remaining reader (line ++ 10 ∷ later)
 
--- A reader that stood at this line stands at what follows it.
-abbrev pub PassesLine : {R : Type 0} → Remaining R → Reader R → Reader R → List ℕ → Type 0
+-- A reader that was at this line is at what follows it.
+abbrev pub PassesLine : {R : Type 0} → RemainingBytes R → Reader R → Reader R → List ℕ → Type 0
 PassesLine remaining old new line =
-    (later : List ℕ) → IsReading remaining old (line ++ 10 ∷ later) → IsReading remaining new later
+    (later : List ℕ) → IsReading remaining old (line ++ 10 ∷ later)
+    → IsReading remaining new later
 
--- A reader that stood at a closed line that is not empty gave its fields, and stands at what follows it.
-abbrev pub ReadsLine : {R : Type 0} → Remaining R → Reader R → Reader R → Row → Type 0
+-- A reader that was at a closed line that is not empty gave its fields, and is at what follows it.
+abbrev pub ReadsLine : {R : Type 0} → RemainingBytes R → Reader R → Reader R → Row → Type 0
 ReadsLine remaining old new fields =
     (line later : List ℕ) → is_closed (without_cr line) ≡ true
     → (length (without_cr line) == 0) ≡ false → IsReading remaining old (line ++ 10 ∷ later)

@@ -4,13 +4,13 @@ use Rattle.audit_base.specs.declared.faults.Reason.{Reason}
 use Rattle.audit_base.specs.declared.names.Key.{Key}
 use Rattle.audit_base.specs.declared.records.TradeRecord.{TradeRecord}
 use Rattle.csv_logs.specs.declared.trades.TradeTerms.{TradeTerms}
-use Rattle.csv_logs.specs.Columns.{Row, ◌>>=◌, name_at, stamp_at, quantity_at, price_at, key_at, column_text, HasKey, HasName, written_key}
+use Rattle.csv_logs.specs.Columns.{Row, ◌>>=◌, row_name, row_stamp, row_quantity, row_price, row_key, column_text, HasKey, HasName, written_key}
 
 -- columns 4 to 7: the bid's key and the ask's
-abbrev pub parties_at : Row → Result (Key × Key) Reason
-parties_at fields = do
-  buy ← key_at 4 fields
-  sell ← key_at 6 fields
+abbrev pub row_parties : Row → Result (Key × Key) Reason
+row_parties fields = do
+  buy ← row_key 4 fields
+  sell ← row_key 6 fields
   Ok (buy, sell)
 
 -- columns 4 to 7 hold names
@@ -38,14 +38,14 @@ written_trade terms fields = record {
 }
 
 -- what nine fields mean in a trade log: a record, or the first column that is not in its form
-unfoldable pub trade_entry : Row → Result TradeRecord Reason
-trade_entry fields = do
-  trade ← name_at 1 fields
-  time ← stamp_at 2 fields
-  symbol ← name_at 3 fields
-  parties ← parties_at fields
-  quantity ← quantity_at 8 fields
-  price ← price_at 9 fields
+unfoldable pub trade_of_row : Row → Result TradeRecord Reason
+trade_of_row fields = do
+  trade ← row_name 1 fields
+  time ← row_stamp 2 fields
+  symbol ← row_name 3 fields
+  parties ← row_parties fields
+  quantity ← row_quantity 8 fields
+  price ← row_price 9 fields
   Ok (record {
     trade = trade;
     time = time;

@@ -1,10 +1,10 @@
 //! The columns of a line, each read in its form. A column that is not in its form is named by its
-//! number, from 1 on. Names are tested first, and copied when all columns of the line are known to be in
-//! their forms, so that each is written once, where it stays.
+//! number, from 1 on. Names are tested first, and copied when all columns of the line are known
+//! to be in their forms, so that each is written once, where it stays.
 ghost use Rattle.std.specs.Prelude.{◌≡◌, ◌+◌, ◌<◌, ◌↔◌, Err, IfErr, IsTrue, Ok, OnOk, Some, map};
 ghost use Rattle.csv.specs.Records.{field_at};
 ghost use Rattle.audit_base.specs.Names.{is_name};
-ghost use Rattle.csv_logs.specs.Columns.{column_text, in_column, empty_form, side_form, name_at, stamp_at, side_at, quantity_at, price_at, empty_at, key_at, tested, HasKey, HasName, written_key};
+ghost use Rattle.csv_logs.specs.Columns.{column_text, in_column, empty_form, row_side_form, row_name, row_stamp, row_side, row_quantity, row_price, row_blank, row_key, test_result, HasKey, HasName, written_key};
 ghost use Rattle.csv_logs.specs.Logs.{same_fields};
 
 use crate::fields::Fields;
@@ -35,7 +35,7 @@ pub(crate) fn in_column<T>(number: u8, value: Option<T>) -> Result<T, Reason>
 }
 
 fn read_side(text: &[u8]) -> Option<Side>
-    ensures { result ≡ side_form text.now }
+    ensures { result ≡ row_side_form text.now }
 {
     match text {
         b"B" => Some(Side::Buy),
@@ -66,10 +66,10 @@ fn is_name_in(number: u8, fields: &NineFields<'_>) -> bool
 /// Whether a column holds a name.
 pub(crate) fn test_name(number: u8, fields: &NineFields<'_>) -> Result<(), Reason>
     requires { 0 < number }
-    ensures tests { result ≡ tested (name_at number fields.now) }
+    ensures tests { result ≡ test_result (row_name number fields.now) }
     ensures named { OnOk result (HasName number fields.now) }
-    ensures read { OnOk result (name_at number fields.now ≡ Ok (column_text number fields.now)) }
-    ensures why { IfErr result (λ why. name_at number fields.now ≡ Err why) }
+    ensures read { OnOk result (row_name number fields.now ≡ Ok (column_text number fields.now)) }
+    ensures why { IfErr result (λ why. row_name number fields.now ≡ Err why) }
 {
     if is_name_in(number, fields) {
         Ok(())
@@ -82,10 +82,10 @@ pub(crate) fn test_name(number: u8, fields: &NineFields<'_>) -> Result<(), Reaso
 pub(crate) fn test_key(number: u8, fields: &NineFields<'_>) -> Result<(), Reason>
     requires first { 0 < number }
     requires next { number < 9 }
-    ensures tests { result ≡ tested (key_at number fields.now) }
+    ensures tests { result ≡ test_result (row_key number fields.now) }
     ensures named { OnOk result (HasKey number fields.now) }
-    ensures read { OnOk result (key_at number fields.now ≡ Ok (written_key number fields.now)) }
-    ensures why { IfErr result (λ why. key_at number fields.now ≡ Err why) }
+    ensures read { OnOk result (row_key number fields.now ≡ Ok (written_key number fields.now)) }
+    ensures why { IfErr result (λ why. row_key number fields.now ≡ Err why) }
 {
     test_name(number, fields)?;
     test_name(number + 1, fields)
@@ -120,7 +120,7 @@ pub(crate) fn stamp_at(
     stamps: &mut StampReader,
 ) -> Result<Stamp, Reason>
     requires { 0 < number }
-    ensures { result ≡ stamp_at number fields.now }
+    ensures { result ≡ row_stamp number fields.now }
 {
     in_column(number, stamps.read(column_text(fields, number)))
 }
@@ -128,7 +128,7 @@ pub(crate) fn stamp_at(
 /// The side in a column: `B` for a bid, `S` for an ask.
 pub(crate) fn side_at(number: u8, fields: &NineFields<'_>) -> Result<Side, Reason>
     requires { 0 < number }
-    ensures { result ≡ side_at number fields.now }
+    ensures { result ≡ row_side number fields.now }
 {
     in_column(number, read_side(column_text(fields, number)))
 }
@@ -136,7 +136,7 @@ pub(crate) fn side_at(number: u8, fields: &NineFields<'_>) -> Result<Side, Reaso
 /// The quantity in a column.
 pub(crate) fn quantity_at(number: u8, fields: &NineFields<'_>) -> Result<Quantity, Reason>
     requires { 0 < number }
-    ensures { result ≡ quantity_at number fields.now }
+    ensures { result ≡ row_quantity number fields.now }
 {
     in_column(number, read_quantity(column_text(fields, number)))
 }
@@ -144,7 +144,7 @@ pub(crate) fn quantity_at(number: u8, fields: &NineFields<'_>) -> Result<Quantit
 /// The price in a column.
 pub(crate) fn price_at(number: u8, fields: &NineFields<'_>) -> Result<Price, Reason>
     requires { 0 < number }
-    ensures { result ≡ price_at number fields.now }
+    ensures { result ≡ row_price number fields.now }
 {
     in_column(number, read_price(column_text(fields, number)))
 }
@@ -152,7 +152,7 @@ pub(crate) fn price_at(number: u8, fields: &NineFields<'_>) -> Result<Price, Rea
 /// A column that holds nothing.
 pub(crate) fn empty_at(number: u8, fields: &NineFields<'_>) -> Result<(), Reason>
     requires { 0 < number }
-    ensures { result ≡ empty_at number fields.now }
+    ensures { result ≡ row_blank number fields.now }
 {
     in_column(number, read_empty(column_text(fields, number)))
 }

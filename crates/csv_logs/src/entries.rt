@@ -1,8 +1,8 @@
-//! What a kind of log has of its own, the names of its columns and what nine fields mean, and what
-//! its lines say by that.
+//! What a kind of log has of its own, the names of its columns and what nine fields
+//! mean, and what its lines say by that.
 ghost use Rattle.std.specs.Prelude.{◌≡◌, ℕ, IfOk, List, Ok, Result, false};
 ghost use Rattle.audit_base.specs.declared.faults.Reason.{Reason};
-ghost use Rattle.csv_logs.specs.Columns.{tested};
+ghost use Rattle.csv_logs.specs.Columns.{test_result};
 ghost use Rattle.csv_logs.specs.Logs.{IsSymbolOf, same_fields};
 ghost use Rattle.csv_logs.specs.Steps.{TakesFields, entry_says, fields_say, line_says};
 ghost use Rattle.log_source.specs.Collectors.{HasPlace};
@@ -15,14 +15,14 @@ use crate::orders::{take_order, test_order};
 use crate::trades::{take_trade, test_trade};
 use audit_base::columns::columns;
 use audit_base::faults::{NoMemory, Reason};
-use audit_base::records::{OrderRecord, TradeRecord, Traded};
+use audit_base::records::{LogRecord, OrderRecord, TradeRecord};
 use audit_base::stamp_reader::StampReader;
 use audit_base::terms::Which;
 use log_source::collector::Collector;
 use std::alloc::Global;
 
 /// A record of a log: an order or a trade.
-pub trait LogEntry: Traded {
+pub trait CsvRecord: LogRecord {
     // The names of the nine columns.
     ghost names: { List (List ℕ) };
 
@@ -36,8 +36,8 @@ pub trait LogEntry: Traded {
     fn are_names(fields: &Fields) -> bool
         ensures { result ≡ same_fields fields.now names };
 
-    /// Hands the record that these nine fields mean to a collector, or gives the first column that is not
-    /// in its form.
+    /// Hands the record that these nine fields mean to a collector, or gives the first column
+    /// that is not in its form.
     fn take_nine<K: Collector<Entry = Self>>(
         entries: &mut K,
         fields: &NineFields<'_>,
@@ -53,21 +53,21 @@ pub trait LogEntry: Traded {
 
     /// Whether these nine fields mean a record, or else the first column that is not in its form.
     fn test(fields: &NineFields<'_>, stamps: &mut StampReader) -> Result<(), Reason>
-        ensures { result ≡ tested (meaning fields.now) };
+        ensures { result ≡ test_result (meaning fields.now) };
 
     /// Every record that fields mean is sound. This call does nothing: it only has its contract.
     fn means_sound_records()
         ensures { (fields : List (List ℕ)) → IfOk (meaning fields) sound };
 }
 
-impl LogEntry for OrderRecord {
+impl CsvRecord for OrderRecord {
     ghost use Rattle.audit_base.specs.Columns.{order_columns};
-    ghost use Rattle.csv_logs.specs.OrderLines.{order_entry};
+    ghost use Rattle.csv_logs.specs.OrderLines.{order_of_row};
     ghost use Rattle.audit_base.specs.Histories.{HasMarketPrice};
 
     ghost names = { order_columns };
 
-    ghost meaning = { order_entry };
+    ghost meaning = { order_of_row };
 
     ghost sound = { HasMarketPrice };
 
@@ -94,14 +94,14 @@ impl LogEntry for OrderRecord {
     fn means_sound_records() {}
 }
 
-impl LogEntry for TradeRecord {
+impl CsvRecord for TradeRecord {
     ghost use Rattle.std.specs.Prelude.{⊤};
     ghost use Rattle.audit_base.specs.Columns.{trade_columns};
-    ghost use Rattle.csv_logs.specs.TradeLines.{trade_entry};
+    ghost use Rattle.csv_logs.specs.TradeLines.{trade_of_row};
 
     ghost names = { trade_columns };
 
-    ghost meaning = { trade_entry };
+    ghost meaning = { trade_of_row };
 
     ghost sound = { λ _. ⊤ };
 
@@ -128,9 +128,9 @@ impl LogEntry for TradeRecord {
     fn means_sound_records() {}
 }
 
-/// Hands on that there is a record which the collector does not look at, where nine fields mean one, or tells
-/// the first column that is not in its form.
-fn pass_entry<R: LogEntry, K: Collector<Entry = R>>(
+/// Hands on that there is a record which the collector does not look at, where nine fields mean
+/// one, or gives the first column that is not in its form.
+fn pass_entry<R: CsvRecord, K: Collector<Entry = R>>(
     entries: &mut K,
     fields: &NineFields<'_>,
     stamps: &mut StampReader,
@@ -146,9 +146,9 @@ fn pass_entry<R: LogEntry, K: Collector<Entry = R>>(
     Ok(())
 }
 
-/// Hands on the record that nine fields mean, or tells the first column that is not in its form. Where
-/// the collector does not look at records of the symbol, none is made.
-fn take_entry<R: LogEntry, K: Collector<Entry = R>>(
+/// Hands on the record that nine fields mean, or gives the first column that is not in its form.
+/// Where the collector does not look at records of the symbol, none is made.
+fn take_entry<R: CsvRecord, K: Collector<Entry = R>>(
     entries: &mut K,
     fields: &NineFields<'_>,
     stamps: &mut StampReader,
@@ -165,7 +165,7 @@ fn take_entry<R: LogEntry, K: Collector<Entry = R>>(
 }
 
 /// Takes the fields of a line, where the header has come or is to come.
-pub(crate) fn take_fields<R: LogEntry, K: Collector<Entry = R>>(
+pub(crate) fn take_fields<R: CsvRecord, K: Collector<Entry = R>>(
     entries: &mut K,
     header: bool,
     fields: &Fields,
@@ -190,7 +190,7 @@ pub(crate) fn take_fields<R: LogEntry, K: Collector<Entry = R>>(
 
 /// Takes a line that is not empty.
 #[tactic(auto, unfolding(crate::specs::Logs::line_entry, crate::specs::Logs::is_header))]
-pub(crate) fn take_text<R: LogEntry, K: Collector<Entry = R>>(
+pub(crate) fn take_text<R: CsvRecord, K: Collector<Entry = R>>(
     alloc: Global,
     entries: &mut K,
     header: bool,

@@ -6,12 +6,12 @@ ghost use Rattle.log_source.specs.Feeds.{HasRoom};
 ghost use Rattle.log_source.specs.Collectors.{HasNineBytesEach, HasPlace};
 ghost use Rattle.csv_logs.specs.Columns.{is_unquoted_byte};
 ghost use Rattle.csv_logs.specs.Readers.{IsReading, IsReadingLine, PassesLine, is_closed};
-ghost use Rattle.csv_logs.specs.Feeds.{IsHandedAs, IsReadAs, IsWithinLimit, StandsFor};
-ghost use Rattle.csv_logs.specs.Steps.{FeedEndsLine, FeedEndsLines, FeedGoes, FeedHasLine, FeedHasLines, FeedMoves, KeepsAllButRest};
+ghost use Rattle.csv_logs.specs.Feeds.{AnswersCollected, AnswersLogRecords, IsCsvFeedWithinLimit, IsCsvFeedOf};
+ghost use Rattle.csv_logs.specs.Steps.{FeedEndsLine, FeedEndsLines, FeedTakesPiece, FeedHasLine, FeedHasLines, FeedMovesPastLine, KeepsAllButRest};
 ghost use Rattle.csv_logs.specs.Lines.{without_cr};
-ghost use Rattle.csv_logs.specs.Logs.{read_log};
+ghost use Rattle.csv_logs.specs.Logs.{read_csv_log};
 
-use crate::entries::{LogEntry, take_fields, take_text};
+use crate::entries::{CsvRecord, take_fields, take_text};
 use crate::fields::Fields;
 use crate::lines::{
     is_closed, is_plain, is_unquoted, is_unquoted_unless_known, line_at, split_line, without_cr,
@@ -26,9 +26,9 @@ use std::alloc::Global;
 use std::io::Read;
 use std::mem;
 
-/// What is kept of a log that comes in pieces. A piece may end anywhere: within the byte order mark,
-/// between CR and LF, within a quoted field. Only the line that has not ended is kept as bytes. After a
-/// bad line further pieces are taken without being looked at.
+/// What is kept of a log that comes in pieces. A piece may end anywhere: within the byte order
+/// mark, between CR and LF, within a quoted field. Only the line that has not ended is kept as
+/// bytes. After a bad line further pieces are taken without being looked at.
 #[derive(Drop)]
 pub struct CsvFeed<K> {
     pub alloc: Global,
@@ -50,11 +50,11 @@ pub type CsvOrderFeed = CsvFeed<Vec<OrderRecord>>;
 /// The feed of a trade log.
 pub type CsvTradeFeed = CsvFeed<Vec<TradeRecord>>;
 
-impl<R: LogEntry, K: Collector<Entry = R>> CsvFeed<K> {
-    /// A feed that no bytes have come to, over a collector that has been handed nothing.
+impl<R: CsvRecord, K: Collector<Entry = R>> CsvFeed<K> {
+    /// A feed that has been handed no bytes, over a collector that has been handed nothing.
     pub fn over(alloc: Global, entries: K) -> Self
         requires { K.has_taken entries [] }
-        ensures { StandsFor K.has_taken R.names R.meaning result [] }
+        ensures { IsCsvFeedOf K.has_taken R.names R.meaning result [] }
     {
         CsvFeed {
             alloc,
@@ -66,14 +66,14 @@ impl<R: LogEntry, K: Collector<Entry = R>> CsvFeed<K> {
         }
     }
 
-    // Goes behind a line that is not empty and has been taken, given where it starts, how many bytes it
-    // has with its LF, and what was outcome of it.
+    // Goes behind a line that is not empty and has been taken, given where it starts, how many
+    // bytes it has with its LF, and what its result was.
     fn move_on(&mut self, start: u64, size: usize, outcome: Result<(), Reason>)
         requires place { IfErr outcome (λ why. HasPlace K.has_taken self.old.entries) }
         requires fits { self.old.offset + size < 2 ^ 64 }
         requires good { self.old.bad ≡ None }
         ensures moved { self.old.offset ≤ self.new.offset }
-        ensures moves { FeedMoves K.has_taken outcome start size self.old self.new }
+        ensures moves { FeedMovesPastLine K.has_taken outcome start size self.old self.new }
         ensures entries { self.new.entries ≡ self.old.entries }
         ensures rest { self.new.rest.items ≡ self.old.rest.items }
     {
@@ -118,8 +118,8 @@ impl<R: LogEntry, K: Collector<Entry = R>> CsvFeed<K> {
         Ok(())
     }
 
-    // Takes a closed line that has ended, without its LF, from a reader that stands at it, given whether it
-    // is known to be unquoted. The reader then stands at the next line.
+    // Takes a closed line that has ended, without its LF, from a reader that is at it, given
+    // whether it is known to be unquoted. The reader is then at the next line.
     fn read_line<I: Read>(
         &mut self,
         reader: &mut Reader<I>,
@@ -161,8 +161,8 @@ impl<R: LogEntry, K: Collector<Entry = R>> CsvFeed<K> {
         Ok(line)
     }
 
-    // Takes closed lines from the start of a text, as far as there are such, from a reader that stands at
-    // it, and gives the rest.
+    // Takes closed lines from the start of a text, as far as there are such, from a reader that
+    // is at it, and gives the rest.
     fn read_lines<'p, I: Read>(
         &mut self,
         reader: &mut Reader<I>,
@@ -172,9 +172,9 @@ impl<R: LogEntry, K: Collector<Entry = R>> CsvFeed<K> {
     ) -> Result<&'p [u8], NoMemory>
         requires started { 0 < self.old.offset }
         requires rest { self.old.rest.items ≡ [] }
-        requires room { HasRoom (StandsFor K.has_taken R.names R.meaning) self.old text.now }
+        requires room { HasRoom (IsCsvFeedOf K.has_taken R.names R.meaning) self.old text.now }
         requires reading { IsReading I.remaining reader.old text.now }
-        ensures goes { let goes = FeedGoes K.has_taken R.names R.meaning self.old self.new in
+        ensures goes { let goes = FeedTakesPiece K.has_taken R.names R.meaning self.old self.new in
             IfOk result (λ left. goes text.now left.now) }
         ensures rest { OnOk result (self.new.rest.items ≡ []) }
     {
@@ -195,8 +195,8 @@ impl<R: LogEntry, K: Collector<Entry = R>> CsvFeed<K> {
         Ok(left)
     }
 
-    // Takes a closed line that has ended, without its LF, from a reader that stands at it, and closed lines
-    // from the start of the text behind it, as far as there are such, and gives the rest.
+    // Takes a closed line that has ended, without its LF, from a reader that is at it, and closed
+    // lines from the start of the text behind it, as far as there are such, and gives the rest.
     fn read_on<'p, I: Read>(
         &mut self,
         reader: &mut Reader<I>,
@@ -220,8 +220,9 @@ impl<R: LogEntry, K: Collector<Entry = R>> CsvFeed<K> {
         self.read_lines(reader, &mut fields, &mut stamps, text)
     }
 
-    // Takes a line that has ended, without its LF, and closed lines from the start of the text behind it, as
-    // far as there are such, and gives the rest. Where the line is closed too, one reader reads all of them.
+    // Takes a line that has ended, without its LF, and closed lines from the start of the text
+    // behind it, as far as there are such, and gives the rest. Where the line is closed too, one
+    // reader reads all of them.
     fn take_lines<'p>(&mut self, line: &[u8], text: &'p [u8]) -> Result<&'p [u8], NoMemory>
         requires good { self.old.bad ≡ None }
         requires rest { self.old.rest.items ≡ [] }
@@ -242,8 +243,8 @@ impl<R: LogEntry, K: Collector<Entry = R>> CsvFeed<K> {
         self.read_on(&mut reader, line, text)
     }
 
-    // Takes the end of a line whose front is in `rest`, without its LF, and closed lines from the start of the
-    // text behind it, and gives the rest of that.
+    // Takes the end of a line whose front is in `rest`, without its LF, and closed lines from the
+    // start of the text behind it, and gives the rest of that.
     fn end_rest<'p>(&mut self, end: &[u8], text: &'p [u8]) -> Result<&'p [u8], NoMemory>
         requires good { self.old.bad ≡ None }
         requires room { let line = self.old.rest.items ++ end.now in
@@ -268,19 +269,19 @@ impl<R: LogEntry, K: Collector<Entry = R>> CsvFeed<K> {
         Ok(())
     }
 
-    /// The collector, which has been handed exactly the records of the log that has come, or its first bad
-    /// line: what the reading of the whole log gives, for every log that the feed stands for. Each record
-    /// is sound: one of life Market has the market price of its side. Each has at least nine bytes of the
-    /// log, so there is a place for one more.
+    /// The collector, which has been handed exactly the records of the log that has come, or its
+    /// first bad line: what the reading of the whole log gives, for every log that the feed
+    /// stands for. Each record is sound: one of life Market has the market price of its side.
+    /// Each has at least nine bytes of the log, so there is a place for one more.
     #[tactic(auto, using(crate::proofs::ReadingLemmas::log_sound, crate::proofs::SizeLemmas::log_nine))]
     pub fn close(mut self) -> Result<K, LogFault>
-        requires { IsWithinLimit K.has_taken R.names R.meaning self }
-        ensures reads { (log : List ℕ) → StandsFor K.has_taken R.names R.meaning self log
-            → IsHandedAs K.has_taken (read_log R.names R.meaning log) result }
+        requires { IsCsvFeedWithinLimit K.has_taken R.names R.meaning self }
+        ensures reads { (log : List ℕ) → IsCsvFeedOf K.has_taken R.names R.meaning self log
+            → AnswersCollected K.has_taken (read_csv_log R.names R.meaning log) result }
         ensures few { IfOk result (HasPlace K.has_taken) }
-        ensures nine { (log : List ℕ) → IfOk (read_log R.names R.meaning log)
+        ensures nine { (log : List ℕ) → IfOk (read_csv_log R.names R.meaning log)
             (λ entries. HasNineBytesEach entries log) }
-        ensures sound { (log : List ℕ) → IfOk (read_log R.names R.meaning log) (All R.sound) }
+        ensures sound { (log : List ℕ) → IfOk (read_csv_log R.names R.meaning log) (All R.sound) }
     {
         R::means_sound_records();
         if let Some(bad) = self.bad {
@@ -302,33 +303,33 @@ impl<R: LogEntry, K: Collector<Entry = R>> CsvFeed<K> {
     }
 }
 
-impl<R: LogEntry> CsvFeed<Vec<R>> {
-    /// A feed that no bytes have come to.
+impl<R: CsvRecord> CsvFeed<Vec<R>> {
+    /// A feed that has been handed no bytes.
     pub fn new(alloc: Global) -> Self
-        ensures { StandsFor ⟦<Vec<R> as Collector>⟧.has_taken R.names R.meaning result [] }
+        ensures { IsCsvFeedOf ⟦<Vec<R> as Collector>⟧.has_taken R.names R.meaning result [] }
     {
         CsvFeed::over(alloc, Vec::new(alloc))
     }
 
-    /// The records of the log that has come, or its first bad line: what the reading of the whole log
-    /// gives, for every log that the feed stands for.
+    /// The records of the log that has come, or its first bad line: what the reading of the whole
+    /// log gives, for every log that the feed stands for.
     pub fn finish(self) -> Result<Vec<R>, LogFault>
-        requires { IsWithinLimit ⟦<Vec<R> as Collector>⟧.has_taken R.names R.meaning self }
+        requires { IsCsvFeedWithinLimit ⟦<Vec<R> as Collector>⟧.has_taken R.names R.meaning self }
         ensures reads { let has_taken = ⟦<Vec<R> as Collector>⟧.has_taken in
-            (log : List ℕ) → StandsFor has_taken R.names R.meaning self log
-            → IsReadAs (read_log R.names R.meaning log) result }
+            (log : List ℕ) → IsCsvFeedOf has_taken R.names R.meaning self log
+            → AnswersLogRecords (read_csv_log R.names R.meaning log) result }
         ensures sound { IfOk result (λ entries. All R.sound entries.items) }
         ensures few { IfOk result (λ entries. vec_len entries < 2 ^ 32 - 1) }
         ensures nine { let has_taken = ⟦<Vec<R> as Collector>⟧.has_taken in
-            (log : List ℕ) → StandsFor has_taken R.names R.meaning self log
+            (log : List ℕ) → IsCsvFeedOf has_taken R.names R.meaning self log
             → IfOk result (λ entries. HasNineBytesEach entries.items log) }
     {
         self.close()
     }
 }
 
-impl<R: LogEntry, K: Collector<Entry = R>> Feed for CsvFeed<K> {
-    ghost stands_for = { StandsFor K.has_taken R.names R.meaning };
+impl<R: CsvRecord, K: Collector<Entry = R>> Feed for CsvFeed<K> {
+    ghost stands_for = { IsCsvFeedOf K.has_taken R.names R.meaning };
 
     fn feed(&mut self, piece: &[u8]) -> Result<(), NoMemory> {
         let mut left = piece;

@@ -1,11 +1,11 @@
-//! The fields of a line, and whether it is known that their bytes may stand in names. They may on an
-//! unquoted line, whose bytes have all been looked at before `csv` reads it. So a name there is tested by
-//! its size alone.
+//! The fields of a line, and whether it is known that a name may have their bytes. They may on an
+//! unquoted line, whose bytes have all been looked at before `csv` reads it. So a name there is
+//! tested by its size alone.
 ghost use Rattle.std.specs.Prelude.{◌≡◌, [], OnOk, IfOk, IsTrue, length, option_map};
 ghost use Rattle.std.specs.List.{list_all};
 ghost use Rattle.audit_base.specs.Names.{is_name_byte};
 ghost use Rattle.csv.specs.Records.{field_at, fields_of};
-ghost use Rattle.csv_logs.specs.Readers.{IsAtClosed, ReadsLine};
+ghost use Rattle.csv_logs.specs.Readers.{IsAtClosedLine, ReadsLine};
 
 use crate::reader::next_fields;
 use audit_base::faults::NoMemory;
@@ -27,11 +27,11 @@ impl Model for Fields {
 
     ghost Value = { List (List ℕ) };
 
-    ghost use Rattle.csv_logs.specs.FieldBytes.{shown, IsTested};
+    ghost use Rattle.csv_logs.specs.FieldBytes.{texts_of_fields, KnowsNameBytes};
 
-    ghost view = { shown };
+    ghost view = { texts_of_fields };
 
-    ghost invariant = { IsTested };
+    ghost invariant = { KnowsNameBytes };
 }
 
 impl Fields {
@@ -53,14 +53,14 @@ impl Fields {
         }
     }
 
-    /// Reads the fields of the closed line that a reader stands at, in place of those before, given whether
-    /// the line is known to be unquoted.
+    /// Reads the fields of the closed line that a reader is at, in place of those before, given
+    /// whether the line is known to be unquoted.
     pub(crate) fn read_next<I: Read>(
         &mut self,
         reader: &mut Reader<I>,
         unquoted: bool,
     ) -> Result<(), NoMemory>
-        requires { IsAtClosed I.remaining reader.old unquoted }
+        requires { IsAtClosedLine I.remaining reader.old unquoted }
         ensures { OnOk result (ReadsLine I.remaining reader.old reader.new self.new) }
     {
         self.have_name_bytes = false;
@@ -83,7 +83,7 @@ impl Fields {
         self.texts.get(index)
     }
 
-    /// Whether it is known that all bytes of all fields may stand in names.
+    /// Whether it is known that a name may have all bytes of all fields.
     pub(crate) fn have_name_bytes(&self) -> bool
         ensures { IsTrue result → IsTrue (list_all (list_all is_name_byte) self.now) }
     {

@@ -1,13 +1,14 @@
-//! Logs of an exchange as comma-separated values: the orders or the trades that they hold, or the first
-//! line that is none; and the same written.
+//! Logs of an exchange as comma-separated values: the orders or the trades that they hold, or the
+//! first line that is none; and the same written.
 //!
-//! `logs` reads a log that is there as a whole, `feeds` one that comes in pieces, and `writers` writes
-//! one; `laws` says that each log is read in one way, with numbers in range. A log is cut into lines at
-//! each LF before quotes are read, so no field spans two lines. The fields of a line are what the crate
-//! `csv` reads from it, and the forms of the fields are those of `audit_base`. What contracts say of lines, fields and logs stands in `specs/`: `Lines` (how a log is
-//! cut), `Columns`, `OrderLines` and `TradeLines` (what nine fields mean), `Logs` (good and bad logs),
-//! `Feeds` (what a feed stands for) and `Written` (the canonical log); `Steps`, `Readers`, `FieldBytes`
-//! and `WrittenLines` have the words of private functions.
+//! `logs` reads a log that is there as a whole, `feeds` one that comes in pieces, and `writers`
+//! writes one; `laws` says that each log is read in one way, with numbers in range. A log is cut
+//! into lines at each LF before quotes are read, so no field spans two lines. The fields of a
+//! line are what the crate `csv` reads from it, and the forms of the fields are those of
+//! `audit_base`. What contracts say of lines, fields and logs is in `specs/`: `Lines` (how a log
+//! is cut), `Columns`, `OrderLines` and `TradeLines` (what nine fields mean), `Logs` (good and
+//! bad logs), `Feeds` (what a feed stands for) and `Written` (the canonical log); `Steps`,
+//! `Readers`, `FieldBytes` and `WrittenLines` have the words of private functions.
 #![tactic(auto)]
 
 mod columns;

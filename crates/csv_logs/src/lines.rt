@@ -17,10 +17,10 @@ use memchr::memchr;
 use std::alloc::Global;
 use std::io::Read;
 
-/// The byte order mark, which may stand at the very start of a log.
+/// The byte order mark, which may be at the very start of a log.
 const MARK: [u8; 3] = [0xEF, 0xBB, 0xBF];
 
-/// What stands in a log after a byte order mark, or the whole where there is none.
+/// What a log has after a byte order mark, or the whole where there is none.
 pub(crate) fn without_mark(log: &[u8]) -> &[u8]
     ensures { result.now ≡ drop (mark_size log.now) log.now }
 {
@@ -140,8 +140,8 @@ fn are_plain(text: &[u8]) -> bool
     plain
 }
 
-/// Whether a text is known to have bytes of unquoted lines and LF alone. Few lines end at a multiple of
-/// what is tested at once, so many lines are tested together.
+/// Whether a text is known to have bytes of unquoted lines and LF alone. Few lines end at a
+/// multiple of what is tested at once, which is why many lines are tested together.
 pub(crate) fn is_plain(text: &[u8]) -> bool
     ensures { IsTrue result → IsTrue (list_all is_plain_byte text.now) }
 {
@@ -156,7 +156,7 @@ pub(crate) fn is_plain(text: &[u8]) -> bool
     are_plain(left)
 }
 
-/// Where a reader stands within a line, as far as its quotes go.
+/// Where a reader is within a line, as far as its quotes go.
 #[derive(Clone, Copy)]
 pub(crate) enum Place {
     FieldStart,
@@ -179,7 +179,7 @@ fn place_behind_unquoted(place: Place, byte: u8) -> Place
     }
 }
 
-/// The place behind one more byte of a line. Most bytes of a quoted line stand within quotes, where
+/// The place behind one more byte of a line. Most bytes of a quoted line are within quotes, where
 /// only a quote is looked for.
 fn place_behind(place: Place, byte: u8) -> Place
     requires { IsTrue (is_printable byte) }
@@ -207,8 +207,8 @@ fn closes_quotes(line: &[u8]) -> bool
     }
 }
 
-/// Whether the fields of a line do not depend on what follows it: it is not broken, and its quotes close
-/// before its end.
+/// Whether the fields of a line do not depend on what follows it: it is not broken, and its
+/// quotes close before its end.
 pub(crate) fn is_closed(line: &[u8]) -> bool
     ensures { result ≡ is_closed line.now }
 {

@@ -1,6 +1,6 @@
 //! The text of a log, which grows by a line with each record.
 ghost use Rattle.std.specs.Prelude.{◌≡◌, ◌∷◌, [], List, IfOk, OnOk};
-ghost use Rattle.log_source.specs.Handing.{Adds};
+ghost use Rattle.log_source.specs.Handing.{HandsOnMore};
 ghost use Rattle.csv_logs.specs.Written.{IsReadAgain, log_text};
 ghost use Rattle.csv_logs.specs.WrittenLines.{IsAtLine, IsConvertedLog, IsLogText};
 
@@ -36,7 +36,7 @@ impl<R: LogLine> LogText<R> {
     /// Adds the line of a record.
     pub fn add(&mut self, entry: &R) -> Result<(), NoMemory>
         requires { IsAtLine self.old.writer }
-        ensures { OnOk result (Adds (IsLogText R.names R.meaning R.sound R.fields self.old)
+        ensures { OnOk result (HandsOnMore (IsLogText R.names R.meaning R.sound R.fields self.old)
             (IsLogText R.names R.meaning R.sound R.fields self.new) (entry.now ∷ [])) }
     {
         entry.write(self.alloc, &mut self.writer)
@@ -58,8 +58,8 @@ impl<R: LogLine> LogText<R> {
     }
 }
 
-/// A log that is written as it is read, in whatever form: a collector that keeps no record, only the
-/// canonical text.
+/// A log that is written as it is read, in whatever form: a collector that keeps
+/// no record, only the canonical text.
 #[derive(Drop)]
 pub struct ConvertedLog<R> {
     text: LogText<R>,
@@ -67,7 +67,7 @@ pub struct ConvertedLog<R> {
 }
 
 impl<R: LogLine> ConvertedLog<R> {
-    /// A log that no records have come to.
+    /// A log that has been handed no records.
     pub fn new(alloc: Global) -> Result<ConvertedLog<R>, NoMemory>
         ensures { IfOk result (λ log. IsConvertedLog R.names R.meaning R.sound R.fields log []) }
     {

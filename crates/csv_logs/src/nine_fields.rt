@@ -1,5 +1,5 @@
-//! The nine fields of a record's line. Where each field stands is asked of the record of `csv` once: a
-//! field is tested, and read again where its record is made.
+//! The nine fields of a record's line. The place of each field is asked of the record of `csv`
+//! once: a field is tested, and read again where its record is made.
 ghost use Rattle.std.specs.Prelude.{◌≡◌, [], IsTrue, length, option_map, unwrap_or};
 ghost use Rattle.std.specs.List.{list_all};
 ghost use Rattle.audit_base.specs.Names.{is_name_byte};
@@ -21,11 +21,11 @@ impl<'l> Model for NineFields<'l> {
 
     ghost Value = { List (List ℕ) };
 
-    ghost use Rattle.csv_logs.specs.NineFields.{shown, AreTested};
+    ghost use Rattle.csv_logs.specs.NineFields.{texts_of_nine_fields, AreNineFields};
 
-    ghost view = { shown };
+    ghost view = { texts_of_nine_fields };
 
-    ghost invariant = { AreTested };
+    ghost invariant = { AreNineFields };
 }
 
 /// The text of a field, which is empty where there is none at this index.
@@ -72,7 +72,7 @@ impl<'l> NineFields<'l> {
         }
     }
 
-    /// Whether it is known that all bytes of all fields may stand in names.
+    /// Whether it is known that a name may have all bytes of all fields.
     pub(crate) fn have_name_bytes(&self) -> bool
         ensures { IsTrue result → IsTrue (list_all (list_all is_name_byte) self.now) }
     {

@@ -2,13 +2,13 @@
 ghost use Rattle.std.specs.Prelude.{◌≡◌, ◌∷◌, [], Err, IfErr, IfOk, Ok, OnOk};
 ghost use Rattle.audit_base.specs.declared.terms.Life.{Life};
 ghost use Rattle.audit_base.specs.declared.terms.Life.TheVariants.{Market};
-ghost use Rattle.csv_logs.specs.Columns.{HasName, column_text, tested};
+ghost use Rattle.csv_logs.specs.Columns.{HasName, column_text, test_result};
 ghost use Rattle.csv_logs.specs.declared.orders.Head.{Head};
 ghost use Rattle.csv_logs.specs.Steps.{TakesFields, entry_says};
-ghost use Rattle.csv_logs.specs.WrittenLines.{cancel_order, new_order, replace_order};
+ghost use Rattle.csv_logs.specs.WrittenLines.{csv_cancel_order, csv_new_order, csv_replace_order};
 ghost use Rattle.log_source.specs.Collectors.{HasPlace};
-ghost use Rattle.log_source.specs.Handing.{Adds};
-ghost use Rattle.csv_logs.specs.OrderLines.{kind_form, head_at, limit_order, market_order, cancel, replacement, order_of_kind, order_entry, HasHeadNames, written_head};
+ghost use Rattle.log_source.specs.Handing.{HandsOnMore};
+ghost use Rattle.csv_logs.specs.OrderLines.{kind_form, row_head, row_limit_order, row_market_order, row_cancel, row_replacement, order_of_kind, order_of_row, HasHeadNames, written_head};
 
 use crate::columns::{
     column_text, empty_at, in_column, known_key, known_name, price_at, quantity_at, side_at,
@@ -59,8 +59,8 @@ fn read_kind(text: &[u8]) -> Option<Kind>
 #[inline(always)]
 fn head_time(fields: &NineFields<'_>, stamps: &mut StampReader) -> Result<Stamp, Reason>
     ensures named { OnOk result (HasHeadNames fields.now) }
-    ensures read { IfOk result (λ time. head_at fields.now ≡ Ok (written_head time fields.now)) }
-    ensures why { IfErr result (λ why. head_at fields.now ≡ Err why) }
+    ensures read { IfOk result (λ time. row_head fields.now ≡ Ok (written_head time fields.now)) }
+    ensures why { IfErr result (λ why. row_head fields.now ≡ Err why) }
 {
     test_key(2, fields)?;
     let time = stamp_at(4, fields, stamps)?;
@@ -90,9 +90,9 @@ impl Terms {
 
 fn limit_terms(fields: &NineFields<'_>) -> Result<Terms, Reason>
     ensures read { IfOk result (λ terms. (head : Head) (life : Life)
-        → limit_order head life fields.now ≡ Ok (new_order head terms life)) }
+        → row_limit_order head life fields.now ≡ Ok (csv_new_order head terms life)) }
     ensures why { IfErr result (λ why. (head : Head) (life : Life)
-        → limit_order head life fields.now ≡ Err why) }
+        → row_limit_order head life fields.now ≡ Err why) }
 {
     let side = side_at(6, fields)?;
     let quantity = quantity_at(7, fields)?;
@@ -103,8 +103,8 @@ fn limit_terms(fields: &NineFields<'_>) -> Result<Terms, Reason>
 
 fn market_terms(fields: &NineFields<'_>) -> Result<Terms, Reason>
     ensures read { IfOk result (λ terms. (head : Head)
-        → market_order head fields.now ≡ Ok (new_order head terms Market)) }
-    ensures why { IfErr result (λ why. (head : Head) → market_order head fields.now ≡ Err why) }
+        → row_market_order head fields.now ≡ Ok (csv_new_order head terms Market)) }
+    ensures why { IfErr result (λ why. (head : Head) → row_market_order head fields.now ≡ Err why) }
 {
     let side = side_at(6, fields)?;
     let quantity = quantity_at(7, fields)?;
@@ -114,11 +114,11 @@ fn market_terms(fields: &NineFields<'_>) -> Result<Terms, Reason>
 }
 
 fn test_cancel(fields: &NineFields<'_>) -> Result<(), Reason>
-    ensures tests { (head : Head) → result ≡ tested (cancel head fields.now) }
+    ensures tests { (head : Head) → result ≡ test_result (row_cancel head fields.now) }
     ensures named { OnOk result (HasName 9 fields.now) }
     ensures read { OnOk result ((head : Head)
-        → cancel head fields.now ≡ Ok (cancel_order head (column_text 9 fields.now))) }
-    ensures why { IfErr result (λ why. (head : Head) → cancel head fields.now ≡ Err why) }
+        → row_cancel head fields.now ≡ Ok (csv_cancel_order head (column_text 9 fields.now))) }
+    ensures why { IfErr result (λ why. (head : Head) → row_cancel head fields.now ≡ Err why) }
 {
     empty_at(6, fields)?; // no side
     empty_at(7, fields)?;
@@ -129,8 +129,9 @@ fn test_cancel(fields: &NineFields<'_>) -> Result<(), Reason>
 fn replacement_terms(fields: &NineFields<'_>) -> Result<Terms, Reason>
     ensures named { OnOk result (HasName 9 fields.now) }
     ensures read { IfOk result (λ terms. (head : Head)
-        → replacement head fields.now ≡ Ok (replace_order head terms (column_text 9 fields.now))) }
-    ensures why { IfErr result (λ why. (head : Head) → replacement head fields.now ≡ Err why) }
+        → row_replacement head fields.now
+        ≡ Ok (csv_replace_order head terms (column_text 9 fields.now))) }
+    ensures why { IfErr result (λ why. (head : Head) → row_replacement head fields.now ≡ Err why) }
 {
     let side = side_at(6, fields)?;
     let quantity = quantity_at(7, fields)?;
@@ -149,8 +150,8 @@ fn take_new<K: Collector<Entry = OrderRecord>>(
 ) -> Result<(), NoMemory>
     requires names { HasHeadNames fields.now }
     requires place { HasPlace K.has_taken entries.old }
-    ensures { let order = new_order (written_head time fields.now) terms life in
-        OnOk result (Adds (K.has_taken entries.old) (K.has_taken entries.new) (order ∷ [])) }
+    ensures { let order = csv_new_order (written_head time fields.now) terms life in
+        OnOk result (HandsOnMore (K.has_taken entries.old) (K.has_taken entries.new) (order ∷ [])) }
 {
     entries.take(OrderRecord::New {
         key: known_key(2, fields),
@@ -171,7 +172,8 @@ fn take_limit<K: Collector<Entry = OrderRecord>>(
 ) -> Result<Result<(), Reason>, NoMemory>
     requires names { HasHeadNames fields.now }
     requires place { HasPlace K.has_taken entries.old }
-    ensures { let says = entry_says (limit_order (written_head time fields.now) life fields.now) in
+    ensures { let says = entry_says
+        (row_limit_order (written_head time fields.now) life fields.now) in
         IfOk result (TakesFields says (K.has_taken entries.old) (K.has_taken entries.new)) }
 {
     match limit_terms(fields) {
@@ -190,7 +192,7 @@ fn take_market<K: Collector<Entry = OrderRecord>>(
 ) -> Result<Result<(), Reason>, NoMemory>
     requires names { HasHeadNames fields.now }
     requires place { HasPlace K.has_taken entries.old }
-    ensures { let says = entry_says (market_order (written_head time fields.now) fields.now) in
+    ensures { let says = entry_says (row_market_order (written_head time fields.now) fields.now) in
         IfOk result (TakesFields says (K.has_taken entries.old) (K.has_taken entries.new)) }
 {
     match market_terms(fields) {
@@ -209,7 +211,7 @@ fn take_cancel<K: Collector<Entry = OrderRecord>>(
 ) -> Result<Result<(), Reason>, NoMemory>
     requires names { HasHeadNames fields.now }
     requires place { HasPlace K.has_taken entries.old }
-    ensures { let says = entry_says (cancel (written_head time fields.now) fields.now) in
+    ensures { let says = entry_says (row_cancel (written_head time fields.now) fields.now) in
         IfOk result (TakesFields says (K.has_taken entries.old) (K.has_taken entries.new)) }
 {
     match test_cancel(fields) {
@@ -233,7 +235,7 @@ fn take_replacement<K: Collector<Entry = OrderRecord>>(
 ) -> Result<Result<(), Reason>, NoMemory>
     requires names { HasHeadNames fields.now }
     requires place { HasPlace K.has_taken entries.old }
-    ensures { let says = entry_says (replacement (written_head time fields.now) fields.now) in
+    ensures { let says = entry_says (row_replacement (written_head time fields.now) fields.now) in
         IfOk result (TakesFields says (K.has_taken entries.old) (K.has_taken entries.new)) }
 {
     match replacement_terms(fields) {
@@ -275,29 +277,30 @@ fn take_order_of_kind<K: Collector<Entry = OrderRecord>>(
     }
 }
 
-/// The kind of a line and its time, in the columns that every order line has, whose names are tested.
+/// The kind of a line and its time, in the columns that every
+/// order line has, whose names are tested.
 #[inline(always)]
-#[tactic(auto, unfolding(crate::specs::OrderLines::order_entry))]
+#[tactic(auto, unfolding(crate::specs::OrderLines::order_of_row))]
 fn kind_and_time(fields: &NineFields<'_>, stamps: &mut StampReader) -> Result<(Kind, Stamp), Reason>
     ensures named { OnOk result (HasHeadNames fields.now) }
-    ensures read { IfOk result (λ found. order_entry fields.now
+    ensures read { IfOk result (λ found. order_of_row fields.now
         ≡ order_of_kind found.0 (written_head found.1 fields.now) fields.now) }
-    ensures why { IfErr result (λ why. order_entry fields.now ≡ Err why) }
+    ensures why { IfErr result (λ why. order_of_row fields.now ≡ Err why) }
 {
     let kind = in_column(1, read_kind(column_text(fields, 1)))?;
     let time = head_time(fields, stamps)?;
     Ok((kind, time))
 }
 
-/// Hands on the record that nine fields mean in an order log, or gives the first column that is not in its
-/// form.
+/// Hands on the record that nine fields mean in an order log, or gives the
+/// first column that is not in its form.
 pub(crate) fn take_order<K: Collector<Entry = OrderRecord>>(
     entries: &mut K,
     fields: &NineFields<'_>,
     stamps: &mut StampReader,
 ) -> Result<Result<(), Reason>, NoMemory>
     requires { HasPlace K.has_taken entries.old }
-    ensures { let says = entry_says (order_entry fields.now) in
+    ensures { let says = entry_says (order_of_row fields.now) in
         IfOk result (TakesFields says (K.has_taken entries.old) (K.has_taken entries.new)) }
 {
     match kind_and_time(fields, stamps) {
@@ -307,28 +310,29 @@ pub(crate) fn take_order<K: Collector<Entry = OrderRecord>>(
 }
 
 fn test_limit(fields: &NineFields<'_>) -> Result<(), Reason>
-    ensures { (head : Head) (life : Life) → result ≡ tested (limit_order head life fields.now) }
+    ensures { (head : Head) (life : Life)
+        → result ≡ test_result (row_limit_order head life fields.now) }
 {
     limit_terms(fields)?;
     Ok(())
 }
 
 fn test_market(fields: &NineFields<'_>) -> Result<(), Reason>
-    ensures { (head : Head) → result ≡ tested (market_order head fields.now) }
+    ensures { (head : Head) → result ≡ test_result (row_market_order head fields.now) }
 {
     market_terms(fields)?;
     Ok(())
 }
 
 fn test_replacement(fields: &NineFields<'_>) -> Result<(), Reason>
-    ensures { (head : Head) → result ≡ tested (replacement head fields.now) }
+    ensures { (head : Head) → result ≡ test_result (row_replacement head fields.now) }
 {
     replacement_terms(fields)?;
     Ok(())
 }
 
 fn test_order_of_kind(kind: Kind, fields: &NineFields<'_>) -> Result<(), Reason>
-    ensures { (head : Head) → result ≡ tested (order_of_kind kind head fields.now) }
+    ensures { (head : Head) → result ≡ test_result (order_of_kind kind head fields.now) }
 {
     match kind {
         Kind::New | Kind::Immediate => test_limit(fields),
@@ -338,9 +342,10 @@ fn test_order_of_kind(kind: Kind, fields: &NineFields<'_>) -> Result<(), Reason>
     }
 }
 
-/// Whether nine fields mean a record in an order log, or else the first column that is not in its form.
+/// Whether nine fields mean a record in an order log, or else the
+/// first column that is not in its form.
 pub(crate) fn test_order(fields: &NineFields<'_>, stamps: &mut StampReader) -> Result<(), Reason>
-    ensures { result ≡ tested (order_entry fields.now) }
+    ensures { result ≡ test_result (order_of_row fields.now) }
 {
     let (kind, _) = kind_and_time(fields, stamps)?;
     test_order_of_kind(kind, fields)

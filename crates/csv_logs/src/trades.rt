@@ -1,8 +1,8 @@
 //! The lines of a trade log.
 ghost use Rattle.std.specs.Prelude.{◌≡◌, Err, IfErr, IfOk, Ok, OnOk};
-ghost use Rattle.csv_logs.specs.Columns.{tested};
+ghost use Rattle.csv_logs.specs.Columns.{test_result};
 ghost use Rattle.csv_logs.specs.Steps.{TakesFields, entry_says};
-ghost use Rattle.csv_logs.specs.TradeLines.{HasPartyNames, HasTradeNames, parties_at, trade_entry, written_parties, written_trade};
+ghost use Rattle.csv_logs.specs.TradeLines.{HasPartyNames, HasTradeNames, row_parties, trade_of_row, written_parties, written_trade};
 ghost use Rattle.log_source.specs.Collectors.{HasPlace};
 
 use crate::columns::{known_key, known_name, price_at, quantity_at, stamp_at, test_key, test_name};
@@ -16,10 +16,10 @@ use log_source::collector::Collector;
 
 #[inline(always)]
 fn test_parties(fields: &NineFields<'_>) -> Result<(), Reason>
-    ensures tests { result ≡ tested (parties_at fields.now) }
+    ensures tests { result ≡ test_result (row_parties fields.now) }
     ensures named { OnOk result (HasPartyNames fields.now) }
-    ensures read { OnOk result (parties_at fields.now ≡ Ok (written_parties fields.now)) }
-    ensures why { IfErr result (λ why. parties_at fields.now ≡ Err why) }
+    ensures read { OnOk result (row_parties fields.now ≡ Ok (written_parties fields.now)) }
+    ensures why { IfErr result (λ why. row_parties fields.now ≡ Err why) }
 {
     test_key(4, fields)?;
     test_key(6, fields)
@@ -33,11 +33,12 @@ pub(crate) struct TradeTerms {
     pub(crate) price: Price,
 }
 
-#[tactic(auto, unfolding(crate::specs::TradeLines::trade_entry))]
+#[tactic(auto, unfolding(crate::specs::TradeLines::trade_of_row))]
 fn trade_terms(fields: &NineFields<'_>, stamps: &mut StampReader) -> Result<TradeTerms, Reason>
     ensures named { OnOk result (HasTradeNames fields.now) }
-    ensures read { IfOk result (λ terms. trade_entry fields.now ≡ Ok (written_trade terms fields.now)) }
-    ensures why { IfErr result (λ why. trade_entry fields.now ≡ Err why) }
+    ensures read { IfOk result
+        (λ terms. trade_of_row fields.now ≡ Ok (written_trade terms fields.now)) }
+    ensures why { IfErr result (λ why. trade_of_row fields.now ≡ Err why) }
 {
     test_name(1, fields)?;
     let time = stamp_at(2, fields, stamps)?;
@@ -52,15 +53,15 @@ fn trade_terms(fields: &NineFields<'_>, stamps: &mut StampReader) -> Result<Trad
     })
 }
 
-/// Hands on the record that nine fields mean in a trade log, or gives the first column that is not in its
-/// form. The record is made where it is handed on, and not copied.
+/// Hands on the record that nine fields mean in a trade log, or gives the first column that is
+/// not in its form. The record is made where it is handed on, and not copied.
 pub(crate) fn take_trade<K: Collector<Entry = TradeRecord>>(
     entries: &mut K,
     fields: &NineFields<'_>,
     stamps: &mut StampReader,
 ) -> Result<Result<(), Reason>, NoMemory>
     requires { HasPlace K.has_taken entries.old }
-    ensures { let says = entry_says (trade_entry fields.now) in
+    ensures { let says = entry_says (trade_of_row fields.now) in
         IfOk result (TakesFields says (K.has_taken entries.old) (K.has_taken entries.new)) }
 {
     match trade_terms(fields, stamps) {
@@ -80,9 +81,10 @@ pub(crate) fn take_trade<K: Collector<Entry = TradeRecord>>(
     }
 }
 
-/// Whether nine fields mean a record in a trade log, or else the first column that is not in its form.
+/// Whether nine fields mean a record in a trade log, or else the
+/// first column that is not in its form.
 pub(crate) fn test_trade(fields: &NineFields<'_>, stamps: &mut StampReader) -> Result<(), Reason>
-    ensures { result ≡ tested (trade_entry fields.now) }
+    ensures { result ≡ test_result (trade_of_row fields.now) }
 {
     trade_terms(fields, stamps)?;
     Ok(())

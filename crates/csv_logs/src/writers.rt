@@ -1,7 +1,7 @@
 //! Writing logs: the header, then one line for each record, of canonical texts.
 ghost use Rattle.std.specs.Prelude.{◌≡◌, ◌++◌, IfOk, Ok, OnErr, OnOk};
-ghost use Rattle.csv_logs.specs.Logs.{trade_log};
-ghost use Rattle.csv_logs.specs.Written.{AreOrdersReadAgain, IsReadAgain, log_text, orders_text, trades_text};
+ghost use Rattle.csv_logs.specs.Logs.{csv_trade_log};
+ghost use Rattle.csv_logs.specs.Written.{AreOrdersReadAgain, IsReadAgain, log_text, csv_orders_text, csv_trades_text};
 
 use crate::log_text::LogText;
 use crate::written_lines::LogLine;
@@ -33,14 +33,14 @@ fn append<R: LogLine>(alloc: Global, entries: &[R], out: &mut Vec<u8>) -> Result
 }
 
 /// Appends the canonical order log of these records: the header, and a line for each. Out of
-/// memory leaves `out` as before. What is written is read again as the same records, where those of life
-/// Market have the market price.
+/// memory leaves `out` as before. What is written is read again as the same records, where those
+/// of life Market have the market price.
 pub fn write_orders(
     alloc: Global,
     entries: &[OrderRecord],
     out: &mut Vec<u8>,
 ) -> Result<(), NoMemory>
-    ensures appended { OnOk result (out.new.items ≡ out.old.items ++ orders_text entries.now) }
+    ensures appended { OnOk result (out.new.items ≡ out.old.items ++ csv_orders_text entries.now) }
     ensures unchanged { OnErr result (out.new.items ≡ out.old.items) }
     ensures again { OnOk result (AreOrdersReadAgain entries.now) }
 {
@@ -54,9 +54,9 @@ pub fn write_trades(
     trades: &[TradeRecord],
     out: &mut Vec<u8>,
 ) -> Result<(), NoMemory>
-    ensures appended { OnOk result (out.new.items ≡ out.old.items ++ trades_text trades.now) }
+    ensures appended { OnOk result (out.new.items ≡ out.old.items ++ csv_trades_text trades.now) }
     ensures unchanged { OnErr result (out.new.items ≡ out.old.items) }
-    ensures again { OnOk result (trade_log (trades_text trades.now) ≡ Ok trades.now) }
+    ensures again { OnOk result (csv_trade_log (csv_trades_text trades.now) ≡ Ok trades.now) }
 {
     append(alloc, trades, out)
 }

@@ -3,17 +3,17 @@ ghost use Rattle.std.specs.Prelude.{◌≡◌, ℕ, List, IfOk, IsTrue, OnOk, So
 ghost use Rattle.std.specs.List.{list_all};
 ghost use Rattle.audit_base.specs.Names.{is_name_byte};
 ghost use Rattle.audit_base.specs.Numbers.{price_form, price_text};
-ghost use Rattle.csv_logs.specs.Written.{order_fields, side_text, kind_text, limit_text};
-ghost use Rattle.csv_logs.specs.WrittenLines.{IsAtLine, IsLineOf, IsOrderLine, WritesLine, have_name_bytes, cancel_order, new_order, replace_order};
+ghost use Rattle.csv_logs.specs.Written.{order_row, row_side_text, kind_text, limit_text};
+ghost use Rattle.csv_logs.specs.WrittenLines.{IsAtLine, IsLineOf, IsOrderRow, WritesRow, have_name_bytes, csv_cancel_order, csv_new_order, csv_replace_order};
 
-use crate::entries::LogEntry;
+use crate::entries::CsvRecord;
 use crate::orders::{Head, Terms};
 use audit_base::columns::columns;
 use audit_base::faults::NoMemory;
 use audit_base::field_texts::{price_text, quantity_text, stamp_text};
 use audit_base::names::Name;
 use audit_base::numbers::{Price, Quantity};
-use audit_base::records::{OrderRecord, TradeRecord, Traded};
+use audit_base::records::{LogRecord, OrderRecord, TradeRecord};
 use audit_base::terms::{Life, Side, Which};
 use csv::Writer;
 use std::alloc::Global;
@@ -26,7 +26,7 @@ fn write_row<W: Write + Drop>(writer: &mut Writer<W>, fields: &[&[u8]]) -> Resul
     requires unquoted { IsTrue (have_name_bytes (map (λ field. field.now) fields.now)) }
     ensures at_line { OnOk result (IsAtLine writer.new) }
     ensures written { let row = map (λ field. field.now) fields.now in
-        OnOk result (WritesLine W.contents writer.old writer.new row) }
+        OnOk result (WritesRow W.contents writer.old writer.new row) }
 {
     match writer.write_fields(fields) {
         Ok(()) => Ok(()),
@@ -35,7 +35,7 @@ fn write_row<W: Write + Drop>(writer: &mut Writer<W>, fields: &[&[u8]]) -> Resul
 }
 
 fn side_bytes(side: Side) -> &'static [u8]
-    ensures { result.now ≡ side_text side }
+    ensures { result.now ≡ row_side_text side }
 {
     match side {
         Side::Buy => b"B",
@@ -74,9 +74,9 @@ fn write_new<W: Write + Drop>(
 ) -> Result<(), NoMemory>
     requires { IsAtLine writer.old }
     ensures at_line { OnOk result (IsAtLine writer.new) }
-    ensures written { let row = order_fields (new_order head terms life) in
-        OnOk result (WritesLine W.contents writer.old writer.new row) }
-    ensures line { OnOk result (IsOrderLine (new_order head terms life)) }
+    ensures written { let row = order_row (csv_new_order head terms life) in
+        OnOk result (WritesRow W.contents writer.old writer.new row) }
+    ensures line { OnOk result (IsOrderRow (csv_new_order head terms life)) }
 {
     let time = stamp_text(alloc, head.time)?;
     let quantity = quantity_text(alloc, terms.quantity)?;
@@ -103,9 +103,9 @@ fn write_cancel<W: Write + Drop>(
 ) -> Result<(), NoMemory>
     requires { IsAtLine writer.old }
     ensures at_line { OnOk result (IsAtLine writer.new) }
-    ensures written { let row = order_fields (cancel_order head target) in
-        OnOk result (WritesLine W.contents writer.old writer.new row) }
-    ensures line { OnOk result (IsOrderLine (cancel_order head target)) }
+    ensures written { let row = order_row (csv_cancel_order head target) in
+        OnOk result (WritesRow W.contents writer.old writer.new row) }
+    ensures line { OnOk result (IsOrderRow (csv_cancel_order head target)) }
 {
     let time = stamp_text(alloc, head.time)?;
     let row: [&[u8]; 9] = [
@@ -131,9 +131,9 @@ fn write_replace<W: Write + Drop>(
 ) -> Result<(), NoMemory>
     requires { IsAtLine writer.old }
     ensures at_line { OnOk result (IsAtLine writer.new) }
-    ensures written { let row = order_fields (replace_order head terms target) in
-        OnOk result (WritesLine W.contents writer.old writer.new row) }
-    ensures line { OnOk result (IsOrderLine (replace_order head terms target)) }
+    ensures written { let row = order_row (csv_replace_order head terms target) in
+        OnOk result (WritesRow W.contents writer.old writer.new row) }
+    ensures line { OnOk result (IsOrderRow (csv_replace_order head terms target)) }
 {
     let time = stamp_text(alloc, head.time)?;
     let quantity = quantity_text(alloc, terms.quantity)?;
@@ -153,7 +153,7 @@ fn write_replace<W: Write + Drop>(
 }
 
 /// A record that can be written as a line.
-pub trait LogLine: LogEntry {
+pub trait LogLine: CsvRecord {
     // The nine fields of its line.
     ghost fields: { Self → List (List ℕ) };
 
@@ -161,7 +161,7 @@ pub trait LogLine: LogEntry {
     fn write_names<W: Write + Drop>(writer: &mut Writer<W>) -> Result<(), NoMemory>
         requires { IsAtLine writer.old }
         ensures at_line { OnOk result (IsAtLine writer.new) }
-        ensures written { OnOk result (WritesLine W.contents writer.old writer.new Self.names) }
+        ensures written { OnOk result (WritesRow W.contents writer.old writer.new Self.names) }
         ensures nine { length Self.names ≡ 9 }
         ensures unquoted { IsTrue (have_name_bytes Self.names) };
 
@@ -170,14 +170,14 @@ pub trait LogLine: LogEntry {
         requires { IsAtLine writer.old }
         ensures at_line { OnOk result (IsAtLine writer.new) }
         ensures written { let row = fields self.now in
-            OnOk result (WritesLine W.contents writer.old writer.new row) }
+            OnOk result (WritesRow W.contents writer.old writer.new row) }
         ensures line { OnOk result (IsLineOf Self.meaning Self.sound self.now (fields self.now)) };
 }
 
 impl LogLine for TradeRecord {
-    ghost use Rattle.csv_logs.specs.Written.{trade_fields};
+    ghost use Rattle.csv_logs.specs.Written.{trade_row};
 
-    ghost fields = { trade_fields };
+    ghost fields = { trade_row };
 
     fn write_names<W: Write + Drop>(writer: &mut Writer<W>) -> Result<(), NoMemory> {
         write_row(writer, &columns(Which::Trades))
@@ -207,9 +207,9 @@ impl LogLine for TradeRecord {
 }
 
 impl LogLine for OrderRecord {
-    ghost use Rattle.csv_logs.specs.Written.{order_fields};
+    ghost use Rattle.csv_logs.specs.Written.{order_row};
 
-    ghost fields = { order_fields };
+    ghost fields = { order_row };
 
     fn write_names<W: Write + Drop>(writer: &mut Writer<W>) -> Result<(), NoMemory> {
         write_row(writer, &columns(Which::Orders))

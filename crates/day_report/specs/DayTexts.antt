@@ -13,16 +13,17 @@ day_line counts judged_by =
 abbrev pub byte_in_line : List ℕ → Bool → ℕ → List ℕ
 byte_in_line front begins byte = (if begins then front else []) ++ byte ∷ []
 
--- a text with this front before each of its lines, given whether it begins one: a byte behind LF does
-abbrev pub with_fronts : List ℕ → Bool → List ℕ → List ℕ
-with_fronts front begins [] = []
-with_fronts front begins (byte ∷ text) =
-    byte_in_line front begins byte ++ with_fronts front (byte == 10) text
+-- a text with this front before each of its lines, given whether it begins one: a byte behind
+-- LF does
+abbrev pub with_line_fronts : List ℕ → Bool → List ℕ → List ℕ
+with_line_fronts front begins [] = []
+with_line_fronts front begins (byte ∷ text) =
+    byte_in_line front begins byte ++ with_line_fronts front (byte == 10) text
 
--- what stands before each line of a symbol: the symbol and a comma
+-- the front of each line of a symbol: the symbol and a comma
 abbrev pub symbol_front : List ℕ → List ℕ
 symbol_front symbol = symbol ++ 44 ∷ []
 
 -- the report of a symbol with the symbol and a comma before each of its lines
 abbrev pub symbol_lines : List ℕ → List ℕ → List ℕ
-symbol_lines symbol report = with_fronts (symbol_front symbol) true report
+symbol_lines symbol report = with_line_fronts (symbol_front symbol) true report

@@ -14,8 +14,9 @@ pub struct DayCounts {
     pub rejected: u32,
 }
 
-/// `day,SYMBOLS,ACCEPTED,REJECTED,RULE`, with what the symbols were judged by in the place of RULE: the word of
-/// a rule, or the phases of a day. After `NoMemory` nothing is known of `out`.
+/// `day,SYMBOLS,ACCEPTED,REJECTED,RULE`, with what the symbols were judged by in the place of
+/// RULE: the word of a rule, or the phases of a day. After `NoMemory` nothing is known of
+/// `out`.
 pub fn append_day_line(
     alloc: Global,
     counts: DayCounts,

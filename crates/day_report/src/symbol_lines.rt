@@ -18,8 +18,8 @@ fn append_byte(symbol: &Name, begins: bool, byte: u8, out: &mut Vec<u8>) -> Resu
     Ok(())
 }
 
-/// Appends a report of a symbol, with the symbol and a comma before each of its lines. After `NoMemory` nothing
-/// is known of `out`.
+/// Appends a report of a symbol, with the symbol and a comma before each of its lines. After
+/// `NoMemory` nothing is known of `out`.
 pub fn append_symbol_lines(symbol: &Name, report: &[u8], out: &mut Vec<u8>) -> Result<(), NoMemory>
     ensures { OnOk result
         (out.new.items ≡ out.old.items ++ symbol_lines symbol.now report.now) }

@@ -6,7 +6,7 @@ use Rattle.std.proofs.lemmas.List.Kept.{AllPairs-cons, AllPairs-filter}
 use Rattle.std.proofs.lemmas.Map.Views.{any-filter_same}
 use Rattle.std.proofs.lemmas.Slice.Eq.{bytes_eq-Decides}
 use Rattle.audit_base.specs.Orders.{same_name}
-use Rattle.day_symbols.specs.Symbols.{distinct}
+use Rattle.day_symbols.specs.Symbols.{distinct_names}
 use Rattle.day_symbols.specs.Laws.{AreEachOnce}
 
 -- a name is another than this one
@@ -52,19 +52,19 @@ more-behind name more kept false false first-is among-is =
     rw (first-is, any, among-is) (ap (λ (rest : List (List ℕ)). name ∷ rest) (other-more name more kept true differs))
 
 -- the distinct ones of names with one more at their end
-pub distinct-more : (names : List (List ℕ)) (more : List ℕ) → distinct (names ++ more ∷ []) ≡ with_name (distinct names) more
+pub distinct-more : (names : List (List ℕ)) (more : List ℕ) → distinct_names (names ++ more ∷ []) ≡ with_name (distinct_names names) more
 distinct-more [] more = refl
 distinct-more (name ∷ names) more =
     ap (λ kept. name ∷ filter (is_other name) kept) (distinct-more names more)
-    ∙ more-behind name more (distinct names) (same_name more name) (list_any (same_name more) (distinct names)) refl refl
+    ∙ more-behind name more (distinct_names names) (same_name more name) (list_any (same_name more) (distinct_names names)) refl refl
 
--- no name stands twice
-distinct-once : (names : List (List ℕ)) → AllPairs (λ (a b : List ℕ). a ≢ b) (distinct names)
+-- no name is there twice
+distinct-once : (names : List (List ℕ)) → AllPairs (λ (a b : List ℕ). a ≢ b) (distinct_names names)
 distinct-once [] = λ i j d lt inside. absurd (omega arith)
 distinct-once (name ∷ names) =
-    AllPairs-cons (λ (a b : List ℕ). a ≢ b) name (filter (is_other name) (distinct names))
-    (All-weaker (λ (other : List ℕ). is_other name other ≡ true) (λ (other : List ℕ). name ≢ other) (λ other passes same. let is = is-same name other same in cc) (filter (is_other name) (distinct names)) (filter_passes (is_other name) (distinct names)))
-    (AllPairs-filter (λ (a b : List ℕ). a ≢ b) (is_other name) (distinct names) (distinct-once names))
+    AllPairs-cons (λ (a b : List ℕ). a ≢ b) name (filter (is_other name) (distinct_names names))
+    (All-weaker (λ (other : List ℕ). is_other name other ≡ true) (λ (other : List ℕ). name ≢ other) (λ other passes same. let is = is-same name other same in cc) (filter (is_other name) (distinct_names names)) (filter_passes (is_other name) (distinct_names names)))
+    (AllPairs-filter (λ (a b : List ℕ). a ≢ b) (is_other name) (distinct_names names) (distinct-once names))
 
 -- a list has its first member
 has-first : {X : Type 0} (x : X) (xs : List X) → Contains (x ∷ xs) x
@@ -92,11 +92,11 @@ has-kept {X} test (y ∷ ys) x passes has =
     ]
 
 -- each is one of the names
-distinct-only : (names : List (List ℕ)) → All (Contains names) (distinct names)
+distinct-only : (names : List (List ℕ)) → All (Contains names) (distinct_names names)
 distinct-only [] = All-nil (Contains [])
 distinct-only (name ∷ names) =
-    let behind : All (Contains (name ∷ names)) (distinct names) = All-weaker (Contains names) (Contains (name ∷ names)) (λ x has. Contains-append_right (name ∷ []) names x has) (distinct names) (distinct-only names) in
-    All-cons (Contains (name ∷ names)) name (filter (is_other name) (distinct names)) (has-first name names) (All-filter (is_other name) (Contains (name ∷ names)) (distinct names) behind)
+    let behind : All (Contains (name ∷ names)) (distinct_names names) = All-weaker (Contains names) (Contains (name ∷ names)) (λ x has. Contains-append_right (name ∷ []) names x has) (distinct_names names) (distinct-only names) in
+    All-cons (Contains (name ∷ names)) name (filter (is_other name) (distinct_names names)) (has-first name names) (All-filter (is_other name) (Contains (name ∷ names)) (distinct_names names) behind)
 
 -- a name among distinct ones is the first one or among the others
 has-either : (name : List ℕ) (kept : List (List ℕ)) (x : List ℕ) (same : Bool) → same_name name x ≡ same → Contains kept x → Contains (name ∷ filter (is_other name) kept) x
@@ -104,17 +104,17 @@ has-either name kept x true is has = subst (λ (z : List ℕ). Contains (name �
 has-either name kept x false is has = Contains-append_right (name ∷ []) (filter (is_other name) kept) x (has-kept (is_other name) kept x (ap not is) has)
 
 -- each name is there
-distinct-all : (names : List (List ℕ)) → All (Contains (distinct names)) names
+distinct-all : (names : List (List ℕ)) → All (Contains (distinct_names names)) names
 distinct-all [] = All-nil (Contains [])
 distinct-all (name ∷ names) =
-    let rest = filter (is_other name) (distinct names) in
+    let rest = filter (is_other name) (distinct_names names) in
     All-cons (Contains (name ∷ rest)) name names (has-first name rest)
-    (All-weaker (Contains (distinct names)) (Contains (name ∷ rest)) (λ x has. has-either name (distinct names) x (same_name name x) refl has) names (distinct-all names))
+    (All-weaker (Contains (distinct_names names)) (Contains (name ∷ rest)) (λ x has. has-either name (distinct_names names) x (same_name name x) refl has) names (distinct-all names))
 
 -- the law of a list of names
-pub each-once : (names : List (List ℕ)) → AreEachOnce names (distinct names)
+pub each-once : (names : List (List ℕ)) → AreEachOnce names (distinct_names names)
 each-once names = record { once = distinct-once names; all = distinct-all names; only = distinct-only names }
 
 -- where some names were the distinct ones of others, they are so with one name more
-pub distinct_met : (names old new : List (List ℕ)) (more : List ℕ) → old ≡ distinct names → new ≡ with_name old more → new ≡ distinct (names ++ more ∷ [])
+pub distinct_met : (names old new : List (List ℕ)) (more : List ℕ) → old ≡ distinct_names names → new ≡ with_name old more → new ≡ distinct_names (names ++ more ∷ [])
 distinct_met names old new more was now = now ∙ ap (λ kept. with_name kept more) was ∙ sym (distinct-more names more)

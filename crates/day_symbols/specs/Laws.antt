@@ -3,7 +3,7 @@ use Rattle.std.specs.Prelude.{◌≡◌, ◌≢◌, ◌<◌, ◌≤◌, ℕ, Lis
 use Rattle.audit_base.specs.declared.records.OrderRecord.{OrderRecord}
 use Rattle.audit_base.specs.declared.records.TradeRecord.{TradeRecord}
 use Rattle.audit_base.specs.Histories.{symbol_of}
-use Rattle.day_symbols.specs.Symbols.{symbols_of_day, symbols_written}
+use Rattle.day_symbols.specs.Symbols.{symbols_of_day, symbols_of_logs}
 use Rattle.day_symbols.specs.Shares.{is_in_share}
 
 -- The symbols have no repetition, each name's is among them, and each is one of the names.
@@ -12,13 +12,14 @@ pub record AreEachOnce (names symbols : List (List ℕ)) : Type 0 where
   pub all : All (Contains symbols) names
   pub only : All (Contains names) symbols
 
--- each symbol once: the symbols of a day have no repetition, each record's symbol is among them, and each is
--- the symbol of a record
+-- each symbol once: the symbols of a day have no repetition, each record's symbol is among
+-- them, and each is the symbol of a record
 abbrev pub EachSymbolOnce : Type 0
 EachSymbolOnce = (entries : List OrderRecord) (trades : List TradeRecord)
-    → AreEachOnce (symbols_written entries trades) (symbols_of_day entries trades)
+    → AreEachOnce (symbols_of_logs entries trades) (symbols_of_day entries trades)
 
--- The share is one of so many, and the symbol at the index is in it and in no other of them.
+-- The share `number` is one of the `count` shares, and the symbol at the index is in it and in
+-- no other of them.
 pub record IsOnlyShare (count index number : ℕ) : Type 0 where
   pub first : 1 ≤ number
   pub among : number ≤ count
@@ -28,4 +29,5 @@ pub record IsOnlyShare (count index number : ℕ) : Type 0 where
 
 -- shares are the day: for each number of shares the symbol at each index is in exactly one of them
 abbrev pub SharesAreTheDay : Type 0
-SharesAreTheDay = (count index : ℕ) → 1 ≤ count → (number : ℕ) × IsOnlyShare count index number
+SharesAreTheDay =
+    (count index : ℕ) → 1 ≤ count → (number : ℕ) × IsOnlyShare count index number

@@ -13,14 +13,14 @@ abbrev pub most_shares : ℕ
 most_shares = 65536
 
 -- The number of a share is one of the shares that there are, from 1, and they are not too many.
-pub record IsShare (share : DayShare) : Type 0 where
+pub record IsDayShare (share : DayShare) : Type 0 where
   pub first : 1 ≤ share.number
   pub among : share.number ≤ share.count
   pub few : share.count ≤ most_shares
 
 -- the share number/count, where 1 ≤ number ≤ count and there are at most as many shares
-abbrev pub share_of : ℕ → ℕ → Option DayShare
-share_of number count =
+abbrev pub day_share_of : ℕ → ℕ → Option DayShare
+day_share_of number count =
     only_if (nat_le 1 number && nat_le number count && nat_le count most_shares)
     (record { number = number; count = count })
 

@@ -1,4 +1,5 @@
-//! The laws of a day's symbols, apart from what computes them. Each call does nothing: it only has its contract.
+//! The laws of a day's symbols, apart from what computes them. Each call does nothing: it only
+//! has its contract.
 ghost use Rattle.day_symbols.specs.Laws.{EachSymbolOnce, SharesAreTheDay};
 
 /// Each symbol of a day is there once, and each record's symbol is among them.

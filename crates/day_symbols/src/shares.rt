@@ -4,8 +4,8 @@ use std::marker::Model;
 /// The greatest number of shares of a day.
 pub const MOST_SHARES: u32 = 65_536;
 
-/// The share K/N: of the symbols in their order those with the numbers K, K + N, K + 2N and so on, from 1.
-/// K is from 1 to N, and N at most 65,536.
+/// The share K/N: of the symbols in their order those with the numbers K, K + N, K + 2N and so
+/// on, from 1. K is from 1 to N, and N at most 65,536.
 #[derive(Clone, Copy, Debug, PartialEq, Eq)]
 pub struct Share {
     number: u32,
@@ -13,24 +13,24 @@ pub struct Share {
 }
 
 impl Model for Share {
-    ghost use Rattle.day_symbols.specs.Shares.{DayShare, IsShare};
+    ghost use Rattle.day_symbols.specs.Shares.{DayShare, IsDayShare};
 
     ghost Value = { DayShare };
 
     ghost view = { λ share. record { number = share.number; count = share.count } };
 
-    ghost invariant = { λ share. IsShare (record { number = share.number; count = share.count }) };
+    ghost invariant = { λ share. IsDayShare (record { number = share.number; count = share.count }) };
 
     ghost inverse = { λ share. record { number = share.number; count = share.count } };
 }
 
 impl Share {
     ghost use Rattle.std.specs.Prelude.{◌≡◌};
-    ghost use Rattle.day_symbols.specs.Shares.{is_in_share, share_of, whole_day};
+    ghost use Rattle.day_symbols.specs.Shares.{is_in_share, day_share_of, whole_day};
 
     /// The share number/count, where there is one.
     pub fn of(number: u32, count: u32) -> Option<Share>
-        ensures { result ≡ share_of number count }
+        ensures { result ≡ day_share_of number count }
     {
         if 1 <= number && number <= count && count <= MOST_SHARES {
             Some(Share { number, count })

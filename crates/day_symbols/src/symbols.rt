@@ -1,7 +1,7 @@
 //! The symbols that were met so far, each once.
 ghost use Rattle.std.specs.Prelude.{◌≡◌, ◌∷◌, ◌++◌, [], ℕ, List, OnErr, OnOk, IfOk, Some, ◌==◌, length, option_map, position, slice_get};
 ghost use Rattle.audit_base.specs.Orders.{same_name};
-ghost use Rattle.day_symbols.specs.Symbols.{distinct};
+ghost use Rattle.day_symbols.specs.Symbols.{distinct_names};
 
 use audit_base::faults::NoMemory;
 use audit_base::names::Name;
@@ -10,8 +10,9 @@ use seeded_hash::seed::HashSeed;
 use std::alloc::Global;
 use std::marker::Model;
 
-/// Symbols in the order in which each was met first. Contracts see their list. A symbol is found by its hash,
-/// which begins with a seed, so that nobody can choose symbols that hash alike.
+/// Symbols in the order in which each was met first. Contracts see their list. A symbol is
+/// found by its hash, which begins with a seed, so that nobody can choose symbols that hash
+/// alike.
 #[derive(Drop)]
 pub struct Symbols {
     names: IndexSet<Name, HashSeed>,
@@ -50,11 +51,11 @@ impl Symbols {
         self.names.is_empty()
     }
 
-    /// Meets a symbol, and gives its index. Where it was met before nothing changes. After `NoMemory` the
-    /// symbols are as they were.
+    /// Meets a symbol, and gives its index. Where it was met before nothing changes. After
+    /// `NoMemory` the symbols are as they were.
     pub fn meet(&mut self, symbol: &Name) -> Result<usize, NoMemory>
-        ensures meets { (names : List (List ℕ)) → self.old ≡ distinct names
-            → OnOk result (self.new ≡ distinct (names ++ symbol.now ∷ [])) }
+        ensures meets { (names : List (List ℕ)) → self.old ≡ distinct_names names
+            → OnOk result (self.new ≡ distinct_names (names ++ symbol.now ∷ [])) }
         ensures index { IfOk result (λ at. slice_get self.new at ≡ Some symbol.now) }
         ensures kept { OnErr result (self.new ≡ self.old) }
     {

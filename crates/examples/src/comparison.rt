@@ -25,9 +25,9 @@ impl fmt::Display for Difference {
     }
 }
 
-/// The status that goes with a report, which its first word tells.
+/// The status that goes with a report, by its first word.
 fn status_of(report: &[u8]) -> Status
-    ensures { result ≡ spec.status_of report.now }
+    ensures { result ≡ spec.status_of_report report.now }
 {
     if report.starts_with(b"rejected,") {
         return Status::Rejected;
@@ -52,7 +52,7 @@ fn status_of(report: &[u8]) -> Status
 
 /// How a run that answered this status and wrote this differs from what the example's report wants.
 pub(crate) fn compare(report: &[u8], status: Status, written: &[u8]) -> Option<Difference>
-    ensures { IsNone result ↔ ((status ≡ spec.status_of report.now) × (written.now ≡ report.now)) }
+    ensures { IsNone result ↔ ((status ≡ spec.status_of_report report.now) × (written.now ≡ report.now)) }
 {
     let wanted = status_of(report);
     if status != wanted {

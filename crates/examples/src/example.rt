@@ -26,7 +26,7 @@ fn sink(alloc: Global) -> io::Result<MemorySink> {
     made.map_err(|_| io::Error::from(ErrorKind::OutOfMemory))
 }
 
-/// Runs the example in whose folder the process stands, and tells how it differs from its report. An
+/// Runs the example in whose folder the process is, and gives how it differs from its report. An
 /// error comes where the words or the report cannot be read, or memory runs out.
 pub(crate) fn run_example<R: Files + AllocGlobal + Clone + Drop>(
     rt: &R,
@@ -39,7 +39,7 @@ pub(crate) fn run_example<R: Files + AllocGlobal + Clone + Drop>(
     Ok(compare(report.as_slice(), status, out.bytes()))
 }
 
-/// The difference that the canary must show in whose folder the process stands.
+/// The difference that the canary in whose folder the process is must show.
 pub(crate) fn wanted_difference<R: Files + AllocGlobal>(rt: &R) -> io::Result<String> {
     fs::read_to_string(rt, "difference")
 }

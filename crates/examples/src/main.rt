@@ -1,8 +1,9 @@
 //! Runs every example: `examples FOLDER`. An example is a folder with the words of a command line,
 //! the logs that they name, and the report; each is run as the program would, in its folder.
 //!
-//! The folder `canaries` has examples whose reports are wrong. Each of them must differ, in the way that its
-//! file `difference` tells, so that a comparison which finds no difference is noticed.
+//! The folder `canaries` has examples whose reports are wrong. Each of them must differ, in the
+//! way that its file `difference` says, so that a comparison which finds no difference is
+//! noticed.
 #![tactic(auto)]
 
 mod comparison;
@@ -30,8 +31,8 @@ struct Tally {
     all: usize,
 }
 
-/// Writes a line for each folder that does not come out as it must, and the numbers of those that do.
-/// Ends with 1 where one does not.
+/// Writes a line for each folder that does not come out as it must, and the numbers of those
+/// that do. Ends with 1 where one does not.
 fn main(rt: HostRuntime) -> io::Result<ExitCode> {
     enter_folder(&rt)?;
     let examples = run_folders(&rt, Kind::Example)?;
@@ -87,7 +88,7 @@ fn comes_out_right(rt: &HostRuntime, kind: Kind, name: &str) -> io::Result<bool>
     }
 }
 
-/// Whether the example of this name holds. Where it doesn't, a line tells how it differs.
+/// Whether the example of this name holds. Where it doesn't, a line says how it differs.
 fn holds(rt: &HostRuntime, name: &str) -> io::Result<bool> {
     env::set_current_dir(rt, name)?;
     let answer = run_example(rt);
@@ -100,8 +101,8 @@ fn holds(rt: &HostRuntime, name: &str) -> io::Result<bool> {
     Ok(false)
 }
 
-/// Whether the canary of this name differs, in the way that its folder tells. Where it doesn't, a line
-/// tells what came instead.
+/// Whether the canary of this name differs, in the way that its folder says. Where it doesn't,
+/// a line says what came instead.
 fn differs_as_it_must(rt: &HostRuntime, name: &str) -> io::Result<bool> {
     env::set_current_dir(rt, name)?;
     let answer = run_example(rt);

@@ -1,4 +1,4 @@
--- What the public contracts cite stands in audit_base, call_laws and short_order.
+-- What the public contracts cite is in audit_base, call_laws and short_order.
 
 -- What private functions pass on.
 pub mod Passing

@@ -22,15 +22,15 @@ abbrev pub traded_order : List ℕ → ℕ → TradedOrder
 traded_order traded i = record { index = i; traded = slice_index traded i }
 
 -- the best short order of a side outranks the deal's order of the side
-abbrev pub outranked_at : List Order → List ℕ → Side → Option ℕ → Deal → Option Flaw
-outranked_at orders traded side None d = None
-outranked_at orders traded side (Some short) d =
+abbrev pub outranked_flaw : List Order → List ℕ → Side → Option ℕ → Deal → Option Flaw
+outranked_flaw orders traded side None d = None
+outranked_flaw orders traded side (Some short) d =
     let own = order_of_deal side d in
     let evidence = Priority side (traded_order traded short) (traded_order traded own) in
     only_if (better (order_at orders short) (order_at orders own))
     (record { place = d.place; evidence = evidence })
 
--- this of the bids, or else of the asks
-abbrev pub unfair_at : List Order → List ℕ → Option ℕ → Option ℕ → Deal → Option Flaw
-unfair_at orders traded bid ask d =
-    option_or (outranked_at orders traded Buy bid d) (outranked_at orders traded Sell ask d)
+-- what is wrong with a deal by the best short bid, or else by the best short ask
+abbrev pub unfair_flaw : List Order → List ℕ → Option ℕ → Option ℕ → Deal → Option Flaw
+unfair_flaw orders traded bid ask d =
+    option_or (outranked_flaw orders traded Buy bid d) (outranked_flaw orders traded Sell ask d)

@@ -8,7 +8,7 @@ ghost use Rattle.audit_base.specs.Deals.{AreTotals, IsDealList};
 ghost use Rattle.audit_base.specs.Calls.{Matching, Fair};
 ghost use Rattle.audit_base.specs.CallOffences.{best_short, fair_offence};
 
-use super::passing::unfair_at;
+use super::passing::unfair_flaw;
 use audit_base::findings::Finding;
 use audit_base::orders::Deal;
 use audit_base::ranges::deals_in_range;
@@ -36,20 +36,21 @@ fn check_passing(
 {
     deals_in_range(deals);
     for deal in deals {
-        if let Some(flaw) = unfair_at(orders, traded, short_bid, short_ask, deal) {
+        if let Some(flaw) = unfair_flaw(orders, traded, short_bid, short_ask, deal) {
             return Err(orders.finding(flaw));
         }
     }
     Ok(())
 }
 
-/// Whether a matching is fair: an order that is better by price-time priority than one that trades is
-/// fully traded. Ok exactly where it is, else the first of the findings that a short bid or a short ask
-/// is passed over: of the least deal that passes one over, and of its two the one of the bids. It shows
-/// the best short order of the side and the deal's order, with what they trade in all deals.
+/// Whether a matching is fair: an order that is better by price-time priority than one that
+/// trades is fully traded. Ok exactly where it is, else the first of the findings that a short
+/// bid or a short ask is passed over: of the least deal that passes one over, and of its two the
+/// one of the bids. It shows the best short order of the side and the deal's order, with what
+/// they trade in all deals.
 ///
-/// `bids` and `asks` are the ranks of the two sides, and `traded` is what each order trades, by its index.
-/// One pass over the deals. Takes no memory.
+/// `bids` and `asks` are the ranks of the two sides, and `traded` is what each order trades, by its
+/// index. One pass over the deals. Takes no memory.
 pub fn check_fair(
     orders: &OrderList<'_>,
     bids: &[usize],
@@ -71,8 +72,8 @@ pub fn check_fair(
     check_passing(orders, deals, traded, short_bid, short_ask)
 }
 
-/// The same where no rank is at hand: one pass over the orders for each side, and one over the deals, where
-/// a rank would have to be sorted first. Takes no memory.
+/// The same where no rank is at hand: one pass over the orders for each side, and one over the
+/// deals, where a rank would have to be sorted first. Takes no memory.
 pub fn check_fair_unranked(
     orders: &OrderList<'_>,
     deals: &[Deal],

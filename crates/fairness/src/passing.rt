@@ -1,8 +1,8 @@
 //! Whether a deal passes over a short order.
 ghost use Rattle.std.specs.Prelude.{◌≡◌, ◌<◌, IfSome, length};
 ghost use Rattle.audit_base.specs.declared.terms.Side.TheVariants.{Buy, Sell};
-ghost use Rattle.audit_base.specs.Flaws.{IsInside};
-ghost use Rattle.audit_base.specs.Orders.{Stands};
+ghost use Rattle.audit_base.specs.Flaws.{IsEvidenceInside};
+ghost use Rattle.audit_base.specs.Orders.{IsUncancelledOn};
 ghost use Rattle.fairness.specs.Passing as spec;
 
 use audit_base::flaws::{Evidence, Flaw, TradedOrder};
@@ -33,7 +33,7 @@ fn traded_order(traded: &[u128], index: usize) -> TradedOrder
 }
 
 /// What is wrong with a deal whose order of this side the best short order of the side outranks.
-fn outranked_at(
+fn outranked_flaw(
     orders: &OrderList<'_>,
     traded: &[u128],
     side: Side,
@@ -41,10 +41,10 @@ fn outranked_at(
     deal: &Deal,
 ) -> Option<Flaw>
     requires count { length traded.now ≡ length orders.now }
-    requires short { IfSome short (λ i. Stands orders.now side i) }
-    requires stands { Stands orders.now side (spec.order_of_deal side deal.now) }
-    ensures outranked { result ≡ spec.outranked_at orders.now traded.now side short deal.now }
-    ensures inside { IfSome result (λ flaw. IsInside orders.now flaw.evidence) }
+    requires short { IfSome short (λ i. IsUncancelledOn orders.now side i) }
+    requires stands { IsUncancelledOn orders.now side (spec.order_of_deal side deal.now) }
+    ensures outranked { result ≡ spec.outranked_flaw orders.now traded.now side short deal.now }
+    ensures inside { IfSome result (λ flaw. IsEvidenceInside orders.now flaw.evidence) }
 {
     let short = short?;
     let own = order_of_deal(side, deal);
@@ -61,7 +61,7 @@ fn outranked_at(
 }
 
 /// What is wrong with a deal that passes over a short order: a bid, or else an ask.
-pub(crate) fn unfair_at(
+pub(crate) fn unfair_flaw(
     orders: &OrderList<'_>,
     traded: &[u128],
     short_bid: Option<usize>,
@@ -69,15 +69,15 @@ pub(crate) fn unfair_at(
     deal: &Deal,
 ) -> Option<Flaw>
     requires count { length traded.now ≡ length orders.now }
-    requires short_bid { IfSome short_bid (λ i. Stands orders.now Buy i) }
-    requires short_ask { IfSome short_ask (λ i. Stands orders.now Sell i) }
-    requires bid { Stands orders.now Buy deal.now.bid }
-    requires ask { Stands orders.now Sell deal.now.ask }
-    ensures unfair { result ≡ spec.unfair_at orders.now traded.now short_bid short_ask deal.now }
-    ensures inside { IfSome result (λ flaw. IsInside orders.now flaw.evidence) }
+    requires short_bid { IfSome short_bid (λ i. IsUncancelledOn orders.now Buy i) }
+    requires short_ask { IfSome short_ask (λ i. IsUncancelledOn orders.now Sell i) }
+    requires bid { IsUncancelledOn orders.now Buy deal.now.bid }
+    requires ask { IsUncancelledOn orders.now Sell deal.now.ask }
+    ensures unfair { result ≡ spec.unfair_flaw orders.now traded.now short_bid short_ask deal.now }
+    ensures inside { IfSome result (λ flaw. IsEvidenceInside orders.now flaw.evidence) }
 {
-    match outranked_at(orders, traded, Side::Buy, short_bid, deal) {
+    match outranked_flaw(orders, traded, Side::Buy, short_bid, deal) {
         Some(flaw) => Some(flaw),
-        None => outranked_at(orders, traded, Side::Sell, short_ask, deal),
+        None => outranked_flaw(orders, traded, Side::Sell, short_ask, deal),
     }
 }

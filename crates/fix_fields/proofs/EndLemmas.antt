@@ -3,11 +3,11 @@ use Rattle.std.proofs.Common.{◌≡◌, ◌⊎◌, ℕ, zero, suc, ◌+◌, ◌
 use Rattle.std.proofs.lemmas.Bool.{cases_Bool, cases_lt}
 use Rattle.std.proofs.lemmas.List.{append-nil, get_or-drop, get_or_append_left, get_or-take, length-append, length-drop, length-take-le, take-append-drop}
 use Rattle.memchr.specs.Find.{IsFirst, IsFirstByte, is_byte, places, places_from}
-use Rattle.fix_fields.specs.Ends.{IsEnd, AreEnds, HoldsEnds, IsClosed, SeeksEnd}
+use Rattle.fix_fields.specs.Ends.{IsEnd, AreEnds, HoldsEnds, EndsWithSoh, SeeksEnd}
 use Rattle.fix_fields.proofs.PlaceLemmas.{fails-here}
 
 module _ (body : List ℕ) where
-  -- a byte that is no SOH may stand before them
+  -- a byte that is no SOH may be before them
   ends-behind : (i : ℕ) (ends : List ℕ) → is_byte 1 (get_or body i 0) ≡ false → AreEnds body (i + 1) ends → AreEnds body i ends
   ends-behind i [] fails are = fails-here (is_byte 1) body i (length body) fails are
   ends-behind i (end ∷ ends) fails are =
@@ -33,7 +33,7 @@ module _ (body : List ℕ) where
       record { more = []; closed = inl refl; from = 0; low = omega arith; are = subst (λ (t : List ℕ). AreEnds t 0 ends) (sym (append-nil body)) (are-all ends is) }
 
   -- those of the text that begins with these first bytes, the last of which is SOH
-  pub holds-front : (size : ℕ) (ends : List ℕ) → IsClosed (take size body) → ends ≡ places (is_byte 1) body → HoldsEnds (take size body) 0 ends
+  pub holds-front : (size : ℕ) (ends : List ℕ) → EndsWithSoh (take size body) → ends ≡ places (is_byte 1) body → HoldsEnds (take size body) 0 ends
   holds-front size ends closed is = record {
     more = drop size body;
     closed = inr closed;
@@ -42,13 +42,13 @@ module _ (body : List ℕ) where
     are = subst (λ (t : List ℕ). AreEnds t 0 ends) (sym (take-append-drop size body)) (are-all ends is);
   }
 
-  pub closed-front : (size : ℕ) → 0 < size → size ≤ length body → get_or body (size - 1) 0 ≡ 1 → IsClosed (take size body)
+  pub closed-front : (size : ℕ) → 0 < size → size ≤ length body → get_or body (size - 1) 0 ≡ 1 → EndsWithSoh (take size body)
   closed-front size some fits last =
       let long : length (take size body) ≡ size = length-take-le size body fits in
       let here : get_or (take size body) (length (take size body) - 1) 0 ≡ 1 =
       ap (λ (n : ℕ). get_or (take size body) (n - 1) 0) long ∙ get_or-take size body (size - 1) 0 (omega (arith, some)) ∙ last in (omega (arith, long, some), rw here refl)
 
-  -- a byte of the body stands in each text that begins with it
+  -- a byte of the body is in each text that begins with it
   passes-in : (more : List ℕ) (k : ℕ) → k < length body → IsEnd body k → IsEnd (body ++ more) k
   passes-in more k inside passes = ap (is_byte 1) (get_or_append_left body more 0 k inside) ∙ passes
 
@@ -56,14 +56,14 @@ module _ (body : List ℕ) where
   passes-back more k inside passes = ap (is_byte 1) (sym (get_or_append_left body more 0 k inside)) ∙ passes
 
   -- from one place to another
-  pub seeks : (at from : ℕ) (ends : List ℕ) → at ≤ from → HoldsEnds body at ends → (IsClosed body → from < length body) → SeeksEnd body from ends
+  pub seeks : (at from : ℕ) (ends : List ℕ) → at ≤ from → HoldsEnds body at ends → (EndsWithSoh body → from < length body) → SeeksEnd body from ends
   seeks at from ends later h inside = record { more = h.more; closed = closed-at h.closed; from = h.from; low = omega (arith, h.low, later); are = h.are }
     where
-      closed-at : (h.more ≡ []) ⊎ IsClosed body → (h.more ≡ []) ⊎ ((from < length body) × IsClosed body)
+      closed-at : (h.more ≡ []) ⊎ EndsWithSoh body → (h.more ≡ []) ⊎ ((from < length body) × EndsWithSoh body)
       closed-at (inl none) = inl none
       closed-at (inr closed) = inr (inside closed, closed)
 
-  closed-of : (at : ℕ) (more : List ℕ) → (more ≡ []) ⊎ ((at < length body) × IsClosed body) → (more ≡ []) ⊎ IsClosed body
+  closed-of : (at : ℕ) (more : List ℕ) → (more ≡ []) ⊎ ((at < length body) × EndsWithSoh body) → (more ≡ []) ⊎ EndsWithSoh body
   closed-of at more (inl none) = inl none
   closed-of at more (inr closed) = inr closed.1
 
@@ -87,7 +87,7 @@ module _ (body : List ℕ) where
     none-between : (k : ℕ) → at ≤ k → k < end → k < length body → ¬ IsEnd body k
     none-between k low high inside passes = are-left.0.before k (omega (arith, h.low, low)) high (passes-in h.more k inside passes)
 
-    inside-body : (h.more ≡ []) ⊎ ((at < length body) × IsClosed body) → at ≤ end → end < length body
+    inside-body : (h.more ≡ []) ⊎ ((at < length body) × EndsWithSoh body) → at ≤ end → end < length body
     inside-body (inl none) behind =
         omega (arith, are-left.0.high, ap (λ (xs : List ℕ). length (body ++ xs)) none ∙ ap length (append-nil body))
     inside-body (inr closed) behind = elim (cases_lt end (length body)) [

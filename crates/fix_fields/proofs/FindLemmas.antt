@@ -7,7 +7,7 @@ use Rattle.std.proofs.lemmas.List.Elements.{All-head, All-tail, All-from_get_or}
 use Rattle.std.proofs.lemmas.List.Sums.{sum_by-append, sum_by-cons, split_at_first, fails_before_first, passes_at_first}
 use Rattle.fix_fields.specs.declared.field.Field.{Field}
 use Rattle.fix_fields.specs.declared.field.Found.TheVariants.{One, Many}
-use Rattle.fix_fields.specs.TagSearch.{found_of, has_tag}
+use Rattle.fix_fields.specs.TagSearch.{search_for_tag, has_tag}
 use Rattle.fix_fields.proofs.SearchLemmas.{first_is}
 
 -- what fails everywhere is counted nowhere
@@ -48,14 +48,14 @@ any_field : Field
 any_field = record { tag = 0; from = 0; to = 0 }
 
 -- a tag that occurs behind its first place occurs more than once
-pub found_many : (fields : List Field) (tag i : ℕ) → position (has_tag tag) fields ≡ Some i → list_any (has_tag tag) (drop (i + 1) fields) ≡ true → found_of fields tag ≡ Many i
+pub found_many : (fields : List Field) (tag i : ℕ) → position (has_tag tag) fields ≡ Some i → list_any (has_tag tag) (drop (i + 1) fields) ≡ true → search_for_tag fields tag ≡ Many i
 found_many fields tag i h more =
     let count = count_from_first (has_tag tag) fields any_field i h in
     let some = sym (any_counts (has_tag tag) (drop (i + 1) fields)) ∙ more in
     let test : eqb (count_by (has_tag tag) fields) 1 ≡ false = grind (arith, nat_tests, some, count) in rw (h, test)
 
 -- and else once
-pub found_one : (fields : List Field) (tag i : ℕ) → position (has_tag tag) fields ≡ Some i → list_any (has_tag tag) (drop (i + 1) fields) ≡ false → found_of fields tag ≡ One i
+pub found_one : (fields : List Field) (tag i : ℕ) → position (has_tag tag) fields ≡ Some i → list_any (has_tag tag) (drop (i + 1) fields) ≡ false → search_for_tag fields tag ≡ One i
 found_one fields tag i h more =
     let count = count_from_first (has_tag tag) fields any_field i h in
     let none = sym (any_counts (has_tag tag) (drop (i + 1) fields)) ∙ more in

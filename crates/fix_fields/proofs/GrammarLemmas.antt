@@ -4,7 +4,7 @@ use Rattle.std.specs.Fmt.{decimal}
 use Rattle.std.proofs.lemmas.Fmt.{decimal_injective}
 use Rattle.std.proofs.lemmas.List.{append_assoc, length-append, take_at, drop_at}
 use Rattle.fix_fields.specs.Forms.{length_form}
-use Rattle.fix_fields.specs.Pairs.{is_pair}
+use Rattle.fix_fields.specs.Pairs.{is_data_field_pair}
 use Rattle.fix_fields.specs.Grammar.{TagValue, IsTag, IsDelimited, HasForm, IsField, AreFields, NoField, field_bytes, bytes_of, last_of}
 use Rattle.fix_fields.proofs.SearchLemmas.{same_until}
 use Rattle.fix_fields.proofs.TagLemmas.{decimal_no_equals}
@@ -31,7 +31,7 @@ counted_or_delimited true size v w x y p q e =
 same_value : (before : Option TagValue) (tag : ℕ) (v w x y : List ℕ) → HasForm before tag v → HasForm before tag w
     → v ++ 1 ∷ x ≡ w ++ 1 ∷ y → (v ≡ w) × (x ≡ y)
 same_value None tag v w x y p q e = same_until 1 v w x y p.no_end q.no_end e
-same_value (Some before) tag v w x y p q e = counted_or_delimited (is_pair before.tag tag) (length_form before.value) v w x y p q e
+same_value (Some before) tag v w x y p q e = counted_or_delimited (is_data_field_pair before.tag tag) (length_form before.value) v w x y p q e
 
 -- tags before `=` and equal bytes are equal
 pub same_tag : (t u : ℕ) (x y : List ℕ) → IsTag t → IsTag u → decimal t ++ 61 ∷ x ≡ decimal u ++ 61 ∷ y → (t ≡ u) × (x ≡ y)
@@ -49,14 +49,14 @@ one_field before f g x y p q e =
     let values = same_value before f.tag f.value g.value x y p.value_form form tags.1 in
     (λ i. record { tag = tags.0 i; value = values.0 i }, values.1)
 
--- where a tag and `=` stand at the front, and behind them no value for it, no field does
+-- where a tag and `=` are at the front, and behind them no value for it, no field is
 pub no_value : (before : Option TagValue) (bytes rest : List ℕ) (tag : ℕ) → IsTag tag → bytes ≡ decimal tag ++ 61 ∷ rest
     → ((value more : List ℕ) → HasForm before tag value → rest ≢ value ++ 1 ∷ more) → NoField before bytes
 no_value before bytes rest tag is e none field more form here =
     let tags = same_tag tag field.tag rest (field.value ++ 1 ∷ more) is form.tag_form (sym e ∙ here ∙ field_bytes-append field more) in
     none field.value more (subst (λ (t : ℕ). HasForm before t field.value) (sym tags.0) form.value_form) tags.1
 
--- no field stands at the end
+-- no field is at the end
 pub no_field_at_end : (before : Option TagValue) → NoField before []
 no_field_at_end before field more form e =
     let size : 0 ≡ length (decimal field.tag) + length (61 ∷ (field.value ++ 1 ∷ more)) =

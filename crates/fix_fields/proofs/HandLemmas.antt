@@ -7,14 +7,14 @@ use Rattle.std.proofs.lemmas.Bool.{or_parts}
 use Rattle.std.proofs.lemmas.List.{length-append, length-drop}
 use Rattle.fix_fields.specs.declared.field.Field.{Field}
 use Rattle.fix_fields.specs.Forms.{length_form}
-use Rattle.fix_fields.specs.Pairs.{is_length, is_pair, is_tag, pairs}
+use Rattle.fix_fields.specs.Pairs.{is_length_tag, is_data_field_pair, is_tag, data_field_pairs}
 use Rattle.fix_fields.specs.Grammar.{TagValue, IsTag, IsDelimited, HasForm, AreFields, IsUnreadable, LacksType, NoField, begins_with_type, bytes_of}
-use Rattle.fix_fields.specs.Ranges.{HandsFields, shown, all_shown}
-use Rattle.fix_fields.specs.FieldAt.{BeginsAt, counter_of}
+use Rattle.fix_fields.specs.Ranges.{HandsFields, tag_value_of, tag_values_of}
+use Rattle.fix_fields.specs.FieldAt.{IsFieldAt, counter_of}
 use Rattle.fix_fields.proofs.GrammarLemmas.{field_bytes-append, same_tag}
 use Rattle.fix_fields.proofs.ReadingLemmas.{HasRead, HasRead-more, HasRead-none, whole}
 
--- a tag that is no length tag stands in no pair
+-- a tag that is no length tag is in no pair
 none-step : (b : Bool) (p : ℕ × ℕ) (rest : Option (ℕ × ℕ)) (tag : ℕ) → eqb p.0 tag ≡ false → is_tag (option_map (λ q. q.0) rest) tag ≡ false
     → is_tag (option_map (λ q. q.0) (cond b (Some p) rest)) tag ≡ false
 none-step true p rest tag here later = here
@@ -26,52 +26,52 @@ none-among (p ∷ all) tag next none =
     let both = or_parts (eqb p.0 tag) (list_any (λ q. eqb q.0 tag) all) none in
     none-step (eqb p.1 next) p (find (λ q. eqb q.1 next) all) tag both.0 (none-among all tag next both.1)
 
-pair-none : (tag next : ℕ) → is_length tag ≡ false → is_pair tag next ≡ false
-pair-none tag next none = none-among pairs tag next none
+pair-none : (tag next : ℕ) → is_length_tag tag ≡ false → is_data_field_pair tag next ≡ false
+pair-none tag next none = none-among data_field_pairs tag next none
 
 module _ (body : List ℕ) where
   as-before : Option Field → Option TagValue
-  as-before before = option_map (shown body) before
+  as-before before = option_map (tag_value_of body) before
 
   -- a value has its form behind a field exactly where it has it behind that field as one that counts
-  form-by : (b : Bool) (before : Field) (tag : ℕ) (value : List ℕ) → is_length before.tag ≡ b
-      → HasForm (option_map (shown body) (cond b (Some before) None)) tag value → HasForm (Some (shown body before)) tag value
+  form-by : (b : Bool) (before : Field) (tag : ℕ) (value : List ℕ) → is_length_tag before.tag ≡ b
+      → HasForm (option_map (tag_value_of body) (cond b (Some before) None)) tag value → HasForm (Some (tag_value_of body before)) tag value
   form-by true before tag value is form = form
   form-by false before tag value is form =
-      subst (λ (t : Bool). MatchBool t (length_form (shown body before).value ≡ Some (length value)) (IsDelimited value)) (sym (pair-none before.tag tag is)) form
+      subst (λ (t : Bool). MatchBool t (length_form (tag_value_of body before).value ≡ Some (length value)) (IsDelimited value)) (sym (pair-none before.tag tag is)) form
 
-  form-of : (b : Bool) (before : Field) (tag : ℕ) (value : List ℕ) → is_length before.tag ≡ b
-      → HasForm (Some (shown body before)) tag value → HasForm (option_map (shown body) (cond b (Some before) None)) tag value
+  form-of : (b : Bool) (before : Field) (tag : ℕ) (value : List ℕ) → is_length_tag before.tag ≡ b
+      → HasForm (Some (tag_value_of body before)) tag value → HasForm (option_map (tag_value_of body) (cond b (Some before) None)) tag value
   form-of true before tag value is form = form
   form-of false before tag value is form =
-      subst (λ (t : Bool). MatchBool t (length_form (shown body before).value ≡ Some (length value)) (IsDelimited value)) (pair-none before.tag tag is) form
+      subst (λ (t : Bool). MatchBool t (length_form (tag_value_of body before).value ≡ Some (length value)) (IsDelimited value)) (pair-none before.tag tag is) form
 
-  form-behind : (before : Option Field) (tag : ℕ) (value : List ℕ) → HasForm (option_map (shown body) (counter_of before)) tag value → HasForm (option_map (shown body) before) tag value
+  form-behind : (before : Option Field) (tag : ℕ) (value : List ℕ) → HasForm (option_map (tag_value_of body) (counter_of before)) tag value → HasForm (option_map (tag_value_of body) before) tag value
   form-behind None tag value form = form
-  form-behind (Some before) tag value form = form-by (is_length before.tag) before tag value refl form
+  form-behind (Some before) tag value form = form-by (is_length_tag before.tag) before tag value refl form
 
-  form-counted : (before : Option Field) (tag : ℕ) (value : List ℕ) → HasForm (option_map (shown body) before) tag value → HasForm (option_map (shown body) (counter_of before)) tag value
+  form-counted : (before : Option Field) (tag : ℕ) (value : List ℕ) → HasForm (option_map (tag_value_of body) before) tag value → HasForm (option_map (tag_value_of body) (counter_of before)) tag value
   form-counted None tag value form = form
-  form-counted (Some before) tag value form = form-of (is_length before.tag) before tag value refl form
+  form-counted (Some before) tag value form = form-of (is_length_tag before.tag) before tag value refl form
 
   -- so a field begins behind the one exactly where it begins behind the other
   pub begins-behind : (before counter : Option Field) (at : ℕ) (field : Field) → counter ≡ counter_of before
-      → BeginsAt body at (option_map (shown body) counter) field → BeginsAt body at (option_map (shown body) before) field
+      → IsFieldAt body at (option_map (tag_value_of body) counter) field → IsFieldAt body at (option_map (tag_value_of body) before) field
   begins-behind before counter at field is begins =
       let form = begins.form in
-      let value : HasForm (option_map (shown body) (counter_of before)) field.tag (shown body field).value =
-      subst (λ (o : Option Field). HasForm (option_map (shown body) o) field.tag (shown body field).value) is form.value_form in
+      let value : HasForm (option_map (tag_value_of body) (counter_of before)) field.tag (tag_value_of body field).value =
+      subst (λ (o : Option Field). HasForm (option_map (tag_value_of body) o) field.tag (tag_value_of body field).value) is form.value_form in
       record {
         bytes = begins.bytes;
-        form = record { tag_form = form.tag_form; value_form = form-behind before field.tag (shown body field).value value };
+        form = record { tag_form = form.tag_form; value_form = form-behind before field.tag (tag_value_of body field).value value };
         range = begins.range;
         within = begins.within;
       }
 
-  pub none-behind : (before counter : Option Field) (bytes : List ℕ) → counter ≡ counter_of before → NoField (option_map (shown body) counter) bytes → NoField (option_map (shown body) before) bytes
+  pub none-behind : (before counter : Option Field) (bytes : List ℕ) → counter ≡ counter_of before → NoField (option_map (tag_value_of body) counter) bytes → NoField (option_map (tag_value_of body) before) bytes
   none-behind before counter bytes is none field more form here =
-      let value : HasForm (option_map (shown body) counter) field.tag field.value =
-      subst (λ (o : Option Field). HasForm (option_map (shown body) o) field.tag field.value) (sym is) (form-counted before field.tag field.value form.value_form) in
+      let value : HasForm (option_map (tag_value_of body) counter) field.tag field.value =
+      subst (λ (o : Option Field). HasForm (option_map (tag_value_of body) o) field.tag field.value) (sym is) (form-counted before field.tag field.value form.value_form) in
       none field more (record { tag_form = form.tag_form; value_form = value }) here
 
 -- a counter is the field before
@@ -81,7 +81,7 @@ counter-is false before x is = (cc)
 
 pub counter-holds : (P : Field → Type 0) (before counter : Option Field) → counter ≡ counter_of before → ForSome before P → ForSome counter P
 counter-holds P None counter is holds x some = absurd (cc (is, some))
-counter-holds P (Some before) counter is holds x some = holds x (ap (λ (f : Field). Some f) (counter-is (is_length before.tag) before x (sym is ∙ some)))
+counter-holds P (Some before) counter is holds x some = holds x (ap (λ (f : Field). Some f) (counter-is (is_length_tag before.tag) before x (sym is ∙ some)))
 
 -- the fields up to byte `at` have been handed on, and the counter is the last of them, where it may count the next one
 pub record Hands (has_taken : List Field → Type 0) (body : List ℕ) (counter : Option Field) (at : ℕ) : Type 0 where
@@ -95,7 +95,7 @@ pub hands-none : (has_taken : List Field → Type 0) (body : List ℕ) → has_t
 hands-none has_taken body taken = record { fields = []; before = None; read = HasRead-none body; counts = refl; taken = taken }
 
 pub hands-more : (old new : List Field → Type 0) (body : List ℕ) (counter next : Option Field) (at : ℕ) (field : Field) → Hands old body counter at
-    → BeginsAt body at (option_map (shown body) counter) field → ((fields : List Field) → old fields → new (fields ++ field ∷ [])) → next ≡ counter_of (Some field)
+    → IsFieldAt body at (option_map (tag_value_of body) counter) field → ((fields : List Field) → old fields → new (fields ++ field ∷ [])) → next ≡ counter_of (Some field)
     → Hands new body next (field.to + 1)
 hands-more old new body counter next at field h begins takes is = record {
   fields = h.fields ++ field ∷ [];
@@ -132,7 +132,7 @@ hands-all has_taken body counter at h end typed =
     record {
       fields = h.fields;
       are = record {
-        read = record { bytes = bytes; forms = forms; typed = sym (typed (all_shown body h.fields) bytes forms) };
+        read = record { bytes = bytes; forms = forms; typed = sym (typed (tag_values_of body h.fields) bytes forms) };
         ranges = h.read.ranges;
       };
       taken = h.taken;
@@ -144,13 +144,13 @@ pub hands-untyped : (has_taken : List Field → Type 0) (body : List ℕ) (count
 hands-untyped has_taken body counter at h end untyped =
     let bytes = whole body h.fields h.before at h.read end in
     let forms = h.read.forms in
-    record { fields = all_shown body h.fields; bytes = bytes; forms = forms; untyped = sym (untyped (all_shown body h.fields) bytes forms) }
+    record { fields = tag_values_of body h.fields; bytes = bytes; forms = forms; untyped = sym (untyped (tag_values_of body h.fields) bytes forms) }
 
 -- where no field can be read behind them
 pub hands-stuck : (has_taken : List Field → Type 0) (body : List ℕ) (counter : Option Field) (at : ℕ) → Hands has_taken body counter at → at < length body
-    → NoField (option_map (shown body) counter) (drop at body) → IsUnreadable body at
+    → NoField (option_map (tag_value_of body) counter) (drop at body) → IsUnreadable body at
 hands-stuck has_taken body counter at h low none = record {
-  front = all_shown body h.fields;
+  front = tag_values_of body h.fields;
   left = drop at body;
   bytes = h.read.bytes;
   place = h.read.place;

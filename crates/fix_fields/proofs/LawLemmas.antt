@@ -5,10 +5,10 @@ use Rattle.std.proofs.lemmas.List.{append-nil, length-append}
 use Rattle.std.proofs.lemmas.List.Elements.{All-nil, All-cons, All-weaker}
 use Rattle.fix_fields.specs.declared.field.Field.{Field}
 use Rattle.fix_fields.specs.Forms.{length_form}
-use Rattle.fix_fields.specs.Pairs.{is_pair}
+use Rattle.fix_fields.specs.Pairs.{is_data_field_pair}
 use Rattle.fix_fields.specs.Grammar.{TagValue, IsDelimited, HasForm, AreFields, Fields, IsUnreadable, LacksType, begins_with_type, field_bytes, bytes_of, last_of}
 use Rattle.fix_fields.specs.Ordinary.{AreOrdinary}
-use Rattle.fix_fields.specs.Ranges.{AreFieldsOf, HasRangeIn, all_shown, ranges_of, range_of}
+use Rattle.fix_fields.specs.Ranges.{AreFieldsOf, HasRangeIn, tag_values_of, ranges_of, range_of}
 use Rattle.fix_fields.proofs.GrammarLemmas.{one_reading, no_field_at_end}
 use Rattle.fix_fields.proofs.ReadingLemmas.{length-field_bytes, same_reading, to_the_end, to_the_fault}
 
@@ -48,7 +48,7 @@ AreFields-ordinary before [] is = tt
 AreFields-ordinary None (f ∷ fs) is =
     (record { tag_form = is.0.tag_form; value_form = is.0.delimited }, AreFields-ordinary (Some f) fs is.1)
 AreFields-ordinary (Some b) (f ∷ fs) is =
-    let test : is_pair b.tag f.tag ≡ false = is.0.uncounted in
+    let test : is_data_field_pair b.tag f.tag ≡ false = is.0.uncounted in
     let form : HasForm (Some b) f.tag f.value =
     subst (λ (t : Bool). MatchBool t (length_form b.value ≡ Some (length f.value)) (IsDelimited f.value)) (sym test) is.0.delimited in
     (record { tag_form = is.0.tag_form; value_form = form }, AreFields-ordinary (Some f) fs is.1)
@@ -72,7 +72,7 @@ ranges_of-within at (f ∷ fs) =
 -- the ranges of a body's fields lie within it
 pub AreFieldsOf-within : (body : List ℕ) (fields : List Field) → AreFieldsOf body fields → All (λ f. HasRangeIn body f) fields
 AreFieldsOf-within body fields is =
-    let size : length body ≡ length (bytes_of (all_shown body fields)) = ap length is.read.bytes in
+    let size : length body ≡ length (bytes_of (tag_values_of body fields)) = ap length is.read.bytes in
     subst (λ (fs : List Field). All (λ f. HasRangeIn body f) fs) (sym is.ranges)
-    (All-weaker (λ (p : Field). (p.from ≤ p.to) × (p.to < 0 + length (bytes_of (all_shown body fields)))) (λ (p : Field). HasRangeIn body p)
-    (λ p w. record { order = w.0; high = omega (arith, w.1) }) (ranges_of 0 (all_shown body fields)) (ranges_of-within 0 (all_shown body fields)))
+    (All-weaker (λ (p : Field). (p.from ≤ p.to) × (p.to < 0 + length (bytes_of (tag_values_of body fields)))) (λ (p : Field). HasRangeIn body p)
+    (λ p w. record { order = w.0; high = omega (arith, w.1) }) (ranges_of 0 (tag_values_of body fields)) (ranges_of-within 0 (tag_values_of body fields)))

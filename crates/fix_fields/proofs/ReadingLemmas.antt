@@ -5,8 +5,8 @@ use Rattle.std.specs.Option.{option_map, ForSome}
 use Rattle.std.proofs.lemmas.List.{append-nil, append_assoc, length-append, length-drop, drop_all, map_push}
 use Rattle.fix_fields.specs.declared.field.Field.{Field}
 use Rattle.fix_fields.specs.Grammar.{TagValue, IsField, AreFields, IsUnreadable, NoField, field_bytes, bytes_of, last_of}
-use Rattle.fix_fields.specs.Ranges.{HasRangeIn, shown, all_shown, range_of, ranges_of}
-use Rattle.fix_fields.specs.FieldAt.{BeginsAt}
+use Rattle.fix_fields.specs.Ranges.{HasRangeIn, tag_value_of, tag_values_of, range_of, ranges_of}
+use Rattle.fix_fields.specs.FieldAt.{IsFieldAt}
 use Rattle.fix_fields.proofs.GrammarLemmas.{one_reading, no_field_at_end}
 
 -- up to byte `at` the body is these fields, which show these tags and values, and `before` is the last of them
@@ -16,11 +16,11 @@ pub record IsRead (body : List ℕ) (fields : List Field) (seen : List TagValue)
   pub high : at ≤ length body
   pub forms : AreFields None seen
   pub ranges : fields ≡ ranges_of 0 seen
-  pub last : option_map (shown body) before ≡ last_of None seen
+  pub last : option_map (tag_value_of body) before ≡ last_of None seen
   pub within : ForSome before (λ f. HasRangeIn body f)
 
 abbrev pub HasRead : List ℕ → List Field → Option Field → ℕ → Type 0
-HasRead body fields before at = IsRead body fields (all_shown body fields) before at
+HasRead body fields before at = IsRead body fields (tag_values_of body fields) before at
 
 -- one more field at the end
 bytes_of-push : (fs : List TagValue) (g : TagValue) → bytes_of (fs ++ g ∷ []) ≡ bytes_of fs ++ field_bytes g
@@ -52,11 +52,11 @@ HasRead-none body = record { bytes = refl; place = refl; high = omega arith; for
 
 -- one field further
 pub HasRead-more : (body : List ℕ) (fields : List Field) (before : Option Field) (at : ℕ) (f : Field) → HasRead body fields before at
-    → BeginsAt body at (option_map (shown body) before) f → HasRead body (fields ++ f ∷ []) (Some f) (f.to + 1)
+    → IsFieldAt body at (option_map (tag_value_of body) before) f → HasRead body (fields ++ f ∷ []) (Some f) (f.to + 1)
 HasRead-more body fields before at f h b =
-    let g : TagValue = shown body f in
-    let gs : List TagValue = all_shown body fields in
-    let shows : all_shown body (fields ++ f ∷ []) ≡ gs ++ g ∷ [] = map_push (shown body) fields f in
+    let g : TagValue = tag_value_of body f in
+    let gs : List TagValue = tag_values_of body fields in
+    let shows : tag_values_of body (fields ++ f ∷ []) ≡ gs ++ g ∷ [] = map_push (tag_value_of body) fields f in
     let form : IsField (last_of None gs) g = subst (λ (o : Option TagValue). IsField o g) h.last b.form in
     let bytes : body ≡ bytes_of (gs ++ g ∷ []) ++ drop (f.to + 1) body =
     h.bytes ∙ ap (λ (r : List ℕ). bytes_of gs ++ r) b.bytes ∙ sym (append_assoc (bytes_of gs) (field_bytes g) (drop (f.to + 1) body))
@@ -93,35 +93,35 @@ pub to_the_fault : (body : List ℕ) (n : ℕ) (u : IsUnreadable body n) → IsR
 to_the_fault body n u = record { bytes = u.bytes; forms = u.forms; none = u.no_field }
 
 -- the fields that end at the end of the body are all of it
-pub whole : (body : List ℕ) (fields : List Field) (before : Option Field) (at : ℕ) → HasRead body fields before at → length body ≤ at → body ≡ bytes_of (all_shown body fields)
+pub whole : (body : List ℕ) (fields : List Field) (before : Option Field) (at : ℕ) → HasRead body fields before at → length body ≤ at → body ≡ bytes_of (tag_values_of body fields)
 whole body fields before at h end =
-    h.bytes ∙ ap (λ (r : List ℕ). bytes_of (all_shown body fields) ++ r) (drop_all at body end) ∙ append-nil (bytes_of (all_shown body fields))
+    h.bytes ∙ ap (λ (r : List ℕ). bytes_of (tag_values_of body fields) ++ r) (drop_all at body end) ∙ append-nil (bytes_of (tag_values_of body fields))
 
 -- where no field can be read from byte `at` on
 module _ (body : List ℕ) (fields : List Field) (before : Option Field) (at : ℕ) (h : HasRead body fields before at) (low : at < length body)
-    (none : NoField (option_map (shown body) before) (drop at body)) where
-  stuck : IsReading body (all_shown body fields) (drop at body)
+    (none : NoField (option_map (tag_value_of body) before) (drop at body)) where
+  stuck : IsReading body (tag_values_of body fields) (drop at body)
   stuck = record { bytes = h.bytes; forms = h.forms; none = subst (λ (o : Option TagValue). NoField o (drop at body)) h.last none }
 
   -- the body isn't fields to its end
   pub stuck_not_whole : (fs : List TagValue) → body ≡ bytes_of fs → AreFields None fs → ⊥
   stuck_not_whole fs bytes forms =
-      let same = same_reading body (all_shown body fields) fs (drop at body) [] stuck (to_the_end body fs bytes forms) in
+      let same = same_reading body (tag_values_of body fields) fs (drop at body) [] stuck (to_the_end body fs bytes forms) in
       let size : length (drop at body) ≡ 0 = ap length same.1 in omega (arith, length-drop at body)
 
   -- and no other field is the first that can't be read
   pub stuck_here : (n : ℕ) → IsUnreadable body n → at ≡ n
   stuck_here n u =
-      let same = same_reading body (all_shown body fields) u.front (drop at body) u.left stuck (to_the_fault body n u) in
-      let sizes : length (bytes_of (all_shown body fields)) ≡ length (bytes_of u.front) = ap (λ (fs : List TagValue). length (bytes_of fs)) same.0 in omega (arith, h.place, u.place)
+      let same = same_reading body (tag_values_of body fields) u.front (drop at body) u.left stuck (to_the_fault body n u) in
+      let sizes : length (bytes_of (tag_values_of body fields)) ≡ length (bytes_of u.front) = ap (λ (fs : List TagValue). length (bytes_of fs)) same.0 in omega (arith, h.place, u.place)
 
 -- where the fields have been read to the end of the body
 module _ (body : List ℕ) (fields : List Field) (before : Option Field) (at : ℕ) (h : HasRead body fields before at) (end : length body ≤ at) where
-  read : IsReading body (all_shown body fields) []
-  read = to_the_end body (all_shown body fields) (whole body fields before at h end) h.forms
+  read : IsReading body (tag_values_of body fields) []
+  read = to_the_end body (tag_values_of body fields) (whole body fields before at h end) h.forms
 
   -- no field of it can't be read
   pub whole_not_stuck : (n : ℕ) → IsUnreadable body n → ⊥
   whole_not_stuck n u =
-      let same = same_reading body (all_shown body fields) u.front [] u.left read (to_the_fault body n u) in
+      let same = same_reading body (tag_values_of body fields) u.front [] u.left read (to_the_fault body n u) in
       let size : 0 ≡ length u.left = ap length same.1 in omega (arith, u.nonempty)

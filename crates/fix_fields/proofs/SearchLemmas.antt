@@ -1,4 +1,4 @@
--- Where a byte stands first, and what stands before it.
+-- Where a byte is first, and what is before it.
 use Rattle.std.proofs.Common.{◌≡◌, ◌≢◌, ℕ, ◌+◌, ◌<◌, ◌≤◌, Bool, true, false, cond, ltb, min, Some, None, List, [], ◌∷◌, ◌++◌, length, get_or, take, drop, ap, subst, sym, refl, ◌∙◌, arith, rules}
 use Rattle.std.specs.List.{All, position, position_or_len}
 use Rattle.std.proofs.lemmas.Bool.Decides.{nat_tests}
@@ -8,7 +8,7 @@ use Rattle.std.proofs.lemmas.List.Sums.{fails_before_first, passes_at_first}
 use Rattle.memchr.specs.Find.{Nowhere, Passes, is_byte}
 use Rattle.fix_fields.specs.FieldAt.{is_equals_sign}
 
--- a list is what stands before a place, the element there, and what stands after it
+-- a list is what is before a place, the element there, and what is after it
 pub split_at : (b : ℕ) (bytes : List ℕ) (k : ℕ) → k < length bytes → get_or bytes k 0 ≡ b → bytes ≡ take k bytes ++ b ∷ drop (k + 1) bytes
 split_at b bytes k low is =
     sym (take-append-drop k bytes) ∙ ap (λ r. take k bytes ++ r) (drop_more bytes k 0 low ∙ ap (λ x. x ∷ drop (k + 1) bytes) is)
@@ -58,7 +58,7 @@ pub first_is : {X : Type 0} (p : X → Bool) (xs : List X) (i : ℕ) → positio
 first_is p xs i h =
     let c = chosen_number (ltb (position_or_len p xs) (length xs)) (position_or_len p xs) i h in (grind (arith, nat_tests, c.0), c.1)
 
--- the first `=` among the first ten bytes, by where it stands in all of them
+-- the first `=` among the first ten bytes, by where it is in all of them
 pub record FirstEquals (bytes : List ℕ) (size : ℕ) : Type 0 where
   pub low : size < length bytes
   pub ten : size < 10

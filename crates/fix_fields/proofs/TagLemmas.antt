@@ -106,7 +106,7 @@ tag_form-some text tag h =
     let is : text ≡ decimal tag = sym same ∙ ap decimal writes in
     let low : 0 < tag = not_zero text tag is first in (is, record { low = low; high = omega arith })
 
--- where what stands before the first `=` isn't read as a tag, no tag and `=` stand at the front
+-- where what is before the first `=` isn't read as a tag, no tag and `=` are at the front
 pub no_tag : (bytes : List ℕ) (size : ℕ) → FirstEquals bytes size → tag_form (take size bytes) ≡ None
     → (tag : ℕ) (more : List ℕ) → IsTag tag → bytes ≢ decimal tag ++ 61 ∷ more
 no_tag bytes size first none tag more is e =
@@ -118,7 +118,7 @@ pub tag_split : (bytes : List ℕ) (size tag : ℕ) → size < length bytes → 
 tag_split bytes size tag low here some =
     let is = (tag_form-some (take size bytes) tag some).0 in split_at 61 bytes size low here ∙ ap (λ (t : List ℕ). t ++ 61 ∷ drop (size + 1) bytes) is
 
--- where no `=` stands among the first ten bytes, no tag and `=` stand at the front
+-- where no `=` is among the first ten bytes, no tag and `=` are at the front
 pub no_equals : (bytes : List ℕ) → position is_equals_sign (take 10 bytes) ≡ None → (tag : ℕ) (more : List ℕ) → IsTag tag → bytes ≢ decimal tag ++ 61 ∷ more
 no_equals bytes none tag more is e =
     let short : length (decimal tag) ≤ 9 = length-decimal-le 9 tag (omega arith) is.high (omega (arith, is.high)) in

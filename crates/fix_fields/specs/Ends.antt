@@ -11,17 +11,18 @@ IsEnd body = Passes (is_byte soh) body
 abbrev pub AreEnds : List ℕ → ℕ → List ℕ → Type 0
 AreEnds body from [] = Nowhere (IsEnd body) from (length body)
 AreEnds body from (end ∷ ends) =
-    NoneBefore (IsEnd body) from (length body) end × IsEnd body end × AreEnds body (end + 1) ends
+    NoneBefore (IsEnd body) from (length body) end × IsEnd body end
+    × AreEnds body (end + 1) ends
 
 -- the last byte of the body is SOH
-abbrev pub IsClosed : List ℕ → Type 0
-IsClosed body = (0 < length body) × IsEnd body (length body - 1)
+abbrev pub EndsWithSoh : List ℕ → Type 0
+EndsWithSoh body = (0 < length body) × IsEnd body (length body - 1)
 
--- these are the same from a place on that is no later than this one, of the body, or of a text that goes on behind
--- it where its last byte is SOH
+-- these are the same from a place on that is no later than this one, of the body, or of a text
+-- that goes on behind it where its last byte is SOH
 pub record HoldsEnds (body : List ℕ) (at : ℕ) (ends : List ℕ) : Type 0 where
   pub more : List ℕ
-  pub closed : (more ≡ []) ⊎ IsClosed body
+  pub closed : (more ≡ []) ⊎ EndsWithSoh body
   pub from : ℕ
   pub low : from ≤ at
   pub are : AreEnds (body ++ more) from ends
@@ -29,7 +30,7 @@ pub record HoldsEnds (body : List ℕ) (at : ℕ) (ends : List ℕ) : Type 0 whe
 -- the same, and where the text goes on, this place lies in the body
 pub record SeeksEnd (body : List ℕ) (at : ℕ) (ends : List ℕ) : Type 0 where
   pub more : List ℕ
-  pub closed : (more ≡ []) ⊎ ((at < length body) × IsClosed body)
+  pub closed : (more ≡ []) ⊎ ((at < length body) × EndsWithSoh body)
   pub from : ℕ
   pub low : from ≤ at
   pub are : AreEnds (body ++ more) from ends

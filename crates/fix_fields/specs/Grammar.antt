@@ -4,7 +4,7 @@ use Rattle.std.specs.Fmt.{decimal}
 use Rattle.std.specs.List.{All, flat_map}
 use Rattle.audit_base.specs.Sizes.{soh}
 use Rattle.fix_fields.specs.Forms.{length_form}
-use Rattle.fix_fields.specs.Pairs.{is_pair}
+use Rattle.fix_fields.specs.Pairs.{is_data_field_pair}
 
 -- a field as it is written: its tag, and the bytes of its value
 pub record TagValue : Type 0 where
@@ -35,15 +35,15 @@ pub record IsDelimited (value : List ℕ) : Type 0 where
 abbrev pub HasForm : Option TagValue → ℕ → List ℕ → Type 0
 HasForm None tag value = IsDelimited value
 HasForm (Some before) tag value =
-    MatchBool (is_pair before.tag tag)
+    MatchBool (is_data_field_pair before.tag tag)
     (length_form before.value ≡ Some (length value)) (IsDelimited value)
 
--- this may stand as a field where `before` is the field right before it
+-- this may be a field where `before` is the field right before it
 pub record IsField (before : Option TagValue) (field : TagValue) : Type 0 where
   pub tag_form : IsTag field.tag
   pub value_form : HasForm before field.tag field.value
 
--- each may stand as a field after the one before it, and the first after `before`
+-- each may be a field after the one before it, and the first after `before`
 abbrev pub AreFields : Option TagValue → List TagValue → Type 0
 AreFields before [] = Unit {0}
 AreFields before (field ∷ fields) = IsField before field × AreFields (Some field) fields
@@ -67,10 +67,11 @@ pub record Fields (body : List ℕ) (fields : List TagValue) : Type 0 where
 -- no bytes at the front can be read as a field after `before`
 abbrev pub NoField : Option TagValue → List ℕ → Type 0
 NoField before bytes =
-    (field : TagValue) (more : List ℕ) → IsField before field → bytes ≢ field_bytes field ++ more
+    (field : TagValue) (more : List ℕ) → IsField before field
+    → bytes ≢ field_bytes field ++ more
 
--- the first field of the body that can't be read begins at byte n: before it stand fields, and no
--- field begins there
+-- the first field of the body that can't be read begins at byte n: before it
+-- are fields, and no field begins there
 pub record IsUnreadable (body : List ℕ) (n : ℕ) : Type 0 where
   pub front : List TagValue
   pub left : List ℕ

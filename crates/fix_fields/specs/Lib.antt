@@ -4,7 +4,7 @@
 pub mod Forms
 pub mod Pairs
 pub mod Grammar
--- where the values stand, why a body is refused, how a tag is looked up
+-- where the values are, why a body is refused, how a tag is looked up
 pub mod Ranges
 pub mod Refusals
 pub mod TagSearch

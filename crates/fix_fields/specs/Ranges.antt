@@ -1,16 +1,16 @@
--- Where the values of the fields stand in the body.
+-- Where the values of the fields are in the body.
 use Rattle.std.specs.Prelude.{◌≡◌, ℕ, ◌+◌, ◌<◌, ◌≤◌, List, [], ◌∷◌, length, map, slice_range}
 use Rattle.std.specs.Fmt.{decimal}
 use Rattle.fix_fields.specs.declared.field.Field.{Field}
 use Rattle.fix_fields.specs.Grammar.{TagValue, Fields, field_bytes}
 
 -- what a range of the body shows
-abbrev pub shown : List ℕ → Field → TagValue
-shown body field = record { tag = field.tag; value = slice_range body field.from field.to }
+abbrev pub tag_value_of : List ℕ → Field → TagValue
+tag_value_of body field = record { tag = field.tag; value = slice_range body field.from field.to }
 
 -- what ranges of the body show, one after another
-abbrev pub all_shown : List ℕ → List Field → List TagValue
-all_shown body fields = map (shown body) fields
+abbrev pub tag_values_of : List ℕ → List Field → List TagValue
+tag_values_of body fields = map (tag_value_of body) fields
 
 -- the range of the value of a field that begins at byte `at`: it is behind the tag and the `=`
 abbrev pub range_of : ℕ → TagValue → Field
@@ -24,15 +24,15 @@ ranges_of at [] = []
 ranges_of at (field ∷ fields) =
     range_of at field ∷ ranges_of (at + length (field_bytes field)) fields
 
--- the range of the field lies within the body, and a byte stands behind it
+-- the range of the field lies within the body, and a byte is behind it
 pub record HasRangeIn (body : List ℕ) (field : Field) : Type 0 where
   pub order : field.from ≤ field.to
   pub high : field.to < length body
 
--- these are the fields of the body, each with the range in which its value stands
+-- these are the fields of the body, each with the range in which its value is
 pub record AreFieldsOf (body : List ℕ) (fields : List Field) : Type 0 where
-  pub read : Fields body (all_shown body fields)
-  pub ranges : fields ≡ ranges_of 0 (all_shown body fields)
+  pub read : Fields body (tag_values_of body fields)
+  pub ranges : fields ≡ ranges_of 0 (tag_values_of body fields)
 
 -- the body is fields, and these have been taken
 pub record HandsFields (has_taken : List Field → Type 0) (body : List ℕ) : Type 0 where

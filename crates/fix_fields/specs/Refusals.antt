@@ -5,10 +5,10 @@ use Rattle.fix_fields.specs.declared.field.FieldFault.TheVariants.{Field, MsgTyp
 use Rattle.fix_fields.specs.Grammar.{IsUnreadable, LacksType}
 
 -- what a fault says of the body: the first failing test
-abbrev pub Refuses : List ℕ → FieldFault → Type 0
-Refuses body (Field n) = IsUnreadable body n
-Refuses body MsgType = LacksType body
-Refuses body Memory = Unit {0}
+abbrev pub RefusesBody : List ℕ → FieldFault → Type 0
+RefusesBody body (Field n) = IsUnreadable body n
+RefusesBody body MsgType = LacksType body
+RefusesBody body Memory = Unit {0}
 
 -- the fact holds, unless memory ran out
 abbrev pub OrMemory : {T : Type 0} → Result T FieldFault → Type 0 → Type 0

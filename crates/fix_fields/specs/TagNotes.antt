@@ -1,10 +1,10 @@
--- Notes of where the values of tags stand.
+-- Notes of where the values of tags are.
 use Rattle.std.specs.Prelude.{◌≡◌, ℕ, ◌==◌, Option, Some, List, [], ◌∷◌, IsSome, slice_index, if◌then◌else◌}
 use Rattle.std.specs.List.{find}
 use Rattle.std.specs.Option.{option_map}
 use Rattle.fix_fields.specs.declared.field.Field.{Field}
-use Rattle.fix_fields.specs.declared.field.Placed.{Placed}
-use Rattle.fix_fields.specs.declared.field.Placed.TheVariants.{Absent, One, Many}
+use Rattle.fix_fields.specs.declared.field.ValueSpan.{ValueSpan}
+use Rattle.fix_fields.specs.declared.field.ValueSpan.TheVariants.{Absent, One, Many}
 use Rattle.fix_fields.specs.declared.notes.TagNotes.{TagNotes}
 use Rattle.fix_fields.specs.Ranges.{HandsFields}
 
@@ -14,50 +14,54 @@ fields_with tag [] = []
 fields_with tag (field ∷ fields) =
     if field.tag == tag then field ∷ fields_with tag fields else fields_with tag fields
 
--- where the value of the first of some fields stands, and whether there are more
-abbrev pub first_placed : List Field → Placed
-first_placed [] = Absent
-first_placed (field ∷ []) = One field.from field.to
-first_placed (field ∷ next ∷ fields) = Many field.from field.to
+-- where the value of the first of some fields is, and whether there are more
+abbrev pub first_span : List Field → ValueSpan
+first_span [] = Absent
+first_span (field ∷ []) = One field.from field.to
+first_span (field ∷ next ∷ fields) = Many field.from field.to
 
--- where the value of the first field with a tag stands, and whether there are more
-abbrev pub placed_of : List Field → ℕ → Placed
-placed_of fields tag = first_placed (fields_with tag fields)
+-- where the value of the first field with a tag is, and whether there are more
+abbrev pub span_of_tag : List Field → ℕ → ValueSpan
+span_of_tag fields tag = first_span (fields_with tag fields)
 
--- the tags that are noted, those that the tables of messages ask for, each with the place of its note
-abbrev pub places : List (ℕ × ℕ)
-places =
-    (11, 0) ∷ (31, 1) ∷ (32, 2) ∷ (35, 3) ∷ (38, 4) ∷ (40, 5) ∷ (41, 6) ∷ (43, 7) ∷ (44, 8) ∷ (49, 9)
-    ∷ (54, 10) ∷ (55, 11) ∷ (56, 12) ∷ (59, 13) ∷ (60, 14) ∷ (110, 15) ∷ (111, 16) ∷ (150, 17)
-    ∷ (527, 18) ∷ []
+-- the tags that are noted, those that the tables of messages ask
+-- for, each with the place of its note
+abbrev pub note_places : List (ℕ × ℕ)
+note_places =
+    (11, 0) ∷ (31, 1) ∷ (32, 2) ∷ (35, 3) ∷ (38, 4) ∷ (40, 5) ∷ (41, 6) ∷ (43, 7) ∷ (44, 8)
+    ∷ (49, 9) ∷ (54, 10) ∷ (55, 11) ∷ (56, 12) ∷ (59, 13) ∷ (60, 14) ∷ (110, 15) ∷ (111, 16)
+    ∷ (150, 17) ∷ (527, 18) ∷ []
 
 -- the place of the note of a tag, where it is noted
-abbrev pub place_of : ℕ → Option ℕ
-place_of tag = option_map (λ p. p.1) (find (λ p. p.0 == tag) places)
+abbrev pub note_place : ℕ → Option ℕ
+note_place tag = option_map (λ p. p.1) (find (λ p. p.0 == tag) note_places)
 
 -- the tag is noted
-abbrev pub IsNoted : ℕ → Type 0
-IsNoted tag = IsSome (place_of tag)
+abbrev pub IsNotedTag : ℕ → Type 0
+IsNotedTag tag = IsSome (note_place tag)
 
--- what a note says: how many fields have its tag, two where there are more, and where the value of the first stands
-abbrev pub noted : ℕ → ℕ → ℕ → Placed
-noted count from to = if count == 0 then Absent else if count == 1 then One from to else Many from to
+-- what a note says: how many fields have its tag, two where there are more,
+-- and where the value of the first is
+abbrev pub span_of_note : ℕ → ℕ → ℕ → ValueSpan
+span_of_note count from to =
+    if count == 0 then Absent else if count == 1 then One from to else Many from to
 
 -- the note at a place
-abbrev pub note_at : TagNotes → ℕ → Placed
+abbrev pub note_at : TagNotes → ℕ → ValueSpan
 note_at notes place =
-    noted (slice_index notes.counts place) (slice_index notes.starts place) (slice_index notes.ends place)
+    span_of_note (slice_index notes.counts place) (slice_index notes.starts place)
+    (slice_index notes.ends place)
 
 -- what is found of a tag with one more field that has it
-abbrev pub with_field : Placed → Field → Placed
-with_field Absent field = One field.from field.to
-with_field (One from to) field = Many from to
-with_field (Many from to) field = Many from to
+abbrev pub span_with_field : ValueSpan → Field → ValueSpan
+span_with_field Absent field = One field.from field.to
+span_with_field (One from to) field = Many from to
+span_with_field (Many from to) field = Many from to
 
--- the notes say where the values of their tags stand among the fields
+-- the notes say where the values of their tags are among the fields
 abbrev pub AreNotesOf : TagNotes → List Field → Type 0
 AreNotesOf notes fields =
-    (tag place : ℕ) → place_of tag ≡ Some place → note_at notes place ≡ placed_of fields tag
+    (tag place : ℕ) → note_place tag ≡ Some place → note_at notes place ≡ span_of_tag fields tag
 
 -- the body is fields, and these are notes of them
 abbrev pub HasNotes : List ℕ → TagNotes → Type 0

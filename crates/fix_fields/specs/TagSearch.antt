@@ -9,10 +9,11 @@ abbrev pub has_tag : ℕ → Field → Bool
 has_tag tag field = field.tag == tag
 
 -- what is found, where the first index with the tag and the number of these are known
-abbrev pub found_at : Option ℕ → ℕ → Found
-found_at None count = Absent
-found_at (Some first) count = if count == 1 then One first else Many first
+abbrev pub search_result : Option ℕ → ℕ → Found
+search_result None count = Absent
+search_result (Some first) count = if count == 1 then One first else Many first
 
 -- the index of the first field with the tag, and whether it is the only one
-abbrev pub found_of : List Field → ℕ → Found
-found_of fields tag = found_at (position (has_tag tag) fields) (count_by (has_tag tag) fields)
+abbrev pub search_for_tag : List Field → ℕ → Found
+search_for_tag fields tag =
+    search_result (position (has_tag tag) fields) (count_by (has_tag tag) fields)

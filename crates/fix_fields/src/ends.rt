@@ -14,9 +14,9 @@ pub(crate) fn ends_of<'b>(body: &'b [u8]) -> Memchr<'b>
     memchr_iter(SOH, body)
 }
 
-/// The SOH bytes of the body that the first bytes of a text are. Where the last of them is SOH, those behind
-/// the body are given too and never asked for: with more bytes behind it, the last SOH bytes of the body are
-/// found as fast as the others.
+/// The SOH bytes of the body that the first bytes of a text are. Where the last of them is SOH,
+/// those behind the body are given too and never asked for: with more bytes behind it, the last
+/// SOH bytes of the body are found as fast as the others.
 pub(crate) fn ends_of_front<'b>(text: &'b [u8], size: usize) -> Memchr<'b>
     requires { size ≤ length text.now }
     ensures { HoldsEnds (take size text.now) 0 result }

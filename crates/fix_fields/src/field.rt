@@ -1,11 +1,11 @@
-//! A field, why a body is not read, and where a tag stands.
+//! A field, why a body is not read, and where a tag is.
 ghost use Rattle.std.specs.Prelude.{◌≡◌};
 ghost use Rattle.fix_fields.specs.declared.field.FieldFault.TheVariants.{Memory};
 
 use std::alloc::AllocFailed;
 use thiserror::Error;
 
-/// A field of a body: its tag, and the bytes of the body in which its value stands, from the byte
+/// A field of a body: its tag, and the bytes of the body in which its value is, from the byte
 /// `from` on and up to the byte `to`, which is the SOH behind it. Bytes are counted from 0.
 #[derive(Clone, Copy, Debug, PartialEq, Eq)]
 pub struct Field {
@@ -35,10 +35,10 @@ impl<T: Drop> From<AllocFailed<T>> for FieldFault {
     }
 }
 
-/// Where the value of the first field with a tag stands, and whether there are more: in the bytes of the body
-/// from the byte `from` on and up to the byte `to`.
+/// Where the value of the first field with a tag is, and whether there are more: in the bytes of
+/// the body from the byte `from` on and up to the byte `to`.
 #[derive(Clone, Copy, Debug, PartialEq, Eq)]
-pub enum Placed {
+pub enum ValueSpan {
     Absent,
     One { from: usize, to: usize },
     Many { from: usize, to: usize },

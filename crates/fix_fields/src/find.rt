@@ -1,13 +1,13 @@
 //! Looks a tag up among the fields of a body.
 ghost use Rattle.std.specs.Prelude.{◌≡◌, position};
 ghost use Rattle.std.specs.List.{list_any};
-ghost use Rattle.fix_fields.specs.TagSearch.{found_of, has_tag};
+ghost use Rattle.fix_fields.specs.TagSearch.{search_for_tag, has_tag};
 
 use crate::field::{Field, Found};
 
 /// The first field with the tag, and whether there are more. It takes no memory.
 pub fn find_field(fields: &[Field], tag: u32) -> Found
-    ensures { result ≡ found_of fields.now tag }
+    ensures { result ≡ search_for_tag fields.now tag }
 {
     match first_place(fields, tag) {
         None => Found::Absent,

@@ -1,17 +1,18 @@
-//! Notes of where the values of some tags stand. They are taken as the fields of a body are read, so that there
-//! is neither a list of the fields nor a search for a tag.
+//! Notes of where the values of some tags are. They are taken as the fields of a body are read,
+//! so that there is neither a list of the fields nor a search for a tag.
 ghost use Rattle.std.specs.Prelude.{◌≡◌, ◌≢◌, ◌<◌, ◌∷◌, ◌++◌, [], ℕ, List, IfSome};
 ghost use Rattle.fix_fields.specs.declared.field.Field.{Field};
-ghost use Rattle.fix_fields.specs.TagNotes.{AreNotesOf, IsNoted, note_at, place_of, placed_of, with_field};
+ghost use Rattle.fix_fields.specs.TagNotes.{AreNotesOf, IsNotedTag, note_at, note_place, span_of_tag, span_with_field};
 
-use crate::field::{Field, Placed};
+use crate::field::{Field, ValueSpan};
 use crate::taker::FieldTaker;
 use std::alloc::AllocFailed;
 
 /// How many tags are noted.
 const NOTES: usize = 19;
 
-/// Where the values of the tags stand that the tables of messages ask for, each at a place of its own.
+/// Where the values of those tags are that the tables of messages
+/// ask for, each at a place of its own.
 #[derive(Drop)]
 pub struct TagNotes {
     /// How many fields have the tag, two where there are more.
@@ -22,11 +23,11 @@ pub struct TagNotes {
     ends: [usize; NOTES],
 }
 
-/// The place of the note of a tag, if it is noted. Where the tag is known as the program is compiled, so is
-/// the place.
+/// The place of the note of a tag, if it is noted. Where the tag is known as the program is
+/// compiled, so is the place.
 #[inline(always)]
 fn place_of(tag: u32) -> Option<usize>
-    ensures value { result ≡ place_of tag }
+    ensures value { result ≡ note_place tag }
     ensures inside { IfSome result (λ place. place < 19) }
 {
     match tag {
@@ -86,7 +87,7 @@ impl TagNotes {
     #[inline(always)]
     fn put(&mut self, place: usize, field: Field)
         requires { place < 19 }
-        ensures here { note_at self.new place ≡ with_field (note_at self.old place) field }
+        ensures here { note_at self.new place ≡ span_with_field (note_at self.old place) field }
         ensures others { (other : ℕ) → other ≢ place → note_at self.new other
             ≡ note_at self.old other }
     {
@@ -111,24 +112,24 @@ impl TagNotes {
         self.put(place, field);
     }
 
-    /// Where the value of the first field with the tag stands, and whether there are more, among the fields that
-    /// are noted.
+    /// Where the value of the first field with the tag is, and whether there are
+    /// more, among the fields that are noted.
     #[inline(always)]
-    pub fn find(&self, tag: u32) -> Placed
-        requires { IsNoted tag }
+    pub fn find(&self, tag: u32) -> ValueSpan
+        requires { IsNotedTag tag }
         ensures { (fields : List Field) → AreNotesOf self.now fields
-            → result ≡ placed_of fields tag }
+            → result ≡ span_of_tag fields tag }
     {
         let Some(place) = place_of(tag) else {
             unreachable!()
         };
         let (from, to) = (self.starts[place], self.ends[place]);
         if self.counts[place] == 0 {
-            Placed::Absent
+            ValueSpan::Absent
         } else if self.counts[place] == 1 {
-            Placed::One { from, to }
+            ValueSpan::One { from, to }
         } else {
-            Placed::Many { from, to }
+            ValueSpan::Many { from, to }
         }
     }
 }

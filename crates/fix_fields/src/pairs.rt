@@ -1,6 +1,6 @@
 //! The pairs of a length field and a data field whose value is read by length.
 ghost use Rattle.std.specs.Prelude.{◌≡◌};
-ghost use Rattle.fix_fields.specs.Pairs.{is_length, length_tag_of};
+ghost use Rattle.fix_fields.specs.Pairs.{is_length_tag, length_tag_of};
 
 /// The tag of the length field that counts the data field with this tag; None exactly of a tag that
 /// is no data tag. Which pairs there are is this project's own choice: the tags of any other pair
@@ -37,7 +37,7 @@ pub fn length_tag(data_tag: u32) -> Option<u32>
 /// Whether a field with this tag may count the data field behind it.
 #[inline(always)]
 pub fn is_length(tag: u32) -> bool
-    ensures { result ≡ is_length tag }
+    ensures { result ≡ is_length_tag tag }
 {
     // All these tags are greater than those that most fields have.
     if tag < 90 {

@@ -4,11 +4,11 @@ ghost use Rattle.std.specs.Option.{option_map, ForSome};
 ghost use Rattle.std.specs.Result.{IsErrOf};
 ghost use Rattle.audit_base.specs.Sizes.{longest_body};
 ghost use Rattle.fix_fields.specs.Ends.{HoldsEnds};
-ghost use Rattle.fix_fields.specs.Refusals.{Refuses, OrMemory};
+ghost use Rattle.fix_fields.specs.Refusals.{RefusesBody, OrMemory};
 ghost use Rattle.fix_fields.specs.Grammar.{TagValue, AreFields, Fields, IsUnreadable, LacksType, NoField, begins_with_type, bytes_of};
-ghost use Rattle.fix_fields.specs.Ranges.{AreFieldsOf, HandsFields, HasRangeIn, all_shown, shown};
+ghost use Rattle.fix_fields.specs.Ranges.{AreFieldsOf, HandsFields, HasRangeIn, tag_values_of, tag_value_of};
 ghost use Rattle.fix_fields.specs.TagNotes.{HasNotes};
-ghost use Rattle.fix_fields.specs.FieldAt.{BeginsAt, counter_of};
+ghost use Rattle.fix_fields.specs.FieldAt.{IsFieldAt, counter_of};
 
 use crate::ends::{ends_of, ends_of_front};
 use crate::field::{Field, FieldFault};
@@ -29,18 +29,18 @@ const MSG_TYPE: u32 = 35;
 /// but that of a data field right behind its length field is as many bytes as that field says in
 /// 1 to 7 digits, whatever they are.
 ///
-/// `Field` tells the byte at which the first field begins that can't be read in this way. `MsgType`
-/// says that all fields can be read, but there is none or the first has another tag.
+/// `Field` gives the byte at which the first field begins that can't be read in this way.
+/// `MsgType` says that all fields can be read, but there is none or the first has another tag.
 pub fn fields(alloc: Global, body: &[u8]) -> Result<Vec<Field>, FieldFault>
     requires { length body.now ≤ longest_body }
 
     // What each answer says.
     ensures fields { IfOk result (λ v. AreFieldsOf body.now v.items) }
-    ensures fault { IfErr result (λ e. Refuses body.now e) }
+    ensures fault { IfErr result (λ e. RefusesBody body.now e) }
 
     // Each comes wherever what it says holds, unless memory runs out.
     ensures reads { (fs : List TagValue) → Fields body.now fs
-        → OrMemory result (IsOkAnd result (λ v. all_shown body.now v.items ≡ fs)) }
+        → OrMemory result (IsOkAnd result (λ v. tag_values_of body.now v.items ≡ fs)) }
     ensures unreadable { (n : ℕ) → IsUnreadable body.now n
         → OrMemory result (IsErrOf result (FieldFault.Field n)) }
     ensures untyped { LacksType body.now → OrMemory result (IsErrOf result FieldFault.MsgType) }
@@ -57,7 +57,7 @@ pub fn read_fields(body: &[u8], list: &mut Vec<Field>) -> Result<(), FieldFault>
 
     // What each answer says.
     ensures fields { OnOk result (AreFieldsOf body.now list.new.items) }
-    ensures fault { IfErr result (λ e. Refuses body.now e) }
+    ensures fault { IfErr result (λ e. RefusesBody body.now e) }
     ensures empty { OnErr result (list.new.items ≡ []) }
 
     // Each comes wherever what it says holds, unless memory runs out.
@@ -69,16 +69,16 @@ pub fn read_fields(body: &[u8], list: &mut Vec<Field>) -> Result<(), FieldFault>
     refill(body, ends_of(body), list)
 }
 
-/// Reads the fields of the body that the first `size` bytes of a text are, as `read_fields` does. The
-/// bytes behind the body change nothing: where there are some, the last fields of the body are found
-/// as fast as the others.
+/// Reads the fields of the body that the first `size` bytes of a text are, as `read_fields` does.
+/// The bytes behind the body change nothing: where there are some, the last fields of the body
+/// are found as fast as the others.
 pub fn read_front_fields(text: &[u8], size: usize, list: &mut Vec<Field>) -> Result<(), FieldFault>
     requires inside { size ≤ length text.now }
     requires short { size ≤ longest_body }
 
     // What each answer says.
     ensures fields { OnOk result (AreFieldsOf (take size text.now) list.new.items) }
-    ensures fault { IfErr result (λ e. Refuses (take size text.now) e) }
+    ensures fault { IfErr result (λ e. RefusesBody (take size text.now) e) }
     ensures empty { OnErr result (list.new.items ≡ []) }
 
     // Each comes wherever what it says holds, unless memory runs out.
@@ -92,15 +92,15 @@ pub fn read_front_fields(text: &[u8], size: usize, list: &mut Vec<Field>) -> Res
     refill(&text[..size], ends_of_front(text, size), list)
 }
 
-/// Notes where the values of tags stand in the body that the first `size` bytes of a text are, in place of what
-/// was noted before. The answer is that of `read_front_fields`.
+/// Notes where the values of tags are in the body that the first `size` bytes of a text are, in
+/// place of what was noted before. The answer is that of `read_front_fields`.
 pub fn note_front_fields(text: &[u8], size: usize, notes: &mut TagNotes) -> Result<(), FieldFault>
     requires inside { size ≤ length text.now }
     requires short { size ≤ longest_body }
 
     // What each answer says.
     ensures notes { OnOk result (HasNotes (take size text.now) notes.new) }
-    ensures fault { IfErr result (λ e. Refuses (take size text.now) e) }
+    ensures fault { IfErr result (λ e. RefusesBody (take size text.now) e) }
 
     // Each comes wherever what it says holds, unless memory runs out.
     ensures reads { (fs : List TagValue) → Fields (take size text.now) fs
@@ -119,7 +119,7 @@ fn refill(body: &[u8], ends: Memchr<'_>, list: &mut Vec<Field>) -> Result<(), Fi
     requires size { length body.now ≤ longest_body }
     requires ends { HoldsEnds body.now 0 ends }
     ensures fields { OnOk result (AreFieldsOf body.now list.new.items) }
-    ensures fault { IfErr result (λ e. Refuses body.now e) }
+    ensures fault { IfErr result (λ e. RefusesBody body.now e) }
     ensures empty { OnErr result (list.new.items ≡ []) }
     ensures reads { (fs : List TagValue) → Fields body.now fs → OrMemory result (IsOk result) }
     ensures unreadable { (n : ℕ) → IsUnreadable body.now n
@@ -140,7 +140,7 @@ fn append_fields(body: &[u8], ends: Memchr<'_>, list: &mut Vec<Field>) -> Result
     requires ends { HoldsEnds body.now 0 ends }
     requires empty { list.old.items ≡ [] }
     ensures fields { OnOk result (AreFieldsOf body.now list.new.items) }
-    ensures fault { IfErr result (λ e. Refuses body.now e) }
+    ensures fault { IfErr result (λ e. RefusesBody body.now e) }
     ensures reads { (fs : List TagValue) → Fields body.now fs → OrMemory result (IsOk result) }
     ensures unreadable { (n : ℕ) → IsUnreadable body.now n
         → OrMemory result (IsErrOf result (FieldFault.Field n)) }
@@ -149,8 +149,9 @@ fn append_fields(body: &[u8], ends: Memchr<'_>, list: &mut Vec<Field>) -> Result
     hand_fields(body, ends, list)
 }
 
-/// Hands the fields of a body, whose SOH bytes are given, to a taker that has been handed none; of a body with
-/// a fault, the fields before it. Of the field right before the next one only one that may count it is kept.
+/// Hands the fields of a body, whose SOH bytes are given, to a taker that has been handed none;
+/// of a body with a fault, the fields before it. Of the field right before the next one only one
+/// that may count it is kept.
 fn hand_fields<T: FieldTaker>(
     body: &[u8],
     mut ends: Memchr<'_>,
@@ -160,7 +161,7 @@ fn hand_fields<T: FieldTaker>(
     requires ends { HoldsEnds body.now 0 ends }
     requires empty { T.has_taken taker.old [] }
     ensures fields { OnOk result (HandsFields (T.has_taken taker.new) body.now) }
-    ensures fault { IfErr result (λ e. Refuses body.now e) }
+    ensures fault { IfErr result (λ e. RefusesBody body.now e) }
     ensures reads { (fs : List TagValue) → Fields body.now fs → OrMemory result (IsOk result) }
     ensures unreadable { (n : ℕ) → IsUnreadable body.now n
         → OrMemory result (IsErrOf result (FieldFault.Field n)) }
@@ -195,15 +196,17 @@ fn counter_of(field: Field) -> Option<Field>
     }
 }
 
-/// The field that begins at byte `at`, where `before` is the field right before it, and `ends` gives
-/// the SOH bytes from there on; None exactly where no field can be read there.
+/// The field that begins at byte `at`, where `before` is the field right before it, and `ends`
+/// gives the SOH bytes from there on; None exactly where no field can be read there.
 #[inline(always)]
 fn field_at(body: &[u8], at: usize, before: Option<Field>, ends: &mut Memchr<'_>) -> Option<Field>
     requires before { ForSome before (λ f. HasRangeIn body.now f) }
     requires at { at ≤ length body.now }
     requires ends { HoldsEnds body.now at ends.old }
-    ensures found { IfSome result (BeginsAt body.now at (option_map (shown body.now) before)) }
-    ensures none { IfNone result (NoField (option_map (shown body.now) before) (drop at body.now)) }
+    ensures found { IfSome result
+        (IsFieldAt body.now at (option_map (tag_value_of body.now) before)) }
+    ensures none { IfNone result
+        (NoField (option_map (tag_value_of body.now) before) (drop at body.now)) }
     ensures ends { IfSome result (λ field. HoldsEnds body.now (field.to + 1) ends.new) }
 {
     let (tag, size) = tag_at(&body[at..])?;

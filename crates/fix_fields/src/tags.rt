@@ -11,14 +11,14 @@ use audit_base::digits::read_digits;
 /// The most bytes of a tag with the `=` behind it.
 const MOST_BYTES: usize = 10;
 
-/// What the codes of two digits `0` come to as tens and ones, which is taken off once.
+/// What the codes of two digits `0` give as tens and ones, which is taken off once.
 const TWO_ZEROS: u32 = 528;
 
 /// The same of three digits.
 const THREE_ZEROS: u32 = 5328;
 
-/// The tag at the front of the bytes, and the number of bytes up to the value: those of the tag and
-/// of the `=`. None exactly where no tag and `=` stand at the front.
+/// The tag at the front of the bytes, and the number of bytes up to the value: those of the tag
+/// and of the `=`. None exactly where no tag and `=` are at the front.
 #[inline(always)]
 pub fn tag_at(bytes: &[u8]) -> Option<(u32, usize)>
     ensures tag { IfSome result (λ t. IsTag t.0) }
@@ -33,7 +33,7 @@ pub fn tag_at(bytes: &[u8]) -> Option<(u32, usize)>
     long_tag_at(bytes)
 }
 
-/// The same of a tag of any length. It stands apart, since most tags are short.
+/// The same of a tag of any length. It is apart, since most tags are short.
 #[cold]
 #[inline(never)]
 fn long_tag_at(bytes: &[u8]) -> Option<(u32, usize)>
@@ -104,7 +104,7 @@ fn three_digits(bytes: &[u8]) -> Option<(u32, usize)>
     ))
 }
 
-/// Where the first `=` stands among the bytes that a tag and its `=` may have.
+/// Where the first `=` is among the bytes that a tag and its `=` may have.
 fn equals_sign(bytes: &[u8]) -> Option<usize>
     ensures { result ≡ position is_equals_sign (take 10 bytes.now) }
 {

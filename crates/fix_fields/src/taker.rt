@@ -1,4 +1,5 @@
-//! What the fields of a body are handed to as they are read: a list of them, or notes of some of them.
+//! What the fields of a body are handed to as they are read: a list
+//! of them, or notes of some of them.
 ghost use Rattle.std.specs.Prelude.{◌≡◌, ◌∷◌, ◌++◌, [], List, OnOk};
 ghost use Rattle.fix_fields.specs.declared.field.Field.{Field};
 

@@ -6,7 +6,7 @@ ghost use Rattle.memchr.specs.Find.{IsFirstByte, is_byte};
 ghost use Rattle.fix_fields.specs.Ends.{HoldsEnds, SeeksEnd};
 ghost use Rattle.fix_fields.specs.Forms.{length_form};
 ghost use Rattle.fix_fields.specs.Grammar.{IsDelimited, HasForm};
-ghost use Rattle.fix_fields.specs.Ranges.{HasRangeIn, shown};
+ghost use Rattle.fix_fields.specs.Ranges.{HasRangeIn, tag_value_of};
 ghost use Rattle.fix_fields.specs.FieldAt.{EndsAt, NoValue};
 
 use crate::ends::next_end;
@@ -16,9 +16,9 @@ use audit_base::digits::read_digits;
 use audit_base::sizes::SOH;
 use memchr::Memchr;
 
-/// The number of bytes of the value at the byte `from` of the body, where `before` is the field right
-/// before the field with this tag, and `ends` gives the SOH bytes from there on. None exactly where no
-/// value in its form and SOH stand there.
+/// The number of bytes of the value at the byte `from` of the body, where `before` is the field
+/// right before the field with this tag, and `ends` gives the SOH bytes from there on. None
+/// exactly where no value in its form and SOH are there.
 #[inline(always)]
 pub fn value_size(
     body: &[u8],
@@ -32,9 +32,9 @@ pub fn value_size(
     requires ends { SeeksEnd body.now from ends.old }
     ensures end { IfSome result (EndsAt (drop from body.now)) }
     ensures form { IfSome result (λ n.
-        HasForm (option_map (shown body.now) before) tag (take n (drop from body.now))) }
+        HasForm (option_map (tag_value_of body.now) before) tag (take n (drop from body.now))) }
     ensures none { IfNone result
-        (NoValue (HasForm (option_map (shown body.now) before) tag) (drop from body.now)) }
+        (NoValue (HasForm (option_map (tag_value_of body.now) before) tag) (drop from body.now)) }
     ensures ends { IfSome result (λ n. HoldsEnds body.now (from + n + 1) ends.new) }
 {
     match before {
@@ -45,8 +45,8 @@ pub fn value_size(
     }
 }
 
-/// The same of a data field behind a length field with the value `count`. It stands apart, since most fields are
-/// no data fields.
+/// The same of a data field behind a length field with the value `count`. It is apart, since most
+/// fields are no data fields.
 #[cold]
 #[inline(never)]
 fn data_size(count: &[u8], bytes: &[u8]) -> Option<usize>

@@ -23,7 +23,7 @@ prefix_len-stop p (x ∷ xs) y ys each stop =
     let both = and_parts (p x) (list_all p xs) each in
     let more = prefix_len-stop p xs y ys both.1 stop in rw both.0 (omega arith)
 
--- what stands behind the header
+-- what is behind the header
 pub Reads-rest : (r ds b tail : List ℕ) → Reads r ds b tail → drop 12 r ≡ ds ++ (1 ∷ (b ++ tail))
 Reads-rest r ds b tail reads =
     let regrouped : before_checksum ds b ++ tail ≡ header ++ (ds ++ (1 ∷ (b ++ tail))) = simp append_assoc in

@@ -13,7 +13,7 @@ use Rattle.fix_framing.specs.declared.frames.Frame.{Frame}
 use Rattle.fix_framing.specs.declared.frames.FrameFault.TheVariants.{Truncated}
 use Rattle.fix_framing.specs.Breaks.{is_break, after_breaks}
 use Rattle.fix_framing.specs.Frames.{header, IsFrame, IsFrameAt, frame_fault}
-use Rattle.fix_framing.specs.Framing.{held, reached, unframed, next_text, IsFramed, StandsFor, IsNextOffset, GivesFrame, Waits, IsUnfinished}
+use Rattle.fix_framing.specs.Framing.{bytes_held, count_framed, bytes_unframed, next_text, IsFramed, IsFramerOf, IsNextOffset, GivesFrame, Waits, IsUnfinished}
 use Rattle.fix_framing.proofs.StayLemmas.{Truncated-bound}
 
 -- CR and LF alone are passed over whole, and what is behind them stays
@@ -89,12 +89,12 @@ fed-range before items fed base i k dropped whole =
     ap (λ (m : ℕ). take k (drop (m + i) fed)) (sym dropped) ∙ (ap (λ xs. take k (drop (length before + i) xs)) whole ∙ ap (λ xs. take k xs) (drop-append-add before items i))
 
 -- what stands for the bytes up to a place behind CR and LF
-framed-to : (framer : Framer) (fed : List ℕ) (frames : List (List ℕ)) (stands : StandsFor framer fed frames) (at : ℕ) → framer.next ≤ at → list_all is_break (slice_range (held framer) framer.next at) ≡ true → IsFramed (stands.before ++ take at (held framer)) frames
+framed-to : (framer : Framer) (fed : List ℕ) (frames : List (List ℕ)) (stands : IsFramerOf framer fed frames) (at : ℕ) → framer.next ≤ at → list_all is_break (slice_range (bytes_held framer) framer.next at) ≡ true → IsFramed (stands.before ++ take at (bytes_held framer)) frames
 framed-to framer fed frames stands at low breaks =
-    let front = fed-front stands.before (held framer) fed framer.base framer.next stands.dropped stands.whole in
+    let front = fed-front stands.before (bytes_held framer) fed framer.base framer.next stands.dropped stands.whole in
     let framed = rw front at stands.framed in
-    let more = IsFramed-breaks (stands.before ++ take framer.next (held framer)) (slice_range (held framer) framer.next at) frames framed breaks in
-    rw (take-to (held framer) framer.next at low, ← append_assoc) more
+    let more = IsFramed-breaks (stands.before ++ take framer.next (bytes_held framer)) (slice_range (bytes_held framer) framer.next at) frames framed breaks in
+    rw (take-to (bytes_held framer) framer.next at low, ← append_assoc) more
 
 -- the last byte of a list is that of its end
 slice_get-end : (xs ys : List ℕ) → 0 < length ys → slice_get (xs ++ ys) (length (xs ++ ys) - 1) ≡ slice_get ys (length ys - 1)
@@ -106,61 +106,61 @@ slice_get-end xs ys some =
     sym (slice_get-get_or ys (length ys - 1) 0 (omega arith)))
 
 -- Wait
-pub waits-so : (old new : Framer) (at : ℕ) → old.next ≤ at → at ≤ length (held old) → list_all is_break (slice_range (held old) old.next at) ≡ true → drop at (held old) ≡ next_text old → frame_fault (drop at (held old)) ≡ Some Truncated → held new ≡ drop at (held old) → new.base ≡ old.base + at → new.next ≡ 0 → Waits old new
+pub waits-so : (old new : Framer) (at : ℕ) → old.next ≤ at → at ≤ length (bytes_held old) → list_all is_break (slice_range (bytes_held old) old.next at) ≡ true → drop at (bytes_held old) ≡ next_text old → frame_fault (drop at (bytes_held old)) ≡ Some Truncated → bytes_held new ≡ drop at (bytes_held old) → new.base ≡ old.base + at → new.next ≡ 0 → Waits old new
 waits-so old new at low high breaks rest cut items base next =
-    let none : unframed new ≡ held new = ap (λ (k : ℕ). drop k (held new)) next in
-    let gone = length-drop at (held old) in
+    let none : bytes_unframed new ≡ bytes_held new = ap (λ (k : ℕ). drop k (bytes_held new)) next in
+    let gone = length-drop at (bytes_held old) in
     record {
       unfinished = inr (rw (← rest) cut);
       keeps = λ fed frames stands.
-          let all = ap length stands.whole ∙ length-append stands.before (held old) in
-          let taken = length-take-le at (held old) high in
-          let front = length-append stands.before (take at (held old)) in
+          let all = ap length stands.whole ∙ length-append stands.before (bytes_held old) in
+          let taken = length-take-le at (bytes_held old) high in
+          let front = length-append stands.before (take at (bytes_held old)) in
           let dropped = stands.dropped in
-          let moved : fed ≡ (stands.before ++ take at (held old)) ++ held new =
-          stands.whole ∙ (ap (λ xs. stands.before ++ xs) (sym (take-append-drop at (held old))) ∙ (sym (append_assoc stands.before (take at (held old)) (drop at (held old))) ∙ ap (λ xs. (stands.before ++ take at (held old)) ++ xs) (sym items))) in
-          let same : reached new ≡ old.base + at = omega arith in
+          let moved : fed ≡ (stands.before ++ take at (bytes_held old)) ++ bytes_held new =
+          stands.whole ∙ (ap (λ xs. stands.before ++ xs) (sym (take-append-drop at (bytes_held old))) ∙ (sym (append_assoc stands.before (take at (bytes_held old)) (drop at (bytes_held old))) ∙ ap (λ xs. (stands.before ++ take at (bytes_held old)) ++ xs) (sym items))) in
+          let same : count_framed new ≡ old.base + at = omega arith in
           record {
-            before = stands.before ++ take at (held old);
+            before = stands.before ++ take at (bytes_held old);
             dropped = omega arith;
             whole = moved;
             within = omega arith;
-            framed = rw (same, fed-front stands.before (held old) fed old.base at stands.dropped stands.whole) (framed-to old fed frames stands at low breaks);
+            framed = rw (same, fed-front stands.before (bytes_held old) fed old.base at stands.dropped stands.whole) (framed-to old fed frames stands at low breaks);
           };
-      bound = rw items (Truncated-bound (drop at (held old)) cut);
-      text = ap after_breaks (none ∙ (items ∙ rest)) ∙ after_breaks-again (unframed old);
+      bound = rw items (Truncated-bound (drop at (bytes_held old)) cut);
+      text = ap after_breaks (none ∙ (items ∙ rest)) ∙ after_breaks-again (bytes_unframed old);
       last = λ fed frames stands others.
-          let moved : fed ≡ (stands.before ++ take at (held old)) ++ held new =
-          stands.whole ∙ (ap (λ xs. stands.before ++ xs) (sym (take-append-drop at (held old))) ∙ (sym (append_assoc stands.before (take at (held old)) (drop at (held old))) ∙ ap (λ xs. (stands.before ++ take at (held old)) ++ xs) (sym items))) in
-          let some : 0 < length (held new) = elim (cases_lt 0 (length (held new))) [
+          let moved : fed ≡ (stands.before ++ take at (bytes_held old)) ++ bytes_held new =
+          stands.whole ∙ (ap (λ xs. stands.before ++ xs) (sym (take-append-drop at (bytes_held old))) ∙ (sym (append_assoc stands.before (take at (bytes_held old)) (drop at (bytes_held old))) ∙ ap (λ xs. (stands.before ++ take at (bytes_held old)) ++ xs) (sym items))) in
+          let some : 0 < length (bytes_held new) = elim (cases_lt 0 (length (bytes_held new))) [
             | inl yes_some ↦ yes_some
-            | inr none_left ↦ absurd (others (rw (all-passed (held old) old.next at (omega (arith, ap length items))) at breaks))
+            | inr none_left ↦ absurd (others (rw (all-passed (bytes_held old) old.next at (omega (arith, ap length items))) at breaks))
           ] in
-          (some, rw moved (sym (slice_get-end (stands.before ++ take at (held old)) (held new) some)));
+          (some, rw moved (sym (slice_get-end (stands.before ++ take at (bytes_held old)) (bytes_held new) some)));
     }
 
 -- Whole
-pub gives-so : (old new : Framer) (at : ℕ) (f : Frame) → old.next ≤ at → at ≤ length (held old) → list_all is_break (slice_range (held old) old.next at) ≡ true → IsFrameAt (held old) at f → held new ≡ held old → new.base ≡ old.base → new.next ≡ f.end → GivesFrame old new (old.base + f.start) f.body (f.end - 7)
+pub gives-so : (old new : Framer) (at : ℕ) (f : Frame) → old.next ≤ at → at ≤ length (bytes_held old) → list_all is_break (slice_range (bytes_held old) old.next at) ≡ true → IsFrameAt (bytes_held old) at f → bytes_held new ≡ bytes_held old → new.base ≡ old.base → new.next ≡ f.end → GivesFrame old new (old.base + f.start) f.body (f.end - 7)
 gives-so old new at f low high breaks found items base next =
     let start = found.begins in
     let within = found.within in
     let behind = found.behind in
     let before = found.before in
-    let gap = length-take-le (at - old.next) (drop old.next (held old)) (omega (arith, length-drop old.next (held old))) in
-    let size = length-take-le (f.end - f.start) (drop f.start (held old)) (omega (arith, length-drop f.start (held old))) in
-    let rest : unframed new ≡ drop f.end (held old) = ap (λ (k : ℕ). drop k (held new)) next ∙ ap (λ xs. drop f.end xs) items in
-    let behind_gap : drop at (held old) ≡ slice_range (held old) f.start f.end ++ unframed new =
-    ap (λ (k : ℕ). drop k (held old)) (sym start) ∙ (cut-at (held old) f.start f.end (omega arith) ∙ ap (λ xs. slice_range (held old) f.start f.end ++ xs) (sym rest)) in
-    let shown : unframed old ≡ slice_range (held old) old.next at ++ (slice_range (held old) f.start f.end ++ unframed new) =
-    cut-at (held old) old.next at low ∙ ap (λ xs. slice_range (held old) old.next at ++ xs) behind_gap in
-    let left = ap length rest ∙ length-drop f.end (held old) in
-    let was = length-drop old.next (held old) in
-    let front : take f.end (held old) ≡ (take old.next (held old) ++ slice_range (held old) old.next at) ++ slice_range (held old) f.start f.end =
-    take-to (held old) f.start f.end (omega arith) ∙ (ap (λ (k : ℕ). take k (held old) ++ slice_range (held old) f.start f.end) start ∙ ap (λ xs. xs ++ slice_range (held old) f.start f.end) (take-to (held old) old.next at low)) in
-    let length_is : f.start + length (slice_range (held old) f.start f.end) ≡ f.end = omega arith in
+    let gap = length-take-le (at - old.next) (drop old.next (bytes_held old)) (omega (arith, length-drop old.next (bytes_held old))) in
+    let size = length-take-le (f.end - f.start) (drop f.start (bytes_held old)) (omega (arith, length-drop f.start (bytes_held old))) in
+    let rest : bytes_unframed new ≡ drop f.end (bytes_held old) = ap (λ (k : ℕ). drop k (bytes_held new)) next ∙ ap (λ xs. drop f.end xs) items in
+    let behind_gap : drop at (bytes_held old) ≡ slice_range (bytes_held old) f.start f.end ++ bytes_unframed new =
+    ap (λ (k : ℕ). drop k (bytes_held old)) (sym start) ∙ (cut-at (bytes_held old) f.start f.end (omega arith) ∙ ap (λ xs. slice_range (bytes_held old) f.start f.end ++ xs) (sym rest)) in
+    let shown : bytes_unframed old ≡ slice_range (bytes_held old) old.next at ++ (slice_range (bytes_held old) f.start f.end ++ bytes_unframed new) =
+    cut-at (bytes_held old) old.next at low ∙ ap (λ xs. slice_range (bytes_held old) old.next at ++ xs) behind_gap in
+    let left = ap length rest ∙ length-drop f.end (bytes_held old) in
+    let was = length-drop old.next (bytes_held old) in
+    let front : take f.end (bytes_held old) ≡ (take old.next (bytes_held old) ++ slice_range (bytes_held old) old.next at) ++ slice_range (bytes_held old) f.start f.end =
+    take-to (bytes_held old) f.start f.end (omega arith) ∙ (ap (λ (k : ℕ). take k (bytes_held old) ++ slice_range (bytes_held old) f.start f.end) start ∙ ap (λ xs. xs ++ slice_range (bytes_held old) f.start f.end) (take-to (bytes_held old) old.next at low)) in
+    let length_is : f.start + length (slice_range (bytes_held old) f.start f.end) ≡ f.end = omega arith in
     record {
-      gap = slice_range (held old) old.next at;
-      frame = slice_range (held old) f.start f.end;
+      gap = slice_range (bytes_held old) old.next at;
+      frame = slice_range (bytes_held old) f.start f.end;
       next = shown;
       breaks = breaks;
       message = rw items found.message;
@@ -170,14 +170,14 @@ gives-so old new at f low high breaks found items base next =
       ends = omega arith;
       shorter = omega arith;
       appends = λ fed frames stands.
-          let all = ap length stands.whole ∙ length-append stands.before (held old) in
+          let all = ap length stands.whole ∙ length-append stands.before (bytes_held old) in
           let dropped = stands.dropped in
-          let same : reached new ≡ old.base + f.end = omega arith in
-          let framed = rw (fed-front stands.before (held old) fed old.base old.next stands.dropped stands.whole) at stands.framed in
-          let more = IsFramed-frame (stands.before ++ take old.next (held old)) (slice_range (held old) old.next at) (slice_range (held old) f.start f.end) (slice_range (held old) f.body (f.end - 7)) frames framed breaks found.message in
-          let text : take (reached new) fed ≡ (stands.before ++ take old.next (held old)) ++ (slice_range (held old) old.next at ++ slice_range (held old) f.start f.end) =
-          ap (λ (k : ℕ). take k fed) same ∙ (fed-front stands.before (held old) fed old.base f.end stands.dropped stands.whole ∙ (ap (λ xs. stands.before ++ xs) front ∙ simp append_assoc)) in
-          let count : old.base + f.start + length (slice_range (held old) f.start f.end) - (old.base + f.start) ≡ f.end - f.start = omega arith in (
+          let same : count_framed new ≡ old.base + f.end = omega arith in
+          let framed = rw (fed-front stands.before (bytes_held old) fed old.base old.next stands.dropped stands.whole) at stands.framed in
+          let more = IsFramed-frame (stands.before ++ take old.next (bytes_held old)) (slice_range (bytes_held old) old.next at) (slice_range (bytes_held old) f.start f.end) (slice_range (bytes_held old) f.body (f.end - 7)) frames framed breaks found.message in
+          let text : take (count_framed new) fed ≡ (stands.before ++ take old.next (bytes_held old)) ++ (slice_range (bytes_held old) old.next at ++ slice_range (bytes_held old) f.start f.end) =
+          ap (λ (k : ℕ). take k fed) same ∙ (fed-front stands.before (bytes_held old) fed old.base f.end stands.dropped stands.whole ∙ (ap (λ xs. stands.before ++ xs) front ∙ simp append_assoc)) in
+          let count : old.base + f.start + length (slice_range (bytes_held old) f.start f.end) - (old.base + f.start) ≡ f.end - f.start = omega arith in (
             record {
               before = stands.before;
               dropped = stands.dropped ∙ sym base;
@@ -185,12 +185,12 @@ gives-so old new at f low high breaks found items base next =
               within = omega arith;
               framed = rw text more;
             },
-            ap (λ (k : ℕ). take k (drop (old.base + f.start) fed)) count ∙ fed-range stands.before (held old) fed old.base f.start (f.end - f.start) stands.dropped stands.whole,
+            ap (λ (k : ℕ). take k (drop (old.base + f.start) fed)) count ∙ fed-range stands.before (bytes_held old) fed old.base f.start (f.end - f.start) stands.dropped stands.whole,
           );
     }
 
 pub unfinished-cut : (framer : Framer) → IsUnfinished framer → frame_fault (next_text framer) ≡ Some Truncated
-unfinished-cut framer (inl breaks) = breaks-cut (unframed framer) breaks
+unfinished-cut framer (inl breaks) = breaks-cut (bytes_unframed framer) breaks
 unfinished-cut framer (inr cut) = cut
 
 -- a byte behind CR and LF is left where a text isn't these alone
@@ -202,12 +202,12 @@ others-left xs i at low inside other breaks =
     false≢true (sym other ∙ (ap is_break (sym here) ∙ pass))
 
 -- the offset of the next text
-pub next-offset-so : (framer : Framer) (at : ℕ) → at ≤ length (held framer) → drop at (held framer) ≡ next_text framer → IsNextOffset framer (framer.base + at)
+pub next-offset-so : (framer : Framer) (at : ℕ) → at ≤ length (bytes_held framer) → drop at (bytes_held framer) ≡ next_text framer → IsNextOffset framer (framer.base + at)
 next-offset-so framer at high rest =
     let left = ap length rest in
-    let gone = length-drop at (held framer) in
+    let gone = length-drop at (bytes_held framer) in
     record {
       counted = omega arith;
       there = λ fed frames stands.
-          ap (λ (m : ℕ). drop (m + at) fed) (sym stands.dropped) ∙ (ap (λ xs. drop (length stands.before + at) xs) stands.whole ∙ (drop-append-add stands.before (held framer) at ∙ rest));
+          ap (λ (m : ℕ). drop (m + at) fed) (sym stands.dropped) ∙ (ap (λ xs. drop (length stands.before + at) xs) stands.whole ∙ (drop-append-add stands.before (bytes_held framer) at ∙ rest));
     }

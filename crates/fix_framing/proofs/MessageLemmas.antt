@@ -9,7 +9,7 @@ use Rattle.std.proofs.lemmas.List.{length-take-le, length-drop, length-append, g
 use Rattle.std.proofs.lemmas.Bool.{and_parts, and_from, or_parts, or_cases, or_from, or_left, not_from_true, not-false, le-ltb, ltb-false, leb-true, leb-false, eq-eqb, ne_eqb, eqb-true, eqb-false, le-leb, lt-leb}
 use Rattle.std.proofs.lemmas.Bool.Decides.{Decides-eqb}
 use Rattle.std.proofs.lemmas.Slice.Eq.{starts_is}
-use Rattle.fix_framing.specs.Frames.{header, before_checksum, checksum_field, IsFrame, IsFrameAt, length_digits, body_size, body_place, trailer_place, frame_size, body_of, trailer_of, may_begin, begins_otherwise, is_trailer, frame_fault}
+use Rattle.fix_framing.specs.Frames.{header, before_checksum, checksum_field, IsFrame, IsFrameAt, length_digits, body_size, body_place, trailer_place, frame_size, body_of, trailer_of, may_begin, has_bad_begin, is_trailer, frame_fault}
 use Rattle.fix_framing.proofs.LengthLemmas.{count_of, length-length_digits}
 use Rattle.fix_framing.proofs.TestLemmas.{NoFault, none-from_NoFault, NoFault-from_none}
 use Rattle.fix_framing.proofs.FrameLemmas.{length-header, Reads, Reads-rest, Reads-digits, Reads-size, Reads-body, Reads-trailer, Reads-before, Reads-tail, Reads-body_of, length-before, IsFrame-reads}
@@ -33,7 +33,7 @@ field-is_trailer cs three each =
     and_from _ _ (and_from _ _ starts digits) (eq-eqb _ 1 last)
 
 -- a text that begins with the header may begin a message
-pub begins-with : (r rest : List ℕ) → r ≡ header ++ rest → begins_otherwise r ≡ false
+pub begins-with : (r rest : List ℕ) → r ≡ header ++ rest → has_bad_begin r ≡ false
 begins-with r rest whole =
     let starts = (starts_is Decides-eqb r header (starts_with nat_eq r header) refl).1 rest whole in
     not_from_true (may_begin r) (or_left (starts_with nat_eq r header) (starts_with nat_eq header r) starts)
@@ -103,7 +103,7 @@ IsFrame-size f b more frame =
 
 -- The other direction: a text that no test fails on begins with a message.
 
-pub begins-header : (r : List ℕ) → begins_otherwise r ≡ false → 12 ≤ length r → r ≡ header ++ drop 12 r
+pub begins-header : (r : List ℕ) → has_bad_begin r ≡ false → 12 ≤ length r → r ≡ header ++ drop 12 r
 begins-header r begins long =
     elim (or_cases (starts_with nat_eq r header) (starts_with nat_eq header r) (not-false (may_begin r) begins)) [
       | inl whole ↦

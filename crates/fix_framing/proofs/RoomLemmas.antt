@@ -6,28 +6,28 @@ use Rattle.fix_framing.specs.declared.framer.Framer.{Framer}
 use Rattle.fix_framing.specs.declared.framer.Step.{Step}
 use Rattle.fix_framing.specs.declared.framer.Step.TheVariants.{Whole, Wait, Fault}
 use Rattle.fix_framing.specs.Breaks.{is_break}
-use Rattle.fix_framing.specs.Framing.{held, reached, HasRoom, Feeds, Keeps, StepSays}
+use Rattle.fix_framing.specs.Framing.{bytes_held, count_framed, FramerHasRoom, FeedsPiece, KeepsFraming, StepSays}
 
 -- room for a text is room for its front
-pub room-front : (framer : Framer) (piece rest : List ℕ) → HasRoom framer (piece ++ rest) → HasRoom framer piece
+pub room-front : (framer : Framer) (piece rest : List ℕ) → FramerHasRoom framer (piece ++ rest) → FramerHasRoom framer piece
 room-front framer piece rest room =
     let both = length-append piece rest in
     let most = room.most in
     record { fed = room.fed; frames = room.frames; stands = room.stands; most = omega arith }
 
 -- once the front is fed there is room for what follows
-pub room-fed : (old new : Framer) (piece rest : List ℕ) → HasRoom old (piece ++ rest) → Feeds old new piece → HasRoom new rest
+pub room-fed : (old new : Framer) (piece rest : List ℕ) → FramerHasRoom old (piece ++ rest) → FeedsPiece old new piece → FramerHasRoom new rest
 room-fed old new piece rest room feeds =
     let both = length-append piece rest in
     let all = length-append room.fed piece in
     let most = room.most in
     record { fed = room.fed ++ piece; frames = room.frames; stands = feeds room.fed room.frames room.stands; most = omega arith }
 
-pub room-kept : (old new : Framer) (piece : List ℕ) → HasRoom old piece → Keeps old new → HasRoom new piece
+pub room-kept : (old new : Framer) (piece : List ℕ) → FramerHasRoom old piece → KeepsFraming old new → FramerHasRoom new piece
 room-kept old new piece room keeps = record { fed = room.fed; frames = room.frames; stands = keeps room.fed room.frames room.stands; most = room.most }
 
 -- no answer takes room
-pub room-answered : (old new : Framer) (step : Step) (piece : List ℕ) → HasRoom old piece → StepSays old new step → HasRoom new piece
+pub room-answered : (old new : Framer) (step : Step) (piece : List ℕ) → FramerHasRoom old piece → StepSays old new step → FramerHasRoom new piece
 room-answered old new (Whole start body to) piece room answer =
     record { fed = room.fed; frames = room.frames ++ answer.frame ∷ []; stands = (answer.appends room.fed room.frames room.stands).0; most = room.most }
 room-answered old new Wait piece room answer = room-kept old new piece room answer.keeps
@@ -44,14 +44,14 @@ are-breaks (suc n) = are-breaks n
 length-line_ends : (n : ℕ) → length (line_ends n) ≡ n
 length-line_ends n = length-replicate n 10
 
-pub room-anew : (framer : Framer) (piece : List ℕ) → framer.next ≡ 0 → framer.base + length (held framer) + length piece < 2 ^ 64 → HasRoom framer piece
+pub room-anew : (framer : Framer) (piece : List ℕ) → framer.next ≡ 0 → framer.base + length (bytes_held framer) + length piece < 2 ^ 64 → FramerHasRoom framer piece
 room-anew framer piece next most =
     let count = length-line_ends framer.base in
-    let all = length-append (line_ends framer.base) (held framer) in
-    let place : reached framer ≡ framer.base = omega arith in
-    let front = take_at (line_ends framer.base) (held framer) framer.base count in
+    let all = length-append (line_ends framer.base) (bytes_held framer) in
+    let place : count_framed framer ≡ framer.base = omega arith in
+    let front = take_at (line_ends framer.base) (bytes_held framer) framer.base count in
     record {
-      fed = line_ends framer.base ++ held framer;
+      fed = line_ends framer.base ++ bytes_held framer;
       frames = [];
       stands = record {
         before = line_ends framer.base;

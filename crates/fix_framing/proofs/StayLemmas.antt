@@ -11,7 +11,7 @@ use Rattle.std.proofs.lemmas.Bool.Decides.{Decides-eqb}
 use Rattle.std.proofs.lemmas.Slice.Eq.{starts_is}
 use Rattle.fix_framing.specs.declared.frames.FrameFault.{FrameFault}
 use Rattle.fix_framing.specs.declared.frames.FrameFault.TheVariants.{Truncated}
-use Rattle.fix_framing.specs.Frames.{header, length_digits, body_size, body_place, trailer_place, trailer_of, may_begin, begins_otherwise, ends_in_header, has_long_length, ends_in_length, has_bad_length, ends_in_body, is_trailer, has_bad_sum, frame_fault, longest_frame}
+use Rattle.fix_framing.specs.Frames.{header, length_digits, body_size, body_place, trailer_place, trailer_of, may_begin, has_bad_begin, ends_in_header, has_long_length, ends_in_length, has_bad_length, ends_in_body, is_trailer, has_bad_sum, frame_fault, longest_frame}
 use Rattle.fix_framing.proofs.LengthLemmas.{count_of, length-length_digits}
 use Rattle.fix_framing.proofs.TestLemmas.{FaultCase, FaultCase-from_some, some-from_FaultCase, first, second, third, fourth, fifth, sixth, seventh, eighth}
 use Rattle.fix_framing.proofs.FrameLemmas.{length-header}
@@ -65,7 +65,7 @@ split-at s p is = (starts_is Decides-eqb s p (starts_with nat_eq s p) refl).0 is
 starts-so : (s p rest : List ℕ) → s ≡ p ++ rest → starts_with nat_eq s p ≡ true
 starts-so s p rest whole = (starts_is Decides-eqb s p (starts_with nat_eq s p) refl).1 rest whole
 
-begins-otherwise-more : (r m : List ℕ) → begins_otherwise r ≡ true → begins_otherwise (r ++ m) ≡ true
+begins-otherwise-more : (r m : List ℕ) → has_bad_begin r ≡ true → has_bad_begin (r ++ m) ≡ true
 begins-otherwise-more r m other =
     let neither = or_parts (starts_with nat_eq r header) (starts_with nat_eq header r) (not-true (may_begin r) other) in
     let twelve = length-header in
@@ -91,7 +91,7 @@ begins-otherwise-more r m other =
     absurd (cc (neither.1, yes_then)) in
     not_from_false (may_begin (r ++ m)) (or_from (starts_with nat_eq (r ++ m) header) (starts_with nat_eq header (r ++ m)) (false-from (starts_with nat_eq (r ++ m) header) first_no) (false-from (starts_with nat_eq header (r ++ m)) second_no))
 
-header-more : (r m : List ℕ) → begins_otherwise r ≡ false → ends_in_header r ≡ false → begins_otherwise (r ++ m) ≡ false
+header-more : (r m : List ℕ) → has_bad_begin r ≡ false → ends_in_header r ≡ false → has_bad_begin (r ++ m) ≡ false
 header-more r m begins long =
     let twelve = ltb-false (length r) 12 long in
     let whole = begins-header r begins twelve in

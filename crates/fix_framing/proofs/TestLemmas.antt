@@ -2,7 +2,7 @@
 use Rattle.std.proofs.Common.{◌≡◌, ℕ, Bool, true, false, Some, None, List, [], ◌∷◌, ◌++◌, refl, ◌∙◌, ◌⊎◌, inl, inr}
 use Rattle.fix_framing.specs.declared.frames.FrameFault.{FrameFault}
 use Rattle.fix_framing.specs.declared.frames.FrameFault.TheVariants.{Begin, Length, Truncated, Trailer, Checksum}
-use Rattle.fix_framing.specs.Frames.{begins_otherwise, ends_in_header, has_long_length, ends_in_length, has_bad_length, ends_in_body, has_bad_trailer, has_bad_sum, first_failing, header_tests, length_tests, trailer_tests, frame_fault}
+use Rattle.fix_framing.specs.Frames.{has_bad_begin, ends_in_header, has_long_length, ends_in_length, has_bad_length, ends_in_body, has_bad_trailer, has_bad_sum, first_failing, header_tests, length_tests, trailer_tests, frame_fault}
 
 pub first_failing-some : (xs ys : List (Bool × FrameFault)) (e : FrameFault) → first_failing xs ≡ Some e → first_failing (xs ++ ys) ≡ Some e
 first_failing-some [] ys e h = absurd (cc)
@@ -71,7 +71,7 @@ from_second r = (ends_in_header r, Truncated) ∷ from_third r
 
 -- no test fails
 pub record NoFault (r : List ℕ) : Type 0 where
-  pub begins : begins_otherwise r ≡ false
+  pub begins : has_bad_begin r ≡ false
   pub header_ends : ends_in_header r ≡ false
   pub long : has_long_length r ≡ false
   pub length_ends : ends_in_length r ≡ false
@@ -83,7 +83,7 @@ pub record NoFault (r : List ℕ) : Type 0 where
 pub NoFault-from_none : (r : List ℕ) → frame_fault r ≡ None → NoFault r
 unfolding frame_fault
 NoFault-from_none r none =
-    let t1 = first-none (begins_otherwise r) Begin (from_second r) none in
+    let t1 = first-none (has_bad_begin r) Begin (from_second r) none in
     let t2 = first-none (ends_in_header r) Truncated (from_third r) t1.1 in
     let t3 = first-none (has_long_length r) Length (from_fourth r) t2.1 in
     let t4 = first-none (ends_in_length r) Truncated (from_fifth r) t3.1 in
@@ -96,7 +96,7 @@ NoFault-from_none r none =
 pub none-from_NoFault : (r : List ℕ) → NoFault r → frame_fault r ≡ None
 unfolding frame_fault
 none-from_NoFault r tests =
-    first-false (begins_otherwise r) Begin (from_second r) tests.begins ∙
+    first-false (has_bad_begin r) Begin (from_second r) tests.begins ∙
     (first-false (ends_in_header r) Truncated (from_third r) tests.header_ends ∙
     (first-false (has_long_length r) Length (from_fourth r) tests.long ∙
     (first-false (ends_in_length r) Truncated (from_fifth r) tests.length_ends ∙
@@ -107,19 +107,19 @@ none-from_NoFault r tests =
 
 -- the first test that fails, with those before it
 pub data FaultCase (r : List ℕ) (e : FrameFault) : Type 0 where
-  first : begins_otherwise r ≡ true → e ≡ Begin → FaultCase r e
-  second : begins_otherwise r ≡ false → ends_in_header r ≡ true → e ≡ Truncated → FaultCase r e
-  third : begins_otherwise r ≡ false → ends_in_header r ≡ false → has_long_length r ≡ true → e ≡ Length → FaultCase r e
-  fourth : begins_otherwise r ≡ false → ends_in_header r ≡ false → has_long_length r ≡ false → ends_in_length r ≡ true → e ≡ Truncated → FaultCase r e
-  fifth : begins_otherwise r ≡ false → ends_in_header r ≡ false → has_long_length r ≡ false → ends_in_length r ≡ false → has_bad_length r ≡ true → e ≡ Length → FaultCase r e
-  sixth : begins_otherwise r ≡ false → ends_in_header r ≡ false → has_long_length r ≡ false → ends_in_length r ≡ false → has_bad_length r ≡ false → ends_in_body r ≡ true → e ≡ Truncated → FaultCase r e
-  seventh : begins_otherwise r ≡ false → ends_in_header r ≡ false → has_long_length r ≡ false → ends_in_length r ≡ false → has_bad_length r ≡ false → ends_in_body r ≡ false → has_bad_trailer r ≡ true → e ≡ Trailer → FaultCase r e
-  eighth : begins_otherwise r ≡ false → ends_in_header r ≡ false → has_long_length r ≡ false → ends_in_length r ≡ false → has_bad_length r ≡ false → ends_in_body r ≡ false → has_bad_trailer r ≡ false → has_bad_sum r ≡ true → e ≡ Checksum → FaultCase r e
+  first : has_bad_begin r ≡ true → e ≡ Begin → FaultCase r e
+  second : has_bad_begin r ≡ false → ends_in_header r ≡ true → e ≡ Truncated → FaultCase r e
+  third : has_bad_begin r ≡ false → ends_in_header r ≡ false → has_long_length r ≡ true → e ≡ Length → FaultCase r e
+  fourth : has_bad_begin r ≡ false → ends_in_header r ≡ false → has_long_length r ≡ false → ends_in_length r ≡ true → e ≡ Truncated → FaultCase r e
+  fifth : has_bad_begin r ≡ false → ends_in_header r ≡ false → has_long_length r ≡ false → ends_in_length r ≡ false → has_bad_length r ≡ true → e ≡ Length → FaultCase r e
+  sixth : has_bad_begin r ≡ false → ends_in_header r ≡ false → has_long_length r ≡ false → ends_in_length r ≡ false → has_bad_length r ≡ false → ends_in_body r ≡ true → e ≡ Truncated → FaultCase r e
+  seventh : has_bad_begin r ≡ false → ends_in_header r ≡ false → has_long_length r ≡ false → ends_in_length r ≡ false → has_bad_length r ≡ false → ends_in_body r ≡ false → has_bad_trailer r ≡ true → e ≡ Trailer → FaultCase r e
+  eighth : has_bad_begin r ≡ false → ends_in_header r ≡ false → has_long_length r ≡ false → ends_in_length r ≡ false → has_bad_length r ≡ false → ends_in_body r ≡ false → has_bad_trailer r ≡ false → has_bad_sum r ≡ true → e ≡ Checksum → FaultCase r e
 
 pub FaultCase-from_some : (r : List ℕ) (e : FrameFault) → frame_fault r ≡ Some e → FaultCase r e
 unfolding frame_fault
 FaultCase-from_some r e some =
-    elim (first-some (begins_otherwise r) Begin e (from_second r) some) [
+    elim (first-some (has_bad_begin r) Begin e (from_second r) some) [
       | inl h ↦ first h.0 h.1
       | inr h1 ↦ elim (first-some (ends_in_header r) Truncated e (from_third r) h1.1) [
         | inl h ↦ second h1.0 h.0 h.1
@@ -148,18 +148,18 @@ FaultCase-from_some r e some =
 pub some-from_FaultCase : (r : List ℕ) (e : FrameFault) → FaultCase r e → frame_fault r ≡ Some e
 unfolding frame_fault
 some-from_FaultCase r e (first h1 is) =
-    rw is (first-true (begins_otherwise r) Begin (from_second r) h1)
+    rw is (first-true (has_bad_begin r) Begin (from_second r) h1)
 some-from_FaultCase r e (second h1 h2 is) =
-    rw is (first-false (begins_otherwise r) Begin (from_second r) h1 ∙ first-true (ends_in_header r) Truncated (from_third r) h2)
+    rw is (first-false (has_bad_begin r) Begin (from_second r) h1 ∙ first-true (ends_in_header r) Truncated (from_third r) h2)
 some-from_FaultCase r e (third h1 h2 h3 is) =
-    rw is (first-false (begins_otherwise r) Begin (from_second r) h1 ∙ (first-false (ends_in_header r) Truncated (from_third r) h2 ∙ first-true (has_long_length r) Length (from_fourth r) h3))
+    rw is (first-false (has_bad_begin r) Begin (from_second r) h1 ∙ (first-false (ends_in_header r) Truncated (from_third r) h2 ∙ first-true (has_long_length r) Length (from_fourth r) h3))
 some-from_FaultCase r e (fourth h1 h2 h3 h4 is) =
-    rw is (first-false (begins_otherwise r) Begin (from_second r) h1 ∙ (first-false (ends_in_header r) Truncated (from_third r) h2 ∙ (first-false (has_long_length r) Length (from_fourth r) h3 ∙ first-true (ends_in_length r) Truncated (from_fifth r) h4)))
+    rw is (first-false (has_bad_begin r) Begin (from_second r) h1 ∙ (first-false (ends_in_header r) Truncated (from_third r) h2 ∙ (first-false (has_long_length r) Length (from_fourth r) h3 ∙ first-true (ends_in_length r) Truncated (from_fifth r) h4)))
 some-from_FaultCase r e (fifth h1 h2 h3 h4 h5 is) =
-    rw is (first-false (begins_otherwise r) Begin (from_second r) h1 ∙ (first-false (ends_in_header r) Truncated (from_third r) h2 ∙ (first-false (has_long_length r) Length (from_fourth r) h3 ∙ (first-false (ends_in_length r) Truncated (from_fifth r) h4 ∙ first-true (has_bad_length r) Length (from_sixth r) h5))))
+    rw is (first-false (has_bad_begin r) Begin (from_second r) h1 ∙ (first-false (ends_in_header r) Truncated (from_third r) h2 ∙ (first-false (has_long_length r) Length (from_fourth r) h3 ∙ (first-false (ends_in_length r) Truncated (from_fifth r) h4 ∙ first-true (has_bad_length r) Length (from_sixth r) h5))))
 some-from_FaultCase r e (sixth h1 h2 h3 h4 h5 h6 is) =
-    rw is (first-false (begins_otherwise r) Begin (from_second r) h1 ∙ (first-false (ends_in_header r) Truncated (from_third r) h2 ∙ (first-false (has_long_length r) Length (from_fourth r) h3 ∙ (first-false (ends_in_length r) Truncated (from_fifth r) h4 ∙ (first-false (has_bad_length r) Length (from_sixth r) h5 ∙ first-true (ends_in_body r) Truncated (from_seventh r) h6)))))
+    rw is (first-false (has_bad_begin r) Begin (from_second r) h1 ∙ (first-false (ends_in_header r) Truncated (from_third r) h2 ∙ (first-false (has_long_length r) Length (from_fourth r) h3 ∙ (first-false (ends_in_length r) Truncated (from_fifth r) h4 ∙ (first-false (has_bad_length r) Length (from_sixth r) h5 ∙ first-true (ends_in_body r) Truncated (from_seventh r) h6)))))
 some-from_FaultCase r e (seventh h1 h2 h3 h4 h5 h6 h7 is) =
-    rw is (first-false (begins_otherwise r) Begin (from_second r) h1 ∙ (first-false (ends_in_header r) Truncated (from_third r) h2 ∙ (first-false (has_long_length r) Length (from_fourth r) h3 ∙ (first-false (ends_in_length r) Truncated (from_fifth r) h4 ∙ (first-false (has_bad_length r) Length (from_sixth r) h5 ∙ (first-false (ends_in_body r) Truncated (from_seventh r) h6 ∙ first-true (has_bad_trailer r) Trailer (from_eighth r) h7))))))
+    rw is (first-false (has_bad_begin r) Begin (from_second r) h1 ∙ (first-false (ends_in_header r) Truncated (from_third r) h2 ∙ (first-false (has_long_length r) Length (from_fourth r) h3 ∙ (first-false (ends_in_length r) Truncated (from_fifth r) h4 ∙ (first-false (has_bad_length r) Length (from_sixth r) h5 ∙ (first-false (ends_in_body r) Truncated (from_seventh r) h6 ∙ first-true (has_bad_trailer r) Trailer (from_eighth r) h7))))))
 some-from_FaultCase r e (eighth h1 h2 h3 h4 h5 h6 h7 h8 is) =
-    rw is (first-false (begins_otherwise r) Begin (from_second r) h1 ∙ (first-false (ends_in_header r) Truncated (from_third r) h2 ∙ (first-false (has_long_length r) Length (from_fourth r) h3 ∙ (first-false (ends_in_length r) Truncated (from_fifth r) h4 ∙ (first-false (has_bad_length r) Length (from_sixth r) h5 ∙ (first-false (ends_in_body r) Truncated (from_seventh r) h6 ∙ (first-false (has_bad_trailer r) Trailer (from_eighth r) h7 ∙ first-true (has_bad_sum r) Checksum [] h8)))))))
+    rw is (first-false (has_bad_begin r) Begin (from_second r) h1 ∙ (first-false (ends_in_header r) Truncated (from_third r) h2 ∙ (first-false (has_long_length r) Length (from_fourth r) h3 ∙ (first-false (ends_in_length r) Truncated (from_fifth r) h4 ∙ (first-false (has_bad_length r) Length (from_sixth r) h5 ∙ (first-false (ends_in_body r) Truncated (from_seventh r) h6 ∙ (first-false (has_bad_trailer r) Trailer (from_eighth r) h7 ∙ first-true (has_bad_sum r) Checksum [] h8)))))))

@@ -1,4 +1,4 @@
--- The bytes CR and LF that may stand around messages.
+-- The bytes CR and LF that may be around messages.
 use Rattle.std.specs.Prelude.{ℕ, Bool, ◌||◌, ◌==◌, List, [], ◌∷◌, if◌then◌else◌}
 
 -- a CR (13) or an LF (10)

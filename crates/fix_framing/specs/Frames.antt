@@ -14,7 +14,7 @@ use Rattle.fix_framing.specs.declared.frames.FrameFault.TheVariants.{Begin, Leng
 unfoldable pub header : List ℕ
 header = codes "8=FIX.4.4" ++ soh ∷ codes "9="
 
--- what stands before the checksum field: the header, the digits of the body's length, SOH, the body
+-- what is before the checksum field: the header, the digits of the body's length, SOH, the body
 abbrev pub before_checksum : List ℕ → List ℕ → List ℕ
 before_checksum digits body = header ++ digits ++ soh ∷ body
 
@@ -22,9 +22,9 @@ before_checksum digits body = header ++ digits ++ soh ∷ body
 abbrev pub checksum_field : List ℕ → List ℕ
 checksum_field digits = codes "10=" ++ digits ++ soh ∷ []
 
--- Frame: the text is a message with this body. Its length's 1 to 9 digits write the number of bytes
--- of the body, at most 1,048,576, and its three last digits the sum of all bytes before `10=`,
--- modulo 256
+-- Frame: the text is a message with this body. Its length's 1 to 9 digits write the
+-- number of bytes of the body, at most 1,048,576, and its three last digits the sum of
+-- all bytes before `10=`, modulo 256
 pub record IsFrame (text body : List ℕ) : Type 0 where
   pub length_digits : List ℕ
   pub sum_digits : List ℕ
@@ -75,8 +75,8 @@ abbrev pub may_begin : List ℕ → Bool
 may_begin r = starts_with nat_eq r header || starts_with nat_eq header r
 
 -- test 1: neither is r a prefix of the header nor the header a prefix of r
-abbrev pub begins_otherwise : List ℕ → Bool
-begins_otherwise r = not (may_begin r)
+abbrev pub has_bad_begin : List ℕ → Bool
+has_bad_begin r = not (may_begin r)
 
 -- test 2: r has fewer than 12 bytes
 abbrev pub ends_in_header : List ℕ → Bool
@@ -90,11 +90,12 @@ has_long_length r = nat_le 10 (length (length_digits r))
 abbrev pub ends_in_length : List ℕ → Bool
 ends_in_length r = length r == 12 + length (length_digits r)
 
--- test 5: no digit follows the header, or the byte after the digits isn't SOH, or the value exceeds
--- 1,048,576
+-- test 5: no digit follows the header, or the byte after the digits isn't
+-- SOH, or the value exceeds 1,048,576
 abbrev pub has_bad_length : List ℕ → Bool
 has_bad_length r =
-    length (length_digits r) == 0 || not (slice_index r (12 + length (length_digits r)) == soh)
+    length (length_digits r) == 0
+    || not (slice_index r (12 + length (length_digits r)) == soh)
     || nat_lt longest_body (body_size r)
 
 -- test 6: after that SOH r has fewer than 7 bytes more than the body
@@ -123,7 +124,7 @@ first_failing ((fails, fault) ∷ more) = if fails then Some fault else first_fa
 
 -- the tests in their order: those of the header, of the body's length, and of the rest
 abbrev pub header_tests : List ℕ → List (Bool × FrameFault)
-header_tests r = (begins_otherwise r, Begin) ∷ (ends_in_header r, Truncated) ∷ []
+header_tests r = (has_bad_begin r, Begin) ∷ (ends_in_header r, Truncated) ∷ []
 
 abbrev pub length_tests : List ℕ → List (Bool × FrameFault)
 length_tests r =

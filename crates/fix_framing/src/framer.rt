@@ -52,14 +52,14 @@ fn drop_front(bytes: &mut Vec<u8>, count: usize)
 }
 
 impl Framer {
-    ghost use Rattle.fix_framing.specs.Framing.{held, unframed, next_text, next_offset, StandsFor, IsNextOffset, HasRoom, Feeds, AppendsUnframed, Keeps, IsUnfinished, IsWhole, StepSays};
+    ghost use Rattle.fix_framing.specs.Framing.{bytes_held, bytes_unframed, next_text, next_offset, IsFramerOf, IsNextOffset, FramerHasRoom, FeedsPiece, AppendsUnframed, KeepsFraming, IsUnfinished, IsWholeFrame, StepSays};
     ghost use Rattle.fix_framing.specs.Frames.{frame_fault};
     ghost use Rattle.fix_framing.specs.declared.frames.FrameFault.{FrameFault};
 
     /// A Framer that was fed nothing.
     pub fn new(alloc: Global) -> Framer
-        ensures stands { StandsFor result [] [] }
-        ensures empty { held result ≡ [] }
+        ensures stands { IsFramerOf result [] [] }
+        ensures empty { bytes_held result ≡ [] }
     {
         Framer {
             bytes: Vec::new(alloc),
@@ -68,13 +68,13 @@ impl Framer {
         }
     }
 
-    /// Takes the next piece of the bytes, which are fewer than 2^64 in all. Out of memory, nothing
-    /// changes.
+    /// Takes the next piece of the bytes, which are fewer than 2^64 in
+    /// all. Out of memory, nothing changes.
     pub fn feed(&mut self, piece: &[u8]) -> Result<(), NoMemory>
-        requires { HasRoom self.old piece.now }
-        ensures ok { OnOk result (Feeds self.old self.new piece.now) }
+        requires { FramerHasRoom self.old piece.now }
+        ensures ok { OnOk result (FeedsPiece self.old self.new piece.now) }
         ensures appended { OnOk result (AppendsUnframed self.old self.new piece.now) }
-        ensures err { OnErr result (Keeps self.old self.new) }
+        ensures err { OnErr result (KeepsFraming self.old self.new) }
     {
         self.bytes.extend_from_slice(piece)?;
         Ok(())
@@ -85,7 +85,7 @@ impl Framer {
     pub fn next_frame(&mut self) -> Step
         ensures answers { StepSays self.old self.new result }
         // Each answer comes exactly where the bytes say so.
-        ensures whole { IsWhole result ↔ (frame_fault (next_text self.old) ≡ None) }
+        ensures whole { IsWholeFrame result ↔ (frame_fault (next_text self.old) ≡ None) }
         ensures waits { (result ≡ Step.Wait) ↔ IsUnfinished self.old }
         ensures refuses { (at : ℕ) (fault : FrameFault) → (result ≡ Step.Fault at fault)
             ↔ ((frame_fault (next_text self.old) ≡ Some fault) × (fault ≢ FrameFault.Truncated)
@@ -118,7 +118,7 @@ impl Framer {
     /// Whether all bytes fed are framed, but for CR and LF bytes: else the offset of the first byte
     /// of the unfinished message, behind these.
     pub fn finish(&self) -> Result<(), u64>
-        ensures ok { IsOk result ↔ IsTrue (list_all is_break (unframed self.now)) }
+        ensures ok { IsOk result ↔ IsTrue (list_all is_break (bytes_unframed self.now)) }
         ensures err { IfErr result (IsNextOffset self.now) }
     {
         let at = skip_breaks(&self.bytes, self.next);
@@ -130,7 +130,7 @@ impl Framer {
 
     /// The bytes that are held, in which `Step::Whole` has its places.
     pub fn held(&self) -> &[u8]
-        ensures { result.now ≡ held self.now }
+        ensures { result.now ≡ bytes_held self.now }
     {
         &self.bytes
     }

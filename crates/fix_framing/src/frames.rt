@@ -1,8 +1,8 @@
 //! The frames of a log whose bytes are all there: where a message begins and ends, or the first
 //! test that the bytes fail. FIX 4.4, BeginString (8), BodyLength (9) and CheckSum (10).
 //!
-//! The body's length stands before the body, so a message is found by counting and never by looking
-//! for its end. `frame_at` reads the bytes of a message in one pass, for the sum.
+//! The body's length comes before the body, so a message is found by counting and never by
+//! looking for its end. `frame_at` reads the bytes of a message in one pass, for the sum.
 ghost use Rattle.std.specs.Prelude.{◌≡◌, ℕ, ◌+◌, ◌-◌, ◌<◌, ◌≤◌, ◌%◌, ◌^◌, [], ◌∷◌, ◌++◌, List, length, take, drop, sum, false, Some, None, IsTrue, IfOk, IfErr, OnOk, MatchResult, IsOkAnd};
 ghost use Rattle.std.specs.List.{slice_range, list_all};
 ghost use Rattle.std.specs.Char.{is_ascii_digit};
@@ -16,7 +16,7 @@ use audit_base::sizes::{LONGEST_BODY, SOH};
 use memchr::memchr;
 use thiserror::Error;
 
-/// Where a message stands: its frame runs from `start` to `end`, its body from `body` to `end - 7`.
+/// Where a message is: its frame runs from `start` to `end`, its body from `body` to `end - 7`.
 #[derive(Clone, Copy, Debug, PartialEq, Eq)]
 pub struct Frame {
     /// The place of its first byte, the `8` of `8=FIX.4.4`.
@@ -39,7 +39,7 @@ pub enum FrameFault {
     /// The bytes end within a message.
     #[error("the bytes end within a message")]
     Truncated,
-    /// Behind the body stands no `10=`, three digits, SOH.
+    /// Behind the body there is no `10=`, three digits, SOH.
     #[error("no checksum field follows the body")]
     Trailer,
     /// The checksum isn't the sum of the bytes before its field, modulo 256.
@@ -94,7 +94,7 @@ fn is_checksum_field(seven: &[u8]) -> bool
     seven.starts_with(b"10=") && are_digits(&seven[3..6]) && seven[6] == SOH
 }
 
-/// Where the length and the SOH after it have to stand: up to ten bytes behind the header.
+/// Where the length and the SOH after it have to be: up to ten bytes behind the header.
 fn length_window(text: &[u8]) -> &[u8]
     requires { 12 ≤ length text.now }
     ensures { result.now ≡ take 10 (drop 12 text.now) }
@@ -103,8 +103,8 @@ fn length_window(text: &[u8]) -> &[u8]
     &rest[..rest.len().min(10)]
 }
 
-/// How many digits follow the header, before the SOH that ends them: tests 3 to 5 but for their
-/// value.
+/// How many digits follow the header, before the SOH that ends
+/// them: tests 3 to 5 but for their value.
 fn length_field(text: &[u8]) -> Result<usize, FrameFault>
     requires { 12 ≤ length text.now }
     ensures ok { IfOk result (λ digits. IsLengthField (drop 12 text.now) digits) }
@@ -145,8 +145,8 @@ struct BodyLength {
     size: usize,
 }
 
-/// Tests 3 to 5 but for the greatest value. Most lengths have three digits, so this number of them is
-/// tried before SOH is sought.
+/// Tests 3 to 5 but for the greatest value. Most lengths have three digits, so this number of
+/// them is tried before SOH is sought.
 fn body_length(text: &[u8]) -> Result<BodyLength, FrameFault>
     requires { 12 ≤ length text.now }
     ensures ok { IfOk result (λ l. IsLengthField (drop 12 text.now) l.digits
@@ -169,7 +169,7 @@ struct Places {
     trailer: usize,
 }
 
-/// Tests 3 to 5: the body's length stands behind the header.
+/// Tests 3 to 5: the body's length is behind the header.
 fn find_places(text: &[u8]) -> Result<Places, FrameFault>
     requires { 12 ≤ length text.now }
     ensures ok { IfOk result (λ p. (first_failing (length_tests text.now) ≡ None)
@@ -188,7 +188,7 @@ fn find_places(text: &[u8]) -> Result<Places, FrameFault>
     })
 }
 
-/// Tests 6 to 8: the checksum field stands behind the body, and writes the sum.
+/// Tests 6 to 8: the checksum field is behind the body, and writes the sum.
 fn check_trailer(text: &[u8], trailer: usize) -> Result<(), FrameFault>
     requires place { trailer ≡ trailer_place text.now }
     requires room { trailer < 2 ^ 63 }

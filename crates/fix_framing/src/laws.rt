@@ -5,7 +5,7 @@ ghost use Rattle.fix_framing.specs.declared.frames.FrameFault.{FrameFault};
 
 use crate::frames::FrameFault;
 
-/// Unique reading: no message begins another, since the length stands before the body.
+/// Unique reading: no message begins another, since the length comes before the body.
 pub fn frames_have_one_reading()
     // No message is a proper prefix of a message.
     ensures prefix { (frame more body other : List ℕ)

@@ -1,6 +1,6 @@
-//! FIX 4.4 messages on the bytes of a log. A message stands in a frame: `8=FIX.4.4`, the length of
-//! its body, the body, and a checksum. This crate finds the frames of a log exactly, whole or piece
-//! by piece, and names the first test that a broken one fails.
+//! FIX 4.4 messages on the bytes of a log. A message is in a frame: `8=FIX.4.4`, the length of
+//! its body, the body, and a checksum. This crate finds the frames of a log exactly, whole or
+//! piece by piece, and names the first test that a broken one fails.
 //!
 //! `frames` looks at bytes that are all there, `framer` at bytes that come in pieces, `breaks` at
 //! the line ends between messages, and `writing` makes a frame.

@@ -33,8 +33,8 @@ fn frame_of(alloc: Global, body: &[u8]) -> Result<Vec<u8>, AllocError>
     Ok(text)
 }
 
-/// Appends the message with this body. Its length has no leading zero. Out of memory, `out` stays
-/// as it was.
+/// Appends the message with this body. Its length has no leading zero.
+/// Out of memory, `out` stays as it was.
 #[tactic(auto, using(crate::proofs::WritingLemmas::frame_text_is_frame))]
 pub fn write_frame(alloc: Global, body: &[u8], out: &mut Vec<u8>) -> Result<(), NoMemory>
     requires { length body.now ≤ longest_body }

@@ -12,12 +12,12 @@ use Rattle.fix_framing.specs.Frames.{frame_text}
 use Rattle.fix_framing.proofs.WritingLemmas.{frame_text_is_frame}
 use Rattle.fix_messages.specs.declared.meanings.MessageFault.{MessageFault}
 use Rattle.trade_reports.specs.declared.reports.Report.{Report}
-use Rattle.fix_messages.specs.Bodies.{body_says, reasoned}
-use Rattle.fix_messages.specs.OrderTables.{order_entry}
-use Rattle.fix_messages.specs.ReportTable.{report_entry}
-use Rattle.fix_messages.specs.Logs.{AreMessages, order_log, read_log, report_log}
+use Rattle.fix_messages.specs.Bodies.{body_says, with_reason}
+use Rattle.fix_messages.specs.OrderTables.{order_of_message}
+use Rattle.fix_messages.specs.ReportTable.{report_of_message}
+use Rattle.fix_messages.specs.Logs.{AreMessages, fix_order_log, read_fix_log, report_log}
 use Rattle.trade_reports.specs.Reports.{report_to, reports_of}
-use Rattle.fix_messages.specs.Written.{IsReportInForm, IsTradeInForm, IsWritable, order_fields, orders_text, report_fields, report_text, trade_text, trades_text}
+use Rattle.fix_messages.specs.Written.{IsReportInForm, IsTradeInForm, IsWritable, order_fields, fix_orders_text, report_fields, report_message, trade_message_pair, fix_trades_text}
 use Rattle.fix_messages.proofs.BodyLemmas.{fields-say}
 use Rattle.fix_messages.proofs.MeaningLemmas.{IsBody, order-again, order-body, report-again, report-body}
 use Rattle.fix_messages.proofs.ReadingLemmas.{good-read}
@@ -30,7 +30,7 @@ module _ {R : Type 0} (meaning : List TagValue → Result (Option R) MessageFaul
     pub means : meaning (fields_of entry) ≡ Ok (Some entry)
 
   says-again : (entry : R) → IsAgain entry → body_says meaning (bytes_of (fields_of entry)) ≡ Ok (Some entry)
-  says-again entry is = fields-say meaning (bytes_of (fields_of entry)) (fields_of entry) is.body.0 ∙ ap (λ (m : Result (Option R) MessageFault). reasoned m) is.means
+  says-again entry is = fields-say meaning (bytes_of (fields_of entry)) (fields_of entry) is.body.0 ∙ ap (λ (m : Result (Option R) MessageFault). with_reason m) is.means
 
   messages-again : (entries : List R) → All IsAgain entries → AreMessages (flat_map (λ entry. frame_text (bytes_of (fields_of entry))) entries) (map (λ entry. bytes_of (fields_of entry)) entries)
   messages-again [] are = refl
@@ -48,7 +48,7 @@ module _ {R : Type 0} (meaning : List TagValue → Result (Option R) MessageFaul
   records-again [] = refl
   records-again (entry ∷ entries) = ap (λ (l : List R). entry ∷ l) (records-again entries)
 
-  log-again : (entries : List R) → All IsAgain entries → read_log meaning (flat_map (λ entry. frame_text (bytes_of (fields_of entry))) entries) ≡ Ok entries
+  log-again : (entries : List R) → All IsAgain entries → read_fix_log meaning (flat_map (λ entry. frame_text (bytes_of (fields_of entry))) entries) ≡ Ok entries
   log-again entries are = good-read meaning _ entries (record {
     bodies = map (λ entry. bytes_of (fields_of entry)) entries;
     messages = messages-again entries are;
@@ -58,26 +58,26 @@ module _ {R : Type 0} (meaning : List TagValue → Result (Option R) MessageFaul
   })
 
 abbrev pub IsOrderAgain : OrderRecord → Type 0
-IsOrderAgain entry = IsAgain order_entry order_fields entry
+IsOrderAgain entry = IsAgain order_of_message order_fields entry
 
 order-is : (entry : OrderRecord) → IsWritable entry → IsOrderAgain entry
 order-is entry is = record { body = order-body entry is.form; means = order-again entry is }
 
-pub orders-again : (orders : List OrderRecord) → All IsWritable orders → order_log (orders_text orders) ≡ Ok orders
-orders-again orders are = log-again order_entry order_fields orders (All-weaker IsWritable IsOrderAgain order-is orders are)
+pub orders-again : (orders : List OrderRecord) → All IsWritable orders → fix_order_log (fix_orders_text orders) ≡ Ok orders
+orders-again orders are = log-again order_of_message order_fields orders (All-weaker IsWritable IsOrderAgain order-is orders are)
 
-report-is : (entry : Report) → IsReportInForm entry → IsAgain report_entry report_fields entry
+report-is : (entry : Report) → IsReportInForm entry → IsAgain report_of_message report_fields entry
 report-is entry is = record { body = report-body entry is; means = report-again entry is }
 
 -- the messages of trades are those of their reports
-messages-of : (trades : List TradeRecord) → flat_map trade_text trades ≡ flat_map report_text (flat_map reports_of trades)
+messages-of : (trades : List TradeRecord) → flat_map trade_message_pair trades ≡ flat_map report_message (flat_map reports_of trades)
 messages-of [] = refl
 messages-of (trade ∷ trades) =
-    let buyer : List ℕ = report_text (report_to side.Buy trade) in
-    let seller : List ℕ = report_text (report_to side.Sell trade) in
-    ap (λ (t : List ℕ). trade_text trade ++ t) (messages-of trades)
-    ∙ append_assoc buyer (seller ++ []) (flat_map report_text (flat_map reports_of trades))
-    ∙ ap (λ (t : List ℕ). buyer ++ (t ++ flat_map report_text (flat_map reports_of trades))) (append-nil seller)
+    let buyer : List ℕ = report_message (report_to side.Buy trade) in
+    let seller : List ℕ = report_message (report_to side.Sell trade) in
+    ap (λ (t : List ℕ). trade_message_pair trade ++ t) (messages-of trades)
+    ∙ append_assoc buyer (seller ++ []) (flat_map report_message (flat_map reports_of trades))
+    ∙ ap (λ (t : List ℕ). buyer ++ (t ++ flat_map report_message (flat_map reports_of trades))) (append-nil seller)
 
 reports-in-form : (trades : List TradeRecord) → All IsTradeInForm trades → All IsReportInForm (flat_map reports_of trades)
 reports-in-form [] are = All-nil IsReportInForm
@@ -86,7 +86,7 @@ reports-in-form (trade ∷ trades) are =
     All-cons IsReportInForm (report_to side.Buy trade) (report_to side.Sell trade ∷ flat_map reports_of trades) this.buyer
     (All-cons IsReportInForm (report_to side.Sell trade) (flat_map reports_of trades) this.seller (reports-in-form trades (All-tail IsTradeInForm trade trades are)))
 
-pub trades-again : (trades : List TradeRecord) → All IsTradeInForm trades → report_log (trades_text trades) ≡ Ok (flat_map reports_of trades)
+pub trades-again : (trades : List TradeRecord) → All IsTradeInForm trades → report_log (fix_trades_text trades) ≡ Ok (flat_map reports_of trades)
 trades-again trades are =
     ap report_log (messages-of trades)
-    ∙ log-again report_entry report_fields (flat_map reports_of trades) (All-weaker IsReportInForm (IsAgain report_entry report_fields) report-is (flat_map reports_of trades) (reports-in-form trades are))
+    ∙ log-again report_of_message report_fields (flat_map reports_of trades) (All-weaker IsReportInForm (IsAgain report_of_message report_fields) report-is (flat_map reports_of trades) (reports-in-form trades are))

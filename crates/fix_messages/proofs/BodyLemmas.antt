@@ -12,8 +12,8 @@ use Rattle.audit_base.specs.declared.faults.Reason.{Reason}
 use Rattle.audit_base.specs.declared.faults.Reason.TheVariants as reason
 use Rattle.fix_fields.specs.Forms.{length_form, tag_form}
 use Rattle.fix_fields.specs.Grammar.{TagValue, AreFields, Fields, HasForm, IsField, IsDelimited, IsUnreadable, LacksType, NoField, bytes_of, field_bytes, last_of}
-use Rattle.fix_fields.specs.Pairs.{is_pair}
-use Rattle.fix_fields.specs.Ranges.{all_shown}
+use Rattle.fix_fields.specs.Pairs.{is_data_field_pair}
+use Rattle.fix_fields.specs.Ranges.{tag_values_of}
 use Rattle.fix_fields.specs.TagNotes.{HasNotes}
 use Rattle.fix_fields.specs.declared.notes.TagNotes.{TagNotes}
 use Rattle.fix_fields.proofs.GrammarLemmas.{field_bytes-append, no_field_at_end, one_reading}
@@ -21,11 +21,11 @@ use Rattle.fix_fields.proofs.ReadingLemmas.{length-field_bytes}
 use Rattle.fix_fields.proofs.SearchLemmas.{split_at}
 use Rattle.fix_fields.proofs.TagLemmas.{decimal_no_equals, tag_form-decimal, tag_form-some, tag_split}
 use Rattle.fix_messages.specs.declared.meanings.MessageFault.{MessageFault}
-use Rattle.fix_messages.specs.Bodies.{body_says, reasoned, says_of}
+use Rattle.fix_messages.specs.Bodies.{body_says, with_reason, says_of}
 use Rattle.fix_messages.specs.Steps.{TakesSaid}
-use Rattle.fix_messages.specs.BodyFields.{Split, ended_field, fields_of, is_end, is_equals, next_field, some_size, split_from, split_next, split_of, tagged_field, value_size}
+use Rattle.fix_messages.specs.BodyFields.{FieldSplit, ended_field, fields_of, is_end, is_equals, next_field, some_size, split_from, split_next, split_of, tagged_field, value_size}
 
--- a byte behind bytes that are others stands right there
+-- a byte behind bytes that are others is right there
 position-until : (b : ℕ) (front more : List ℕ) → All (λ x. x ≢ b) front → position_or_len (λ x. x == b) (front ++ b ∷ more) ≡ length front
 position-until b [] more others = let same = eq-eqb b b refl in rw same refl
 position-until b (x ∷ front) more others =
@@ -54,7 +54,7 @@ value-size false count value more form =
 
 size-found : (before : Option TagValue) (tag : ℕ) (value more : List ℕ) → HasForm before tag value → value_size before tag (value ++ 1 ∷ more) ≡ Some (length value)
 size-found None tag value more form = value-size false None value more form
-size-found (Some before) tag value more form = value-size (is_pair before.tag tag) (length_form before.value) value more form
+size-found (Some before) tag value more form = value-size (is_data_field_pair before.tag tag) (length_form before.value) value more form
 
 -- a field at the front is found
 pub next-of : (before : Option TagValue) (field : TagValue) (more : List ℕ) → IsField before field → next_field before (field_bytes field ++ more) ≡ Some field
@@ -105,7 +105,7 @@ value-form false count bytes size low h = plain-form bytes size low h
 
 form-found : (before : Option TagValue) (tag : ℕ) (bytes : List ℕ) (size : ℕ) → size < length bytes → value_size before tag bytes ≡ Some size → HasForm before tag (take size bytes)
 form-found None tag bytes size low h = plain-form bytes size low h
-form-found (Some before) tag bytes size low h = value-form (is_pair before.tag tag) (length_form before.value) bytes size low h
+form-found (Some before) tag bytes size low h = value-form (is_data_field_pair before.tag tag) (length_form before.value) bytes size low h
 
 ended-found : (tag : ℕ) (bytes : List ℕ) (size : Option ℕ) (field : TagValue) → ended_field tag bytes size ≡ Some field
     → (n : ℕ) × (size ≡ Some n) × (get_or bytes n 0 ≡ 1) × (field ≡ record { tag = tag; value = take n bytes })
@@ -149,7 +149,7 @@ next-found before bytes field h =
     })
 
 -- fields that were found from the front, up to bytes at whose front no field can be read
-pub record IsSplit (before : Option TagValue) (bytes : List ℕ) (split : Split) : Type 0 where
+pub record IsSplit (before : Option TagValue) (bytes : List ℕ) (split : FieldSplit) : Type 0 where
   pub whole : bytes ≡ bytes_of split.fields ++ split.left
   pub forms : AreFields before split.fields
   pub none : NoField (last_of before split.fields) split.left
@@ -208,16 +208,16 @@ module _ {R : Type 0} (meaning : List TagValue → Result (Option R) MessageFaul
       let same = one_reading None (split_of body).fields fields (split_of body).left left s.forms forms s.none none (sym s.whole ∙ bytes) in
       ap (λ (f : List TagValue). says_of meaning f (split_of body).left) same.0 ∙ ap (says_of meaning fields) same.1
 
-  pub fields-say : (fields : List TagValue) → Fields body fields → body_says meaning body ≡ reasoned (meaning fields)
+  pub fields-say : (fields : List TagValue) → Fields body fields → body_says meaning body ≡ with_reason (meaning fields)
   fields-say fields is =
       reading-says fields [] (is.bytes ∙ sym (append-nil (bytes_of fields))) is.forms (no_field_at_end (last_of None fields))
-      ∙ ap (λ (t : Bool). cond {A = Result (Option R) Reason} t (reasoned (meaning fields)) (Err reason.MsgType)) is.typed
+      ∙ ap (λ (t : Bool). cond {A = Result (Option R) Reason} t (with_reason (meaning fields)) (Err reason.MsgType)) is.typed
 
-  -- notes of a body tell its fields
-  pub notes-say : (notes : TagNotes) → HasNotes body notes → reasoned (meaning (fields_of body)) ≡ body_says meaning body
+  -- notes of a body say its fields
+  pub notes-say : (notes : TagNotes) → HasNotes body notes → with_reason (meaning (fields_of body)) ≡ body_says meaning body
   notes-say notes has =
-      let fields = all_shown body has.fields in
-      ap (λ (fs : List TagValue). reasoned (meaning fs)) (fields-are body fields has.are.read) ∙ sym (fields-say fields has.are.read)
+      let fields = tag_values_of body has.fields in
+      ap (λ (fs : List TagValue). with_reason (meaning fs)) (fields-are body fields has.are.read) ∙ sym (fields-say fields has.are.read)
 
   pub unreadable-says : (n : ℕ) → IsUnreadable body n → body_says meaning body ≡ Err (reason.Field n)
   unreadable-says n is =
@@ -227,7 +227,7 @@ module _ {R : Type 0} (meaning : List TagValue → Result (Option R) MessageFaul
   pub untyped-says : LacksType body → body_says meaning body ≡ Err reason.MsgType
   untyped-says is =
       reading-says is.fields [] (is.bytes ∙ sym (append-nil (bytes_of is.fields))) is.forms (no_field_at_end (last_of None is.fields))
-      ∙ ap (λ (t : Bool). cond {A = Result (Option R) Reason} t (reasoned (meaning is.fields)) (Err reason.MsgType)) is.untyped
+      ∙ ap (λ (t : Bool). cond {A = Result (Option R) Reason} t (with_reason (meaning is.fields)) (Err reason.MsgType)) is.untyped
 
 -- a body that says a fault adds no record
 pub takes-bad : {R : Type 0} (said : Result (Option R) Reason) (why : Reason) (has : List R → Type 0) → said ≡ Err why → TakesSaid said has has (Err why)

@@ -16,7 +16,7 @@ use Rattle.fix_framing.proofs.MessageLemmas.{IsFrame-no_fault, IsFrame-body_of, 
 use Rattle.fix_messages.specs.declared.meanings.MessageFault.{MessageFault}
 use Rattle.fix_messages.specs.Bodies.{body_says}
 use Rattle.fix_messages.specs.Feeds.{after_frame, read_frames}
-use Rattle.fix_messages.specs.Logs.{Item, after_item, item_and, items_from, read_items, with_first}
+use Rattle.fix_messages.specs.Logs.{MessageItem, after_item, item_and, items_from, read_items, with_record_of_message}
 
 -- bytes of the message before are passed over
 items-inside : (inside at : ℕ) (text : List ℕ) → inside ≤ length text → items_from inside at text ≡ items_from 0 (at + inside) (drop inside text)
@@ -32,14 +32,14 @@ items-breaks at [] rest h = ap (λ (k : ℕ). items_from 0 k rest) (omega arith)
 items-breaks at (byte ∷ gap) rest h =
     let both = and_parts (is_break byte) (list_all is_break gap) h in
     let place : at + 1 + length gap ≡ at + length (byte ∷ gap) = omega arith in
-    ap (λ (b : Bool). cond {A = List Item} b (items_from 0 (at + 1) (gap ++ rest)) (item_and at (byte ∷ (gap ++ rest)) (frame_fault (byte ∷ (gap ++ rest))) (items_from (frame_size (byte ∷ (gap ++ rest)) - 1) (at + 1) (gap ++ rest)))) both.0
+    ap (λ (b : Bool). cond {A = List MessageItem} b (items_from 0 (at + 1) (gap ++ rest)) (item_and at (byte ∷ (gap ++ rest)) (frame_fault (byte ∷ (gap ++ rest))) (items_from (frame_size (byte ∷ (gap ++ rest)) - 1) (at + 1) (gap ++ rest)))) both.0
     ∙ items-breaks (at + 1) gap rest both.1 ∙ ap (λ (k : ℕ). items_from 0 k rest) place
 
 -- what begins with another byte is an item
 items-other : (at byte : ℕ) (rest : List ℕ) → is_break byte ≡ false
     → items_from 0 at (byte ∷ rest) ≡ item_and at (byte ∷ rest) (frame_fault (byte ∷ rest)) (items_from (frame_size (byte ∷ rest) - 1) (at + 1) rest)
 items-other at byte rest other =
-    ap (λ (b : Bool). cond {A = List Item} b (items_from 0 (at + 1) rest) (item_and at (byte ∷ rest) (frame_fault (byte ∷ rest)) (items_from (frame_size (byte ∷ rest) - 1) (at + 1) rest))) other
+    ap (λ (b : Bool). cond {A = List MessageItem} b (items_from 0 (at + 1) rest) (item_and at (byte ∷ rest) (frame_fault (byte ∷ rest)) (items_from (frame_size (byte ∷ rest) - 1) (at + 1) rest))) other
 
 -- a message begins with `8`
 pub frame-first : (frame body : List ℕ) → IsFrame frame body → (tail : List ℕ) × (frame ≡ 56 ∷ tail)
@@ -59,7 +59,7 @@ items-message at tail rest body is =
     items-other at 56 (tail ++ rest) refl
     ∙ ap (λ (f : Option FrameFault). item_and at (56 ∷ (tail ++ rest)) f (items_from (frame_size (56 ∷ (tail ++ rest)) - 1) (at + 1) (tail ++ rest))) (IsFrame-no_fault (56 ∷ tail) body rest is)
     ∙ ap (λ (b : List ℕ). record { start = at; body = Ok b } ∷ items_from (frame_size (56 ∷ (tail ++ rest)) - 1) (at + 1) (tail ++ rest)) (IsFrame-body_of (56 ∷ tail) body rest is)
-    ∙ ap (λ (items : List Item). record { start = at; body = Ok body } ∷ items) later
+    ∙ ap (λ (items : List MessageItem). record { start = at; body = Ok body } ∷ items) later
 
 -- a message is an item
 pub items-frame : (at : ℕ) (frame rest body : List ℕ) → IsFrame frame body
@@ -90,17 +90,17 @@ items-fault at (byte ∷ rest) more fault h fails = elim (cases_Bool (is_break b
 -- records before what is read later
 abbrev pub prepend : {R : Type 0} → List R → Result (List R) BadPlace → Result (List R) BadPlace
 prepend [] later = later
-prepend (entry ∷ entries) later = with_first entry (prepend entries later)
+prepend (entry ∷ entries) later = with_record_of_message entry (prepend entries later)
 
 pub prepend-ok : {R : Type 0} (entries more : List R) → prepend entries (Ok more) ≡ Ok (entries ++ more)
 prepend-ok [] more = refl
-prepend-ok (entry ∷ entries) more = ap (with_first entry) (prepend-ok entries more)
+prepend-ok (entry ∷ entries) more = ap (with_record_of_message entry) (prepend-ok entries more)
 
 pub prepend-bad : {R : Type 0} (entries : List R) (bad : BadPlace) → prepend entries (Err bad) ≡ Err (record { place = bad.place + length entries; offset = bad.offset; reason = bad.reason })
 prepend-bad [] bad = ap (λ (k : ℕ). Err (record { place = k; offset = bad.offset; reason = bad.reason })) (omega arith)
 prepend-bad (entry ∷ entries) bad =
     let place : bad.place + length entries + 1 ≡ bad.place + length (entry ∷ entries) = omega arith in
-    ap (with_first entry) (prepend-bad entries bad) ∙ ap (λ (k : ℕ). Err (record { place = k; offset = bad.offset; reason = bad.reason })) place
+    ap (with_record_of_message entry) (prepend-bad entries bad) ∙ ap (λ (k : ℕ). Err (record { place = k; offset = bad.offset; reason = bad.reason })) place
 
 -- a good item before others
 after-frame : {R : Type 0} (says : Result (Option R) Reason) (records : Result (List R) Reason) (entries : List R) (start : ℕ) (later reading : Result (List R) BadPlace)
@@ -108,7 +108,7 @@ after-frame : {R : Type 0} (says : Result (Option R) Reason) (records : Result (
 after-frame (Ok None) records entries start later reading good next = next entries good
 after-frame {R} (Ok (Some entry)) (Ok es) entries start later reading good next =
     let all : entry ∷ es ≡ entries = cc in
-    ap (with_first entry) (next es refl) ∙ ap (λ (l : List R). prepend l reading) all
+    ap (with_record_of_message entry) (next es refl) ∙ ap (λ (l : List R). prepend l reading) all
 after-frame (Ok (Some entry)) (Err why) entries start later reading good next = absurd (cc good)
 after-frame (Err why) records entries start later reading good next = absurd (cc good)
 

@@ -19,18 +19,18 @@ use Rattle.audit_base.proofs.StampLemmas.{stamp_again}
 use Rattle.fix_fields.specs.Grammar.{Fields, TagValue, begins_with_type, bytes_of}
 use Rattle.fix_fields.proofs.LawLemmas.{Fields-ordinary}
 use Rattle.trade_reports.specs.declared.reports.Report.{Report}
-use Rattle.fix_messages.specs.OrderTables.{cancel, new_order, order_entry, replacement}
-use Rattle.fix_messages.specs.ReportTable.{report_entry, trade_report}
-use Rattle.fix_messages.specs.Rows.{head_at, side_form}
+use Rattle.fix_messages.specs.OrderTables.{message_cancel, message_new_order, order_of_message, message_replacement}
+use Rattle.fix_messages.specs.ReportTable.{report_of_message, trade_report}
+use Rattle.fix_messages.specs.Rows.{message_head, message_side_form}
 use Rattle.audit_base.specs.Histories.{HasMarketPrice}
-use Rattle.fix_messages.specs.Written.{AreTerms, IsHead, IsOrderInForm, IsReportInForm, IsWritable, order_fields, report_fields, side_text}
+use Rattle.fix_messages.specs.Written.{AreTerms, IsHead, IsOrderInForm, IsReportInForm, IsWritable, order_fields, report_fields, message_side_text}
 use Rattle.fix_messages.proofs.WrittenLemmas.{AreWritten, length-written, written, written-ordinary}
 
-side-again : (s : Side) → side_form (side_text s) ≡ Some s
+side-again : (s : Side) → message_side_form (message_side_text s) ≡ Some s
 side-again side.Buy = refl
 side-again side.Sell = refl
 
-side-name : (s : Side) → is_name (side_text s) ≡ true
+side-name : (s : Side) → is_name (message_side_text s) ≡ true
 side-name side.Buy = refl
 side-name side.Sell = refl
 
@@ -47,8 +47,8 @@ time-again : (key : Key) (time : Moment) (symbol : List ℕ) → IsHead key time
 time-again key time symbol is = stamp_again time is.second_range is.nano_range
 
 new-again : (key : Key) (time : Moment) (symbol : List ℕ) (s : Side) (quantity price : ℕ) (l : Life) → IsHead key time symbol → AreTerms quantity price
-    → HasMarketPrice (record_of.New key time symbol s quantity price l) → order_entry (order_fields (record_of.New key time symbol s quantity price l)) ≡ Ok (Some (record_of.New key time symbol s quantity price l))
-unfolding order_entry head_at new_order
+    → HasMarketPrice (record_of.New key time symbol s quantity price l) → order_of_message (order_fields (record_of.New key time symbol s quantity price l)) ≡ Ok (Some (record_of.New key time symbol s quantity price l))
+unfolding order_of_message message_head message_new_order
 new-again key time symbol s quantity price life.Rests head terms priced =
     rw (head.firm_form, head.id_form, time-again key time symbol head, head.symbol_form, side-again s, quantity_again quantity terms.quantity_range, price_again price terms.price_range) refl
 new-again key time symbol s quantity price life.Immediate head terms priced =
@@ -57,26 +57,26 @@ new-again key time symbol s quantity price life.Market head terms priced =
     rw (head.firm_form, head.id_form, time-again key time symbol head, head.symbol_form, side-again s, quantity_again quantity terms.quantity_range, priced refl) refl
 
 cancel-again : (key : Key) (time : Moment) (symbol target : List ℕ) → IsHead key time symbol → is_name target ≡ true
-    → order_entry (order_fields (record_of.Cancel key time symbol target)) ≡ Ok (Some (record_of.Cancel key time symbol target))
-unfolding order_entry head_at cancel
+    → order_of_message (order_fields (record_of.Cancel key time symbol target)) ≡ Ok (Some (record_of.Cancel key time symbol target))
+unfolding order_of_message message_head message_cancel
 cancel-again key time symbol target head named =
     rw (head.firm_form, head.id_form, time-again key time symbol head, head.symbol_form, named) refl
 
 replace-again : (key : Key) (time : Moment) (symbol target : List ℕ) (s : Side) (quantity price : ℕ) → IsHead key time symbol → is_name target ≡ true → AreTerms quantity price
-    → order_entry (order_fields (record_of.Replace key time symbol target s quantity price)) ≡ Ok (Some (record_of.Replace key time symbol target s quantity price))
-unfolding order_entry head_at replacement
+    → order_of_message (order_fields (record_of.Replace key time symbol target s quantity price)) ≡ Ok (Some (record_of.Replace key time symbol target s quantity price))
+unfolding order_of_message message_head message_replacement
 replace-again key time symbol target s quantity price head named terms =
     rw (head.firm_form, head.id_form, time-again key time symbol head, head.symbol_form, named, side-again s, quantity_again quantity terms.quantity_range, price_again price terms.price_range) refl
 
 -- the fields of an order mean the order
-pub order-again : (entry : OrderRecord) → IsWritable entry → order_entry (order_fields entry) ≡ Ok (Some entry)
+pub order-again : (entry : OrderRecord) → IsWritable entry → order_of_message (order_fields entry) ≡ Ok (Some entry)
 order-again (record_of.New key time symbol s quantity price l) is = new-again key time symbol s quantity price l is.form.0 is.form.1 is.priced
 order-again (record_of.Cancel key time symbol target) is = cancel-again key time symbol target is.form.0 is.form.1
 order-again (record_of.Replace key time symbol target s quantity price) is = replace-again key time symbol target s quantity price is.form.0 is.form.1 is.form.2
 
 -- the fields of a report mean the report
-pub report-again : (entry : Report) → IsReportInForm entry → report_entry (report_fields entry) ≡ Ok (Some entry)
-unfolding report_entry head_at trade_report
+pub report-again : (entry : Report) → IsReportInForm entry → report_of_message (report_fields entry) ≡ Ok (Some entry)
+unfolding report_of_message message_head trade_report
 report-again entry is =
     rw (is.trade_form, is.head.firm_form, is.head.id_form, time-again entry.key entry.time entry.symbol is.head, is.head.symbol_form, side-again entry.side, quantity_again entry.quantity is.terms.quantity_range, price_again entry.price is.terms.price_range) refl
 

@@ -16,13 +16,13 @@ use Rattle.fix_fields.specs.Grammar.{TagValue, begins_with_type}
 use Rattle.fix_framing.specs.declared.frames.FrameFault.{FrameFault}
 use Rattle.fix_messages.specs.declared.heads.Head.{Head}
 use Rattle.fix_messages.specs.declared.meanings.MessageFault.{MessageFault}
-use Rattle.fix_messages.specs.declared.orders.Limits.{Limits}
-use Rattle.fix_messages.specs.declared.orders.Limits.TheVariants as limits
-use Rattle.fix_messages.specs.Rows.{◌>>=◌, head_at, is_copy, is_word, name_at, only, price_at, quantity_at, side_at, supported, type_at, type_of}
-use Rattle.fix_messages.specs.OrderTables.{cancel, entry, life_at, life_by, life_form, life_if, limit_at, limits_at, new_order, order_by, order_entry, price_by, replacement, resting_at, unconditional}
-use Rattle.fix_messages.specs.Bodies.{body_says, reasoned, says_of}
+use Rattle.fix_messages.specs.declared.orders.OrderType.{OrderType}
+use Rattle.fix_messages.specs.declared.orders.OrderType.TheVariants as limits
+use Rattle.fix_messages.specs.Rows.{◌>>=◌, message_head, is_copy, is_value_word, message_name, only_value, message_price, message_quantity, message_side, supported_value, message_type_row, type_of}
+use Rattle.fix_messages.specs.OrderTables.{message_cancel, some_order, message_life, life_by, life_form, life_if, message_limit_type, message_order_type, message_new_order, order_by_type, order_of_message, price_by, message_replacement, message_resting_life, no_quantity_condition}
+use Rattle.fix_messages.specs.Bodies.{body_says, with_reason, says_of}
 use Rattle.fix_messages.specs.BodyFields.{split_of}
-use Rattle.fix_messages.specs.Logs.{Item, after_item, item_says, items_from, read_items, read_log, with_first}
+use Rattle.fix_messages.specs.Logs.{MessageItem, after_item, item_says, items_from, read_items, read_fix_log, with_record_of_message}
 use Rattle.audit_base.specs.Histories.{HasMarketPrice}
 
 -- what holds of every value that a row may give holds behind the row
@@ -37,10 +37,10 @@ behind-known Q P (Err why) next known each = tt
 abbrev IsNoMarket : Life → Type 0
 IsNoMarket l = l ≡ life.Market → ⊥
 
-form-no_market : (tag : ℕ) (text : List ℕ) → IfOk (supported tag (life_form text)) IsNoMarket
-form-no_market tag text = elim (cases_Bool (is_word (codes "0") text || is_word (codes "1") text)) [
+form-no_market : (tag : ℕ) (text : List ℕ) → IfOk (supported_value tag (life_form text)) IsNoMarket
+form-no_market tag text = elim (cases_Bool (is_value_word (codes "0") text || is_value_word (codes "1") text)) [
   | inl rests ↦ rw rests (λ e. cc)
-  | inr other ↦ elim (cases_Bool (is_word (codes "3") text)) [
+  | inr other ↦ elim (cases_Bool (is_value_word (codes "3") text)) [
     | inl immediate ↦ rw (other, immediate) (λ e. cc)
     | inr none ↦ rw (other, none) tt
   ]
@@ -50,68 +50,68 @@ if-no_market : (tag : ℕ) (value : Option (List ℕ)) → IfOk (life_if tag val
 if-no_market tag None = λ e. cc
 if-no_market tag (Some text) = form-no_market tag text
 
-life-no_market : (tag : ℕ) (fields : List TagValue) → IfOk (life_at tag fields) IsNoMarket
-life-no_market tag fields = behind IsNoMarket (only tag fields) (life_if tag) (if-no_market tag)
+life-no_market : (tag : ℕ) (fields : List TagValue) → IfOk (message_life tag fields) IsNoMarket
+life-no_market tag fields = behind IsNoMarket (only_value tag fields) (life_if tag) (if-no_market tag)
 
-new-priced : (fields : List TagValue) → IfOk (new_order fields) HasMarketPrice
-unfolding new_order
+new-priced : (fields : List TagValue) → IfOk (message_new_order fields) HasMarketPrice
+unfolding message_new_order
 new-priced fields =
-    behind HasMarketPrice (type_at (codes "D") fields) _ (λ _. behind HasMarketPrice (head_at 49 fields) _ (λ head.
-    behind HasMarketPrice (side_at 54 fields) _ (λ side.
-    behind HasMarketPrice (quantity_at 38 fields) _ (λ quantity.
-    behind HasMarketPrice (limits_at 40 fields) _ (λ chosen.
+    behind HasMarketPrice (message_type_row (codes "D") fields) _ (λ _. behind HasMarketPrice (message_head 49 fields) _ (λ head.
+    behind HasMarketPrice (message_side 54 fields) _ (λ side.
+    behind HasMarketPrice (message_quantity 38 fields) _ (λ quantity.
+    behind HasMarketPrice (message_order_type 40 fields) _ (λ chosen.
     by-limits chosen head side quantity fields)))))
   where
-    by-limits : (chosen : Limits) (head : Head) (side : Side) (quantity : ℕ) (fields : List TagValue)
-        → IfOk (price_by chosen side 44 fields >>= (λ price. life_at 59 fields >>= (λ l. unconditional fields >>= (λ _. Ok (record_of.New head.key head.time head.symbol side quantity price (life_by chosen l)))))) HasMarketPrice
+    by-limits : (chosen : OrderType) (head : Head) (side : Side) (quantity : ℕ) (fields : List TagValue)
+        → IfOk (price_by chosen side 44 fields >>= (λ price. message_life 59 fields >>= (λ l. no_quantity_condition fields >>= (λ _. Ok (record_of.New head.key head.time head.symbol side quantity price (life_by chosen l)))))) HasMarketPrice
     by-limits limits.Limit head side quantity fields =
-        behind HasMarketPrice (price_at 44 fields) _ (λ price.
-        behind-known IsNoMarket HasMarketPrice (life_at 59 fields) _ (life-no_market 59 fields) (λ l other.
-        behind HasMarketPrice (unconditional fields) _ (λ _. (λ e. absurd (other e)))))
+        behind HasMarketPrice (message_price 44 fields) _ (λ price.
+        behind-known IsNoMarket HasMarketPrice (message_life 59 fields) _ (life-no_market 59 fields) (λ l other.
+        behind HasMarketPrice (no_quantity_condition fields) _ (λ _. (λ e. absurd (other e)))))
     by-limits limits.Market head side quantity fields =
         let IsMarket : ℕ → Type 0 = λ price. price ≡ market_price side in
-        behind-known IsMarket HasMarketPrice (price_by limits.Market side 44 fields) _ (behind IsMarket (only 44 fields) (λ _. Ok (market_price side)) (λ _. refl)) (λ price is.
-        behind HasMarketPrice (life_at 59 fields) _ (λ l.
-        behind HasMarketPrice (unconditional fields) _ (λ _. (λ e. is))))
+        behind-known IsMarket HasMarketPrice (price_by limits.Market side 44 fields) _ (behind IsMarket (only_value 44 fields) (λ _. Ok (market_price side)) (λ _. refl)) (λ price is.
+        behind HasMarketPrice (message_life 59 fields) _ (λ l.
+        behind HasMarketPrice (no_quantity_condition fields) _ (λ _. (λ e. is))))
 
-cancel-priced : (fields : List TagValue) → IfOk (cancel fields) HasMarketPrice
-unfolding cancel
-cancel-priced fields = behind HasMarketPrice (type_at (codes "F") fields) _ (λ _. behind HasMarketPrice (head_at 49 fields) _ (λ _. behind HasMarketPrice (name_at 41 fields) _ (λ _. tt)))
+cancel-priced : (fields : List TagValue) → IfOk (message_cancel fields) HasMarketPrice
+unfolding message_cancel
+cancel-priced fields = behind HasMarketPrice (message_type_row (codes "F") fields) _ (λ _. behind HasMarketPrice (message_head 49 fields) _ (λ _. behind HasMarketPrice (message_name 41 fields) _ (λ _. tt)))
 
-replace-priced : (fields : List TagValue) → IfOk (replacement fields) HasMarketPrice
-unfolding replacement
+replace-priced : (fields : List TagValue) → IfOk (message_replacement fields) HasMarketPrice
+unfolding message_replacement
 replace-priced fields =
-    behind HasMarketPrice (type_at (codes "G") fields) _ (λ _. behind HasMarketPrice (head_at 49 fields) _ (λ _.
-    behind HasMarketPrice (name_at 41 fields) _ (λ _.
-    behind HasMarketPrice (side_at 54 fields) _ (λ _.
-    behind HasMarketPrice (quantity_at 38 fields) _ (λ _.
-    behind HasMarketPrice (limit_at 40 fields) _ (λ _.
-    behind HasMarketPrice (price_at 44 fields) _ (λ _.
-    behind HasMarketPrice (resting_at 59 fields) _ (λ _.
-    behind HasMarketPrice (unconditional fields) _ (λ _. tt)))))))))
+    behind HasMarketPrice (message_type_row (codes "G") fields) _ (λ _. behind HasMarketPrice (message_head 49 fields) _ (λ _.
+    behind HasMarketPrice (message_name 41 fields) _ (λ _.
+    behind HasMarketPrice (message_side 54 fields) _ (λ _.
+    behind HasMarketPrice (message_quantity 38 fields) _ (λ _.
+    behind HasMarketPrice (message_limit_type 40 fields) _ (λ _.
+    behind HasMarketPrice (message_price 44 fields) _ (λ _.
+    behind HasMarketPrice (message_resting_life 59 fields) _ (λ _.
+    behind HasMarketPrice (no_quantity_condition fields) _ (λ _. tt)))))))))
 
 -- a record that the fields of a message mean has the price of its life
 abbrev IsPricedEntry : Option OrderRecord → Type 0
-IsPricedEntry entry = IfSome entry HasMarketPrice
+IsPricedEntry some_order = IfSome some_order HasMarketPrice
 
-entry-priced : (order : Result OrderRecord MessageFault) → IfOk order HasMarketPrice → IfOk (entry order) IsPricedEntry
+entry-priced : (order : Result OrderRecord MessageFault) → IfOk order HasMarketPrice → IfOk (some_order order) IsPricedEntry
 entry-priced (Ok order) priced = priced
 entry-priced (Err why) priced = tt
 
-kind-priced : (type : List ℕ) (fields : List TagValue) → IfOk (order_by type fields) IsPricedEntry
-kind-priced type fields = elim (cases_Bool (is_word (codes "D") type)) [
-  | inl new ↦ rw new (entry-priced (new_order fields) (new-priced fields))
-  | inr no_new ↦ elim (cases_Bool (is_word (codes "F") type)) [
-    | inl cancels ↦ rw (no_new, cancels) (entry-priced (cancel fields) (cancel-priced fields))
-    | inr no_cancel ↦ elim (cases_Bool (is_word (codes "G") type)) [
-      | inl replaces ↦ rw (no_new, no_cancel, replaces) (entry-priced (replacement fields) (replace-priced fields))
+kind-priced : (type : List ℕ) (fields : List TagValue) → IfOk (order_by_type type fields) IsPricedEntry
+kind-priced type fields = elim (cases_Bool (is_value_word (codes "D") type)) [
+  | inl new ↦ rw new (entry-priced (message_new_order fields) (new-priced fields))
+  | inr no_new ↦ elim (cases_Bool (is_value_word (codes "F") type)) [
+    | inl cancels ↦ rw (no_new, cancels) (entry-priced (message_cancel fields) (cancel-priced fields))
+    | inr no_cancel ↦ elim (cases_Bool (is_value_word (codes "G") type)) [
+      | inl replaces ↦ rw (no_new, no_cancel, replaces) (entry-priced (message_replacement fields) (replace-priced fields))
       | inr other ↦ rw (no_new, no_cancel, other) tt
     ]
   ]
 ]
 
-pub meaning-priced : (fields : List TagValue) → IfOk (order_entry fields) (λ found. IfSome found HasMarketPrice)
-unfolding order_entry
+pub meaning-priced : (fields : List TagValue) → IfOk (order_of_message fields) (λ found. IfSome found HasMarketPrice)
+unfolding order_of_message
 meaning-priced fields = elim (cases_Bool (is_copy fields)) [
   | inl copy ↦ rw copy tt
   | inr other ↦ rw other (kind-priced (type_of fields) fields)
@@ -122,7 +122,7 @@ module _ {R : Type 0} (meaning : List TagValue → Result (Option R) MessageFaul
   abbrev IsSaid : Result (Option R) Reason → Type 0
   IsSaid said = IfOk said (λ found. IfSome found sound)
 
-  reasoned-sound : (meant : Result (Option R) MessageFault) → IfOk meant (λ found. IfSome found sound) → IsSaid (reasoned meant)
+  reasoned-sound : (meant : Result (Option R) MessageFault) → IfOk meant (λ found. IfSome found sound) → IsSaid (with_reason meant)
   reasoned-sound (Ok found) is = is
   reasoned-sound (Err fault) is = tt
 
@@ -141,26 +141,26 @@ module _ {R : Type 0} (meaning : List TagValue → Result (Option R) MessageFaul
   item-sound (Ok body) = body-sound body
   item-sound (Err fault) = tt
 
-  first-sound : (entry : R) (later : Result (List R) BadPlace) → sound entry → IfOk later (All sound) → IfOk (with_first entry later) (All sound)
-  first-sound entry (Ok entries) is are = All-cons sound entry entries is are
-  first-sound entry (Err bad) is are = tt
+  first-sound : (some_order : R) (later : Result (List R) BadPlace) → sound some_order → IfOk later (All sound) → IfOk (with_record_of_message some_order later) (All sound)
+  first-sound some_order (Ok entries) is are = All-cons sound some_order entries is are
+  first-sound some_order (Err bad) is are = tt
 
   after-sound : (start : ℕ) (said : Result (Option R) Reason) (later : Result (List R) BadPlace) → IsSaid said → IfOk later (All sound) → IfOk (after_item start said later) (All sound)
   after-sound start (Ok None) later is are = are
-  after-sound start (Ok (Some entry)) later is are = first-sound entry later is are
+  after-sound start (Ok (Some some_order)) later is are = first-sound some_order later is are
   after-sound start (Err why) later is are = tt
 
-  items-sound : (items : List Item) → IfOk (read_items (body_says meaning) items) (All sound)
+  items-sound : (items : List MessageItem) → IfOk (read_items (body_says meaning) items) (All sound)
   items-sound [] = All-nil sound
   items-sound (item ∷ items) =
       after-sound item.start (item_says (body_says meaning) item.body) (read_items (body_says meaning) items) (item-sound item.body) (items-sound items)
 
-  pub log_sound : (log : List ℕ) → IfOk (read_log meaning log) (All sound)
-  unfolding read_log
+  pub log_sound : (log : List ℕ) → IfOk (read_fix_log meaning log) (All sound)
+  unfolding read_fix_log
   log_sound log = items-sound (items_from 0 0 log)
 
 -- nothing is asked of a report
 pub any-sound : {R : Type 0} (meant : Result (Option R) MessageFault) → IfOk meant (λ found. IfSome found (λ _. ⊤))
 any-sound (Ok None) = tt
-any-sound (Ok (Some entry)) = tt
+any-sound (Ok (Some some_order)) = tt
 any-sound (Err fault) = tt

@@ -14,7 +14,7 @@ use Rattle.fix_framing.proofs.TestLemmas.{NoFault-from_none}
 use Rattle.fix_framing.proofs.MessageLemmas.{NoFault-IsFrame}
 use Rattle.fix_messages.specs.declared.meanings.MessageFault.{MessageFault}
 use Rattle.fix_messages.specs.Bodies.{body_says}
-use Rattle.fix_messages.specs.Logs.{AreMessages, HasBadBody, HasRecords, IsBad, IsGood, IsOnlyReading, LacksFrame, after_item, begins_otherwise, frame_reason, items_from, read_items, read_log, with_first}
+use Rattle.fix_messages.specs.Logs.{AreMessages, HasBadBody, HasRecords, IsBadFixLog, IsGoodFixLog, IsOnlyFixReading, LacksFrame, after_item, begins_past_breaks, frame_reason, items_from, read_items, read_fix_log, with_record_of_message}
 use Rattle.fix_messages.proofs.SayLemmas.{bodies-say, of-says, says-of}
 use Rattle.fix_messages.proofs.LogLemmas.{frame-first, items-breaks, items-fault, items-frame, prepend, prepend-bad, prepend-ok}
 
@@ -25,7 +25,7 @@ item-before (Ok None) None entries start later e = refl
 item-before (Ok None) (Some entry) entries start later e = absurd (cc e)
 item-before (Ok (Some other)) None entries start later e = absurd (cc e)
 item-before {R} (Ok (Some other)) (Some entry) entries start later e =
-    let same : other ≡ entry = cc in ap (λ (x : R). with_first x (prepend entries later)) same
+    let same : other ≡ entry = cc in ap (λ (x : R). with_record_of_message x (prepend entries later)) same
 item-before (Err why) new entries start later e = absurd (cc e)
 
 -- every text is CR and LF bytes, and then nothing or a byte that is neither
@@ -38,7 +38,7 @@ break-split (byte ∷ rest) =
       | inr other ↦ ([], rw other refl, refl)
     ]
 
-breaks-left : (text : List ℕ) → (after_breaks text ≡ []) ⊎ (begins_otherwise (after_breaks text) ≡ true)
+breaks-left : (text : List ℕ) → (after_breaks text ≡ []) ⊎ (begins_past_breaks (after_breaks text) ≡ true)
 breaks-left [] = inl refl
 breaks-left (byte ∷ rest) = elim (cases_Bool (is_break byte)) [
   | inl same ↦ rw same (breaks-left rest)
@@ -46,7 +46,7 @@ breaks-left (byte ∷ rest) = elim (cases_Bool (is_break byte)) [
 ]
 
 -- such a byte is no CR and no LF
-other-first : (text : List ℕ) → begins_otherwise text ≡ true → (after_breaks text ≡ text) × (list_all is_break text ≡ false)
+other-first : (text : List ℕ) → begins_past_breaks text ≡ true → (after_breaks text ≡ text) × (list_all is_break text ≡ false)
 other-first [] h = absurd (cc h)
 other-first (byte ∷ rest) h = elim (cases_Bool (is_break byte)) [
   | inl same ↦ absurd (cc (h, ap not same))
@@ -88,8 +88,8 @@ module _ {R : Type 0} (meaning : List TagValue → Result (Option R) MessageFaul
       ∙ ap (after_item start (body_says meaning body)) later
       ∙ item-before (body_says meaning body) new (flat_map option_to_list meanings) start reading this
 
-  pub good-read : (log : List ℕ) (entries : List R) → IsGood meaning log entries → read_log meaning log ≡ Ok entries
-  unfolding read_log
+  pub good-read : (log : List ℕ) (entries : List R) → IsGoodFixLog meaning log entries → read_fix_log meaning log ≡ Ok entries
+  unfolding read_fix_log
   good-read log entries is =
       ap (λ (t : List ℕ). read_items (body_says meaning) (items_from 0 0 t)) (sym (append-nil log))
       ∙ messages-read 0 log [] is.bodies is.meanings is.messages (bodies-say meaning is.bodies is.meanings is.good) ∙ prepend-ok (flat_map option_to_list is.meanings) []
@@ -112,8 +112,8 @@ module _ {R : Type 0} (meaning : List TagValue → Result (Option R) MessageFaul
       ∙ ap (read_items (body_says meaning)) (items-frame at bad.frame bad.rest bad.body bad.message)
       ∙ ap (λ (s : Result (Option R) Reason). after_item at s (read_items (body_says meaning) (items_from 0 (at + length bad.frame) bad.rest))) (says-of meaning bad.body (Err why) bad.fails)
 
-  bad-read : (log : List ℕ) (bad : BadPlace) → IsBad meaning log bad → read_log meaning log ≡ Err bad
-  unfolding read_log
+  bad-read : (log : List ℕ) (bad : BadPlace) → IsBadFixLog meaning log bad → read_fix_log meaning log ≡ Err bad
+  unfolding read_fix_log
   bad-read log bad is =
       let good = is.good in
       let count : 1 + length (flat_map option_to_list good.meanings) ≡ length is.entries + 1 = omega (arith, ap length good.records) in
@@ -127,7 +127,7 @@ module _ {R : Type 0} (meaning : List TagValue → Result (Option R) MessageFaul
 
   -- a log is read to its end or to a bad place
   abbrev Outcome : List ℕ → Type 0
-  Outcome log = ((entries : List R) × IsGood meaning log entries) ⊎ ((bad : BadPlace) × IsBad meaning log bad)
+  Outcome log = ((entries : List R) × IsGoodFixLog meaning log entries) ⊎ ((bad : BadPlace) × IsBadFixLog meaning log bad)
 
   -- one message more before what is read
   good-more : (log gap frame body rest : List ℕ) (new : Option R) (entries : List R) → log ≡ gap ++ (frame ++ rest) → list_all is_break gap ≡ true → IsFrame frame body
@@ -171,7 +171,7 @@ module _ {R : Type 0} (meaning : List TagValue → Result (Option R) MessageFaul
       inr (record { place = length none + 1; offset = length gap; reason = why }, record { front = gap; left = left; cut = cut; entries = []; good = breaks-good gap breaks; why = why; fails = fails; place = refl })
 
   -- a text that begins with a message, and what is read behind it
-  outcome-message : (log gap left : List ℕ) → log ≡ gap ++ left → list_all is_break gap ≡ true → begins_otherwise left ≡ true → frame_fault left ≡ None
+  outcome-message : (log gap left : List ℕ) → log ≡ gap ++ left → list_all is_break gap ≡ true → begins_past_breaks left ≡ true → frame_fault left ≡ None
       → ((rest : List ℕ) → length rest + 1 ≤ length left → Outcome rest) → Outcome log
   outcome-message log gap left cut breaks begins none later =
       let frame = take (frame_size left) left in
@@ -187,7 +187,7 @@ module _ {R : Type 0} (meaning : List TagValue → Result (Option R) MessageFaul
         | inr bad ↦ outcome-bad log gap left bad.0 cut breaks (inr (record { frame = frame; body = body_of left; rest = rest; cut = split; message = message; fails = of-says meaning (body_of left) (Err bad.0) bad.1 }))
       ]
 
-  outcome-left : (log gap left : List ℕ) → log ≡ gap ++ left → list_all is_break gap ≡ true → begins_otherwise left ≡ true
+  outcome-left : (log gap left : List ℕ) → log ≡ gap ++ left → list_all is_break gap ≡ true → begins_past_breaks left ≡ true
       → ((rest : List ℕ) → length rest + 1 ≤ length left → Outcome rest) → Outcome log
   outcome-left log gap left cut breaks begins later = elim (cases-option (frame_fault left)) [
     | inl none ↦ outcome-message log gap left cut breaks begins none later
@@ -210,18 +210,18 @@ module _ {R : Type 0} (meaning : List TagValue → Result (Option R) MessageFaul
   outcome zero log h = outcome-step log (λ rest less. absurd (omega (arith, h, less)))
   outcome (suc most) log h = outcome-step log (λ rest less. outcome most rest (omega (arith, h, less)))
 
-  pub only_reading : (log : List ℕ) → IsOnlyReading meaning log (read_log meaning log)
+  pub only_reading : (log : List ℕ) → IsOnlyFixReading meaning log (read_fix_log meaning log)
   only_reading log = record {
     good = λ entries. (good-read log entries, λ is. from-good entries is (outcome (length log) log (omega arith)));
     bad = λ bad. (bad-read log bad, λ is. from-bad bad is (outcome (length log) log (omega arith)));
   }
     where
-      from-good : (entries : List R) → read_log meaning log ≡ Ok entries → Outcome log → IsGood meaning log entries
+      from-good : (entries : List R) → read_fix_log meaning log ≡ Ok entries → Outcome log → IsGoodFixLog meaning log entries
       from-good entries is (inl good) =
-          let same : good.0 ≡ entries = let read = good-read log good.0 good.1 in cc in subst (IsGood meaning log) same good.1
+          let same : good.0 ≡ entries = let read = good-read log good.0 good.1 in cc in subst (IsGoodFixLog meaning log) same good.1
       from-good entries is (inr bad) = absurd (let read = bad-read log bad.0 bad.1 in cc)
 
-      from-bad : (bad : BadPlace) → read_log meaning log ≡ Err bad → Outcome log → IsBad meaning log bad
+      from-bad : (bad : BadPlace) → read_fix_log meaning log ≡ Err bad → Outcome log → IsBadFixLog meaning log bad
       from-bad bad is (inl good) = absurd (let read = good-read log good.0 good.1 in cc)
       from-bad bad is (inr other) =
-          let same : other.0 ≡ bad = let read = bad-read log other.0 other.1 in cc in subst (IsBad meaning log) same other.1
+          let same : other.0 ≡ bad = let read = bad-read log other.0 other.1 in cc in subst (IsBadFixLog meaning log) same other.1

@@ -10,7 +10,7 @@ use Rattle.fix_fields.specs.Grammar.{TagValue}
 use Rattle.log_source.specs.Collectors.{HasNineBytesEach}
 use Rattle.fix_messages.specs.declared.meanings.MessageFault.{MessageFault}
 use Rattle.fix_messages.specs.Bodies.{body_says}
-use Rattle.fix_messages.specs.Logs.{AreMessages, IsGood, read_log}
+use Rattle.fix_messages.specs.Logs.{AreMessages, IsGoodFixLog, read_fix_log}
 use Rattle.fix_messages.proofs.LogLemmas.{frame-size}
 use Rattle.fix_messages.proofs.ReadingLemmas.{only_reading}
 use Rattle.fix_messages.proofs.SayLemmas.{bodies-say}
@@ -33,12 +33,12 @@ all-ok (Ok entries) holds all = all entries refl
 all-ok (Err bad) holds all = tt
 
 module _ {R : Type 0} (meaning : List TagValue → Result (Option R) MessageFault) where
-  good-size : (log : List ℕ) (entries : List R) → IsGood meaning log entries → 9 * length entries ≤ length log
+  good-size : (log : List ℕ) (entries : List R) → IsGoodFixLog meaning log entries → 9 * length entries ≤ length log
   good-size log entries good =
       let said = ap length (bodies-say meaning good.bodies good.meanings good.good) in
       let bodies = length-map good.bodies (body_says meaning) in
       let meanings = length-map {B = Result (Option R) Reason} good.meanings Ok in
       omega (arith, said, bodies, meanings, ap length good.records, records-few good.meanings, messages-size log good.bodies good.messages)
 
-  pub log_nine : (log : List ℕ) → IfOk (read_log meaning log) (λ entries. HasNineBytesEach entries log)
-  log_nine log = all-ok (read_log meaning log) (λ entries. HasNineBytesEach entries log) (λ entries is. good-size log entries (((only_reading meaning log).good entries).1 is))
+  pub log_nine : (log : List ℕ) → IfOk (read_fix_log meaning log) (λ entries. HasNineBytesEach entries log)
+  log_nine log = all-ok (read_fix_log meaning log) (λ entries. HasNineBytesEach entries log) (λ entries is. good-size log entries (((only_reading meaning log).good entries).1 is))

@@ -13,7 +13,7 @@ use Rattle.audit_base.specs.Names.{is_name, is_name_byte}
 use Rattle.fix_fields.specs.Grammar.{IsDelimited, IsTag, TagValue, bytes_of, field_bytes}
 use Rattle.fix_fields.specs.Ordinary.{AreOrdinary, is_counted}
 use Rattle.fix_fields.proofs.ReadingLemmas.{length-field_bytes}
-use Rattle.fix_messages.specs.Steps.{are_short, is_short, written as as_field}
+use Rattle.fix_messages.specs.Steps.{are_short_fields, is_short_field, field_written as as_field}
 use Rattle.fix_messages.specs.Written.{field}
 
 not-soh : (byte : ℕ) → is_name_byte byte ≡ true → byte ≢ 1
@@ -47,19 +47,19 @@ name_delimited value is =
     let s = short-name value is in record { nonempty = omega (arith, s.some); no_end = no-soh value s.unquoted }
 
 -- a field whose value is in the form of a name, and that the field before it does not count
-pub record IsWritten (before : Option TagValue) (written : TagValue) : Type 0 where
-  pub tag_low : 0 < written.tag
-  pub tag_high : written.tag < 1000
-  pub value_form : is_name written.value ≡ true
-  pub uncounted : is_counted before written.tag ≡ false
+pub record IsWritten (before : Option TagValue) (field_written : TagValue) : Type 0 where
+  pub tag_low : 0 < field_written.tag
+  pub tag_high : field_written.tag < 1000
+  pub value_form : is_name field_written.value ≡ true
+  pub uncounted : is_counted before field_written.tag ≡ false
 
 abbrev pub AreWritten : Option TagValue → List TagValue → Type 0
 AreWritten before [] = Unit {0}
-AreWritten before (written ∷ fields) = IsWritten before written × AreWritten (Some written) fields
+AreWritten before (field_written ∷ fields) = IsWritten before field_written × AreWritten (Some field_written) fields
 
-pub written : (before : Option TagValue) (tag : ℕ) (value : List ℕ) → (nat_lt 0 tag && nat_lt tag 1000) ≡ true → is_name value ≡ true → is_counted before tag ≡ false
+pub field_written : (before : Option TagValue) (tag : ℕ) (value : List ℕ) → (nat_lt 0 tag && nat_lt tag 1000) ≡ true → is_name value ≡ true → is_counted before tag ≡ false
     → IsWritten before (field tag value)
-written before tag value small form uncounted =
+field_written before tag value small form uncounted =
     let p = and_parts (nat_lt 0 tag) (nat_lt tag 1000) small in
     record { tag_low = (grind (arith, nat_tests, p.0)); tag_high = (grind (arith, nat_tests, p.1)); value_form = form; uncounted = uncounted }
 
@@ -83,12 +83,12 @@ length-written before (f ∷ fields) are =
     omega (arith, s.most, tag, one, both, rest)
 
 -- One of the fields that are written.
-short-at : (fields : List (ℕ × Bor (List ℕ))) (i : ℕ) (d : ℕ × Bor (List ℕ)) → are_short (map as_field fields) ≡ true → i < length fields → is_short (as_field (get_or fields i d)) ≡ true
+short-at : (fields : List (ℕ × Bor (List ℕ))) (i : ℕ) (d : ℕ × Bor (List ℕ)) → are_short_fields (map as_field fields) ≡ true → i < length fields → is_short_field (as_field (get_or fields i d)) ≡ true
 short-at [] i d are below = absurd (omega (arith, below))
-short-at (row ∷ rows) zero d are below = (and_parts (is_short (as_field row)) (are_short (map as_field rows)) are).0
-short-at (row ∷ rows) (suc i) d are below = short-at rows i d (and_parts (is_short (as_field row)) (are_short (map as_field rows)) are).1 (omega (arith, below))
+short-at (row ∷ rows) zero d are below = (and_parts (is_short_field (as_field row)) (are_short_fields (map as_field rows)) are).0
+short-at (row ∷ rows) (suc i) d are below = short-at rows i d (and_parts (is_short_field (as_field row)) (are_short_fields (map as_field rows)) are).1 (omega (arith, below))
 
-pub short-parts : (fields : List (ℕ × Bor (List ℕ))) (i : ℕ) (d : ℕ × Bor (List ℕ)) → are_short (map as_field fields) ≡ true → i < length fields
+pub short-parts : (fields : List (ℕ × Bor (List ℕ))) (i : ℕ) (d : ℕ × Bor (List ℕ)) → are_short_fields (map as_field fields) ≡ true → i < length fields
     → IsTag (get_or fields i d).0 × IsDelimited (get_or fields i d).1.now
 short-parts fields i d are below =
     let row : ℕ × Bor (List ℕ) = get_or fields i d in

@@ -7,9 +7,10 @@ use Rattle.fix_messages.specs.declared.meanings.MessageFault.{MessageFault}
 use Rattle.fix_messages.specs.declared.meanings.MessageFault.TheVariants.{Missing, Repeated, Value, Unsupported}
 use Rattle.fix_messages.specs.BodyFields.{split_of}
 
--- what the fields of a message mean in a kind of log: a record, or nothing, or the first test that they fail
-abbrev pub Meaning : Type 0 → Type 0
-Meaning R = List TagValue → Result (Option R) MessageFault
+-- what the fields of a message mean in a kind of log: a record, or
+-- nothing, or the first test that they fail
+abbrev pub MessageMeaning : Type 0 → Type 0
+MessageMeaning R = List TagValue → Result (Option R) MessageFault
 
 -- a message's fault as the reason of a bad place
 abbrev pub fault_reason : MessageFault → Reason
@@ -18,33 +19,36 @@ fault_reason (Repeated tag) = reason.Repeated tag
 fault_reason (Value tag) = reason.Value tag
 fault_reason (Unsupported tag) = reason.Unsupported tag
 
-abbrev pub reasoned : {R : Type 0} → Result (Option R) MessageFault → Result (Option R) Reason
-reasoned (Ok entry) = Ok entry
-reasoned (Err fault) = Err (fault_reason fault)
+abbrev pub with_reason : {R : Type 0} → Result (Option R) MessageFault → Result (Option R) Reason
+with_reason (Ok entry) = Ok entry
+with_reason (Err fault) = Err (fault_reason fault)
 
 -- the body has fields, and this is what they mean
-pub record SaysFields {R : Type 0} (meaning : Meaning R) (body : List ℕ) (said : Result (Option R) Reason)
-    : Type 0 where
+pub record SaysFields {R : Type 0} (meaning : MessageMeaning R) (body : List ℕ)
+    (said : Result (Option R) Reason) : Type 0 where
   pub fields : List TagValue
   pub read : Fields body fields
-  pub means : said ≡ reasoned (meaning fields)
+  pub means : said ≡ with_reason (meaning fields)
 
 -- a field of the body can't be read, and the first such begins at this byte
-pub record SaysUnreadable {R : Type 0} (body : List ℕ) (said : Result (Option R) Reason) : Type 0 where
+pub record SaysUnreadable {R : Type 0} (body : List ℕ) (said : Result (Option R) Reason)
+    : Type 0 where
   pub at : ℕ
   pub unreadable : IsUnreadable body at
   pub means : said ≡ Err (reason.Field at)
 
 -- the body has no message type
-pub record SaysUntyped {R : Type 0} (body : List ℕ) (said : Result (Option R) Reason) : Type 0 where
+pub record SaysUntyped {R : Type 0} (body : List ℕ) (said : Result (Option R) Reason)
+    : Type 0 where
   pub untyped : LacksType body
   pub means : said ≡ Err reason.MsgType
 
-abbrev pub BodySays : {R : Type 0} → Meaning R → List ℕ → Result (Option R) Reason → Type 0
-BodySays meaning body said = SaysFields meaning body said ⊎ (SaysUnreadable body said ⊎ SaysUntyped body said)
+abbrev pub BodySays : {R : Type 0} → MessageMeaning R → List ℕ → Result (Option R) Reason → Type 0
+BodySays meaning body said =
+    SaysFields meaning body said ⊎ (SaysUnreadable body said ⊎ SaysUntyped body said)
 
 -- the bodies say these records in turn, each its own one or nothing, and there are no more
-abbrev pub BodiesSay : {R : Type 0} → Meaning R → List (List ℕ) → List (Option R) → Type 0
+abbrev pub BodiesSay : {R : Type 0} → MessageMeaning R → List (List ℕ) → List (Option R) → Type 0
 BodiesSay meaning [] [] = ⊤
 BodiesSay meaning [] (said ∷ others) = ⊥
 BodiesSay meaning (body ∷ bodies) [] = ⊥
@@ -52,10 +56,13 @@ BodiesSay meaning (body ∷ bodies) (said ∷ others) =
     BodySays meaning body (Ok said) × BodiesSay meaning bodies others
 
 -- what fields say behind which these bytes are left
-abbrev pub says_of : {R : Type 0} → Meaning R → List TagValue → List ℕ → Result (Option R) Reason
-says_of meaning fields [] = if begins_with_type fields then reasoned (meaning fields) else Err reason.MsgType
+abbrev pub says_of : {R : Type 0} → MessageMeaning R → List TagValue → List ℕ
+    → Result (Option R) Reason
+says_of meaning fields [] =
+    if begins_with_type fields then with_reason (meaning fields) else Err reason.MsgType
 says_of meaning fields (byte ∷ left) = Err (reason.Field (length (bytes_of fields)))
 
--- what a body says, found from its front: `BodySays` holds of it and of nothing else (`BodySaysOnce`)
-unfoldable pub body_says : {R : Type 0} → Meaning R → List ℕ → Result (Option R) Reason
+-- what a body says, found from its front: `BodySays` holds of it
+-- and of nothing else (`BodySaysOnce`)
+unfoldable pub body_says : {R : Type 0} → MessageMeaning R → List ℕ → Result (Option R) Reason
 body_says meaning body = says_of meaning (split_of body).fields (split_of body).left

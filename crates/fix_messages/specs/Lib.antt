@@ -16,5 +16,5 @@ pub mod Pairings
 pub mod Written
 -- Part 2. What the private functions pass on to one another.
 pub mod Steps
--- orders whose names stand in a message
+-- orders whose names are in a message
 pub mod OrderTexts

@@ -1,4 +1,4 @@
--- Orders whose names stand in a message.
+-- Orders whose names are in a message.
 use Rattle.audit_base.specs.declared.records.OrderRecord.{OrderRecord}
 use Rattle.audit_base.specs.declared.records.OrderRecord.TheVariants as record_of
 use Rattle.fix_messages.specs.declared.heads.Head.{Head}

@@ -9,75 +9,79 @@ use Rattle.audit_base.specs.declared.faults.BadPlace.{BadPlace}
 use Rattle.audit_base.specs.declared.records.OrderRecord.{OrderRecord}
 use Rattle.audit_base.specs.declared.records.OrderRecord.TheVariants as record_of
 use Rattle.audit_base.specs.declared.terms.Life.{Life}
-use Rattle.log_source.specs.Handing.{Adds}
+use Rattle.log_source.specs.Handing.{HandsOnMore}
 use Rattle.log_source.specs.Sources.{longest_read}
 use Rattle.fix_fields.specs.Grammar.{TagValue}
 use Rattle.fix_framing.specs.Frames.{frame_fault}
-use Rattle.fix_framing.specs.Framing.{next_text, unframed}
+use Rattle.fix_framing.specs.Framing.{next_text, bytes_unframed}
 use Rattle.fix_framing.specs.declared.frames.FrameFault.TheVariants.{Truncated}
 use Rattle.fix_messages.specs.declared.meanings.MessageFault.{MessageFault}
 use Rattle.fix_messages.specs.declared.feeds.FixFeed.{FixFeed}
 use Rattle.fix_messages.specs.declared.heads.Head.{Head}
 use Rattle.fix_messages.specs.declared.writers.Terms.{Terms}
-use Rattle.fix_messages.specs.Bodies.{Meaning}
-use Rattle.fix_messages.specs.Feeds.{HasRead, StandsAt}
+use Rattle.fix_messages.specs.Bodies.{MessageMeaning}
+use Rattle.fix_messages.specs.Feeds.{HasReadMessages, AreFixFeedFields}
 
--- A body that says this was taken: a record that it means was handed on, and the first test that it fails is the
--- answer.
-abbrev pub TakesSaid : {R : Type 0} → Result (Option R) Reason → (List R → Type 0) → (List R → Type 0)
-    → Result (Unit {0}) Reason → Type 0
-TakesSaid (Ok new) before after answer = Adds before after (option_to_list new) × (answer ≡ Ok tt)
-TakesSaid (Err why) before after answer = Adds before after [] × (answer ≡ Err why)
+-- A body that says this was taken: a record that it means was handed on, and the first test that
+-- it fails is the answer.
+abbrev pub TakesSaid : {R : Type 0} → Result (Option R) Reason → (List R → Type 0)
+    → (List R → Type 0) → Result (Unit {0}) Reason → Type 0
+TakesSaid (Ok new) before after answer =
+    HandsOnMore before after (option_to_list new) × (answer ≡ Ok tt)
+TakesSaid (Err why) before after answer = HandsOnMore before after [] × (answer ≡ Err why)
 
 -- The framer of a feed stands for some log that is no longer than a log that is read may be.
-pub record HasLog {K R : Type 0} (has_taken : K → List R → Type 0) (meaning : Meaning R) (feed : FixFeed K)
-    : Type 0 where
+pub record HasLog {K R : Type 0} (has_taken : K → List R → Type 0) (meaning : MessageMeaning R)
+    (feed : FixFeed K) : Type 0 where
   pub log : List ℕ
-  pub reads : HasRead (has_taken feed.entries) meaning feed.framer log
+  pub reads : HasReadMessages (has_taken feed.entries) meaning feed.framer log
   pub within : length log ≤ longest_read
 
--- A good message was taken: what was read of a log stays read, with the message, and fewer bytes are left.
-pub record Goes {K R : Type 0} (has_taken : K → List R → Type 0) (meaning : Meaning R) (old new : FixFeed K)
-    : Type 0 where
+-- A good message was taken: what was read of a log stays read, with the
+-- message, and fewer bytes are left.
+pub record TakesMessage {K R : Type 0} (has_taken : K → List R → Type 0)
+    (meaning : MessageMeaning R) (old new : FixFeed K) : Type 0 where
   pub good : new.bad ≡ None
-  pub reads : (log : List ℕ) → HasRead (has_taken old.entries) meaning old.framer log
-      → HasRead (has_taken new.entries) meaning new.framer log
-  pub shorter : length (unframed new.framer) < length (unframed old.framer)
+  pub reads : (log : List ℕ) → HasReadMessages (has_taken old.entries) meaning old.framer log
+      → HasReadMessages (has_taken new.entries) meaning new.framer log
+  pub shorter : length (bytes_unframed new.framer) < length (bytes_unframed old.framer)
 
--- No message was left to take, or a bad one came: the feed stands for each log that was read so far. Where none is
--- bad, what is left is no whole message.
-pub record Ends {K R : Type 0} (has_taken : K → List R → Type 0) (meaning : Meaning R) (old new : FixFeed K)
-    : Type 0 where
-  pub stands : (log : List ℕ) → HasRead (has_taken old.entries) meaning old.framer log
-      → StandsAt (has_taken new.entries) meaning new.framer new.bad log
+-- No message was left to take, or a bad one came: the feed stands for each log that was read so
+-- far. Where none is bad, what is left is no whole message.
+pub record TakesNoMessage {K R : Type 0} (has_taken : K → List R → Type 0)
+    (meaning : MessageMeaning R) (old new : FixFeed K) : Type 0 where
+  pub stands : (log : List ℕ) → HasReadMessages (has_taken old.entries) meaning old.framer log
+      → AreFixFeedFields (has_taken new.entries) meaning new.framer new.bad log
   pub cut : new.bad ≡ None → frame_fault (next_text new.framer) ≡ Some Truncated
 
 -- the place of a bad message behind the records that were handed on
-abbrev pub IsPlace : {R : Type 0} → (List R → Type 0) → ℕ → Reason → BadPlace → Type 0
-IsPlace has_taken start why bad =
-    (entries : List _) → has_taken entries → bad ≡ record { place = length entries + 1; offset = start; reason = why }
+abbrev pub IsBadMessagePlace : {R : Type 0} → (List R → Type 0) → ℕ → Reason → BadPlace → Type 0
+IsBadMessagePlace has_taken start why bad =
+    (entries : List _) → has_taken entries
+    → bad ≡ record { place = length entries + 1; offset = start; reason = why }
 
 -- the records of an order's parts
-abbrev pub new_order : Head → Terms → Life → OrderRecord
-new_order head terms life = record_of.New head.key head.time head.symbol terms.side terms.quantity terms.price life
+abbrev pub fix_new_order : Head → Terms → Life → OrderRecord
+fix_new_order head terms life =
+    record_of.New head.key head.time head.symbol terms.side terms.quantity terms.price life
 
-abbrev pub cancel_order : Head → List ℕ → OrderRecord
-cancel_order head target = record_of.Cancel head.key head.time head.symbol target
+abbrev pub fix_cancel_order : Head → List ℕ → OrderRecord
+fix_cancel_order head target = record_of.Cancel head.key head.time head.symbol target
 
-abbrev pub replace_order : Head → Terms → List ℕ → OrderRecord
-replace_order head terms target =
+abbrev pub fix_replace_order : Head → Terms → List ℕ → OrderRecord
+fix_replace_order head terms target =
     record_of.Replace head.key head.time head.symbol target terms.side terms.quantity terms.price
 
 -- a field that is written, as the writers hold it
-abbrev pub written : ℕ × Bor (List ℕ) → TagValue
-written row = record { tag = row.0; value = row.1.now }
+abbrev pub field_written : ℕ × Bor (List ℕ) → TagValue
+field_written row = record { tag = row.0; value = row.1.now }
 
 -- the tag has 1 to 3 digits, and the value is in the form of a name
-abbrev pub is_short : TagValue → Bool
-is_short field = nat_lt 0 field.tag && nat_lt field.tag 1000 && is_name field.value
+abbrev pub is_short_field : TagValue → Bool
+is_short_field field = nat_lt 0 field.tag && nat_lt field.tag 1000 && is_name field.value
 
-abbrev pub are_short : List TagValue → Bool
-are_short fields = list_all is_short fields
+abbrev pub are_short_fields : List TagValue → Bool
+are_short_fields fields = list_all is_short_field fields
 
 -- a text that was found, as its bytes
 abbrev pub as_bytes : Result (Bor (List ℕ)) MessageFault → Result (List ℕ) MessageFault
@@ -85,7 +89,8 @@ as_bytes (Ok text) = Ok text.now
 as_bytes (Err why) = Err why
 
 -- the same, where there may be none
-abbrev pub as_some_bytes : Result (Option (Bor (List ℕ))) MessageFault → Result (Option (List ℕ)) MessageFault
+abbrev pub as_some_bytes : Result (Option (Bor (List ℕ))) MessageFault
+    → Result (Option (List ℕ)) MessageFault
 as_some_bytes (Ok None) = Ok None
 as_some_bytes (Ok (Some text)) = Ok (Some text.now)
 as_some_bytes (Err why) = Err why

@@ -1,15 +1,16 @@
-//! What a kind of log has of its own, what the fields of a message mean, and what a body says by that.
+//! What a kind of log has of its own, what the fields of a message
+//! mean, and what a body says by that.
 ghost use Rattle.std.specs.Prelude.{◌≡◌, ◌≤◌, ◌-◌, ◌∷◌, [], IfOk, IfSome, List, OnOk, Option, Result, length};
 ghost use Rattle.std.specs.List.{slice_range};
 ghost use Rattle.audit_base.specs.Sizes.{longest_body};
 ghost use Rattle.fix_fields.specs.Grammar.{TagValue};
 ghost use Rattle.fix_fields.specs.TagNotes.{HasNotes};
 ghost use Rattle.fix_messages.specs.declared.meanings.MessageFault.{MessageFault};
-ghost use Rattle.fix_messages.specs.Bodies.{body_says, fault_reason, reasoned};
+ghost use Rattle.fix_messages.specs.Bodies.{body_says, fault_reason, with_reason};
 ghost use Rattle.fix_messages.specs.BodyFields.{fields_of};
 ghost use Rattle.fix_messages.specs.Steps.{TakesSaid};
 ghost use Rattle.log_source.specs.Collectors.{HasPlace};
-ghost use Rattle.log_source.specs.Handing.{Adds};
+ghost use Rattle.log_source.specs.Handing.{HandsOnMore};
 
 use crate::meanings::{MessageFault, Report};
 use crate::message::Message;
@@ -17,7 +18,7 @@ use crate::order_texts::OrderText;
 use crate::orders::order_text;
 use crate::reports::{ReportText, report_text};
 use audit_base::faults::{NoMemory, Reason};
-use audit_base::records::{OrderRecord, Traded};
+use audit_base::records::{LogRecord, OrderRecord};
 use audit_base::stamp_reader::StampReader;
 use fix_fields::field::FieldFault;
 use fix_fields::notes::TagNotes;
@@ -25,16 +26,16 @@ use fix_fields::split::note_front_fields;
 use log_source::collector::Collector;
 
 /// A record of a FIX log: an order, or a report of a trade.
-pub trait FixEntry: Traded {
+pub trait FixRecord: LogRecord {
     // What the fields of a message mean: a record, or nothing.
     ghost meaning: { List TagValue → Result (Option Self) MessageFault };
 
     // What holds of every record that fields mean.
     ghost sound: { Self → Type 0 };
 
-    /// Hands the record that the fields of a body mean to a collector, if they mean one, and gives the
-    /// first test that they fail. Where their values stand has been noted, and this reader reads their point
-    /// in time.
+    /// Hands the record that the fields of a body mean to a collector, if they mean one, and
+    /// gives the first test that they fail. The places of their values have been noted, and this
+    /// reader reads their point in time.
     fn take_fields<K: Collector<Entry = Self>>(
         entries: &mut K,
         body: &[u8],
@@ -43,7 +44,7 @@ pub trait FixEntry: Traded {
     ) -> Result<Result<(), Reason>, NoMemory>
         requires notes { HasNotes body.now notes.now }
         requires place { HasPlace K.has_taken entries.old }
-        ensures { IfOk result (TakesSaid (reasoned (meaning (fields_of body.now)))
+        ensures { IfOk result (TakesSaid (with_reason (meaning (fields_of body.now)))
             (K.has_taken entries.old) (K.has_taken entries.new)) };
 
     /// Every record that fields mean is sound. This call does nothing: it only has its contract.
@@ -51,11 +52,11 @@ pub trait FixEntry: Traded {
         ensures { (fields : List TagValue) → IfOk (meaning fields) (λ found. IfSome found sound) };
 }
 
-impl FixEntry for OrderRecord {
-    ghost use Rattle.fix_messages.specs.OrderTables.{order_entry};
+impl FixRecord for OrderRecord {
+    ghost use Rattle.fix_messages.specs.OrderTables.{order_of_message};
     ghost use Rattle.audit_base.specs.Histories.{HasMarketPrice};
 
-    ghost meaning = { order_entry };
+    ghost meaning = { order_of_message };
 
     ghost sound = { HasMarketPrice };
 
@@ -72,11 +73,11 @@ impl FixEntry for OrderRecord {
     fn means_sound_records() {}
 }
 
-impl FixEntry for Report {
+impl FixRecord for Report {
     ghost use Rattle.std.specs.Prelude.{⊤};
-    ghost use Rattle.fix_messages.specs.ReportTable.{report_entry};
+    ghost use Rattle.fix_messages.specs.ReportTable.{report_of_message};
 
-    ghost meaning = { report_entry };
+    ghost meaning = { report_of_message };
 
     ghost sound = { λ _. ⊤ };
 
@@ -104,27 +105,28 @@ fn reason_of(fault: MessageFault) -> Reason
     }
 }
 
-/// Makes the record of an order and hands it on. Room for a record is made ready where this is called,
-/// so it stands apart from the test whether the collector looks at the order.
+/// Makes the record of an order and hands it on. Room for a record is made ready where this is
+/// called, so it is apart from the test whether the collector looks at the order.
 fn keep_order<K: Collector<Entry = OrderRecord>>(
     entries: &mut K,
     order: &OrderText<'_>,
 ) -> Result<(), NoMemory>
     requires { HasPlace K.has_taken entries.old }
     ensures { OnOk result
-        (Adds (K.has_taken entries.old) (K.has_taken entries.new) (order.now ∷ [])) }
+        (HandsOnMore (K.has_taken entries.old) (K.has_taken entries.new) (order.now ∷ [])) }
 {
     entries.take(order.record())
 }
 
-/// Hands on an order that stands in a message. Its record is made only where the collector looks at it.
+/// Hands on an order whose names are in a message. Its record is made
+/// only where the collector looks at it.
 fn hand_on_order<K: Collector<Entry = OrderRecord>>(
     entries: &mut K,
     order: &OrderText<'_>,
 ) -> Result<(), NoMemory>
     requires { HasPlace K.has_taken entries.old }
     ensures { OnOk result
-        (Adds (K.has_taken entries.old) (K.has_taken entries.new) (order.now ∷ [])) }
+        (HandsOnMore (K.has_taken entries.old) (K.has_taken entries.new) (order.now ∷ [])) }
 {
     if entries.wants(order.symbol()) {
         keep_order(entries, order)
@@ -141,7 +143,7 @@ fn hand_on_report<K: Collector<Entry = Report>>(
 ) -> Result<(), NoMemory>
     requires { HasPlace K.has_taken entries.old }
     ensures { OnOk result
-        (Adds (K.has_taken entries.old) (K.has_taken entries.new) (report.now ∷ [])) }
+        (HandsOnMore (K.has_taken entries.old) (K.has_taken entries.new) (report.now ∷ [])) }
 {
     if entries.wants(report.symbol()) {
         entries.take(report.record())
@@ -151,13 +153,14 @@ fn hand_on_report<K: Collector<Entry = Report>>(
     }
 }
 
-/// Hands on the order that a message means, if it means one, and gives the first test that it fails.
+/// Hands on the order that a message means, if it means one, and
+/// gives the first test that it fails.
 fn take_order<K: Collector<Entry = OrderRecord>>(
     entries: &mut K,
     meaning: Result<Option<OrderText<'_>>, MessageFault>,
 ) -> Result<Result<(), Reason>, NoMemory>
     requires { HasPlace K.has_taken entries.old }
-    ensures { IfOk result (TakesSaid (reasoned meaning.entry) (K.has_taken entries.old)
+    ensures { IfOk result (TakesSaid (with_reason meaning.entry) (K.has_taken entries.old)
         (K.has_taken entries.new)) }
 {
     match meaning {
@@ -176,7 +179,7 @@ fn take_report<K: Collector<Entry = Report>>(
     meaning: Result<Option<ReportText<'_>>, MessageFault>,
 ) -> Result<Result<(), Reason>, NoMemory>
     requires { HasPlace K.has_taken entries.old }
-    ensures { IfOk result (TakesSaid (reasoned meaning.entry) (K.has_taken entries.old)
+    ensures { IfOk result (TakesSaid (with_reason meaning.entry) (K.has_taken entries.old)
         (K.has_taken entries.new)) }
 {
     match meaning {
@@ -190,10 +193,10 @@ fn take_report<K: Collector<Entry = Report>>(
     }
 }
 
-/// Hands on the record that the body of a message means, if it means one, and gives the first test that
-/// the body fails. The body stands in a text from one byte on and up to another. Notes are taken of its fields in
-/// place of what was noted before.
-pub(crate) fn take_body<R: FixEntry, K: Collector<Entry = R>>(
+/// Hands on the record that the body of a message means, if it means one, and gives the first
+/// test that the body fails. The body is in a text from one byte on and up to another. Notes are
+/// taken of its fields in place of what was noted before.
+pub(crate) fn take_body<R: FixRecord, K: Collector<Entry = R>>(
     entries: &mut K,
     text: &[u8],
     from: usize,

@@ -1,12 +1,13 @@
-//! Feeds: what takes a FIX log piece by piece, hands on its records, and stops at the first bad message.
+//! Feeds: what takes a FIX log piece by piece, hands on its records,
+//! and stops at the first bad message.
 ghost use Rattle.std.specs.Prelude.{◌≡◌, ◌-◌, ◌<◌, ◌^◌, ℕ, List, [], All, None, Some, Ok, vec_len, IfOk, OnOk, MatchBool};
 ghost use Rattle.log_source.specs.Collectors.{HasNineBytesEach, HasPlace};
-ghost use Rattle.fix_framing.specs.Framing.{held};
-ghost use Rattle.fix_messages.specs.Feeds.{StandsFor, IsHandedAs, IsReadAs, IsWithin};
-ghost use Rattle.fix_messages.specs.Logs.{frame_reason, read_log};
-ghost use Rattle.fix_messages.specs.Steps.{Ends, Goes, HasLog, IsPlace};
+ghost use Rattle.fix_framing.specs.Framing.{bytes_held};
+ghost use Rattle.fix_messages.specs.Feeds.{IsFixFeedOf, AnswersFixCollected, AnswersMessageRecords, IsFixFeedWithinLimit};
+ghost use Rattle.fix_messages.specs.Logs.{frame_reason, read_fix_log};
+ghost use Rattle.fix_messages.specs.Steps.{TakesNoMessage, TakesMessage, HasLog, IsBadMessagePlace};
 
-use crate::entries::{FixEntry, take_body};
+use crate::entries::{FixRecord, take_body};
 use crate::meanings::Report;
 use audit_base::faults::{BadPlace, LogFault, NoMemory, Reason};
 use audit_base::records::OrderRecord;
@@ -18,8 +19,9 @@ use log_source::collector::Collector;
 use log_source::feed::Feed;
 use std::alloc::Global;
 
-/// What is kept of a log that comes in pieces. A piece may end anywhere. Only the message that isn't all
-/// there is kept as bytes. After a bad message further pieces are taken without being looked at.
+/// What is kept of a log that comes in pieces. A piece may end anywhere. Only the
+/// message that isn't all there is kept as bytes. After a bad message further pieces
+/// are taken without being looked at.
 #[derive(Drop)]
 pub struct FixFeed<K> {
     pub alloc: Global,
@@ -52,7 +54,7 @@ fn frame_reason(fault: FrameFault) -> Reason
 // The place of a bad message that begins at this offset.
 fn bad_at<K: Collector>(entries: &K, offset: u64, reason: Reason) -> BadPlace
     requires { HasPlace K.has_taken entries.now }
-    ensures { IsPlace (K.has_taken entries.now) offset reason result }
+    ensures { IsBadMessagePlace (K.has_taken entries.now) offset reason result }
 {
     BadPlace {
         place: entries.count() + 1,
@@ -61,11 +63,11 @@ fn bad_at<K: Collector>(entries: &K, offset: u64, reason: Reason) -> BadPlace
     }
 }
 
-impl<R: FixEntry, K: Collector<Entry = R>> FixFeed<K> {
-    /// A feed that no bytes have come to, over a collector that has been handed nothing.
+impl<R: FixRecord, K: Collector<Entry = R>> FixFeed<K> {
+    /// A feed that has been handed no bytes, over a collector that has been handed nothing.
     pub fn over(alloc: Global, entries: K) -> Self
         requires { K.has_taken entries [] }
-        ensures { StandsFor K.has_taken R.meaning result [] }
+        ensures { IsFixFeedOf K.has_taken R.meaning result [] }
     {
         FixFeed {
             alloc,
@@ -78,7 +80,7 @@ impl<R: FixEntry, K: Collector<Entry = R>> FixFeed<K> {
     // Drops what is held, at a bad place.
     fn shut(&mut self, bad: BadPlace)
         ensures bad { self.new.bad ≡ Some bad }
-        ensures nothing { held self.new.framer ≡ [] }
+        ensures nothing { bytes_held self.new.framer ≡ [] }
     {
         self.framer = Framer::new(self.alloc);
         self.bad = Some(bad);
@@ -93,8 +95,8 @@ impl<R: FixEntry, K: Collector<Entry = R>> FixFeed<K> {
         requires good { self.old.bad ≡ None }
         requires room { HasLog K.has_taken R.meaning self.old }
         ensures { IfOk result (λ more. MatchBool more
-            (Goes K.has_taken R.meaning self.old self.new)
-            (Ends K.has_taken R.meaning self.old self.new)) }
+            (TakesMessage K.has_taken R.meaning self.old self.new)
+            (TakesNoMessage K.has_taken R.meaning self.old self.new)) }
     {
         match self.framer.next_frame() {
             Step::Wait => Ok(false),
@@ -117,12 +119,12 @@ impl<R: FixEntry, K: Collector<Entry = R>> FixFeed<K> {
         }
     }
 
-    // Takes messages as long as there is one and it is good. All have their values noted in the same notes, and
-    // their points in time read by one reader.
+    // Takes messages as long as there is one and it is good. All have their values noted in the
+    // same notes, and their points in time read by one reader.
     fn take_messages(&mut self) -> Result<(), NoMemory>
         requires good { self.old.bad ≡ None }
         requires room { HasLog K.has_taken R.meaning self.old }
-        ensures { OnOk result (Ends K.has_taken R.meaning self.old self.new) }
+        ensures { OnOk result (TakesNoMessage K.has_taken R.meaning self.old self.new) }
     {
         let mut notes = TagNotes::new();
         let mut stamps = StampReader::new();
@@ -133,19 +135,19 @@ impl<R: FixEntry, K: Collector<Entry = R>> FixFeed<K> {
         }
     }
 
-    /// The collector, which has been handed exactly the records of the log that has come, or its first bad
-    /// message: what the reading of the whole log gives, for every log that the feed stands for. Each record
-    /// is sound: one of life Market has the market price of its side. Each has at least nine bytes of the
-    /// log, so there is a place for one more.
+    /// The collector, which has been handed exactly the records of the log that has come, or its
+    /// first bad message: what the reading of the whole log gives, for every log that the feed
+    /// stands for. Each record is sound: one of life Market has the market price of its side.
+    /// Each has at least nine bytes of the log, so there is a place for one more.
     #[tactic(auto, using(crate::proofs::PricedLemmas::log_sound, crate::proofs::SizeLemmas::log_nine))]
     pub fn close(mut self) -> Result<K, LogFault>
-        requires { IsWithin K.has_taken R.meaning self }
-        ensures reads { (log : List ℕ) → StandsFor K.has_taken R.meaning self log
-            → IsHandedAs K.has_taken (read_log R.meaning log) result }
+        requires { IsFixFeedWithinLimit K.has_taken R.meaning self }
+        ensures reads { (log : List ℕ) → IsFixFeedOf K.has_taken R.meaning self log
+            → AnswersFixCollected K.has_taken (read_fix_log R.meaning log) result }
         ensures few { IfOk result (HasPlace K.has_taken) }
-        ensures nine { (log : List ℕ) → IfOk (read_log R.meaning log)
+        ensures nine { (log : List ℕ) → IfOk (read_fix_log R.meaning log)
             (λ entries. HasNineBytesEach entries log) }
-        ensures sound { (log : List ℕ) → IfOk (read_log R.meaning log) (All R.sound) }
+        ensures sound { (log : List ℕ) → IfOk (read_fix_log R.meaning log) (All R.sound) }
     {
         R::means_sound_records();
         if let Some(bad) = self.bad {
@@ -164,33 +166,33 @@ impl<R: FixEntry, K: Collector<Entry = R>> FixFeed<K> {
     }
 }
 
-impl<R: FixEntry> FixFeed<Vec<R>> {
-    /// A feed that no bytes have come to.
+impl<R: FixRecord> FixFeed<Vec<R>> {
+    /// A feed that has been handed no bytes.
     pub fn new(alloc: Global) -> Self
-        ensures { StandsFor ⟦<Vec<R> as Collector>⟧.has_taken R.meaning result [] }
+        ensures { IsFixFeedOf ⟦<Vec<R> as Collector>⟧.has_taken R.meaning result [] }
     {
         FixFeed::over(alloc, Vec::new(alloc))
     }
 
-    /// The records of the log that has come, or its first bad message: what the reading of the whole log
-    /// gives, for every log that the feed stands for.
+    /// The records of the log that has come, or its first bad message: what the reading of the
+    /// whole log gives, for every log that the feed stands for.
     pub fn finish(self) -> Result<Vec<R>, LogFault>
-        requires { IsWithin ⟦<Vec<R> as Collector>⟧.has_taken R.meaning self }
+        requires { IsFixFeedWithinLimit ⟦<Vec<R> as Collector>⟧.has_taken R.meaning self }
         ensures reads { let has_taken = ⟦<Vec<R> as Collector>⟧.has_taken in
-            (log : List ℕ) → StandsFor has_taken R.meaning self log
-            → IsReadAs (read_log R.meaning log) result }
+            (log : List ℕ) → IsFixFeedOf has_taken R.meaning self log
+            → AnswersMessageRecords (read_fix_log R.meaning log) result }
         ensures sound { IfOk result (λ entries. All R.sound entries.items) }
         ensures few { IfOk result (λ entries. vec_len entries < 2 ^ 32 - 1) }
         ensures nine { let has_taken = ⟦<Vec<R> as Collector>⟧.has_taken in
-            (log : List ℕ) → StandsFor has_taken R.meaning self log
+            (log : List ℕ) → IsFixFeedOf has_taken R.meaning self log
             → IfOk result (λ entries. HasNineBytesEach entries.items log) }
     {
         self.close()
     }
 }
 
-impl<R: FixEntry, K: Collector<Entry = R>> Feed for FixFeed<K> {
-    ghost stands_for = { StandsFor K.has_taken R.meaning };
+impl<R: FixRecord, K: Collector<Entry = R>> Feed for FixFeed<K> {
+    ghost stands_for = { IsFixFeedOf K.has_taken R.meaning };
 
     fn feed(&mut self, piece: &[u8]) -> Result<(), NoMemory> {
         if self.bad.is_some() {

@@ -14,7 +14,7 @@ pub(crate) struct Head {
     pub(crate) symbol: Name,
 }
 
-/// A head whose names stand in a message. Contracts see the head.
+/// A head whose names are in a message. Contracts see the head.
 #[derive(Drop)]
 pub(crate) struct HeadText<'m> {
     pub(crate) firm: NameText<'m>,

@@ -1,22 +1,22 @@
 //! A message as the list of its fields.
 ghost use Rattle.std.specs.Prelude.{◌≡◌, ◌≤◌, length};
 ghost use Rattle.std.specs.List.{slice_range};
-ghost use Rattle.fix_fields.specs.Ranges.{AreFieldsOf, all_shown};
-ghost use Rattle.fix_fields.specs.TagNotes.{HasNotes, IsNoted};
+ghost use Rattle.fix_fields.specs.Ranges.{AreFieldsOf, tag_values_of};
+ghost use Rattle.fix_fields.specs.TagNotes.{HasNotes, IsNotedTag};
 ghost use Rattle.fix_messages.specs.BodyFields.{fields_of};
-ghost use Rattle.fix_messages.specs.Rows.{type_of, value_of, only, has};
+ghost use Rattle.fix_messages.specs.Rows.{type_of, value_of, only_value, has_value_of};
 ghost use Rattle.fix_messages.specs.Steps.{as_some_bytes};
 
 use crate::meanings::MessageFault;
-use fix_fields::field::{Field, Placed};
+use fix_fields::field::{Field, ValueSpan};
 use fix_fields::notes::TagNotes;
 use std::marker::Model;
 
 /// The type of a message, which is its first field.
 const MSG_TYPE: u32 = 35;
 
-/// The body of a message, and where the values of tags stand in it. Contracts see the list of its fields, which
-/// is nowhere made.
+/// The body of a message, and where the values of tags are in it. Contracts see the list of its
+/// fields, which is nowhere made.
 #[derive(Drop)]
 pub(crate) struct Message<'a> {
     body: &'a [u8],
@@ -52,7 +52,7 @@ impl<'a> Message<'a> {
         notes: &'a mut TagNotes,
     ) -> Message<'a>
         requires { AreFieldsOf body.now fields.now }
-        ensures { result ≡ all_shown body.now fields.now }
+        ensures { result ≡ tag_values_of body.now fields.now }
     {
         notes.note(fields);
         Message { body, notes }
@@ -70,21 +70,21 @@ impl<'a> Message<'a> {
     /// The value of the tag, if it is there; it may not occur more than once.
     #[inline(always)]
     pub(crate) fn only(&self, tag: u32) -> Result<Option<&[u8]>, MessageFault>
-        requires { IsNoted tag }
-        ensures { as_some_bytes result ≡ only tag self.now }
+        requires { IsNotedTag tag }
+        ensures { as_some_bytes result ≡ only_value tag self.now }
     {
         match self.notes.find(tag) {
-            Placed::Absent => Ok(None),
-            Placed::One { from, to } => Ok(Some(&self.body[from..to])),
-            Placed::Many { .. } => Err(MessageFault::Repeated(tag)),
+            ValueSpan::Absent => Ok(None),
+            ValueSpan::One { from, to } => Ok(Some(&self.body[from..to])),
+            ValueSpan::Many { .. } => Err(MessageFault::Repeated(tag)),
         }
     }
 
     /// Whether the tag is there, once or more often.
     #[inline(always)]
     pub(crate) fn has(&self, tag: u32) -> bool
-        requires { IsNoted tag }
-        ensures { result ≡ has tag self.now }
+        requires { IsNotedTag tag }
+        ensures { result ≡ has_value_of tag self.now }
     {
         match self.only(tag) {
             Ok(value) => value.is_some(),
@@ -95,13 +95,13 @@ impl<'a> Message<'a> {
     /// The first value of the tag, and no bytes where the tag is absent.
     #[inline(always)]
     pub(crate) fn first(&self, tag: u32) -> &[u8]
-        requires { IsNoted tag }
+        requires { IsNotedTag tag }
         ensures { result.now ≡ value_of tag self.now }
     {
         match self.notes.find(tag) {
-            Placed::Absent => &[],
-            Placed::One { from, to } => &self.body[from..to],
-            Placed::Many { from, to } => &self.body[from..to],
+            ValueSpan::Absent => &[],
+            ValueSpan::One { from, to } => &self.body[from..to],
+            ValueSpan::Many { from, to } => &self.body[from..to],
         }
     }
 }

@@ -1,11 +1,11 @@
-//! A name where it stands in a message.
+//! A name as it is in a message.
 ghost use Rattle.std.specs.Prelude.{◌≡◌};
 ghost use Rattle.audit_base.specs.Names.{name_form};
 
 use audit_base::names::{Name, is_name, read_name_by_size};
 use std::marker::Model;
 
-/// A name where it stands in a message: its bytes are tested, and copied only where they are kept.
+/// A name as it is in a message: its bytes are tested, and copied only where they are kept.
 /// Contracts see the list of them.
 #[derive(Drop)]
 pub(crate) struct NameText<'m> {

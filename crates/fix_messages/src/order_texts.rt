@@ -1,4 +1,4 @@
-//! An order where it stands in a message.
+//! An order as it is in a message.
 ghost use Rattle.std.specs.Prelude.{◌≡◌};
 ghost use Rattle.audit_base.specs.Histories.{symbol_of};
 
@@ -29,7 +29,7 @@ pub(crate) enum OrderParts<'m> {
     },
 }
 
-/// A record of an order log whose names stand in a message: it is made only where it is looked at.
+/// A record of an order log whose names are in a message: it is made only where it is looked at.
 /// Contracts see the record.
 #[derive(Drop)]
 pub(crate) struct OrderText<'m> {

@@ -1,8 +1,8 @@
 //! The messages of an order log: new orders, cancels and replacements, by the table of each.
 ghost use Rattle.std.specs.Prelude.{◌≡◌};
-ghost use Rattle.fix_fields.specs.Ranges.{AreFieldsOf, all_shown};
-ghost use Rattle.fix_fields.specs.TagNotes.{IsNoted};
-ghost use Rattle.fix_messages.specs.OrderTables.{limits_form, limits_at, price_by, life_form, life_at, life_by, limit_form, limit_at, resting_form, resting_at, unconditional, new_order, cancel, replacement, order_by, order_entry, order_meaning};
+ghost use Rattle.fix_fields.specs.Ranges.{AreFieldsOf, tag_values_of};
+ghost use Rattle.fix_fields.specs.TagNotes.{IsNotedTag};
+ghost use Rattle.fix_messages.specs.OrderTables.{order_type_form, message_order_type, price_by, life_form, message_life, life_by, limit_type_form, message_limit_type, resting_form, message_resting_life, no_quantity_condition, message_new_order, message_cancel, message_replacement, order_by_type, order_of_message, order_meaning};
 
 use crate::meanings::{MessageFault, OrderMeaning};
 use crate::message::Message;
@@ -19,44 +19,44 @@ use fix_fields::notes::TagNotes;
 
 /// Whether an order takes any price (tag 40).
 #[derive(Clone, Copy)]
-pub(crate) enum Limits {
+pub(crate) enum OrderType {
     Market,
     Limit,
 }
 
-fn read_limits(text: &[u8]) -> Option<Limits>
-    ensures { result ≡ limits_form text.now }
+fn read_order_type(text: &[u8]) -> Option<OrderType>
+    ensures { result ≡ order_type_form text.now }
 {
     if is_word(b"1", text) {
-        Some(Limits::Market)
+        Some(OrderType::Market)
     } else if is_word(b"2", text) {
-        Some(Limits::Limit)
+        Some(OrderType::Limit)
     } else {
         None
     }
 }
 
 #[inline(always)]
-fn limits_at(tag: u32, message: &Message<'_>) -> Result<Limits, MessageFault>
-    requires { IsNoted tag }
-    ensures { result ≡ limits_at tag message.now }
+fn message_order_type(tag: u32, message: &Message<'_>) -> Result<OrderType, MessageFault>
+    requires { IsNotedTag tag }
+    ensures { result ≡ message_order_type tag message.now }
 {
-    supported(tag, read_limits(required(tag, message)?))
+    supported(tag, read_order_type(required(tag, message)?))
 }
 
 #[inline(always)]
 fn price_by(
-    limits: Limits,
+    limits: OrderType,
     side: Side,
     tag: u32,
     message: &Message<'_>,
 ) -> Result<Price, MessageFault>
-    requires { IsNoted tag }
+    requires { IsNotedTag tag }
     ensures { result ≡ price_by limits side tag message.now }
 {
     match limits {
-        Limits::Limit => price_at(tag, message),
-        Limits::Market => {
+        OrderType::Limit => price_at(tag, message),
+        OrderType::Market => {
             message.only(tag)?;
             Ok(market_price(side))
         }
@@ -77,8 +77,8 @@ fn read_life(text: &[u8]) -> Option<Life>
 
 #[inline(always)]
 fn life_at(tag: u32, message: &Message<'_>) -> Result<Life, MessageFault>
-    requires { IsNoted tag }
-    ensures { result ≡ life_at tag message.now }
+    requires { IsNotedTag tag }
+    ensures { result ≡ message_life tag message.now }
 {
     match message.only(tag)? {
         Some(text) => supported(tag, read_life(text)),
@@ -86,25 +86,25 @@ fn life_at(tag: u32, message: &Message<'_>) -> Result<Life, MessageFault>
     }
 }
 
-fn life_by(limits: Limits, life: Life) -> Life
+fn life_by(limits: OrderType, life: Life) -> Life
     ensures { result ≡ life_by limits life }
 {
     match limits {
-        Limits::Limit => life,
-        Limits::Market => Life::Market,
+        OrderType::Limit => life,
+        OrderType::Market => Life::Market,
     }
 }
 
 fn read_limit(text: &[u8]) -> Option<()>
-    ensures { result ≡ limit_form text.now }
+    ensures { result ≡ limit_type_form text.now }
 {
     if is_word(b"2", text) { Some(()) } else { None }
 }
 
 #[inline(always)]
 fn limit_at(tag: u32, message: &Message<'_>) -> Result<(), MessageFault>
-    requires { IsNoted tag }
-    ensures { result ≡ limit_at tag message.now }
+    requires { IsNotedTag tag }
+    ensures { result ≡ message_limit_type tag message.now }
 {
     supported(tag, read_limit(required(tag, message)?))
 }
@@ -121,8 +121,8 @@ fn read_resting(text: &[u8]) -> Option<()>
 
 #[inline(always)]
 fn resting_at(tag: u32, message: &Message<'_>) -> Result<(), MessageFault>
-    requires { IsNoted tag }
-    ensures { result ≡ resting_at tag message.now }
+    requires { IsNotedTag tag }
+    ensures { result ≡ message_resting_life tag message.now }
 {
     match message.only(tag)? {
         Some(text) => supported(tag, read_resting(text)),
@@ -133,25 +133,25 @@ fn resting_at(tag: u32, message: &Message<'_>) -> Result<(), MessageFault>
 /// No condition on the quantity: neither a least one (MinQty) nor a shown one (MaxFloor).
 #[inline(always)]
 fn unconditional(message: &Message<'_>) -> Result<(), MessageFault>
-    ensures { result ≡ unconditional message.now }
+    ensures { result ≡ no_quantity_condition message.now }
 {
     absent_at(110, message)?;
     absent_at(111, message)
 }
 
 /// Type D, a new order.
-#[tactic(auto, unfolding(crate::specs::OrderTables::new_order))]
+#[tactic(auto, unfolding(crate::specs::OrderTables::message_new_order))]
 fn new_order<'m>(
     message: &'m Message<'_>,
     stamps: &mut StampReader,
 ) -> Result<OrderText<'m>, MessageFault>
-    ensures { result ≡ new_order message.now }
+    ensures { result ≡ message_new_order message.now }
 {
     type_at(b"D", message)?;
     let head = head_at(49, message, stamps)?;
     let side = side_at(54, message)?;
     let quantity = quantity_at(38, message)?;
-    let limits = limits_at(40, message)?;
+    let limits = message_order_type(40, message)?;
     let price = price_by(limits, side, 44, message)?;
     let life = life_by(limits, life_at(59, message)?);
     unconditional(message)?;
@@ -165,12 +165,12 @@ fn new_order<'m>(
 }
 
 /// Type F, a cancel.
-#[tactic(auto, unfolding(crate::specs::OrderTables::cancel))]
+#[tactic(auto, unfolding(crate::specs::OrderTables::message_cancel))]
 fn cancel<'m>(
     message: &'m Message<'_>,
     stamps: &mut StampReader,
 ) -> Result<OrderText<'m>, MessageFault>
-    ensures { result ≡ cancel message.now }
+    ensures { result ≡ message_cancel message.now }
 {
     type_at(b"F", message)?;
     let head = head_at(49, message, stamps)?;
@@ -180,12 +180,12 @@ fn cancel<'m>(
 }
 
 /// Type G, a replacement.
-#[tactic(auto, unfolding(crate::specs::OrderTables::replacement))]
+#[tactic(auto, unfolding(crate::specs::OrderTables::message_replacement))]
 fn replacement<'m>(
     message: &'m Message<'_>,
     stamps: &mut StampReader,
 ) -> Result<OrderText<'m>, MessageFault>
-    ensures { result ≡ replacement message.now }
+    ensures { result ≡ message_replacement message.now }
 {
     type_at(b"G", message)?;
     let head = head_at(49, message, stamps)?;
@@ -210,7 +210,7 @@ fn order_by<'m>(
     message: &'m Message<'_>,
     stamps: &mut StampReader,
 ) -> Result<Option<OrderText<'m>>, MessageFault>
-    ensures { result ≡ order_by kind.now message.now }
+    ensures { result ≡ order_by_type kind.now message.now }
 {
     if is_word(b"D", kind) {
         Ok(Some(new_order(message, stamps)?))
@@ -223,14 +223,14 @@ fn order_by<'m>(
     }
 }
 
-/// The order that a message means, where it stands in the message, or nothing, or the first test that
-/// fails.
-#[tactic(auto, unfolding(crate::specs::OrderTables::order_entry))]
+/// The order that a message means, as it is in the message, or
+/// nothing, or the first test that fails.
+#[tactic(auto, unfolding(crate::specs::OrderTables::order_of_message))]
 pub(crate) fn order_text<'m>(
     message: &'m Message<'_>,
     stamps: &mut StampReader,
 ) -> Result<Option<OrderText<'m>>, MessageFault>
-    ensures { result ≡ order_entry message.now }
+    ensures { result ≡ order_of_message message.now }
 {
     if is_copy(message) {
         Ok(None)
@@ -243,7 +243,7 @@ pub(crate) fn order_text<'m>(
 /// record, or the first test that fails of the table of its type. It takes no memory.
 pub fn order_of(body: &[u8], fields: &[Field]) -> Result<OrderMeaning, MessageFault>
     requires { AreFieldsOf body.now fields.now }
-    ensures { result ≡ order_meaning (all_shown body.now fields.now) }
+    ensures { result ≡ order_meaning (tag_values_of body.now fields.now) }
 {
     let mut notes = TagNotes::new();
     let message = Message::with_fields(body, fields, &mut notes);

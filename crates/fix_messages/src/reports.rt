@@ -1,7 +1,7 @@
 //! The messages of a trade log: execution reports of a trade.
 ghost use Rattle.std.specs.Prelude.{◌≡◌};
-ghost use Rattle.fix_fields.specs.Ranges.{AreFieldsOf, all_shown};
-ghost use Rattle.fix_messages.specs.ReportTable.{trade_report, is_other, is_passed_over, report_entry, report_meaning};
+ghost use Rattle.fix_fields.specs.Ranges.{AreFieldsOf, tag_values_of};
+ghost use Rattle.fix_messages.specs.ReportTable.{trade_report, is_other, is_passed_over, report_of_message, report_meaning};
 
 use crate::heads::{Head, HeadText};
 use crate::meanings::{MessageFault, Report, ReportMeaning};
@@ -17,8 +17,8 @@ use fix_fields::field::Field;
 use fix_fields::notes::TagNotes;
 use std::marker::Model;
 
-/// A report of a trade whose names stand in a message: its record is made only where it is looked at.
-/// Contracts see the record.
+/// A report of a trade whose names are in a message: its record is made only where it is looked
+/// at. Contracts see the record.
 #[derive(Drop)]
 pub(crate) struct ReportText<'m> {
     trade: NameText<'m>,
@@ -107,14 +107,14 @@ fn is_passed_over(message: &Message<'_>) -> bool
     !is_word(b"8", message.kind()) || is_copy(message) || is_other(message)
 }
 
-/// The report that a message means, where it stands in the message, or nothing, or the first test that
-/// fails.
-#[tactic(auto, unfolding(crate::specs::ReportTable::report_entry))]
+/// The report that a message means, as it is in the message, or
+/// nothing, or the first test that fails.
+#[tactic(auto, unfolding(crate::specs::ReportTable::report_of_message))]
 pub(crate) fn report_text<'m>(
     message: &'m Message<'_>,
     stamps: &mut StampReader,
 ) -> Result<Option<ReportText<'m>>, MessageFault>
-    ensures { result ≡ report_entry message.now }
+    ensures { result ≡ report_of_message message.now }
 {
     if is_passed_over(message) {
         Ok(None)
@@ -127,7 +127,7 @@ pub(crate) fn report_text<'m>(
 /// report of a trade, or the first test that fails of the table of a report. It takes no memory.
 pub fn report_of(body: &[u8], fields: &[Field]) -> Result<ReportMeaning, MessageFault>
     requires { AreFieldsOf body.now fields.now }
-    ensures { result ≡ report_meaning (all_shown body.now fields.now) }
+    ensures { result ≡ report_meaning (tag_values_of body.now fields.now) }
 {
     let mut notes = TagNotes::new();
     let message = Message::with_fields(body, fields, &mut notes);

@@ -1,15 +1,15 @@
-//! Writing logs: one message for an order, two for a trade. A value of a field is always the canonical
-//! text of what it says.
+//! Writing logs: one message for an order, two for a trade. A value of a field is always the
+//! canonical text of what it says.
 ghost use Rattle.std.specs.Prelude.{◌≡◌, ◌<◌, ◌^◌, ◌∷◌, ◌++◌, [], IfOk, IsTrue, Ok, OnErr, OnOk, map};
 ghost use Rattle.audit_base.specs.Names.{is_name};
 ghost use Rattle.audit_base.specs.Numbers.{is_quantity};
 ghost use Rattle.fix_fields.specs.Grammar.{bytes_of};
-ghost use Rattle.fix_messages.specs.Logs.{order_log, report_log};
+ghost use Rattle.fix_messages.specs.Logs.{fix_order_log, report_log};
 ghost use Rattle.trade_reports.specs.Pairings.{pairing};
-ghost use Rattle.fix_messages.specs.Steps.{are_short, cancel_order, new_order, replace_order, written};
+ghost use Rattle.fix_messages.specs.Steps.{are_short_fields, fix_cancel_order, fix_new_order, fix_replace_order, field_written};
 ghost use Rattle.audit_base.specs.Histories.{HasMarketPrice};
 ghost use Rattle.trade_reports.specs.Reports.{reports_of};
-ghost use Rattle.fix_messages.specs.Written.{IsHead, IsOrderInForm, IsReportInForm, IsTradeInForm, field, head_fields, limit_fields, order_fields, order_text, report_fields, report_text, side_text, size_fields, trade_text};
+ghost use Rattle.fix_messages.specs.Written.{IsHead, IsOrderInForm, IsReportInForm, IsTradeInForm, field, head_fields, limit_fields, order_fields, order_message, report_fields, report_message, message_side_text, size_fields, trade_message_pair};
 
 use crate::heads::Head;
 use crate::meanings::Report;
@@ -38,8 +38,9 @@ const IMMEDIATE: &[u8] = b"3";
 
 /// Appends fields. Each value that is written is 1 to 64 bytes of those that a name may hold.
 fn write_fields(alloc: Global, fields: &[(u32, &[u8])], body: &mut Vec<u8>) -> Result<(), NoMemory>
-    requires { IsTrue (are_short (map written fields.now)) }
-    ensures { OnOk result (body.new.items ≡ body.old.items ++ bytes_of (map written fields.now)) }
+    requires { IsTrue (are_short_fields (map field_written fields.now)) }
+    ensures { OnOk result (body.new.items
+        ≡ body.old.items ++ bytes_of (map field_written fields.now)) }
 {
     for (tag, value) in fields {
         write_field(alloc, *tag, value, body)?;
@@ -48,7 +49,7 @@ fn write_fields(alloc: Global, fields: &[(u32, &[u8])], body: &mut Vec<u8>) -> R
 }
 
 fn side_bytes(side: Side) -> &'static [u8]
-    ensures text { result.now ≡ side_text side }
+    ensures text { result.now ≡ message_side_text side }
     ensures short { IsTrue (is_name result.now) }
 {
     match side {
@@ -134,9 +135,9 @@ fn write_new(
     life: Life,
     body: &mut Vec<u8>,
 ) -> Result<(), NoMemory>
-    ensures appended { let fields = order_fields (new_order head.now terms.now life) in
+    ensures appended { let fields = order_fields (fix_new_order head.now terms.now life) in
         OnOk result (body.new.items ≡ body.old.items ++ bytes_of fields) }
-    ensures in_form { OnOk result (IsOrderInForm (new_order head.now terms.now life)) }
+    ensures in_form { OnOk result (IsOrderInForm (fix_new_order head.now terms.now life)) }
 {
     write_head(alloc, b"D", head, body)?;
     write_size(alloc, terms, body)?;
@@ -149,9 +150,9 @@ fn write_cancel(
     target: &Name,
     body: &mut Vec<u8>,
 ) -> Result<(), NoMemory>
-    ensures appended { let fields = order_fields (cancel_order head.now target.now) in
+    ensures appended { let fields = order_fields (fix_cancel_order head.now target.now) in
         OnOk result (body.new.items ≡ body.old.items ++ bytes_of fields) }
-    ensures in_form { OnOk result (IsOrderInForm (cancel_order head.now target.now)) }
+    ensures in_form { OnOk result (IsOrderInForm (fix_cancel_order head.now target.now)) }
 {
     write_head(alloc, b"F", head, body)?;
     write_target(alloc, target, body)
@@ -164,9 +165,11 @@ fn write_replace(
     terms: &Terms,
     body: &mut Vec<u8>,
 ) -> Result<(), NoMemory>
-    ensures appended { let fields = order_fields (replace_order head.now terms.now target.now) in
+    ensures appended { let fields = order_fields
+        (fix_replace_order head.now terms.now target.now) in
         OnOk result (body.new.items ≡ body.old.items ++ bytes_of fields) }
-    ensures in_form { OnOk result (IsOrderInForm (replace_order head.now terms.now target.now)) }
+    ensures in_form { OnOk result
+        (IsOrderInForm (fix_replace_order head.now terms.now target.now)) }
 {
     write_head(alloc, b"G", head, body)?;
     write_target(alloc, target, body)?;
@@ -226,16 +229,16 @@ fn write_order_fields(
     }
 }
 
-/// Appends the message of an order, in canonical texts: type D of a new order, F of a cancel, G of a
-/// replacement, with `EXCHANGE` as TargetCompID. A market order is written with no price. The message
-/// means the order again, where a market order has the market price of its side. Out of memory leaves
-/// `out` as before.
+/// Appends the message of an order, in canonical texts: type D of a new order, F of a cancel, G
+/// of a replacement, with `EXCHANGE` as TargetCompID. A market order is written with no price.
+/// The message means the order again, where a market order has the market price of its side. Out
+/// of memory leaves `out` as before.
 pub fn write_order(alloc: Global, entry: &OrderRecord, out: &mut Vec<u8>) -> Result<(), NoMemory>
-    ensures appended { OnOk result (out.new.items ≡ out.old.items ++ order_text entry.now) }
+    ensures appended { OnOk result (out.new.items ≡ out.old.items ++ order_message entry.now) }
     ensures unchanged { OnErr result (out.new.items ≡ out.old.items) }
     ensures in_form { OnOk result (IsOrderInForm entry.now) }
     ensures again { OnOk result (HasMarketPrice entry.now
-        → order_log (order_text entry.now) ≡ Ok (entry.now ∷ [])) }
+        → fix_order_log (order_message entry.now) ≡ Ok (entry.now ∷ [])) }
 {
     let mut body = Vec::new(alloc);
     write_order_fields(alloc, entry, &mut body)?;
@@ -269,7 +272,7 @@ fn write_report_fields(alloc: Global, report: &Report, body: &mut Vec<u8>) -> Re
 
 /// Appends the message of a report.
 fn write_report(alloc: Global, report: &Report, out: &mut Vec<u8>) -> Result<(), NoMemory>
-    ensures appended { OnOk result (out.new.items ≡ out.old.items ++ report_text report.now) }
+    ensures appended { OnOk result (out.new.items ≡ out.old.items ++ report_message report.now) }
     ensures in_form { OnOk result (IsReportInForm report.now) }
 {
     let mut body = Vec::new(alloc);
@@ -279,7 +282,7 @@ fn write_report(alloc: Global, report: &Report, out: &mut Vec<u8>) -> Result<(),
 
 /// Both messages of a trade.
 fn trade_messages(alloc: Global, trade: &TradeRecord) -> Result<Vec<u8>, NoMemory>
-    ensures text { IfOk result (λ text. text.items ≡ trade_text trade.now) }
+    ensures text { IfOk result (λ text. text.items ≡ trade_message_pair trade.now) }
     ensures in_form { OnOk result (IsTradeInForm trade.now) }
 {
     let mut text = Vec::new(alloc);
@@ -288,14 +291,15 @@ fn trade_messages(alloc: Global, trade: &TradeRecord) -> Result<Vec<u8>, NoMemor
     Ok(text)
 }
 
-/// Appends the two messages of a trade, in canonical texts: execution reports of execution type F with
-/// `EXCHANGE` as SenderCompID, the buyer's and then the seller's. The two pair into the trade again. Out
-/// of memory leaves `out` as before.
+/// Appends the two messages of a trade, in canonical texts: execution reports of execution type F
+/// with `EXCHANGE` as SenderCompID, the buyer's and then the seller's. The two pair into the
+/// trade again. Out of memory leaves `out` as before.
 pub fn write_trade(alloc: Global, trade: &TradeRecord, out: &mut Vec<u8>) -> Result<(), NoMemory>
-    ensures appended { OnOk result (out.new.items ≡ out.old.items ++ trade_text trade.now) }
+    ensures appended { OnOk result (out.new.items ≡ out.old.items ++ trade_message_pair trade.now) }
     ensures unchanged { OnErr result (out.new.items ≡ out.old.items) }
     ensures in_form { OnOk result (IsTradeInForm trade.now) }
-    ensures again { OnOk result (report_log (trade_text trade.now) ≡ Ok (reports_of trade.now)) }
+    ensures again { OnOk result
+        (report_log (trade_message_pair trade.now) ≡ Ok (reports_of trade.now)) }
     ensures paired { OnOk result (pairing (reports_of trade.now) ≡ Ok (trade.now ∷ [])) }
 {
     reports_are_paired_again();

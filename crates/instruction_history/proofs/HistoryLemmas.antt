@@ -10,8 +10,8 @@ use Rattle.audit_base.specs.declared.findings.Finding.{Finding}
 use Rattle.audit_base.specs.declared.records.OrderRecord.{OrderRecord}
 use Rattle.audit_base.specs.Least.{least_answer}
 use Rattle.audit_base.specs.Orders.{same_name}
-use Rattle.audit_base.specs.Histories.{symbol_of, history, missing_entry, record_finding, order_index, is_order}
-use Rattle.instruction_history.specs.Draft.{finding_in, orders_in, entry_of}
+use Rattle.audit_base.specs.Histories.{symbol_of, history, entry_past_end, entry_finding, order_index, is_order}
+use Rattle.instruction_history.specs.Draft.{finding_in_history, orders_in, record_of_symbol}
 use Rattle.instruction_history.proofs.FirstLemmas.{least_answer-same, least_answer-stays}
 use Rattle.instruction_history.proofs.MadeLemmas.{length-orders_in}
 use Rattle.instruction_history.proofs.RecordLemmas.{Records, SameBelow, record_finding-same}
@@ -30,25 +30,25 @@ of_symbol symbol e = same_name (symbol_of e.1) symbol
 history-append : (symbol : List ℕ) (xs ys : List OrderRecord) → history symbol (xs ++ ys) ≡ history symbol xs ++ filter (of_symbol symbol) (enumerate_from (1 + length xs) ys)
 history-append symbol xs ys = ap (filter (of_symbol symbol)) (enumerate_from-append 1 xs ys) ∙ filter-append (of_symbol symbol) (enumerate_from 1 xs) (enumerate_from (1 + length xs) ys)
 
-pub history-push : (symbol : List ℕ) (xs : List OrderRecord) (x : OrderRecord) → history symbol (xs ++ x ∷ []) ≡ history symbol xs ++ entry_of symbol (length xs + 1) x
+pub history-push : (symbol : List ℕ) (xs : List OrderRecord) (x : OrderRecord) → history symbol (xs ++ x ∷ []) ≡ history symbol xs ++ record_of_symbol symbol (length xs + 1) x
 history-push symbol xs x =
     let number : 1 + length xs ≡ length xs + 1 = omega arith in
-    history-append symbol xs (x ∷ []) ∙ ap (λ (n : ℕ). history symbol xs ++ entry_of symbol n x) number
+    history-append symbol xs (x ∷ []) ∙ ap (λ (n : ℕ). history symbol xs ++ record_of_symbol symbol n x) number
 
 -- the history of one record more
-pub history-more : (symbol : List ℕ) (entries : List OrderRecord) (i : ℕ) (d : OrderRecord) → i < length entries → history symbol (take (i + 1) entries) ≡ history symbol (take i entries) ++ entry_of symbol (i + 1) (get_or entries i d)
+pub history-more : (symbol : List ℕ) (entries : List OrderRecord) (i : ℕ) (d : OrderRecord) → i < length entries → history symbol (take (i + 1) entries) ≡ history symbol (take i entries) ++ record_of_symbol symbol (i + 1) (get_or entries i d)
 history-more symbol entries i d lt =
     let size : length (take i entries) ≡ i = length-take-le i entries (omega arith) in
     ap (history symbol) (take_more entries i d lt) ∙ history-push symbol (take i entries) (get_or entries i d)
-    ∙ ap (λ (n : ℕ). history symbol (take i entries) ++ entry_of symbol (n + 1) (get_or entries i d)) size
+    ∙ ap (λ (n : ℕ). history symbol (take i entries) ++ record_of_symbol symbol (n + 1) (get_or entries i d)) size
 
 -- a finding of the first records is that of all
-pub finding_in-append : (h r : Records) (f : Finding) → finding_in h ≡ Some f → finding_in (h ++ r) ≡ Some f
+pub finding_in-append : (h r : Records) (f : Finding) → finding_in_history h ≡ Some f → finding_in_history (h ++ r) ≡ Some f
 finding_in-append h r f is =
-    let same : SameBelow (h ++ r) h (length h) = record { at = λ j lt. get_or_append_left h r missing_entry j lt } in
-    let early : least_answer (record_finding (h ++ r)) (length h) ≡ Some f =
-    least_answer-same (record_finding (h ++ r)) (record_finding h) (length h) (λ k lt. record_finding-same (length h) (h ++ r) h same k lt) ∙ is in
-    least_answer-stays (record_finding (h ++ r)) (length h) (length (h ++ r)) f early (omega (arith, length-append h r))
+    let same : SameBelow (h ++ r) h (length h) = record { at = λ j lt. get_or_append_left h r entry_past_end j lt } in
+    let early : least_answer (entry_finding (h ++ r)) (length h) ≡ Some f =
+    least_answer-same (entry_finding (h ++ r)) (entry_finding h) (length h) (λ k lt. record_finding-same (length h) (h ++ r) h same k lt) ∙ is in
+    least_answer-stays (entry_finding (h ++ r)) (length h) (length (h ++ r)) f early (omega (arith, length-append h r))
 
 length-history : (symbol : List ℕ) (entries : List OrderRecord) → length (history symbol entries) ≤ length entries
 length-history symbol entries =

@@ -1,4 +1,4 @@
--- Where the elements that a list keeps stand.
+-- Where the elements are that a list keeps.
 use Rattle.std.proofs.Common.{◌≡◌, ◌≢◌, ◌<◌, ◌+◌, ℕ, zero, suc, Bool, cond, Option, None, Some, List, [], ◌∷◌, ◌++◌, length, get_or, set, take, refl, sym, ap, ◌∙◌, arith}
 use Rattle.std.specs.Prelude.{is_some, filter_map, count_by}
 use Rattle.std.specs.List.{enumerate_from, cons_option}
@@ -21,7 +21,7 @@ shifted : {Y : Type 0} (o : Option Y) (all front : List Y) (y e : Y) → (get_or
 shifted None all front y e at = at
 shifted (Some x) all front y e at = (at.0, omega (arith, at.1))
 
--- a kept element stands behind those that are kept before it
+-- a kept element is behind those that are kept before it
 pub filter_map-at : {Z Y : Type 0} (f : Z → Option Y) (zs : List Z) (d : Z) (t : ℕ) (y e : Y) → t < length zs → f (get_or zs t d) ≡ Some y → (get_or (filter_map f zs) (kept_before f zs t) e ≡ y) × (kept_before f zs t < length (filter_map f zs))
 filter_map-at f [] d t y e lt is = absurd (omega arith)
 filter_map-at f (z ∷ zs) d zero y e lt is = rw is (refl, omega arith)

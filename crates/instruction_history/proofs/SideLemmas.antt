@@ -10,9 +10,9 @@ use Rattle.audit_base.specs.declared.orders.Order.{Order}
 use Rattle.audit_base.specs.declared.records.OrderRecord.{OrderRecord}
 use Rattle.audit_base.specs.declared.records.OrderRecord.TheVariants.{New, Cancel, Replace}
 use Rattle.audit_base.specs.Least.{least_with, only_if}
-use Rattle.audit_base.specs.Orders.{same_key, same_side, order_at, side_at, missing_order, with_key, on_side_with_key, HaveOwnKeys}
-use Rattle.audit_base.specs.Histories.{side_of, is_order, record_at, key_at, order_index}
-use Rattle.instruction_history.specs.Draft.{orders_in, seen_at, named_in}
+use Rattle.audit_base.specs.Orders.{same_key, same_side, order_at, side_at, order_past_end, order_with_key, order_on_side_with_key, HaveOwnKeys}
+use Rattle.audit_base.specs.Histories.{side_of, is_order, history_entry, key_at, order_index}
+use Rattle.instruction_history.specs.Draft.{orders_in, seen_at, seen_by_key}
 use Rattle.order_list.specs.Keys.{index_on}
 use Rattle.instruction_history.proofs.FirstLemmas.{least_with-same, least_with-some, least_with-both}
 use Rattle.audit_base.proofs.HistoryLemmas.{same_key-is}
@@ -42,7 +42,7 @@ and-swap false true = refl
 and-swap false false = refl
 
 -- the key's order of a side, where no two orders have one key
-side-of_key : (orders : List Order) (side : Side) (key : Key) → HaveOwnKeys orders → option_and_then (of_side orders side) (with_key orders key) ≡ on_side_with_key orders side key
+side-of_key : (orders : List Order) (side : Side) (key : Key) → HaveOwnKeys orders → option_and_then (of_side orders side) (order_with_key orders key) ≡ order_on_side_with_key orders side key
 side-of_key orders side key distinct =
     let first = least_with (λ i. same_key (order_at orders i).key key) (length orders) in
     side-filter orders side first (λ i e. (least_with-some _ (length orders) i e).within)
@@ -51,7 +51,7 @@ side-of_key orders side key distinct =
   where
     apart : (i j : ℕ) → i < j → j < length orders → same_key (order_at orders i).key key ≡ true → same_key (order_at orders j).key key ≡ true → ⊥
     apart i j less lt one two =
-        distinct i j missing_order less lt (same_key-is _ _ one ∙ sym (same_key-is _ _ two))
+        distinct i j order_past_end less lt (same_key-is _ _ one ∙ sym (same_key-is _ _ two))
 
 -- which of two sides is asked for does not matter
 sides-swap : (a b : Side) → same_side a b ≡ same_side b a
@@ -72,13 +72,13 @@ sideless (Replace key time symbol target side quantity price) e = cc
 
 -- what a record is seen as has the side of its order
 seen-side : (h : Records) (side : Side) (k : ℕ) → k < length h → index_on side (seen_at h k) ≡ option_and_then (of_side (orders_in h) side) (seen_at h k).index
-seen-side h side k lt = elim (cases_Bool (is_order (record_at h k))) [
+seen-side h side k lt = elim (cases_Bool (is_order (history_entry h k))) [
   | inl ordered ↦
       let stands = standing h k lt ordered in
       let o : Order = stands.0 in
       let at : IsAt h k o = stands.1 in
       rw (ordered, at.got) (ap (λ (own : Option Side). index_by side own (Some (order_index h k))) (sym at.made.side) ∙ ap (λ (b : Bool). only_if b (order_index h k)) (sides-swap o.side side))
-  | inr other ↦ rw (other, sideless (record_at h k) other) refl
+  | inr other ↦ rw (other, sideless (history_entry h k) other) refl
 ]
 
 named-side : (h : Records) (side : Side) (o : Option ℕ) → ((k : ℕ) → o ≡ Some k → k < length h) →
@@ -87,8 +87,8 @@ named-side h side None within = refl
 named-side h side (Some k) within = seen-side h side k (within k refl)
 
 -- the order of a side with the key, by what the key names
-pub sided : (h : Records) (side : Side) (key : Key) → HaveOwnKeys (orders_in h) → option_and_then (λ s. s.index) (named_in h key) ≡ with_key (orders_in h) key
-    → option_and_then (index_on side) (named_in h key) ≡ on_side_with_key (orders_in h) side key
+pub sided : (h : Records) (side : Side) (key : Key) → HaveOwnKeys (orders_in h) → option_and_then (λ s. s.index) (seen_by_key h key) ≡ order_with_key (orders_in h) key
+    → option_and_then (index_on side) (seen_by_key h key) ≡ order_on_side_with_key (orders_in h) side key
 sided h side key distinct named =
     named-side h side (least_with (λ k. same_key (key_at h k) key) (length h)) (λ k found. (least_with-some _ (length h) k found).within)
     ∙ ap (option_and_then (of_side (orders_in h) side)) named

@@ -3,16 +3,16 @@ use Rattle.std.specs.Prelude.{ℕ, [], Option, option_map, IfSome}
 use Rattle.audit_base.specs.declared.findings.Finding.{Finding}
 use Rattle.audit_base.specs.declared.flaws.Evidence.{Evidence}
 use Rattle.audit_base.specs.declared.flaws.Flaw.{Flaw}
-use Rattle.audit_base.specs.Flaws.{finding_of, IsInside}
+use Rattle.audit_base.specs.Flaws.{finding_of, IsEvidenceInside}
 
 -- the finding about the record at a place, by what is wrong with it
 abbrev pub finding_at : ℕ → Evidence → Finding
 finding_at place evidence = finding_of [] (record { place = place; evidence = evidence })
 
 -- the finding of a flaw, if there is one
-abbrev pub found_by : Option Flaw → Option Finding
-found_by flaw = option_map (finding_of []) flaw
+abbrev pub flaw_finding : Option Flaw → Option Finding
+flaw_finding flaw = option_map (finding_of []) flaw
 
 -- a flaw, if there is one, names no order
 abbrev pub NamesNoOrder : Option Flaw → Type 0
-NamesNoOrder flaw = IfSome flaw (λ f. IsInside [] f.evidence)
+NamesNoOrder flaw = IfSome flaw (λ f. IsEvidenceInside [] f.evidence)

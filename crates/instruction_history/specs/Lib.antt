@@ -1,5 +1,5 @@
--- What a reader must believe: the words of public contracts. The history, its findings and its order
--- list are those of audit_base.
+-- What a reader must believe: the words of public contracts. The history, its findings and its
+-- order list are those of audit_base.
 pub mod Answers
 pub mod HistoryDraft
 pub mod MarketPrices

@@ -5,8 +5,8 @@ use Rattle.audit_base.specs.declared.orders.Order.{Order}
 use Rattle.audit_base.specs.Histories.{HasMarketPrice}
 use Rattle.audit_base.specs.Orders.{IsMarketPriced}
 
--- each record of an order log has the market price of its side where it is of life Market, and so has
--- each order of an order list
+-- each record of an order log has the market price of its side where it is of life Market, and so
+-- has each order of an order list
 abbrev pub AreRecordsMarketPriced : List OrderRecord → Type 0
 AreRecordsMarketPriced entries = All HasMarketPrice entries
 

@@ -1,8 +1,8 @@
 //! The history of a symbol, and its order list.
 ghost use Rattle.std.specs.Prelude.{◌≡◌, ◌<◌, ◌^◌, Some, IfOk, OnOk, length};
 ghost use Rattle.audit_base.specs.Histories.{history_finding, order_list, WellFormed, Regular};
-ghost use Rattle.audit_base.specs.Orders.{with_key, on_side_with_key, IsOrderList, AreOrders, HaveOwnKeys};
-ghost use Rattle.instruction_history.specs.Answers.{IfFound, IsAnswer, IsExact};
+ghost use Rattle.audit_base.specs.Orders.{order_with_key, order_on_side_with_key, IsOrderList, OrdersInRange, HaveOwnKeys};
+ghost use Rattle.instruction_history.specs.Answers.{IfHistoryFinding, IsHistoryAnswer, IsExactAnswer};
 ghost use Rattle.instruction_history.specs.MarketPrices.{AreRecordsMarketPriced, AreMarketPriced};
 
 use super::faults::HistoryFault;
@@ -17,8 +17,8 @@ use order_list::stored::StoredOrder;
 use std::alloc::Global;
 use std::marker::{Brand, Model};
 
-/// The order list of a well-formed history: its new orders and replacements, in log order. Contracts
-/// see that list. An order is found by its key.
+/// The order list of a well-formed history: its new orders and replacements, in log order.
+/// Contracts see that list. An order is found by its key.
 #[derive(Drop)]
 pub struct History {
     orders: Vec<StoredOrder>,
@@ -47,7 +47,7 @@ fn history_of<S: AuditedSymbol>(
 ) -> Result<History, HistoryFault>
     requires symbol { symbol.now ≡ S.symbol }
     requires few { length entries.now < 2 ^ 32 }
-    ensures { IsAnswer symbol.now entries.now result }
+    ensures { IsHistoryAnswer symbol.now entries.now result }
 {
     let draft = draft_of::<S>(alloc, entries, symbol)?;
     Ok(draft.end()?)
@@ -66,7 +66,7 @@ impl History {
     ghost use Rattle.instruction_history.specs.History.{IsHistory};
     ghost use Rattle.order_list.specs.Stored.{orders_of};
 
-    /// The history of the symbol in an order log of fewer than 2^32 records, which stand at the places
+    /// The history of the symbol in an order log of fewer than 2^32 records, which have the places
     /// 1, 2 and so on. Ok exactly where the history is well-formed and Found exactly where it has a
     /// finding of number 1, 2 or 3, out of memory aside.
     pub fn build(
@@ -78,40 +78,41 @@ impl History {
         ensures well_formed { OnOk result (WellFormed symbol.now entries.now) }
         ensures orders { IfOk result (λ history. history ≡ order_list symbol.now entries.now) }
         ensures market { AreRecordsMarketPriced entries.now → IfOk result AreMarketPriced }
-        ensures found { IfFound result (λ f. history_finding symbol.now entries.now ≡ Some f) }
+        ensures found { IfHistoryFinding result
+            (λ f. history_finding symbol.now entries.now ≡ Some f) }
 
         // The other way round: the history alone decides, unless memory runs out.
-        ensures exact { IsExact symbol.now entries.now result }
+        ensures exact { IsExactAnswer symbol.now entries.now result }
     {
         history_of::<Brand>(alloc, entries, symbol)
     }
 
-    /// The order list: the new orders and the replacements, in log order. It is regular, and no two of
-    /// its orders have one key. Takes no memory.
+    /// The order list: the new orders and the replacements, in log order. It is regular, and no two
+    /// of its orders have one key. Takes no memory.
     pub fn orders(&self) -> OrderList<'_>
         ensures same { result ≡ self.now }
         ensures order_list { IsOrderList result }
         ensures regular { Regular result }
-        ensures numbers { AreOrders result }
+        ensures numbers { OrdersInRange result }
         ensures keys { HaveOwnKeys result }
     {
         OrderList::of(&self.orders, &self.keys)
     }
 
-    /// The index in the order list of the order with the key, which no other order has; None exactly
-    /// where none has it. Takes no memory.
+    /// The index in the order list of the order with the key, which no other order has; None
+    /// exactly where none has it. Takes no memory.
     pub fn find(&self, key: &Key) -> Option<usize>
-        ensures index { result ≡ with_key self.now key.now }
+        ensures index { result ≡ order_with_key self.now key.now }
         ensures keys { HaveOwnKeys self.now }
     {
         let index = self.keys.find(&key.firm, &key.id)?.index?;
         Some(index as usize)
     }
 
-    /// The index in the order list of the order of the side with the key; None exactly where none of that
-    /// side has it. Takes no memory.
+    /// The index in the order list of the order of the side with the key; None exactly where none
+    /// of that side has it. Takes no memory.
     pub fn find_on_side(&self, side: Side, key: &Key) -> Option<usize>
-        ensures { result ≡ on_side_with_key self.now side key.now }
+        ensures { result ≡ order_on_side_with_key self.now side key.now }
     {
         let index = self.keys.find(&key.firm, &key.id)?.index_on(side)?;
         Some(index as usize)

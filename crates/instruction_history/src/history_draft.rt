@@ -1,15 +1,15 @@
 //! The draft of a history: what is handed the records of an order log one after another, and keeps
 //! what the history of its symbol needs of them.
 //!
-//! A draft counts every record, since places are counted over all symbols. A record of another symbol
-//! is only counted, and after the first finding so is every record. No room is reserved, since only
-//! the end of the log tells how many orders there are: the order list and the keys grow with them, by
-//! doubling.
+//! A draft counts every record, since places are counted over all symbols. A record of another
+//! symbol is only counted, and after the first finding so is every record. No room is reserved,
+//! since only the end of the log says how many orders there are: the order list and the keys grow
+//! with them, by doubling.
 ghost use Rattle.std.specs.Prelude.{◌≡◌, ◌+◌, ◌<◌, ◌^◌, [], ℕ, List, None, IfOk, IfErr, OnOk, Some, length};
 ghost use Rattle.audit_base.specs.Histories.{symbol_of, WellFormed};
 ghost use Rattle.audit_base.specs.Orders.{same_name};
 ghost use Rattle.audit_base.specs.declared.records.OrderRecord.{OrderRecord};
-ghost use Rattle.instruction_history.specs.HistoryDraft.{IsHistoryDraft, ForHanded, AreOrdersOf, KeepsMarketPrices, IsFindingOf, TakesRecord};
+ghost use Rattle.instruction_history.specs.HistoryDraft.{IsHistoryDraft, ForHandedRecords, AreOrdersOf, KeepsMarketPrices, IsFindingOfRecords, TakesRecord};
 ghost use Rattle.log_source.specs.Collectors.{HasPlace};
 
 use super::history::History;
@@ -24,10 +24,10 @@ use seeded_hash::seed::HashSeed;
 use std::alloc::Global;
 use std::marker::{Brand, PhantomData};
 
-/// The symbol of a draft, for proofs alone. What hands records to collectors of any kind can say of one
-/// only which records it has been handed, and not which symbol it was made for. So the type of a draft
-/// says that. Whoever makes a draft picks the symbol, at `Brand`, and nothing of it is there when the
-/// program runs.
+/// The symbol of a draft, for proofs alone. What hands records to collectors of any kind can say of
+/// one only which records it has been handed, and not which symbol it was made for. So the type of
+/// a draft says that. Whoever makes a draft picks the symbol, at `Brand`, and nothing of it is
+/// there when the program runs.
 pub trait AuditedSymbol {
     ghost symbol: { List ℕ };
 }
@@ -47,16 +47,16 @@ fn symbol_of(entry: &OrderRecord) -> &Name
     }
 }
 
-/// Whether the record is one of this symbol. The name is compared where it stands, since a copy of it has
-/// 65 bytes.
+/// Whether the record is one of this symbol. The name is compared in its place, since a copy
+/// of it has 65 bytes.
 fn has_symbol(entry: &OrderRecord, symbol: &Name) -> bool
     ensures { result ≡ same_name (symbol_of entry.now) symbol.now }
 {
     *symbol_of(entry) == *symbol
 }
 
-/// What is known of the history of a symbol after some records of an order log: its orders so far, or its
-/// first flaw.
+/// What is known of the history of a symbol after some records of an order log: its orders so far,
+/// or its first flaw.
 #[derive(Drop)]
 pub struct HistoryDraft<S> {
     symbol: Name,
@@ -69,7 +69,8 @@ pub struct HistoryDraft<S> {
 }
 
 impl<S: AuditedSymbol> HistoryDraft<S> {
-    /// A draft that has been handed no records, and finds keys by hashes of this seed. Takes no memory.
+    /// A draft that has been handed no records, and finds keys by hashes of this
+    /// seed. Takes no memory.
     pub fn new(alloc: Global, seed: HashSeed, symbol: Name) -> HistoryDraft<S>
         requires { symbol ≡ S.symbol }
         ensures { IsHistoryDraft S.symbol result [] }
@@ -102,18 +103,18 @@ impl<S: AuditedSymbol> HistoryDraft<S> {
     /// The history, where it is well-formed, or else its first finding. Takes no memory.
     pub fn end(self) -> Result<History, Finding>
         requires { (entries : List OrderRecord) × IsHistoryDraft S.symbol self entries }
-        ensures well_formed { OnOk result (ForHanded S.symbol self (WellFormed S.symbol)) }
+        ensures well_formed { OnOk result (ForHandedRecords S.symbol self (WellFormed S.symbol)) }
         ensures orders { IfOk result (AreOrdersOf S.symbol self) }
         ensures market { IfOk result (KeepsMarketPrices S.symbol self) }
-        ensures found { IfErr result (IsFindingOf S.symbol self) }
+        ensures found { IfErr result (IsFindingOfRecords S.symbol self) }
     {
-        // This read tells the proof that there are fewer than 2^32 records.
+        // This read gives the proof that there are fewer than 2^32 records.
         let _ = self.count;
         let HistoryDraft { so_far, flaw, .. } = self;
         match flaw {
             Some(flaw) => Err(flaw.finding()),
             None => {
-                // This call tells the proof the ranges of the numbers.
+                // This call gives the proof the ranges of the numbers.
                 so_far.list().in_range();
                 Ok(History::of(so_far))
             }

@@ -4,26 +4,26 @@ ghost use Rattle.std.specs.Option.{ForSome};
 ghost use Rattle.audit_base.specs.Histories.{key_of};
 ghost use Rattle.audit_base.specs.declared.orders.Order.{Order};
 ghost use Rattle.instruction_history.specs.Draft as draft;
-ghost use Rattle.instruction_history.specs.Flaws.{found_by, NamesNoOrder};
+ghost use Rattle.instruction_history.specs.Flaws.{flaw_finding, NamesNoOrder};
 ghost use Rattle.order_list.specs.declared.keys.Keys.{Keys as AKeys};
 ghost use Rattle.order_list.specs.Keys.{seen_in, key_in, HasNumber, IsNumbered};
-ghost use Rattle.order_list.specs.Stored.{order_with, orders_of, AreNumbered};
+ghost use Rattle.order_list.specs.Stored.{order_with, orders_of, AreKeysNumbered};
 
-use super::findings::{Last, evidence_of};
+use super::findings::{LastRecord, record_evidence};
 use audit_base::faults::NoMemory;
 use audit_base::flaws::Flaw;
 use audit_base::names::{Key, Name};
 use audit_base::records::OrderRecord;
 use audit_base::terms::Life;
-use order_list::keys::{KeyNumber, Keys, Seen};
+use order_list::keys::{KeyNumber, Keys, SeenRecord};
 use order_list::lists::OrderList;
 use order_list::stored::{OrderParts, StoredOrder};
 use seeded_hash::seed::HashSeed;
 use std::alloc::Global;
 
 /// The index, if the order there may be the target of the record.
-fn fitting(orders: &OrderList<'_>, entry: &OrderRecord, index: usize) -> Option<usize>
-    ensures value { result ≡ draft.fitting orders.now entry.now index }
+fn fitting_target(orders: &OrderList<'_>, entry: &OrderRecord, index: usize) -> Option<usize>
+    ensures value { result ≡ draft.fitting_target orders.now entry.now index }
     ensures in_range { IfSome result (λ i. i < length orders.now) }
 {
     let order = orders.get(index)?;
@@ -48,7 +48,7 @@ fn named_target(
 {
     let seen = keys.find(firm, id)?;
     let index = seen.index?;
-    fitting(orders, entry, index as usize)
+    fitting_target(orders, entry, index as usize)
 }
 
 /// The index of the target of the record.
@@ -71,8 +71,9 @@ fn target_of(orders: &OrderList<'_>, keys: &Keys, entry: &OrderRecord) -> Option
 fn end(orders: &mut Vec<StoredOrder>, target: usize, place: u32)
     requires { target < vec_len orders.old }
     ensures items { (keys : AKeys) → orders_of keys orders.new.items
-        ≡ draft.ended_among (orders_of keys orders.old.items) (Some target) place }
-    ensures numbered { (keys : AKeys) → AreNumbered keys orders.old.items → AreNumbered keys orders.new.items }
+        ≡ draft.with_target_ended (orders_of keys orders.old.items) (Some target) place }
+    ensures numbered { (keys : AKeys) → AreKeysNumbered keys orders.old.items
+        → AreKeysNumbered keys orders.new.items }
     ensures len { vec_len orders.new ≡ vec_len orders.old }
 {
     let order = &mut orders[target];
@@ -83,8 +84,9 @@ fn end(orders: &mut Vec<StoredOrder>, target: usize, place: u32)
 fn end_target(orders: &mut Vec<StoredOrder>, target: Option<usize>, place: u32)
     requires { ForSome target (λ t. t < vec_len orders.old) }
     ensures items { (keys : AKeys) → orders_of keys orders.new.items
-        ≡ draft.ended_among (orders_of keys orders.old.items) target place }
-    ensures numbered { (keys : AKeys) → AreNumbered keys orders.old.items → AreNumbered keys orders.new.items }
+        ≡ draft.with_target_ended (orders_of keys orders.old.items) target place }
+    ensures numbered { (keys : AKeys) → AreKeysNumbered keys orders.old.items
+        → AreKeysNumbered keys orders.new.items }
     ensures len { vec_len orders.new ≡ vec_len orders.old }
 {
     if let Some(target) = target {
@@ -112,10 +114,13 @@ fn own_end(orders: &OrderList<'_>, target: Option<usize>, place: u32) -> Option<
 /// One more order.
 fn push(orders: &mut Vec<StoredOrder>, parts: &OrderParts) -> Result<(), NoMemory>
     requires { IfSome parts.now.target (λ t. t < 4294967295) }
-    ensures items { (keys : AKeys) → let order = order_with (key_in keys parts.now.number) parts.now in
-        OnOk result (orders_of keys orders.new.items ≡ orders_of keys orders.old.items ++ order ∷ []) }
+    ensures items { (keys : AKeys) →
+        let order = order_with (key_in keys parts.now.number) parts.now in
+        OnOk result (orders_of keys orders.new.items
+        ≡ orders_of keys orders.old.items ++ order ∷ []) }
     ensures numbered { (keys : AKeys) → IsNumbered keys parts.now.number
-        → AreNumbered keys orders.old.items → OnOk result (AreNumbered keys orders.new.items) }
+        → AreKeysNumbered keys orders.old.items
+        → OnOk result (AreKeysNumbered keys orders.new.items) }
 {
     orders.push(StoredOrder::of(parts))?;
     Ok(())
@@ -132,8 +137,8 @@ fn life_of(entry: &OrderRecord) -> Life
     }
 }
 
-/// Adds the order of a new order, which has no target, or of a replacement. `own_end` is where a
-/// replacement ends whose target was gone before, and `number` that of its key.
+/// Adds the order of a new order, which has no target, or of a replacement. `own_end` is the own
+/// place of a replacement whose target was ended before, and `number` that of its key.
 fn push_order(
     orders: &mut Vec<StoredOrder>,
     entry: &OrderRecord,
@@ -145,11 +150,12 @@ fn push_order(
     requires { IfSome target (λ t. t < 4294967295) }
     ensures items { (keys : AKeys) (before : List Order) → HasNumber keys (key_of entry.now) number
         → own_end ≡ draft.own_end before target place →
-        let order = draft.order_made before entry.now target place in
+        let order = draft.order_by_target before entry.now target place in
         OnOk result (orders_of keys orders.new.items
-        ≡ draft.pushed (orders_of keys orders.old.items) order) }
+        ≡ draft.orders_with_own (orders_of keys orders.old.items) order) }
     ensures numbered { (keys : AKeys) → IsNumbered keys number
-        → AreNumbered keys orders.old.items → OnOk result (AreNumbered keys orders.new.items) }
+        → AreKeysNumbered keys orders.old.items
+        → OnOk result (AreKeysNumbered keys orders.new.items) }
 {
     match entry {
         OrderRecord::Cancel { .. } => Ok(()),
@@ -195,25 +201,25 @@ fn key_of(entry: &OrderRecord) -> &Key
 }
 
 /// What a record is remembered as, where `orders` orders came before it.
-fn seen_as(entry: &OrderRecord, place: u32, orders: u32) -> Seen
+fn seen_as(entry: &OrderRecord, place: u32, orders: u32) -> SeenRecord
     ensures { result ≡ draft.seen_as entry.now place orders }
 {
     let side = entry.side();
     let index = if entry.is_order() { Some(orders) } else { None };
-    Seen { place, side, index }
+    SeenRecord { place, side, index }
 }
 
-/// What is known after some records of a history that have no finding: the order list as they make it,
-/// what each of their keys names, and the last of them.
+/// What is known after some records of a history that have no finding: the order list as they make
+/// it, what each of their keys names, and the last of them.
 #[derive(Drop)]
 pub(crate) struct HistorySoFar {
     pub orders: Vec<StoredOrder>,
     pub keys: Keys,
-    pub last: Option<Last>,
+    pub last: Option<LastRecord>,
 }
 
 impl HistorySoFar {
-    ghost use Rattle.instruction_history.specs.Draft.{IsHistorySoFar, KnowsOneMore, AddsRecord, kept_orders};
+    ghost use Rattle.instruction_history.specs.Draft.{IsHistorySoFar, KnowsNextRecord, AddsRecord, kept_orders};
 
     /// No records.
     pub fn new(alloc: Global, seed: HashSeed) -> HistorySoFar
@@ -234,19 +240,19 @@ impl HistorySoFar {
         OrderList::of(&self.orders, &self.keys)
     }
 
-    /// Takes the next record of the history, at its place in the log, or tells what is wrong with it. Then
-    /// nothing is known of what is kept.
+    /// Takes the next record of the history, at its place in the log, or says what is wrong with
+    /// it. Then nothing is known of what is kept.
     pub fn take(&mut self, entry: &OrderRecord, place: u32) -> Result<Option<Flaw>, NoMemory>
         requires { vec_len self.old.orders < 2 ^ 32 }
-        ensures knows { let knows = KnowsOneMore self.old self.new place entry.now in
-            IfOk result (λ flaw. knows (found_by flaw)) }
+        ensures knows { let knows = KnowsNextRecord self.old self.new place entry.now in
+            IfOk result (λ flaw. knows (flaw_finding flaw)) }
         ensures alone { IfOk result NamesNoOrder }
     {
         let target = target_of(&self.list(), &self.keys, entry);
         let seen = seen_as(entry, place, self.orders.len() as u32);
-        // One look-up tells what the key named and adds it.
+        // One look-up gives what the key named and adds it.
         let added = self.keys.add(key_of(entry), seen)?;
-        if let Some(evidence) = evidence_of(added.earlier, self.last, entry, target) {
+        if let Some(evidence) = record_evidence(added.earlier, self.last, entry, target) {
             return Ok(Some(Flaw { place, evidence }));
         }
         self.add(entry, target, place, added.number)?;
@@ -269,7 +275,7 @@ impl HistorySoFar {
         let own_end = own_end(&self.list(), target, place);
         end_target(&mut self.orders, target, place);
         push_order(&mut self.orders, entry, target, own_end, place, number)?;
-        self.last = Some(Last {
+        self.last = Some(LastRecord {
             place,
             time: entry.time(),
         });

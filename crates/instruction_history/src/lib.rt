@@ -6,8 +6,8 @@
 //!
 //! One pass over the records keeps a draft: the orders so far, and for each key what it named. An
 //! order's `cancelled` so far says whether it is still there, so nothing else has to be remembered.
-//! Keys are found by their hash, which has a seed, in constant time on average, and what is kept goes by
-//! the orders and keys of the symbol, whatever else the log holds.
+//! Keys are found by their hash, which has a seed, in constant time on average, and what is kept
+//! goes by the orders and keys of the symbol, whatever else the log holds.
 #![tactic(auto)]
 
 pub mod faults;

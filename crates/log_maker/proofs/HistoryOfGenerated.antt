@@ -14,9 +14,9 @@ use Rattle.audit_base.specs.declared.terms.Life.TheVariants.{Rests}
 use Rattle.audit_base.specs.declared.records.OrderRecord.{OrderRecord}
 use Rattle.audit_base.specs.declared.records.OrderRecord.TheVariants.{New, Cancel}
 use Rattle.audit_base.specs.declared.orders.Order.{Order}
-use Rattle.audit_base.specs.Orders.{same_name, same_key, is_rests, order_at, missing_order}
+use Rattle.audit_base.specs.Orders.{same_name, same_key, may_rest, order_at, order_past_end}
 use Rattle.audit_base.specs.Least.{least_answer, only_if}
-use Rattle.audit_base.specs.Histories.{key_of, time_of, symbol_of, target_key, is_order, ends, side_of, fits_side, history, missing_entry, record_at, key_at, target_of, duplicate_id, time_back, unknown_target, record_finding, WellFormed, Regular, order_of_record, order_list, instant_order}
+use Rattle.audit_base.specs.Histories.{key_of, time_of, symbol_of, target_key, is_order, ends_order, side_of, fits_side, history, entry_past_end, history_entry, key_at, target_of, duplicate_id, time_back, unknown_target, entry_finding, WellFormed, Regular, order_of_entry, order_list, instant_order}
 use Rattle.audit_base.specs.Moments.{is_before}
 use Rattle.audit_base.proofs.HistoryLemmas.{same_key-is, is-same_key, order_list-regular}
 use Rattle.audit_base.proofs.LeastLemmas.{least-none, option_or-none, with-none, with-exists}
@@ -52,7 +52,7 @@ module _ (i state : ℕ) where
   is-new : i % 10 ≢ 0 → record_of_state i state ≡ new_order_of i state
   is-new other = cond-false (i % 10 == 0) (cancel_of i) (new_order_of i state) (ne_eqb (i % 10) 0 other)
 
--- keys tell the records apart
+-- no two records have one key
 keys-apart : (i j : ℕ) → i < 2 ^ 32 → j < 2 ^ 32 → i ≢ j → same_key (key_of_number i) (key_of_number j) ≡ false
 keys-apart i j small_i small_j apart = elim (cases_Bool (same_key (key_of_number i) (key_of_number j))) [
   | inr apart_is ↦ apart_is
@@ -76,7 +76,7 @@ tenth-parts i tenth some =
     )
 
 -- the order five before is one that the cancel ends
-ends-five-before : (i : ℕ) → i % 5 ≡ (i - 5) % 5 → ends (key_of_number (i - 5)) (cancel_of i) ≡ true
+ends-five-before : (i : ℕ) → i % 5 ≡ (i - 5) % 5 → ends_order (key_of_number (i - 5)) (cancel_of i) ≡ true
 ends-five-before i same =
     is-same_key (record { firm = firm_of_number i; id = id_of_number (i - 5) }) (key_of_number (i - 5))
     (ap (λ (n : ℕ). record { firm = 70 ∷ decimal n; id = id_of_number (i - 5) }) same)
@@ -114,8 +114,8 @@ module _ (start count : ℕ) (few : count ≤ 1000000) where
   numbered-is : (k : ℕ) (d : ℕ × OrderRecord) → k < count → get_or numbered k d ≡ (1 + k, generated_record start (1 + k))
   numbered-is k d lt = get_or-enumerate_from 1 entries k d (omega (arith, count-is)) ∙ ap (λ (r : OrderRecord). (1 + k, r)) (entry-is k d.1 lt)
 
-  record-is : (k : ℕ) → k < count → record_at numbered k ≡ generated_record start (1 + k)
-  record-is k lt = ap (λ (e : ℕ × OrderRecord). e.1) (numbered-is k missing_entry lt)
+  record-is : (k : ℕ) → k < count → history_entry numbered k ≡ generated_record start (1 + k)
+  record-is k lt = ap (λ (e : ℕ × OrderRecord). e.1) (numbered-is k entry_past_end lt)
 
   pub all-of-symbol : AreOfSymbol generated_symbol entries
   all-of-symbol k d lt = ap symbol_of (entry-is k d (omega (arith, count-is))) ∙ symbol-is (1 + k) (state_at start (1 + k))
@@ -129,7 +129,7 @@ module _ (start count : ℕ) (few : count ≤ 1000000) where
   key-at : (k : ℕ) → k < count → key_at numbered k ≡ key_of_number (1 + k)
   key-at k lt = ap key_of (record-is k lt) ∙ key-is (1 + k) (state_at start (1 + k))
 
-  time-at : (k : ℕ) → k < count → time_of (record_at numbered k) ≡ time_of_number (1 + k)
+  time-at : (k : ℕ) → k < count → time_of (history_entry numbered k) ≡ time_of_number (1 + k)
   time-at k lt = ap time_of (record-is k lt) ∙ time-is (1 + k) (state_at start (1 + k))
 
   -- none has the key of an earlier one
@@ -142,9 +142,9 @@ module _ (start count : ℕ) (few : count ≤ 1000000) where
   not-before : (a b : ℕ) → a < b → is_before (time_of_number b) (time_of_number a) ≡ false
   not-before a b less = le-ltb b a (omega arith)
 
-  earlier-first : (j : ℕ) → suc j < count → is_before (time_of (record_at numbered (suc j))) (time_of (record_at numbered j)) ≡ false
+  earlier-first : (j : ℕ) → suc j < count → is_before (time_of (history_entry numbered (suc j))) (time_of (history_entry numbered j)) ≡ false
   earlier-first j lt =
-      ap (λ m. is_before m (time_of (record_at numbered j))) (time-at (suc j) lt)
+      ap (λ m. is_before m (time_of (history_entry numbered j))) (time-at (suc j) lt)
       ∙ ap (is_before (time_of_number (1 + suc j))) (time-at j (omega arith))
       ∙ not-before (1 + j) (1 + suc j) (omega arith)
 
@@ -155,7 +155,7 @@ module _ (start count : ℕ) (few : count ≤ 1000000) where
 
   -- each cancel has its target
   no-unknown_target : (k : ℕ) → k < count → unknown_target numbered k ≡ None
-  no-unknown_target k lt = only-none (is_some (target_key (record_at numbered k)) && is_none (target_of numbered k)) _
+  no-unknown_target k lt = only-none (is_some (target_key (history_entry numbered k)) && is_none (target_of numbered k)) _
       (elim (cases_Bool ((1 + k) % 10 == 0)) [
         | inr other ↦ and_left _ _ (ap (λ (r : OrderRecord). is_some (target_key r)) (record-is k lt ∙ is-new (1 + k) (state_at start (1 + k)) (λ e. both_ways _ other (eq-eqb ((1 + k) % 10) 0 e))))
         | inl tenth ↦ and_right _ _ (let found = target-found (eqb-true ((1 + k) % 10) 0 tenth) in ap is_none found.1)
@@ -167,43 +167,43 @@ module _ (start count : ℕ) (few : count ≤ 1000000) where
           let five = parts.0 in
           let t : ℕ = k - 5 in
           let before : 1 + (k - 5) ≡ 1 + k - 5 = omega arith in
-          let self : record_at numbered k ≡ cancel_of (1 + k) = record-is k lt ∙ is-cancel (1 + k) (state_at start (1 + k)) tenth in
+          let self : history_entry numbered k ≡ cancel_of (1 + k) = record-is k lt ∙ is-cancel (1 + k) (state_at start (1 + k)) tenth in
           let not_tenth : (1 + (k - 5)) % 10 ≢ 0 = λ e. (let back : (1 + (k - 5)) % 10 ≡ 5 = ap (λ (n : ℕ). n % 10) before ∙ parts.1 in absurd (omega arith)) in
-          let other : record_at numbered (k - 5) ≡ new_order_of (1 + (k - 5)) (state_at start (1 + (k - 5))) = record-is (k - 5) (omega arith) ∙ is-new (1 + (k - 5)) (state_at start (1 + (k - 5))) not_tenth in
+          let other : history_entry numbered (k - 5) ≡ new_order_of (1 + (k - 5)) (state_at start (1 + (k - 5))) = record-is (k - 5) (omega arith) ∙ is-new (1 + (k - 5)) (state_at start (1 + (k - 5))) not_tenth in
           let key : key_at numbered (k - 5) ≡ key_of_number (1 + k - 5) = key-at (k - 5) (omega arith) ∙ ap key_of_number before in
-          with-exists (λ j. is_order (record_at numbered j) && ends (key_at numbered j) (record_at numbered k) && fits_side (side_of (record_at numbered k)) (side_of (record_at numbered j))) k (k - 5) (omega arith)
+          with-exists (λ j. is_order (history_entry numbered j) && ends_order (key_at numbered j) (history_entry numbered k) && fits_side (side_of (history_entry numbered k)) (side_of (history_entry numbered j))) k (k - 5) (omega arith)
           (and_from _ _ (and_from _ _ (ap is_order other)
-          (ap (λ (x : Key). ends x (record_at numbered k)) key ∙ ap (ends (key_of_number (1 + k - 5))) self ∙ ends-five-before (1 + k) parts.2))
-          (ap (λ (r : OrderRecord). fits_side (side_of r) (side_of (record_at numbered (k - 5)))) self))
+          (ap (λ (x : Key). ends_order x (history_entry numbered k)) key ∙ ap (ends_order (key_of_number (1 + k - 5))) self ∙ ends-five-before (1 + k) parts.2))
+          (ap (λ (r : OrderRecord). fits_side (side_of r) (side_of (history_entry numbered (k - 5)))) self))
 
-  no-finding : (k : ℕ) → k < count → record_finding numbered k ≡ None
+  no-finding : (k : ℕ) → k < count → entry_finding numbered k ≡ None
   no-finding k lt =
       option_or-none (duplicate_id numbered k) _ (no-duplicate k lt)
       ∙ option_or-none (time_back numbered k) _ (no-time_back k lt)
       ∙ option_or-none (unknown_target numbered k) _ (no-unknown_target k lt)
 
   pub well_formed : WellFormed generated_symbol entries
-  well_formed = subst (λ (h : List (ℕ × OrderRecord)). least_answer (record_finding h) (length h) ≡ None) (sym history-is)
-      (least-none (record_finding numbered) (length numbered) (λ k lt. no-finding k (omega (arith, count-is, length-enumerate_from 1 entries))))
+  well_formed = subst (λ (h : List (ℕ × OrderRecord)). least_answer (entry_finding h) (length h) ≡ None) (sym history-is)
+      (least-none (entry_finding numbered) (length numbered) (λ k lt. no-finding k (omega (arith, count-is, length-enumerate_from 1 entries))))
 
   pub regular : Regular (order_list generated_symbol entries)
   regular = order_list-regular generated_symbol entries well_formed
 
   -- an order that comes from a record at an index rests
-  order-rests : (records : List (ℕ × OrderRecord)) (k place i state : ℕ) (o : Order) → order_of_record records (k, place, record_of_state i state) ≡ Some o → is_rests o.life ≡ true
-  order-rests records k place i state = of_both i state (λ r. (o : Order) → order_of_record records (k, place, r) ≡ Some o → is_rests o.life ≡ true) (λ o e. absurd (cc)) (λ o e. rests-of _ o e refl)
+  order-rests : (records : List (ℕ × OrderRecord)) (k place i state : ℕ) (o : Order) → order_of_entry records (k, place, record_of_state i state) ≡ Some o → may_rest o.life ≡ true
+  order-rests records k place i state = of_both i state (λ r. (o : Order) → order_of_entry records (k, place, r) ≡ Some o → may_rest o.life ≡ true) (λ o e. absurd (cc)) (λ o e. rests-of _ o e refl)
     where
-      rests-of : (made o : Order) → Some made ≡ Some o → is_rests made.life ≡ true → is_rests o.life ≡ true
-      rests-of made o e rests = let same : made ≡ o = cc in subst (λ (x : Order). is_rests x.life ≡ true) same rests
+      rests-of : (made o : Order) → Some made ≡ Some o → may_rest made.life ≡ true → may_rest o.life ≡ true
+      rests-of made o e rests = let same : made ≡ o = cc in subst (λ (x : Order). may_rest x.life ≡ true) same rests
 
-  orders-rest : (records : List (ℕ × OrderRecord)) → All (λ o. is_rests o.life ≡ true) (filter_map (λ e. order_of_record records (e.0, e.1.0, e.1.1)) (enumerate_from 0 numbered))
-  orders-rest records = all-kept (λ e. order_of_record records (e.0, e.1.0, e.1.1)) (λ o. is_rests o.life ≡ true) (enumerate_from 0 numbered) (λ k d lt o e.
+  orders-rest : (records : List (ℕ × OrderRecord)) → All (λ o. may_rest o.life ≡ true) (filter_map (λ e. order_of_entry records (e.0, e.1.0, e.1.1)) (enumerate_from 0 numbered))
+  orders-rest records = all-kept (λ e. order_of_entry records (e.0, e.1.0, e.1.1)) (λ o. may_rest o.life ≡ true) (enumerate_from 0 numbered) (λ k d lt o e.
       let inside : k < count = omega (arith, count-is, length-enumerate_from 1 entries, length-enumerate_from 0 numbered) in
       let is : get_or (enumerate_from 0 numbered) k d ≡ (0 + k, (1 + k, generated_record start (1 + k))) =
       get_or-enumerate_from 0 numbered k d (omega (arith, count-is, length-enumerate_from 1 entries)) ∙ ap (λ (r : ℕ × OrderRecord). (0 + k, r)) (numbered-is k d.1 inside) in
-      order-rests records (0 + k) (1 + k) (1 + k) (state_at start (1 + k)) o (sym (ap (λ (x : ℕ × (ℕ × OrderRecord)). order_of_record records (x.0, x.1.0, x.1.1)) is) ∙ e))
+      order-rests records (0 + k) (1 + k) (1 + k) (state_at start (1 + k)) o (sym (ap (λ (x : ℕ × (ℕ × OrderRecord)). order_of_entry records (x.0, x.1.0, x.1.1)) is) ∙ e))
 
   pub all-rest : instant_order (order_list generated_symbol entries) ≡ None
-  all-rest = subst (λ (h : List (ℕ × OrderRecord)). instant_order (filter_map (λ e. order_of_record h (e.0, e.1.0, e.1.1)) (enumerate_from 0 h)) ≡ None) (sym history-is)
-      (let orders = filter_map (λ e. order_of_record numbered (e.0, e.1.0, e.1.1)) (enumerate_from 0 numbered) in
-      rw (with-none (λ i. not (is_rests (order_at orders i).life)) (length orders) (λ k lt. ap not (orders-rest numbered k missing_order lt))) refl)
+  all-rest = subst (λ (h : List (ℕ × OrderRecord)). instant_order (filter_map (λ e. order_of_entry h (e.0, e.1.0, e.1.1)) (enumerate_from 0 h)) ≡ None) (sym history-is)
+      (let orders = filter_map (λ e. order_of_entry numbered (e.0, e.1.0, e.1.1)) (enumerate_from 0 numbered) in
+      rw (with-none (λ i. not (may_rest (order_at orders i).life)) (length orders) (λ k lt. ap not (orders-rest numbered k order_past_end lt))) refl)

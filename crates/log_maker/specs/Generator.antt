@@ -21,8 +21,8 @@ pub record IsCount (count : ℕ) : Type 0 where
   pub least : 1 ≤ count
   pub most : count ≤ 1000000
 
--- the state at record i: START before the first record, and then 48271 times the state before, modulo
--- 2^31 - 1 (source: the minimal standard generator of Park, Miller and Stockmeyer)
+-- the state at record i: START before the first record, and then 48271 times the state before,
+-- modulo 2^31 - 1 (source: the minimal standard generator of Park, Miller and Stockmeyer)
 unfoldable pub state_at : ℕ → ℕ → ℕ
 state_at start zero = start
 state_at start (suc i) = 48271 * state_at start i % 2147483647

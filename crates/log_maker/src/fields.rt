@@ -48,7 +48,7 @@ fn key_of(alloc: Global, number: u32, text: &mut Vec<u8>) -> Result<Key, NoMemor
     Ok(Key { firm, id })
 }
 
-/// When the record with this number was accepted.
+/// The time of the record with this number.
 fn time_of(number: u32) -> Stamp
     requires { number ≤ 1000000 }
     ensures { result ≡ spec.time_of_number number }

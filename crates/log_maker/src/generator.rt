@@ -17,10 +17,10 @@ fn next_state(state: u32) -> u32
     (48_271 * u64::from(state) % 2_147_483_647) as u32
 }
 
-/// The records with the numbers 1 to `count`, from the state `start`: a log of the symbol `GEN`, in
-/// which each tenth record is a cancel and every other one a new order that may rest. `start` is from 1
-/// to 2,147,483,646, `count` from 1 to 1,000,000. Their history is well-formed, so no audit of it has a
-/// finding of the order log. Err only out of memory.
+/// The records with the numbers 1 to `count`, from the state `start`: a log of the symbol `GEN`,
+/// in which each tenth record is a cancel and every other one a new order that may rest.
+/// `start` is from 1 to 2,147,483,646, `count` from 1 to 1,000,000. Their history is well-formed,
+/// so no audit of it has a finding of the order log. Err only out of memory.
 pub fn make_orders(alloc: Global, start: u32, count: u32) -> Result<Vec<OrderRecord>, NoMemory>
     requires start { IsStart start }
     requires count { IsCount count }

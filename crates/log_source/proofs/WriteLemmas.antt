@@ -6,7 +6,7 @@ use Rattle.std.proofs.KnownBytes.{Appends-kept}
 use Rattle.std.specs.Io.KnownBytes.{Appends}
 use lib.Seq.{take-append_seam}
 use Rattle.log_source.specs.Sources.{Rose}
-use Rattle.log_source.specs.Sinks.{SinkState, Stays, Writes, AppendsPart, Puts}
+use Rattle.log_source.specs.Sinks.{SinkState, SinkStays, Writes, AppendsPart, Puts}
 use Rattle.log_source.specs.declared.shelf.Failed.{Failed}
 
 -- a count that rose later rose from what it was before
@@ -14,7 +14,7 @@ pub Rose-later : (a b c : ℕ) → a ≤ b → Rose b c → Rose a c
 Rose-later a b c h (inl less) = inl (omega arith)
 Rose-later a b c h (inr greatest) = inr greatest
 
-pub Stays-trans : (a b c : SinkState) → Stays a b → Stays b c → Stays a c
+pub Stays-trans : (a b c : SinkState) → SinkStays a b → SinkStays b c → SinkStays a c
 Stays-trans a b c p q = record { tells = q.tells ∙ p.tells; sure = q.sure ∙ p.sure; later = omega (arith, p.later, q.later) }
 
 -- what a write takes is the front of the rest, and what is left of the rest follows it
@@ -33,7 +33,7 @@ part_of old new bytes written rest cut more appended =
     }
 
 -- a write that fails after others leaves a front of the bytes written
-pub put_failed : {T : Type 0} (first mid new : SinkState) (failed : Failed) (result : Result T Failed) (bytes written rest : List ℕ) → IsErr result → Stays first mid → bytes ≡ written ++ rest → 0 < length rest
+pub put_failed : {T : Type 0} (first mid new : SinkState) (failed : Failed) (result : Result T Failed) (bytes written rest : List ℕ) → IsErr result → SinkStays first mid → bytes ≡ written ++ rest → 0 < length rest
     → Appends first.wrote mid.wrote written → Writes mid new (Err failed) rest → Puts first new result bytes
 put_failed first mid new failed (Ok x) bytes written rest is stays cut more appended write = cc
 put_failed first mid new failed (Err e) bytes written rest is stays cut more appended write = record {

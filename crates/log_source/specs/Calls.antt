@@ -11,5 +11,5 @@ abbrev pub faults_after : Bool → ℕ → ℕ
 faults_after fails faults = if fails then count_after faults else faults
 
 -- the number is among those of the calls that are to fail
-abbrev pub is_listed : ℕ → List ℕ → Bool
-is_listed number fails = list_any (λ n. n == number) fails
+abbrev pub is_failing_number : ℕ → List ℕ → Bool
+is_failing_number number fails = list_any (λ n. n == number) fails

@@ -6,7 +6,7 @@ use Rattle.log_source.specs.Sources.{Slot}
 use Rattle.log_source.specs.declared.endless_shelf.EndlessSlot.{EndlessSlot}
 use Rattle.log_source.specs.declared.endless_shelf.EndlessShelf.{EndlessShelf}
 
--- the state of one slot: nothing is told of what is left, and no fault is ever counted
+-- the state of one slot: nothing is known of what is left, and no fault is ever counted
 abbrev pub endless_state : EndlessSlot → Slot
 endless_state slot = record {
   started = slot.started;
@@ -17,18 +17,18 @@ endless_state slot = record {
 }
 
 -- the state of a slot that was just started, for this many times
-abbrev pub started_slot : ℕ → Slot
-started_slot starts =
+abbrev pub endless_started_slot : ℕ → Slot
+endless_started_slot starts =
     record { started = true; left = None; taken = 0; starts = starts; faults = 0 }
 
--- it does not tell of its logs
+-- nothing is known of its logs
 abbrev pub endless_tells : EndlessShelf → Bool
 endless_tells shelf = false
 
 abbrev pub endless_log_of : EndlessShelf → Which → List ℕ → Option (List ℕ)
 endless_log_of shelf which name = None
 
--- what stands in a slot
+-- the state of each slot
 abbrev pub endless_slot : EndlessShelf → Which → Slot
 endless_slot shelf Orders = endless_state shelf.orders
 endless_slot shelf Trades = endless_state shelf.trades

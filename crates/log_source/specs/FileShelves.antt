@@ -1,4 +1,4 @@
--- What stands in the slots of a shelf over files.
+-- The state of the slots of a shelf over files.
 use Rattle.std.specs.Prelude.{ℕ, List, Option, is_some}
 use Rattle.std.specs.Option.{option_and_then}
 use Rattle.audit_base.specs.declared.terms.Which.{Which}
@@ -6,8 +6,8 @@ use Rattle.audit_base.specs.declared.terms.Which.TheVariants.{Orders, Trades}
 use Rattle.log_source.specs.Sources.{Slot}
 use Rattle.log_source.specs.declared.file_shelf.FileSlot.{FileSlot}
 
--- The state of one slot: a file that is open is started, and what is left is what the file itself
--- tells of it, which is nothing at a file of the system.
+-- The state of one slot: a file that is open is started, and what is left is what is
+-- known of the file itself, which is nothing of a file of the system.
 abbrev pub file_state : {X : Type 0} → (X → Option (List ℕ)) → FileSlot X → Slot
 file_state remaining slot = record {
   started = is_some slot.file;
@@ -17,7 +17,7 @@ file_state remaining slot = record {
   faults = slot.faults;
 }
 
--- what stands in the slot of each log
+-- the state of the slot of each log
 abbrev pub file_slot : {X : Type 0} → (X → Option (List ℕ)) → FileSlot X → FileSlot X → Which → Slot
 file_slot remaining orders trades Orders = file_state remaining orders
 file_slot remaining orders trades Trades = file_state remaining trades

@@ -7,8 +7,9 @@ pub mod Handing
 pub mod Feeds
 pub mod Pumping
 pub mod Collectors
--- What the shelves and sinks of this crate stand at. The counts and the failing calls of those in
--- memory are in Calls; the shelf over files and the sink over a writer tell what these tell.
+-- The states of the shelves and sinks of this crate.
+-- The counts and the failing calls of those in memory are in Calls;
+-- of the shelf over files and the sink over a writer is known what is known of these.
 pub mod Calls
 pub mod MemoryShelves
 pub mod QuietShelves

@@ -3,21 +3,21 @@ use Rattle.std.specs.Prelude.{◌≡◌, ◌≢◌, ℕ, Bool, true, ◌||◌, L
 use Rattle.std.specs.Option.{option_map_or}
 use Rattle.audit_base.specs.declared.terms.Which.{Which}
 use Rattle.audit_base.specs.declared.terms.Which.TheVariants.{Orders, Trades}
-use Rattle.log_source.specs.Calls.{count_after, faults_after, is_listed}
-use Rattle.log_source.specs.Cursors.{newest, cursor_state}
+use Rattle.log_source.specs.Calls.{count_after, faults_after, is_failing_number}
+use Rattle.log_source.specs.Cursors.{newest_log_bytes, cursor_state}
 use Rattle.log_source.specs.Sources.{Slot}
 use Rattle.log_source.specs.declared.memory_shelf.MemoryShelf.{MemoryShelf}
 
 -- the bytes of the log that was put last under a name, or nothing
 abbrev pub memory_log : MemoryShelf → List ℕ → Option (List ℕ)
-memory_log shelf name = newest shelf.logs.items name
+memory_log shelf name = newest_log_bytes shelf.logs.items name
 
--- what stands in a slot
+-- the state of each slot
 abbrev pub memory_slot : MemoryShelf → Which → Slot
 memory_slot shelf Orders = cursor_state shelf.logs.items shelf.orders
 memory_slot shelf Trades = cursor_state shelf.logs.items shelf.trades
 
--- it tells what it holds
+-- what it holds is known
 abbrev pub memory_tells : MemoryShelf → Bool
 memory_tells shelf = true
 
@@ -43,34 +43,37 @@ piece_size shelf = shelf.piece
 
 -- the next call is to fail
 abbrev pub fails_next : MemoryShelf → Bool
-fails_next shelf = is_listed (count_after (calls_made shelf)) (failing_calls shelf)
+fails_next shelf = is_failing_number (count_after (calls_made shelf)) (failing_calls shelf)
 
 -- a start of this name fails next: it is to, or the name is not there
 abbrev pub fails_to_start : MemoryShelf → List ℕ → Bool
 fails_to_start shelf name = fails_next shelf || is_none (memory_log shelf name)
 
--- how many bytes the next read into a buffer of this length gives: at most a piece, and what is left
+-- how many bytes the next read into a buffer of this length gives:
+-- at most a piece, and what is left
 abbrev pub read_size : MemoryShelf → Which → ℕ → ℕ
-read_size shelf which room = min (piece_size shelf) (min (option_map_or length (memory_slot shelf which).left 0) room)
+read_size shelf which room =
+    min (piece_size shelf) (min (option_map_or length (memory_slot shelf which).left 0) room)
 
 -- every name has the bytes that it had
-abbrev pub KeepsLogs : MemoryShelf → MemoryShelf → Type 0
-KeepsLogs old new = (n : List ℕ) → memory_log new n ≡ memory_log old n
+abbrev pub KeepsNamedLogs : MemoryShelf → MemoryShelf → Type 0
+KeepsNamedLogs old new = (n : List ℕ) → memory_log new n ≡ memory_log old n
 
 -- every name but this one has the bytes that it had
-abbrev pub KeepsOthers : MemoryShelf → MemoryShelf → List ℕ → Type 0
-KeepsOthers old new name = (n : List ℕ) → n ≢ name → memory_log new n ≡ memory_log old n
+abbrev pub KeepsOtherLogs : MemoryShelf → MemoryShelf → List ℕ → Type 0
+KeepsOtherLogs old new name = (n : List ℕ) → n ≢ name → memory_log new n ≡ memory_log old n
 
 -- which calls fail and how much a read gives stay as they are
-pub record KeepsRules (old new : MemoryShelf) : Type 0 where
+pub record KeepsShelfSettings (old new : MemoryShelf) : Type 0 where
   pub fails : failing_calls new ≡ failing_calls old
   pub piece : piece_size new ≡ piece_size old
 
 -- where the call was to fail, it is counted as a fault of this slot
-abbrev pub CountsFault : MemoryShelf → MemoryShelf → Which → Type 0
-CountsFault old new which = memory_faults new which ≡ faults_after (fails_next old) (memory_faults old which)
+abbrev pub CountsSlotFault : MemoryShelf → MemoryShelf → Which → Type 0
+CountsSlotFault old new which =
+    memory_faults new which ≡ faults_after (fails_next old) (memory_faults old which)
 
 -- one more call was made
 pub record CountsCall (old new : MemoryShelf) : Type 0 where
   pub calls : calls_made new ≡ count_after (calls_made old)
-  pub rules : KeepsRules old new
+  pub rules : KeepsShelfSettings old new

@@ -6,7 +6,8 @@ use Rattle.log_source.specs.Sources.{Slot}
 use Rattle.log_source.specs.declared.quiet_shelf.QuietSlot.{QuietSlot}
 use Rattle.log_source.specs.declared.quiet_shelf.QuietShelf.{QuietShelf}
 
--- the state of one slot: of a started log the bytes past those given are left, and no fault is ever counted
+-- the state of one slot: of a started log the bytes past those given are left,
+-- and no fault is ever counted
 abbrev pub quiet_state : QuietSlot → Slot
 quiet_state slot = record {
   started = slot.started;
@@ -17,8 +18,8 @@ quiet_state slot = record {
 }
 
 -- the state of a slot whose log was just started, for this many times
-abbrev pub started_slot : List ℕ → ℕ → Slot
-started_slot log starts =
+abbrev pub quiet_started_slot : List ℕ → ℕ → Slot
+quiet_started_slot log starts =
     record { started = true; left = Some log; taken = 0; starts = starts; faults = 0 }
 
 -- the log of a slot
@@ -26,7 +27,7 @@ abbrev pub quiet_log : QuietShelf → Which → List ℕ
 quiet_log shelf Orders = shelf.orders.log.items
 quiet_log shelf Trades = shelf.trades.log.items
 
--- it tells what it holds
+-- what it holds is known
 abbrev pub quiet_tells : QuietShelf → Bool
 quiet_tells shelf = true
 
@@ -34,7 +35,7 @@ quiet_tells shelf = true
 abbrev pub quiet_log_of : QuietShelf → Which → List ℕ → Option (List ℕ)
 quiet_log_of shelf which name = Some (quiet_log shelf which)
 
--- what stands in a slot
+-- the state of each slot
 abbrev pub quiet_slot : QuietShelf → Which → Slot
 quiet_slot shelf Orders = quiet_state shelf.orders
 quiet_slot shelf Trades = quiet_state shelf.trades

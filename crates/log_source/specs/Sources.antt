@@ -1,4 +1,4 @@
--- What a shelf holds of its two logs: what stands before and after a start and a read.
+-- What a shelf holds of its two logs: the states before and after a start and a read.
 use Rattle.std.specs.Prelude.{◌≡◌, ℕ, ◌+◌, ◌-◌, ◌<◌, ◌≤◌, ◌^◌, ◌⊎◌, Bool, true, false, List, Option, None, IsSome, Result, is_ok, OnOk, OnErr, IsErrOf, MatchResult}
 use Rattle.std.specs.Io.{ReadsAtMost}
 use Rattle.std.specs.Io.KnownBytes.{ReadConsumes}
@@ -15,13 +15,13 @@ abbrev pub longest_read : ℕ
 longest_read = 34359738368
 
 -- the slot beside this one
-abbrev pub other_of : Which → Which
-other_of Orders = Trades
-other_of Trades = Orders
+abbrev pub other_log : Which → Which
+other_log Orders = Trades
+other_log Trades = Orders
 
--- What a shelf stands at in one slot: whether a log is started, the bytes still to come where they are
--- known, how many bytes reads have given since the start, how many starts were made, and how many faults
--- were counted.
+-- The state of one slot of a shelf: whether a log is started, the bytes still to come where
+-- they are known, how many bytes reads have given since the start, how many starts were made,
+-- and how many faults were counted.
 pub record Slot : Type 0 where
   pub started : Bool
   pub left : Option (List ℕ)
@@ -29,23 +29,23 @@ pub record Slot : Type 0 where
   pub starts : ℕ
   pub faults : ℕ
 
--- a slot of a new shelf: nothing is started, taken or counted; `left` is what the shelf tells of it
+-- a slot of a new shelf: nothing is started, taken or counted; `left` is what is known of it
 abbrev pub fresh_slot : Option (List ℕ) → Slot
 fresh_slot left = record { started = false; left = left; taken = 0; starts = 0; faults = 0 }
 
--- a count of faults rose, or stands at the greatest value that it can show
+-- a count of faults rose, or is the greatest value that it can show
 abbrev pub Rose : ℕ → ℕ → Type 0
 Rose old new = (old < new) ⊎ (new ≡ 2 ^ 64 - 1)
 
--- Only this slot may have changed: whether the shelf tells, its logs and its other slot stay.
-pub record ChangesOnly {F : Type 0} (tells : F → Bool)
+-- Only this slot may have changed: whether its logs are known, its logs and its other slot stay.
+pub record ChangesOneSlot {F : Type 0} (tells : F → Bool)
     (log_of : F → Which → List ℕ → Option (List ℕ)) (slot : F → Which → Slot) (which : Which)
     (old new : F) : Type 0 where
   pub tells_stays : tells new ≡ tells old
   pub logs_stay : (w : Which) (n : List ℕ) → log_of new w n ≡ log_of old w n
-  pub other_stays : slot new (other_of which) ≡ slot old (other_of which)
+  pub other_stays : slot new (other_log which) ≡ slot old (other_log which)
 
--- What a start does to its slot. `log` is what the shelf has under the name, known where it tells.
+-- What a start does to its slot. `log` is what the shelf has under the name, where that is known.
 pub record Starts {T : Type 0} (tells : Bool) (log : Option (List ℕ)) (old new : Slot)
     (result : Result T StartFault) : Type 0 where
   pub fresh : new.taken ≡ 0
@@ -53,11 +53,12 @@ pub record Starts {T : Type 0} (tells : Bool) (log : Option (List ℕ)) (old new
   pub later : old.faults ≤ new.faults
   pub started : new.started ≡ is_ok result
   pub known : OnOk result (tells ≡ true → IsSome log × (new.left ≡ log))
-  pub cause : IsErrOf result start.Failed → Rose old.faults new.faults ⊎ ((tells ≡ true) × (log ≡ None))
+  pub cause : IsErrOf result start.Failed → Rose old.faults new.faults
+      ⊎ ((tells ≡ true) × (log ≡ None))
 
--- What a read into `buf` does to its slot: at `Ok n` the first n bytes of what was left stand at the
--- front of `buf`, and n is 0 only where nothing is left. After a failure left and taken stay. A read is no
--- start.
+-- What a read into `buf` does to its slot: at `Ok n` the first n bytes of what
+-- was left are at the front of `buf`, and n is 0 only where nothing is left.
+-- After a failure left and taken stay. A read is no start.
 pub record Reads (old new : Slot) (result : Result ℕ Failed) (buf : List ℕ) : Type 0 where
   pub bound : ReadsAtMost result buf
   pub bytes : ReadConsumes old.left new.left result buf

@@ -1,20 +1,22 @@
-//! A collector: what is handed the records of a log one after another and keeps what it needs of them.
+//! A collector: what is handed the records of a log one after another
+//! and keeps what it needs of them.
 ghost use Rattle.std.specs.Prelude.{◌≡◌, ◌∷◌, [], ℕ, Bool, List, OnOk, length};
 ghost use Rattle.log_source.specs.Collectors.{HasPlace, PassesOver};
-ghost use Rattle.log_source.specs.Handing.{Adds};
+ghost use Rattle.log_source.specs.Handing.{HandsOnMore};
 
 use audit_base::faults::NoMemory;
-use audit_base::records::Traded;
+use audit_base::records::LogRecord;
 
-/// What is handed the records of a log in order, one by one, so that nothing of the log need be kept
-/// but what the collector keeps. Its meaning is the lists of records that it may have been handed so
-/// far.
+/// What is handed the records of a log in order, one by one,
+/// so that nothing of the log need be kept but what the collector keeps.
+/// Its meaning is the lists of records that it may have been handed so far.
 ///
-/// A reader asks `wants` before it makes a record. A record that is not wanted is only tested, and
-/// handed on by `pass_over`; it still has its place. There may be at most 4,294,967,294 records before
-/// each, which those of a log of `LONGEST_READ` bytes never reach: each has at least nine of the bytes.
+/// A reader asks `wants` before it makes a record. A record that is not wanted is only tested,
+/// and handed on by `pass_over`; it still has its place. There may be at most 4,294,967,294
+/// records before each, which those of a log of `LONGEST_READ` bytes never reach:
+/// each has at least nine of the bytes.
 pub trait Collector: Drop {
-    type Entry: Traded;
+    type Entry: LogRecord;
 
     // The collector has been handed exactly these records.
     ghost has_taken: { Self → List Self.Entry → Type 0 };
@@ -22,11 +24,12 @@ pub trait Collector: Drop {
     // It looks at the records of this symbol.
     ghost wants: { Self → List ℕ → Bool };
 
-    /// Hands on the next record. A collector that has answered `NoMemory` is given up: nothing is known
-    /// of it afterwards.
+    /// Hands on the next record. A collector that has answered `NoMemory` is given up:
+    /// nothing is known of it afterwards.
     fn take(&mut self, entry: Self::Entry) -> Result<(), NoMemory>
         requires { HasPlace has_taken self.old }
-        ensures { OnOk result (Adds (has_taken self.old) (has_taken self.new) (entry ∷ [])) };
+        ensures { OnOk result
+            (HandsOnMore (has_taken self.old) (has_taken self.new) (entry ∷ [])) };
 
     /// Whether it looks at the records of the symbol.
     fn wants(&self, symbol: &[u8]) -> bool
@@ -46,7 +49,7 @@ pub trait Collector: Drop {
 }
 
 /// A list keeps all records.
-impl<R: Traded> Collector for Vec<R> {
+impl<R: LogRecord> Collector for Vec<R> {
     ghost use Rattle.std.specs.Prelude.{◌≡◌, true};
 
     type Entry = R;

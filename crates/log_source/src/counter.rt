@@ -1,7 +1,7 @@
 //! A collector that only counts.
 use crate::collector::Collector;
 use audit_base::faults::NoMemory;
-use audit_base::records::Traded;
+use audit_base::records::LogRecord;
 use std::marker::PhantomData;
 
 /// How many records there were. It looks at the records of no symbol, so none is ever made for it.
@@ -11,7 +11,7 @@ pub struct Counter<R> {
     of: PhantomData<R>,
 }
 
-impl<R: Traded> Counter<R> {
+impl<R: LogRecord> Counter<R> {
     ghost use Rattle.std.specs.Prelude.{[]};
 
     /// No records.
@@ -25,7 +25,7 @@ impl<R: Traded> Counter<R> {
     }
 }
 
-impl<R: Traded> Collector for Counter<R> {
+impl<R: LogRecord> Collector for Counter<R> {
     ghost use Rattle.std.specs.Prelude.{◌≡◌, false, length};
 
     type Entry = R;

@@ -1,8 +1,8 @@
-//! Logs in memory, and where a slot stands in one of them.
+//! Logs in memory, and where a slot is in one of them.
 ghost use Rattle.std.specs.Prelude.{◌≡◌, ◌<◌, ◌≤◌, true, length, drop, Some, None, IfSome, IfNone, IfOk, IfErr, is_err, is_none, ◌||◌};
 ghost use Rattle.log_source.specs.Calls.{faults_after};
 ghost use Rattle.log_source.specs.Sources.{Starts, Reads};
-ghost use Rattle.log_source.specs.Cursors.{newest, bytes_at, cursor_read_size, cursor_state, IsCursorInside};
+ghost use Rattle.log_source.specs.Cursors.{newest_log_bytes, log_bytes_at, cursor_read_size, cursor_state, IsCursorInside};
 
 use crate::in_memory::copy_piece;
 use crate::shelf::{Failed, StartFault};
@@ -14,7 +14,7 @@ pub(crate) struct Log {
     pub(crate) bytes: Vec<u8>,
 }
 
-/// Where a slot stands: in which log, and after how many of its bytes.
+/// Where a slot is: in which log, and after how many of its bytes.
 #[derive(Clone, Copy)]
 pub(crate) struct Cursor {
     pub(crate) started: bool,
@@ -27,8 +27,9 @@ pub(crate) struct Cursor {
 /// The index of the newest log of this name.
 fn newest_index(logs: &[Log], name: &str) -> Option<usize>
     ensures within { IfSome result (λ i. i < length logs.now) }
-    ensures found { IfSome result (λ i. newest logs.now name.now ≡ Some (bytes_at logs.now i)) }
-    ensures none { IfNone result (newest logs.now name.now ≡ None) }
+    ensures found { IfSome result
+        (λ i. newest_log_bytes logs.now name.now ≡ Some (log_bytes_at logs.now i)) }
+    ensures none { IfNone result (newest_log_bytes logs.now name.now ≡ None) }
 {
     let mut found = None;
     for (index, log) in logs.iter().enumerate() {
@@ -47,9 +48,10 @@ pub(crate) fn start_cursor(
     name: &str,
 ) -> Result<(), StartFault>
     ensures slot { let state = cursor_state logs.now in
-        Starts true (newest logs.now name.now) (state cursor.old) (state cursor.new) result }
+        Starts true (newest_log_bytes logs.now name.now)
+        (state cursor.old) (state cursor.new) result }
     ensures within { IsCursorInside logs.now cursor.new }
-    ensures failing { is_err result ≡ (fails || is_none (newest logs.now name.now)) }
+    ensures failing { is_err result ≡ (fails || is_none (newest_log_bytes logs.now name.now)) }
     ensures memory { IfErr result (λ fault. fault ≡ StartFault.Failed) }
     ensures faults { cursor.new.faults ≡ faults_after fails cursor.old.faults }
 {
@@ -68,7 +70,7 @@ pub(crate) fn start_cursor(
 
 /// The bytes that are still to come.
 fn rest_of<'a>(logs: &'a [Log], cursor: &Cursor) -> &'a [u8]
-    ensures { result.now ≡ drop cursor.now.at (bytes_at logs.now cursor.now.log) }
+    ensures { result.now ≡ drop cursor.now.at (log_bytes_at logs.now cursor.now.log) }
 {
     match logs.get(cursor.log) {
         Some(log) if cursor.at <= log.bytes.len() => &log.bytes[cursor.at..],

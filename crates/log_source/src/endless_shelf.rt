@@ -2,7 +2,7 @@
 ghost use Rattle.std.specs.Prelude.{◌≡◌, ◌<◌, ◌≤◌, true, false, length, replicate, None, IsOk, Ok};
 ghost use Rattle.audit_base.specs.declared.terms.Which.{Which};
 ghost use Rattle.log_source.specs.Calls.{count_after};
-ghost use Rattle.log_source.specs.Sources.{ChangesOnly, Starts, Reads, fresh_slot, longest_read};
+ghost use Rattle.log_source.specs.Sources.{ChangesOneSlot, Starts, Reads, fresh_slot, longest_read};
 
 use crate::shelf::{Failed, Shelf, StartFault};
 use audit_base::terms::Which;
@@ -16,10 +16,10 @@ struct EndlessSlot {
 }
 
 impl EndlessSlot {
-    ghost use Rattle.log_source.specs.EndlessShelves.{endless_state, started_slot};
+    ghost use Rattle.log_source.specs.EndlessShelves.{endless_state, endless_started_slot};
 
     fn start(&mut self)
-        ensures { endless_state self.new ≡ started_slot (count_after self.old.starts) }
+        ensures { endless_state self.new ≡ endless_started_slot (count_after self.old.starts) }
     {
         self.started = true;
         self.taken = 0;
@@ -27,7 +27,7 @@ impl EndlessSlot {
     }
 }
 
-/// A shelf both of whose slots give one byte without end, under every name. It tells nothing of its
+/// A shelf both of whose slots give one byte without end, under every name. Nothing is known of its
 /// logs, and no call of it fails.
 #[derive(Clone, Copy)]
 pub struct EndlessShelf {
@@ -67,7 +67,7 @@ impl Shelf for EndlessShelf {
     ghost slot = { endless_slot };
 
     fn start(&mut self, which: Which, name: &str) -> Result<(), StartFault>
-        ensures only { ChangesOnly endless_tells endless_log_of endless_slot
+        ensures only { ChangesOneSlot endless_tells endless_log_of endless_slot
             which self.old self.new }
         ensures slot { Starts false None (endless_slot self.old which) (endless_slot self.new which)
             result }
@@ -85,7 +85,7 @@ impl Shelf for EndlessShelf {
         requires room { 0 < length buf.old }
         requires started { (endless_slot self.old which).started ≡ true }
         requires within { (endless_slot self.old which).taken ≤ longest_read }
-        ensures only { ChangesOnly endless_tells endless_log_of endless_slot
+        ensures only { ChangesOneSlot endless_tells endless_log_of endless_slot
             which self.old self.new }
         ensures slot { Reads (endless_slot self.old which) (endless_slot self.new which)
             result buf.new }

@@ -1,7 +1,7 @@
 //! The shelf of the program: files, each opened under its path.
 ghost use Rattle.std.specs.Prelude.{◌≡◌, ◌<◌, ◌≤◌, true, false, length, None, IsErrOf, ℕ, List};
 ghost use Rattle.audit_base.specs.declared.terms.Which.{Which};
-ghost use Rattle.log_source.specs.Sources.{ChangesOnly, Starts, Reads, fresh_slot, longest_read};
+ghost use Rattle.log_source.specs.Sources.{ChangesOneSlot, Starts, Reads, fresh_slot, longest_read};
 ghost use Rattle.log_source.specs.FileShelves.{file_state, file_slot};
 
 use crate::file_system::FileSystem;
@@ -87,11 +87,11 @@ impl<X: Read + Drop> FileSlot<X> {
     }
 }
 
-/// A shelf over files, where a log's name is its path. It tells what its file system tells: over the
-/// runtime's files that is nothing, and over one that tells, each slot reads the file under the path that
-/// was named, from its first byte to its last. A start closes the file that was open in its slot. An open or
-/// a read that is refused is counted as a fault of its slot, as of a file that is not there, a directory,
-/// or a file that may not be read. An open that finds no memory is no fault.
+/// A shelf over files, where a log's name is its path. Its logs are known where the files are:
+/// the runtime's are not; where they are, each slot reads the file under the path that was named,
+/// from its first byte to its last. A start closes the file that was open in its slot. An open
+/// or a read that is refused is counted as a fault of its slot, as of a file that is not there,
+/// a directory, or a file that may not be read. An open that finds no memory is no fault.
 #[derive(Drop)]
 pub struct FileShelf<S: FileSystem> {
     files: S,
@@ -124,7 +124,7 @@ impl<S: FileSystem + Drop> Shelf for FileShelf<S> {
 
     fn start(&mut self, which: Which, name: &str) -> Result<(), StartFault>
         ensures only { let shelf = ⟦<FileShelf<S> as Shelf>⟧ in
-            ChangesOnly shelf.tells shelf.log_of shelf.slot which self.old self.new }
+            ChangesOneSlot shelf.tells shelf.log_of shelf.slot which self.old self.new }
         ensures slot { let shelf = ⟦<FileShelf<S> as Shelf>⟧ in
             Starts (shelf.tells self.old) (shelf.log_of self.old which name.now)
             (shelf.slot self.old which) (shelf.slot self.new which) result }

@@ -1,6 +1,6 @@
 //! What a shelf over files asks of the system: one call, that opens the file under a path.
 ghost use Rattle.std.specs.Prelude.{ℕ, Bool, false, List, Option, None};
-ghost use Rattle.log_source.specs.FileSystems.{Opens};
+ghost use Rattle.log_source.specs.FileSystems.{OpensFile};
 
 use std::io::Read;
 use std::rt::Files;
@@ -8,7 +8,8 @@ use std::{fs, io};
 
 /// Files that are opened by their paths.
 ///
-/// Where it tells, the bytes under each path are known, or that no file is there, and they never change.
+/// Where its files are known (`tells`), so are the bytes under each path,
+/// or that no file is there, and they never change.
 pub trait FileSystem {
     /// An open file, which is closed where it is dropped. Its reads give what `Read` says.
     type File: Read + Drop;
@@ -16,17 +17,16 @@ pub trait FileSystem {
     // Whether the bytes of its files are known.
     ghost tells: { Self → Bool };
 
-    // The bytes of the file under a path, or nothing; known where it tells.
+    // The bytes of the file under a path, or nothing, where its files are known.
     ghost file_at: { Self → List ℕ → Option (List ℕ) };
 
     /// Opens the file under this path, to be read from its first byte. Err may come for any cause.
     fn open(&self, path: &str) -> io::Result<Self::File>
         ensures { let file = file_at self.now path.now in
-            Opens (tells self.now) file Self.File.remaining result };
+            OpensFile (tells self.now) file Self.File.remaining result };
 }
 
-/// The files of the runtime. It tells nothing of them, so what stands under a path is not known to
-/// contracts.
+/// The files of the runtime. Contracts know nothing of what is under a path.
 impl<R: Files> FileSystem for R {
     type File = R::File;
 

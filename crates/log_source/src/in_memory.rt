@@ -1,11 +1,11 @@
-//! What the shelves and the sink in memory share: the calls that are to fail, and a piece of known
-//! bytes.
+//! What the shelves and the sink in memory share: the calls that are to fail,
+//! and a piece of known bytes.
 ghost use Rattle.std.specs.Prelude.{◌≡◌, length, min, take};
 ghost use Rattle.log_source.specs.Calls as calls;
 
 /// Whether the call of this number is to fail.
-pub(crate) fn is_listed(number: u64, fails: &[u32]) -> bool
-    ensures { result ≡ calls.is_listed number fails.now }
+pub(crate) fn is_failing_number(number: u64, fails: &[u32]) -> bool
+    ensures { result ≡ calls.is_failing_number number fails.now }
 {
     fails.iter().any(|fail| u64::from(*fail) == number)
 }

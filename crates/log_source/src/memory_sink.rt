@@ -2,7 +2,7 @@
 ghost use Rattle.std.specs.Prelude.{◌≡◌, ◌<◌, ◌≤◌, [], length, Some, IfOk, is_err, vec_len, vec_capacity};
 ghost use Rattle.log_source.specs.Sinks.{Writes};
 
-use crate::in_memory::is_listed;
+use crate::in_memory::is_failing_number;
 use crate::shelf::Failed;
 use crate::sink::Sink;
 use audit_base::faults::NoMemory;
@@ -25,11 +25,11 @@ pub struct MemorySink {
 }
 
 impl MemorySink {
-    ghost use Rattle.log_source.specs.MemorySinks.{memory_state, room_of, most_of, writes_made, failing_writes, sink_faults};
+    ghost use Rattle.log_source.specs.MemorySinks.{memory_sink_state, sink_room, sink_greatest_write, writes_made, failing_writes, sink_faults};
 
-    /// An empty sink with room for `room` bytes. One write takes at most `most` bytes, and the
-    /// writes whose numbers, from 1, are in `fails` fail, as does every write once the room is
-    /// full.
+    /// An empty sink with room for `room` bytes. One write takes at most `most` bytes,
+    /// and the writes whose numbers, from 1, are in `fails` fail,
+    /// as does every write once the room is full.
     pub fn new(
         alloc: Global,
         room: usize,
@@ -37,11 +37,11 @@ impl MemorySink {
         fails: Vec<u32>,
     ) -> Result<MemorySink, NoMemory>
         requires { 1 ≤ most }
-        ensures wrote { IfOk result (λ sink. (memory_state sink).wrote ≡ Some []) }
+        ensures wrote { IfOk result (λ sink. (memory_sink_state sink).wrote ≡ Some []) }
         ensures faults { IfOk result (λ sink. sink_faults sink ≡ 0) }
         ensures calls { IfOk result (λ sink. writes_made sink ≡ 0) }
-        ensures room { IfOk result (λ sink. room_of sink ≡ room) }
-        ensures most { IfOk result (λ sink. most_of sink ≡ most) }
+        ensures room { IfOk result (λ sink. sink_room sink ≡ room) }
+        ensures most { IfOk result (λ sink. sink_greatest_write sink ≡ most) }
         ensures fails { IfOk result (λ sink. failing_writes sink ≡ fails.items) }
     {
         let bytes = Vec::with_capacity(alloc, room)?;
@@ -57,28 +57,29 @@ impl MemorySink {
 
     /// What was written.
     pub fn bytes(&self) -> &[u8]
-        ensures { (memory_state self.now).wrote ≡ Some result.now }
+        ensures { (memory_sink_state self.now).wrote ≡ Some result.now }
     {
         self.bytes.as_slice()
     }
 }
 
 impl Sink for MemorySink {
-    ghost use Rattle.log_source.specs.MemorySinks.{memory_state, write_fails, write_size, CountsFault, CountsWrite};
+    ghost use Rattle.log_source.specs.MemorySinks.{memory_sink_state, write_fails, write_size, CountsWriteFault, CountsWrite};
 
-    ghost state = { memory_state };
+    ghost state = { memory_sink_state };
 
     fn write(&mut self, piece: &[u8]) -> Result<usize, Failed>
         requires { 0 < length piece.now }
-        ensures written { Writes (memory_state self.old) (memory_state self.new) result piece.now }
+        ensures written { Writes (memory_sink_state self.old) (memory_sink_state self.new)
+            result piece.now }
         ensures counted { CountsWrite self.old self.new }
         ensures failing { is_err result ≡ write_fails self.old }
         ensures count { IfOk result (λ n. n ≡ write_size self.old (length piece.now)) }
-        ensures faults { CountsFault self.old self.new }
+        ensures faults { CountsWriteFault self.old self.new }
     {
         self.calls = self.calls.saturating_add(1);
         let free = self.room - self.bytes.len();
-        if is_listed(self.calls, &self.fails) || free == 0 {
+        if is_failing_number(self.calls, &self.fails) || free == 0 {
             self.faults = self.faults.saturating_add(1);
             return Err(Failed);
         }

@@ -3,8 +3,8 @@ ghost use Rattle.std.specs.Prelude.{◌≡◌, Bool, true, false, is_some, refl}
 
 use std::io::{Print, Printer, Write};
 
-/// A writer whose type says whether the bytes that it holds are known: those of a vector are, and those of
-/// standard output are not.
+/// A writer whose type says whether the bytes that it holds are known: those of a vector are,
+/// and those of standard output are not.
 pub trait Output: Write {
     // Whether the bytes that a writer of this type holds are known.
     ghost tells: { Bool };

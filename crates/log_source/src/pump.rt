@@ -1,6 +1,6 @@
 //! Handing a whole log to a feed, piece by piece.
 ghost use Rattle.std.specs.Prelude.{◌≤◌, [], OnOk, IsErrOf};
-ghost use Rattle.log_source.specs.Sources.{ChangesOnly, longest_read};
+ghost use Rattle.log_source.specs.Sources.{ChangesOneSlot, longest_read};
 ghost use Rattle.log_source.specs.Taking.{Takes};
 ghost use Rattle.log_source.specs.Pumping.{StandsForWhole, StandsForTaken, StandsForFront};
 
@@ -13,15 +13,15 @@ use audit_base::terms::Which;
 /// and a piece cost a feed is small beside their bytes.
 const PIECE: usize = 1_048_576;
 
-/// Hands the log of this name to the feed, piece by piece up to its end. `limit` is the greatest number
-/// of bytes that the log may have, `LONGEST_READ` at most. The causes of failure are those of
-/// `take_log`: `TooLong` comes exactly where more than `limit` bytes were taken.
+/// Hands the log of this name to the feed, piece by piece up to its end. `limit` is the greatest
+/// number of bytes that the log may have, `LONGEST_READ` at most. The causes of failure are those
+/// of `take_log`: `TooLong` comes exactly where more than `limit` bytes were taken.
 ///
-/// After `Fault` the feed stands for exactly the bytes that were taken, a front of the log: none, where
-/// the log was not started. The piece that takes the slot past `limit` bytes is not handed on, so
-/// after `TooLong` the feed stands for a front of the log that is no longer than this. In both cases
-/// the feed may be used on. After `Memory` it is given up. Whatever the answer, the slot may be started
-/// anew, and the other slot is as it was.
+/// After `Fault` the feed stands for exactly the bytes that were taken, a front of the log: none,
+/// where the log was not started. The piece that takes the slot past `limit` bytes is not handed
+/// on, so after `TooLong` the feed stands for a front of the log that is no longer than this.
+/// In both cases the feed may be used on. After `Memory` it is given up. Whatever the answer,
+/// the slot may be started anew, and the other slot is as it was.
 pub fn pump<F: Shelf, D: Feed>(
     shelf: &mut F,
     which: Which,
@@ -31,7 +31,7 @@ pub fn pump<F: Shelf, D: Feed>(
 ) -> Result<(), TakeFault>
     requires limit { limit ≤ longest_read }
     requires empty { D.stands_for feed.old [] }
-    ensures only { ChangesOnly F.tells F.log_of F.slot which shelf.old shelf.new }
+    ensures only { ChangesOneSlot F.tells F.log_of F.slot which shelf.old shelf.new }
     ensures slot { Takes F.Shelf which name.now limit shelf.old shelf.new result }
     ensures whole { OnOk result
         (StandsForWhole F.Shelf D.Feed which name.now limit shelf.old shelf.new feed.new) }

@@ -2,7 +2,7 @@
 ghost use Rattle.std.specs.Prelude.{◌≡◌, ◌<◌, ◌≤◌, true, [], length, Some, IsOk, IsOkAnd, Ok, false};
 ghost use Rattle.audit_base.specs.declared.terms.Which.{Which};
 ghost use Rattle.log_source.specs.Calls.{count_after};
-ghost use Rattle.log_source.specs.Sources.{ChangesOnly, Starts, Reads, fresh_slot, longest_read};
+ghost use Rattle.log_source.specs.Sources.{ChangesOneSlot, Starts, Reads, fresh_slot, longest_read};
 
 use crate::in_memory::copy_piece;
 use crate::shelf::{Failed, Shelf, StartFault};
@@ -18,7 +18,7 @@ struct QuietSlot {
 }
 
 impl QuietSlot {
-    ghost use Rattle.log_source.specs.QuietShelves.{quiet_state, started_slot};
+    ghost use Rattle.log_source.specs.QuietShelves.{quiet_state, quiet_started_slot};
 
     fn new(log: Vec<u8>) -> QuietSlot
         ensures log { result.log.items ≡ log.items }
@@ -35,7 +35,7 @@ impl QuietSlot {
     fn start(&mut self)
         ensures log { self.new.log.items ≡ self.old.log.items }
         ensures slot { let starts = count_after self.old.starts in
-            quiet_state self.new ≡ started_slot self.old.log.items starts }
+            quiet_state self.new ≡ quiet_started_slot self.old.log.items starts }
     {
         self.started = true;
         self.at = 0;
@@ -95,7 +95,7 @@ impl Shelf for QuietShelf {
     ghost slot = { quiet_slot };
 
     fn start(&mut self, which: Which, name: &str) -> Result<(), StartFault>
-        ensures only { ChangesOnly quiet_tells quiet_log_of quiet_slot which self.old self.new }
+        ensures only { ChangesOneSlot quiet_tells quiet_log_of quiet_slot which self.old self.new }
         ensures logs { (w : Which) → quiet_log self.new w ≡ quiet_log self.old w }
         ensures slot { let log = quiet_log self.old which in
             Starts true (Some log) (quiet_slot self.old which) (quiet_slot self.new which) result }
@@ -113,7 +113,7 @@ impl Shelf for QuietShelf {
         requires room { 0 < length buf.old }
         requires started { (quiet_slot self.old which).started ≡ true }
         requires within { (quiet_slot self.old which).taken ≤ longest_read }
-        ensures only { ChangesOnly quiet_tells quiet_log_of quiet_slot which self.old self.new }
+        ensures only { ChangesOneSlot quiet_tells quiet_log_of quiet_slot which self.old self.new }
         ensures logs { (w : Which) → quiet_log self.new w ≡ quiet_log self.old w }
         ensures slot { Reads (quiet_slot self.old which) (quiet_slot self.new which)
             result buf.new }

@@ -1,7 +1,7 @@
 //! A shelf: two slots, one for each log, that give their bytes piece by piece.
 ghost use Rattle.std.specs.Prelude.{◌≡◌, ℕ, ◌<◌, ◌≤◌, Bool, true, List, length, Option};
 ghost use Rattle.audit_base.specs.declared.terms.Which.{Which};
-ghost use Rattle.log_source.specs.Sources.{ChangesOnly, Slot, Starts, Reads, longest_read};
+ghost use Rattle.log_source.specs.Sources.{ChangesOneSlot, Slot, Starts, Reads, longest_read};
 
 use audit_base::terms::Which;
 use thiserror::Error;
@@ -23,22 +23,23 @@ pub enum StartFault {
 
 /// Two logs that are read piece by piece, one in each slot.
 ///
-/// A shelf that tells has known bytes under each name that it knows, and they never change. Each
-/// slot counts its starts and its faults, which never fall, and no call on one slot touches the other.
+/// Where the logs of a shelf are known (`tells`), so are the bytes under each of its names,
+/// and they never change. Each slot counts its starts and its faults, which never fall,
+/// and no call on one slot touches the other.
 pub trait Shelf {
     // Whether the bytes of its logs are known.
     ghost tells: { Self → Bool };
 
-    // The bytes that a slot finds under a name, or nothing; known where the shelf tells.
+    // The bytes that a slot finds under a name, or nothing, where its logs are known.
     ghost log_of: { Self → Which → List ℕ → Option (List ℕ) };
 
-    // What stands in a slot.
+    // The state of a slot.
     ghost slot: { Self → Which → Slot };
 
     /// Starts the log of this name in the slot, from its first byte. `Failed` comes only where the
-    /// slot's faults rose, or where the shelf tells and has no such log.
+    /// slot's faults rose, or where the logs of the shelf are known and it has none of this name.
     fn start(&mut self, which: Which, name: &str) -> Result<(), StartFault>
-        ensures only { ChangesOnly tells log_of slot which self.old self.new }
+        ensures only { ChangesOneSlot tells log_of slot which self.old self.new }
         ensures slot { let log = log_of self.old which name.now in
             Starts (tells self.old) log (slot self.old which) (slot self.new which) result };
 
@@ -49,6 +50,6 @@ pub trait Shelf {
         requires room { 0 < length buf.old }
         requires started { (slot self.old which).started ≡ true }
         requires within { (slot self.old which).taken ≤ longest_read }
-        ensures only { ChangesOnly tells log_of slot which self.old self.new }
+        ensures only { ChangesOneSlot tells log_of slot which self.old self.new }
         ensures slot { Reads (slot self.old which) (slot self.new which) result buf.new };
 }

@@ -4,9 +4,9 @@ ghost use Rattle.log_source.specs.Sinks.{SinkState, Writes};
 
 use crate::shelf::Failed;
 
-/// What takes a text piece by piece. A sink tells where what was written to it is known.
+/// What takes a text piece by piece. What was written to a sink may be known.
 pub trait Sink {
-    // What the sink stands at.
+    // The state of the sink.
     ghost state: { Self → SinkState };
 
     /// Writes a front of the piece, at least one byte of it, and answers how many bytes it took.

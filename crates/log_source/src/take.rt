@@ -1,7 +1,7 @@
 //! Taking a whole log into memory.
 ghost use Rattle.std.specs.Prelude.{◌≡◌, ◌≤◌, IfOk, vec_len};
-ghost use Rattle.log_source.specs.Sources.{ChangesOnly, longest_read};
-ghost use Rattle.log_source.specs.Taking.{IsWhole, Takes};
+ghost use Rattle.log_source.specs.Sources.{ChangesOneSlot, longest_read};
+ghost use Rattle.log_source.specs.Taking.{IsWholeLog, Takes};
 
 use crate::feed::Feed;
 use crate::pump::pump;
@@ -25,9 +25,9 @@ pub enum TakeFault {
 }
 
 impl From<StartFault> for TakeFault {
-    ghost use Rattle.log_source.specs.Taking.{of_start};
+    ghost use Rattle.log_source.specs.Taking.{take_fault_of_start};
 
-    ghost from_gives = { λ fault made. made ≡ of_start fault };
+    ghost from_gives = { λ fault made. made ≡ take_fault_of_start fault };
 
     fn from(fault: StartFault) -> TakeFault {
         match fault {
@@ -73,9 +73,10 @@ impl Feed for WholeLog {
 }
 
 /// Takes the log of this name whole. `limit` is the greatest number of bytes that it may have,
-/// `LONGEST_READ` at most. `Fault` comes only where the slot's faults rose in this call, or where the
-/// shelf tells and has no such log. `TooLong` comes exactly where more than `limit` bytes were taken.
-/// Whatever the answer, the slot may be started anew, and the other slot is as it was.
+/// `LONGEST_READ` at most. `Fault` comes only where the slot's faults rose in this call,
+/// or where the logs of the shelf are known and it has none of this name.
+/// `TooLong` comes exactly where more than `limit` bytes were taken. Whatever the answer,
+/// the slot may be started anew, and the other slot is as it was.
 pub fn take_log<F: Shelf>(
     alloc: Global,
     shelf: &mut F,
@@ -84,11 +85,11 @@ pub fn take_log<F: Shelf>(
     limit: u64,
 ) -> Result<Vec<u8>, TakeFault>
     requires { limit ≤ longest_read }
-    ensures only { ChangesOnly F.tells F.log_of F.slot which shelf.old shelf.new }
+    ensures only { ChangesOneSlot F.tells F.log_of F.slot which shelf.old shelf.new }
     ensures slot { Takes F.Shelf which name.now limit shelf.old shelf.new result }
     ensures taken { IfOk result (λ log. (F.slot shelf.new which).taken ≡ vec_len log) }
     ensures within { IfOk result (λ log. vec_len log ≤ limit) }
-    ensures whole { IfOk result (λ log. IsWhole F.Shelf which name.now shelf.old log.items) }
+    ensures whole { IfOk result (λ log. IsWholeLog F.Shelf which name.now shelf.old log.items) }
 {
     let mut log = WholeLog {
         bytes: Vec::new(alloc),

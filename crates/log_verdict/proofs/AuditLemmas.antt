@@ -13,7 +13,7 @@ use Rattle.audit_base.specs.declared.terms.Which.{Which}
 use Rattle.audit_base.specs.declared.terms.Which.TheVariants.{Orders, Trades}
 use Rattle.audit_base.specs.Histories.{history_finding, order_list, WellFormed}
 use Rattle.audit_base.specs.Orders.{same_name}
-use Rattle.audit_base.specs.Trades.{deal_of, deals_of, trades_of, unsound_trade}
+use Rattle.audit_base.specs.Trades.{deal_of_trade, deals_of_symbol, trades_of_symbol, unsound_trade}
 use Rattle.log_source.specs.declared.shelf.Shelf.{Ghosts as Shelf}
 use Rattle.log_source.specs.Calls.{count_after}
 use Rattle.log_source.specs.Sources.{Slot, Rose}
@@ -29,11 +29,11 @@ use Rattle.log_verdict.specs.declared.reading.Unread.{Unread}
 use Rattle.log_verdict.specs.declared.reading.Unread.TheVariants as unread
 use Rattle.log_verdict.specs.declared.stops.Stop.{Stop}
 use Rattle.log_verdict.specs.declared.stops.Stop.TheVariants as stop
-use Rattle.log_verdict.specs.BothLogs.{without_log, Decides, DecidesTrades, IsAfterOrders, IsAdmitted, IsEndOf, ReadsAfterOrders, StaysWithin, StaysWithinAt}
-use Rattle.log_verdict.specs.Collecting.{step_of, HasCollected, HasTrades, IsReadAs, IsUnread}
+use Rattle.log_verdict.specs.BothLogs.{without_log, Decides, DecidesTrades, IsAfterOrders, IsAdmitted, AreResolvedTrades, ReadsAfterOrders, StaysWithin, StaysWithinAt}
+use Rattle.log_verdict.specs.Collecting.{step_of, HasCollected, HasLogTrades, IsReadAs, IsUnread}
 use Rattle.log_verdict.specs.LogVerdicts.{order_log, trade_log}
-use Rattle.log_verdict.specs.Steps.{Reading, IsReadFault, IsTooLong, KeepsLogs, EndsWithin, NeverFall}
-use Rattle.record_verdict.specs.BeforeRule.{found_or_sound, IsBeforeRule}
+use Rattle.log_verdict.specs.Steps.{Reading, IsReadFault, IsTooLong, KeepsShelfLogs, EndsWithin, FaultsNeverFall}
+use Rattle.record_verdict.specs.BeforeRule.{finding_or_sound, IsBeforeRule}
 
 -- a reading of the whole, from the reading of a part before and one after
 abbrev pub joined : Reading → Reading → Reading
@@ -116,14 +116,14 @@ module _ (first second : Reading) (after : Follows first second) where
       })
   decides_after scope orders trades entries (Err stop.Memory) read is = tt
 
-  pub later_after : (first.before Orders).faults ≤ (first.after Orders).faults → (second.before Trades).faults ≤ (second.after Trades).faults → NeverFall (joined first second)
+  pub later_after : (first.before Orders).faults ≤ (first.after Orders).faults → (second.before Trades).faults ≤ (second.after Trades).faults → FaultsNeverFall (joined first second)
   later_after orders trades Orders = rw after.orders orders
   later_after orders trades Trades = rw (← after.trades) trades
 
 -- The parts of the audit.
 
 -- two parts of a call that keep the logs keep them in the whole
-pub keeps_both : {S : Type 0} (shelf : Shelf S) (a b c : S) → KeepsLogs shelf a b → KeepsLogs shelf b c → KeepsLogs shelf a c
+pub keeps_both : {S : Type 0} (shelf : Shelf S) (a b c : S) → KeepsShelfLogs shelf a b → KeepsShelfLogs shelf b c → KeepsShelfLogs shelf a c
 keeps_both shelf a b c x y = record { tells = y.tells ∙ x.tells; logs = λ log name. y.logs log name ∙ x.logs log name }
 
 pub ends_within : (r : Reading) → (r.after Orders).taken ≤ r.limit → (r.after Trades).taken ≤ r.limit → EndsWithin r
@@ -170,16 +170,16 @@ trades_found scope entries ts history finding is found = by_finding finding (ap 
     by_finding None e = rw (is.formed, admits, e) refl
     by_finding (Some f) e = rw (is.formed, admits, e) refl
 
--- what trades come to that have been gathered
-ended_before : (scope : Scope) (entries : List OrderRecord) (ts : List TradeRecord) (ended : ResolvedTrades) → IsAdmitted scope entries ended.history → IsEndOf scope ts ended
-    → IsBeforeRule scope entries (Ok ts) (found_or_sound ended ended.finding)
+-- what trades give that have been gathered
+ended_before : (scope : Scope) (entries : List OrderRecord) (ts : List TradeRecord) (ended : ResolvedTrades) → IsAdmitted scope entries ended.history → AreResolvedTrades scope ts ended
+    → IsBeforeRule scope entries (Ok ts) (finding_or_sound ended ended.finding)
 ended_before scope entries ts ended is end = by_finding ended.finding refl
   where
-    by_finding : (finding : Option Finding) → ended.finding ≡ finding → IsBeforeRule scope entries (Ok ts) (found_or_sound ended finding)
+    by_finding : (finding : Option Finding) → ended.finding ≡ finding → IsBeforeRule scope entries (Ok ts) (finding_or_sound ended finding)
     by_finding None e = record {
       none = trades_found scope entries ts ended.history None is (end.finding ∙ e);
       orders = is.orders;
-      deals = subst (λ (os : List Order). ended.deals.items ≡ deals_of os scope.symbol ts) is.orders (end.deals e);
+      deals = subst (λ (os : List Order). ended.deals.items ≡ deals_of_symbol os scope.symbol ts) is.orders (end.deals e);
       count = end.count;
     }
     by_finding (Some f) e = trades_found scope entries ts ended.history (Some f) is (end.finding ∙ e)
@@ -207,10 +207,10 @@ module _ (r : Reading) (scope : Scope) (trades : Source) (entries : List OrderRe
   after_unread unread.TooLong is = (refl, is)
   after_unread unread.Memory is = tt
 
-  -- what the trades come to that were handed to a collector
+  -- what the trades give that were handed to a collector
   pub after_ended : (has_taken : List TradeRecord → Type 0) (ended : ResolvedTrades) → IsAdmitted scope entries ended.history
-      → IsReadAs r Trades trades.name.now (λ bytes. HasTrades has_taken (trade_log trades.form bytes)) → ((ts : List TradeRecord) → has_taken ts → IsEndOf scope ts ended)
-      → IsAfterOrders r scope trades entries (found_or_sound ended ended.finding)
+      → IsReadAs r Trades trades.name.now (λ bytes. HasLogTrades has_taken (trade_log trades.form bytes)) → ((ts : List TradeRecord) → has_taken ts → AreResolvedTrades scope ts ended)
+      → IsAfterOrders r scope trades entries (finding_or_sound ended ended.finding)
   after_ended has_taken ended is read ends = record {
     bytes = read.bytes;
     read = read.read;
@@ -219,11 +219,11 @@ module _ (r : Reading) (scope : Scope) (trades : Source) (entries : List OrderRe
 
 -- what was gathered of the trades of a symbol, in the words of the question
 pub ends_as : (scope : Scope) (symbol : List ℕ) (orders : List Order) (ts : List TradeRecord) (ended : ResolvedTrades) → scope.symbol ≡ symbol → ended.history ≡ orders → ended.count ≡ length ts
-    → unsound_trade orders symbol ts ≡ ended.finding → (ended.finding ≡ None → ended.deals.items ≡ deals_of orders symbol ts) → IsEndOf scope ts ended
+    → unsound_trade orders symbol ts ≡ ended.finding → (ended.finding ≡ None → ended.deals.items ≡ deals_of_symbol orders symbol ts) → AreResolvedTrades scope ts ended
 ends_as scope symbol orders ts ended named among counts finds makes = record {
   count = counts;
   finding = subst (λ (s : List ℕ). unsound_trade ended.history s ts ≡ ended.finding) (sym named) (subst (λ (os : List Order). unsound_trade os symbol ts ≡ ended.finding) (sym among) finds);
-  deals = λ none. subst (λ (s : List ℕ). ended.deals.items ≡ deals_of ended.history s ts) (sym named) (subst (λ (os : List Order). ended.deals.items ≡ deals_of os symbol ts) (sym among) (makes none));
+  deals = λ none. subst (λ (s : List ℕ). ended.deals.items ≡ deals_of_symbol ended.history s ts) (sym named) (subst (λ (os : List Order). ended.deals.items ≡ deals_of_symbol os symbol ts) (sym among) (makes none));
 }
 
 -- the orders of a history whose orders the rule admits
@@ -251,14 +251,14 @@ history_found scope symbol entries finding named found paired =
     let found' : history_finding scope.symbol entries ≡ Some finding = subst (λ (s : List ℕ). history_finding s entries ≡ Some finding) (sym named) found in
     rw found' refl
 
-deals_mapped : (orders : List Order) (symbol : List ℕ) (trades : List TradeRecord) → length (deals_of orders symbol trades) ≡ length (trades_of symbol trades)
-unfolding deals_of
-deals_mapped orders symbol trades = length-map (trades_of symbol trades) (deal_of orders)
+deals_mapped : (orders : List Order) (symbol : List ℕ) (trades : List TradeRecord) → length (deals_of_symbol orders symbol trades) ≡ length (trades_of_symbol symbol trades)
+unfolding deals_of_symbol
+deals_mapped orders symbol trades = length-map (trades_of_symbol symbol trades) (deal_of_trade orders)
 
 -- a log has at least as many trades as the symbol has deals
-pub deals_counted : (orders : List Order) (symbol : List ℕ) (trades : List TradeRecord) → length (deals_of orders symbol trades) ≤ length trades
-unfolding trades_of
+pub deals_counted : (orders : List Order) (symbol : List ℕ) (trades : List TradeRecord) → length (deals_of_symbol orders symbol trades) ≤ length trades
+unfolding trades_of_symbol
 deals_counted orders symbol trades =
     let is_own : ℕ × TradeRecord → Bool = λ e. same_name e.1.symbol symbol in
-    let counted : length (trades_of symbol trades) ≡ count_by is_own (enumerate_from 1 trades) = length-filter is_own (enumerate_from 1 trades) in
+    let counted : length (trades_of_symbol symbol trades) ≡ count_by is_own (enumerate_from 1 trades) = length-filter is_own (enumerate_from 1 trades) in
     omega (arith, deals_mapped orders symbol trades, counted, count_by-le-length is_own (enumerate_from 1 trades), length-enumerate_from 1 trades)

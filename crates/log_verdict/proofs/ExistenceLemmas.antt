@@ -6,8 +6,8 @@ use Rattle.audit_base.specs.declared.findings.Finding.{Finding}
 use Rattle.audit_base.specs.declared.records.OrderRecord.{OrderRecord}
 use Rattle.audit_base.specs.declared.records.TradeRecord.{TradeRecord}
 use Rattle.audit_base.specs.declared.terms.Which.TheVariants.{Orders, Trades}
-use Rattle.audit_base.specs.RecordRanges.{AreRecords}
-use Rattle.audit_base.specs.Trades.{AreTrades}
+use Rattle.audit_base.specs.RecordRanges.{RecordsInRange}
+use Rattle.audit_base.specs.Trades.{TradesInRange}
 use Rattle.audit_base.specs.Verdicts.{paired_trades}
 use Rattle.audit_report.specs.declared.verdicts.Verdict.{Verdict}
 use Rattle.audit_report.specs.declared.verdicts.Verdict.TheVariants.{Malformed}
@@ -26,7 +26,7 @@ few-records entries bytes nine within = omega (arith, nine, within)
 
 -- what two logs say has a verdict
 said-verdict : JudgementExists → (q : Question) (bytes : List ℕ) → length bytes ≤ longest_read → (orders : Result (List OrderRecord) BadPlace) (trades : Result (Result (List TradeRecord) Finding) BadPlace)
-    → IfOk orders (λ entries. HasNineBytesEach entries bytes) → IfOk orders AreRecords → IfOk trades (λ paired. AreTrades (paired_trades paired))
+    → IfOk orders (λ entries. HasNineBytesEach entries bytes) → IfOk orders RecordsInRange → IfOk trades (λ paired. TradesInRange (paired_trades paired))
     → (v : Verdict) × MatchResult orders (λ entries. MatchResult trades (λ paired. IsJudged q entries paired v) (λ bad. v ≡ Malformed Trades bad)) (λ bad. v ≡ Malformed Orders bad)
 said-verdict exists q bytes within (Err bad) trades nine records ranges = (Malformed Orders bad, refl)
 said-verdict exists q bytes within (Ok entries) (Err bad) nine records ranges = (Malformed Trades bad, refl)

@@ -31,7 +31,7 @@ reads-more r orders trades P P' B B' records bads is = record { bytes = is.bytes
     of_orders (Ok entries) holds = record { bytes = holds.bytes; read = holds.read; holds = of_trades entries (trade_log trades.form holds.bytes) holds.holds }
     of_orders (Err bad) holds = (bads Orders bad holds.0, holds.1)
 
--- the verdict on what both logs come to is the verdict on both
+-- the verdict on what both logs give is the verdict on both
 pub reads-verdict : (r : Reading) (q : Question) (orders trades : Source) (reached : BeforeRule) (v : Verdict) → ReadsUpToRule r (scope_of q) orders trades reached → VerdictIs q reached v
     → ReadsVerdict r q orders trades v
 reads-verdict r q orders trades reached v read is =

@@ -8,7 +8,7 @@ use Rattle.audit_base.specs.declared.records.OrderRecord.{OrderRecord}
 use Rattle.audit_base.specs.declared.records.TradeRecord.{TradeRecord}
 use Rattle.audit_base.specs.declared.orders.Order.{Order}
 use Rattle.audit_base.specs.Histories.{order_list, WellFormed}
-use Rattle.audit_base.specs.Trades.{deals_of, unsound_trade}
+use Rattle.audit_base.specs.Trades.{deals_of_symbol, unsound_trade}
 use Rattle.matching_core.specs.declared.deals_draft.ResolvedTrades.{ResolvedTrades}
 use Rattle.log_verdict.specs.declared.stops.Stop.{Stop}
 use Rattle.log_verdict.specs.declared.stops.Stop.TheVariants as stop
@@ -38,7 +38,8 @@ pub record HaveOneLimit (orders trades : Source) : Type 0 where
 abbrev pub IsUntouched : Reading → Which → Type 0
 IsUntouched r log = r.after log ≡ r.before log
 
--- the trade log was read to its end, and this holds of the records of both logs, or of its first bad place
+-- the trade log was read to its end, and this holds of the records of
+-- both logs, or of its first bad place
 abbrev pub ReadsTrades : Reading → Source → (Result (List TradeRecord) Finding → Type 0)
     → (BadPlace → Type 0) → Type 0
 ReadsTrades r trades of_trades of_bad =
@@ -47,28 +48,29 @@ ReadsTrades r trades of_trades of_bad =
 
 -- the order log said this: where it is out of its grammar, the trade log is not started
 abbrev pub ReadsAfterOrders : Reading → Source
-    → (List OrderRecord → Result (List TradeRecord) Finding → Type 0) → (Which → BadPlace → Type 0)
-    → Result (List OrderRecord) BadPlace → Type 0
-ReadsAfterOrders r trades of_records of_bad (Err bad) = of_bad Orders bad × IsUntouched r Trades
+    → (List OrderRecord → Result (List TradeRecord) Finding → Type 0)
+    → (Which → BadPlace → Type 0) → Result (List OrderRecord) BadPlace → Type 0
+ReadsAfterOrders r trades of_records of_bad (Err bad) =
+    of_bad Orders bad × IsUntouched r Trades
 ReadsAfterOrders r trades of_records of_bad (Ok entries) =
     ReadsTrades r trades (of_records entries) (of_bad Trades)
 
--- the order log was read to its end, and the trade log where that is in its grammar; this holds of the
--- records of both, or of the first bad place
+-- the order log was read to its end, and the trade log where that is in its grammar; this holds
+-- of the records of both, or of the first bad place
 abbrev pub ReadsLogs : Reading → Source → Source
-    → (List OrderRecord → Result (List TradeRecord) Finding → Type 0) → (Which → BadPlace → Type 0)
-    → Type 0
+    → (List OrderRecord → Result (List TradeRecord) Finding → Type 0)
+    → (Which → BadPlace → Type 0) → Type 0
 ReadsLogs r orders trades of_records of_bad =
     IsReadAs r Orders orders.name.now
     (λ bytes. ReadsAfterOrders r trades of_records of_bad (order_log orders.form bytes))
 
--- both logs were read, and come to this before the rule is looked at
+-- both logs were read, and give this before the rule is looked at
 abbrev pub ReadsUpToRule : Reading → Scope → Source → Source → BeforeRule → Type 0
 ReadsUpToRule r scope orders trades reached =
     ReadsLogs r orders trades (λ entries paired. IsBeforeRule scope entries paired reached)
     (λ log bad. reached ≡ upto.Malformed log bad)
 
--- the trade log was read, and comes to this after these records of the order log
+-- the trade log was read, and gives this after these records of the order log
 abbrev pub IsAfterOrders : Reading → Scope → Source → List OrderRecord → BeforeRule → Type 0
 IsAfterOrders r scope trades entries reached =
     ReadsTrades r trades (λ paired. IsBeforeRule scope entries paired reached)
@@ -90,7 +92,8 @@ abbrev pub source_of : Source → Source → Which → Source
 source_of orders trades Orders = orders
 source_of orders trades Trades = trades
 
--- the order log is the first that is started
+-- the log was started in its turn: the order log while the trade log was left alone, or the
+-- trade log after an order log that is in its grammar
 abbrev pub IsStarted : Reading → Source → Which → Type 0
 IsStarted r orders Orders = IsUntouched r Trades
 IsStarted r orders Trades = IsAfterGoodOrders r orders
@@ -105,7 +108,7 @@ pub record StopsAtLength (r : Reading) (orders trades : Source) (log : Which) : 
   pub is_started : IsStarted r orders log
   pub long : IsTooLong r (step_of r log (source_of orders trades log).name.now)
 
--- why it is not known what two logs come to
+-- why it is not known what two logs give
 abbrev pub IsAuditStop : Reading → Source → Source → Stop → Type 0
 IsAuditStop r orders trades (stop.ReadFault log) = StopsAtFault r orders trades log
 IsAuditStop r orders trades (stop.TooLong log) = StopsAtLength r orders trades log
@@ -127,7 +130,8 @@ IsLengthStop (Err stop.Memory) = ⊥
 
 -- why nothing is said of one log
 abbrev pub IsLogStop : Reading → Which → List ℕ → Stop → Type 0
-IsLogStop r log name (stop.ReadFault which) = (which ≡ log) × IsReadFault r (step_of r log name)
+IsLogStop r log name (stop.ReadFault which) =
+    (which ≡ log) × IsReadFault r (step_of r log name)
 IsLogStop r log name (stop.TooLong which) = (which ≡ log) × IsTooLong r (step_of r log name)
 IsLogStop r log name stop.Memory = Unit {0}
 
@@ -138,13 +142,14 @@ DecidesTrades r scope trades entries result =
     MatchResult result (IsAfterOrders r scope trades entries)
     (IsLogStop r Trades trades.name.now)
 
--- what both logs come to, or why that is not known
+-- what both logs give, or why that is not known
 abbrev pub Decides : Reading → Scope → Source → Source → Result BeforeRule Stop → Type 0
 Decides r scope orders trades result =
     MatchResult result (ReadsUpToRule r scope orders trades) (IsAuditStop r orders trades)
 
 -- the verdict on both logs, or why there is none
-abbrev pub DecidesVerdict : Reading → Question → Source → Source → Result Verdict Stop → Type 0
+abbrev pub DecidesVerdict : Reading → Question → Source → Source → Result Verdict Stop
+    → Type 0
 DecidesVerdict r q orders trades result =
     MatchResult result (ReadsVerdict r q orders trades) (IsAuditStop r orders trades)
 
@@ -163,9 +168,11 @@ pub record IsAdmitted (scope : Scope) (entries : List OrderRecord)
   pub orders : history ≡ order_list scope.symbol entries
   pub admits : unadmitted_order scope.admission history ≡ None
 
--- What was gathered of these trades came to this end.
-pub record IsEndOf (scope : Scope) (trades : List TradeRecord)
+-- What was gathered of these trades: how many they are, their first finding,
+-- and, where there is none, their deals.
+pub record AreResolvedTrades (scope : Scope) (trades : List TradeRecord)
     (ended : ResolvedTrades) : Type 0 where
   pub count : ended.count ≡ length trades
   pub finding : unsound_trade ended.history scope.symbol trades ≡ ended.finding
-  pub deals : ended.finding ≡ None → ended.deals.items ≡ deals_of ended.history scope.symbol trades
+  pub deals : ended.finding ≡ None
+      → ended.deals.items ≡ deals_of_symbol ended.history scope.symbol trades

@@ -1,29 +1,30 @@
--- Handing the records of one log to a collector: what is known of the log and of the collector afterwards,
--- or why it was not done.
+-- Handing the records of one log to a collector: what is known of the log and of the collector
+-- afterwards, or why it was not done.
 use Rattle.std.specs.Prelude.{◌≡◌, ◌≤◌, ℕ, List, Result, Ok, Err, MatchResult}
-use Rattle.csv_logs.specs.Feeds.{HasRead}
+use Rattle.csv_logs.specs.Feeds.{HasLogRecords}
 use Rattle.audit_base.specs.declared.terms.Which.{Which}
 use Rattle.audit_base.specs.declared.faults.BadPlace.{BadPlace}
 use Rattle.audit_base.specs.declared.faults.LogFault.{LogFault}
 use Rattle.audit_base.specs.declared.faults.LogFault.TheVariants as fault
 use Rattle.audit_base.specs.declared.findings.Finding.{Finding}
 use Rattle.log_source.specs.Collectors.{HasPlace}
-use Rattle.log_source.specs.Sources.{other_of}
+use Rattle.log_source.specs.Sources.{other_log}
 use Rattle.log_source.specs.declared.take.TakeFault.{TakeFault}
 use Rattle.log_source.specs.declared.take.TakeFault.TheVariants as take
 use Rattle.log_verdict.specs.declared.reading.Unread.{Unread}
 use Rattle.log_verdict.specs.declared.reading.Unread.TheVariants as unread
 use Rattle.log_verdict.specs.declared.reading.Collected.{Collected}
 use Rattle.log_verdict.specs.declared.reading.Collected.TheVariants as collected
-use Rattle.log_verdict.specs.Steps.{Reading, Step, IsRead, IsReadFault, IsTooLong}
+use Rattle.log_verdict.specs.Steps.{Reading, LogStep, IsRead, IsReadFault, IsTooLong}
 
 -- the step of a call that started one log
-abbrev pub step_of : Reading → Which → List ℕ → Step
-step_of r log name = record { log = log; name = name; before = r.before log; after = r.after log }
+abbrev pub step_of : Reading → Which → List ℕ → LogStep
+step_of r log name =
+    record { log = log; name = name; before = r.before log; after = r.after log }
 
 -- Only this slot was touched, and its faults did not fall.
 pub record TouchesOnly (r : Reading) (log : Which) : Type 0 where
-  pub other : r.after (other_of log) ≡ r.before (other_of log)
+  pub other : r.after (other_log log) ≡ r.before (other_log log)
   pub later : (r.before log).faults ≤ (r.after log).faults
 
 -- The log of this name was read to its end, and its bytes say this.
@@ -33,7 +34,8 @@ pub record IsReadAs (r : Reading) (log : Which) (name : List ℕ)
   pub read : IsRead r (step_of r log name) bytes
   pub holds : says bytes
 
--- why a log was not read into records: its first bad place, a fault, its length, or that memory ran out
+-- why a log was not read into records: its first bad place, a fault,
+-- its length, or that memory ran out
 abbrev pub IsUnread : {R : Type 0} → (List ℕ → Result R BadPlace) → Reading → Which → List ℕ
     → Unread → Type 0
 IsUnread meaning r log name (unread.Bad bad) =
@@ -42,26 +44,30 @@ IsUnread meaning r log name unread.ReadFault = IsReadFault r (step_of r log name
 IsUnread meaning r log name unread.TooLong = IsTooLong r (step_of r log name)
 IsUnread meaning r log name unread.Memory = Unit {0}
 
--- a log was handed to a collector, which has been handed exactly the records that its bytes mean, or it was
--- not for a cause
+-- a log was handed to a collector, which has been handed exactly the records that its bytes mean,
+-- or it was not for a cause
 abbrev pub CollectsLog : {K R : Type 0} → (K → List R → Type 0)
-    → (List ℕ → Result (List R) BadPlace) → Reading → Which → List ℕ → Result K Unread → Type 0
+    → (List ℕ → Result (List R) BadPlace) → Reading → Which → List ℕ → Result K Unread
+    → Type 0
 CollectsLog has_taken meaning r log name result =
     MatchResult result
-    (λ collector. IsReadAs r log name (λ bytes. HasRead (has_taken collector) (meaning bytes)))
+    (λ collector. IsReadAs r log name
+    (λ bytes. HasLogRecords (has_taken collector) (meaning bytes)))
     (IsUnread meaning r log name)
 
 -- The collector has been handed exactly these trades, and the log says that they are its own.
-pub record HasTrades {R : Type 0} (has_taken : List R → Type 0)
+pub record HasLogTrades {R : Type 0} (has_taken : List R → Type 0)
     (said : Result (Result (List R) Finding) BadPlace) : Type 0 where
   pub trades : List R
   pub has : has_taken trades
   pub says : said ≡ Ok (Ok trades)
 
--- what came of the trades of a log: a collector that has been handed exactly them, or finding 4 in their place
+-- what came of the trades of a log: a collector that has been handed
+-- exactly them, or finding 4 in their place
 abbrev pub HasCollected : {K R : Type 0} → (K → List R → Type 0) → Collected K
     → Result (Result (List R) Finding) BadPlace → Type 0
-HasCollected has_taken (collected.Trades collector) said = HasTrades (has_taken collector) said
+HasCollected has_taken (collected.Trades collector) said =
+    HasLogTrades (has_taken collector) said
 HasCollected has_taken (collected.Alone finding) said = said ≡ Ok (Err finding)
 
 -- a collector that is there has been handed fewer trades than there are places
@@ -79,12 +85,12 @@ CollectsTrades has_taken meaning r log name result =
     (IsUnread meaning r log name)
 
 -- what a log that was not taken whole is not read for
-abbrev pub of_take : TakeFault → Unread
-of_take take.Fault = unread.ReadFault
-of_take take.TooLong = unread.TooLong
-of_take take.Memory = unread.Memory
+abbrev pub unread_of_take : TakeFault → Unread
+unread_of_take take.Fault = unread.ReadFault
+unread_of_take take.TooLong = unread.TooLong
+unread_of_take take.Memory = unread.Memory
 
 -- the same of a log that was taken
-abbrev pub of_log : LogFault → Unread
-of_log (fault.Bad bad) = unread.Bad bad
-of_log fault.Memory = unread.Memory
+abbrev pub unread_of_log : LogFault → Unread
+unread_of_log (fault.Bad bad) = unread.Bad bad
+unread_of_log fault.Memory = unread.Memory

@@ -1,5 +1,5 @@
--- What a reader must believe: the verdict on the bytes of two logs, and what a call knows of the shelf that it
--- read them from.
+-- What a reader must believe: the verdict on the bytes of two logs, and what a call knows of the
+-- shelf that it read them from.
 pub mod LogVerdicts
 pub mod Laws
 pub mod Ranges

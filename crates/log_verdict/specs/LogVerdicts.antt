@@ -28,14 +28,14 @@ log_in form bytes = record { form = form; bytes = bytes }
 
 -- what an order log says: its records, or its first bad place
 abbrev pub order_log : Form → List ℕ → Result (List OrderRecord) BadPlace
-order_log Csv bytes = csv.order_log bytes
-order_log Fix bytes = fix.order_log bytes
+order_log Csv bytes = csv.csv_order_log bytes
+order_log Fix bytes = fix.fix_order_log bytes
 
 -- each record of a CSV log is a trade
-abbrev pub all_paired : Result (List TradeRecord) BadPlace
+abbrev pub trades_without_pairing : Result (List TradeRecord) BadPlace
     → Result (Result (List TradeRecord) Finding) BadPlace
-all_paired (Ok trades) = Ok (Ok trades)
-all_paired (Err bad) = Err bad
+trades_without_pairing (Ok trades) = Ok (Ok trades)
+trades_without_pairing (Err bad) = Err bad
 
 -- the reports of a FIX log are paired into trades
 abbrev pub paired_reports : Result (List Report) BadPlace
@@ -43,9 +43,10 @@ abbrev pub paired_reports : Result (List Report) BadPlace
 paired_reports (Ok reports) = Ok (pairing reports)
 paired_reports (Err bad) = Err bad
 
--- what a trade log says: its trades, or finding 4 in their place where its reports do not pair; or its first bad place
+-- what a trade log says: its trades, or finding 4 in their place where its reports
+-- do not pair; or its first bad place
 abbrev pub trade_log : Form → List ℕ → Result (Result (List TradeRecord) Finding) BadPlace
-trade_log Csv bytes = all_paired (csv.trade_log bytes)
+trade_log Csv bytes = trades_without_pairing (csv.csv_trade_log bytes)
 trade_log Fix bytes = paired_reports (fix.report_log bytes)
 
 -- the logs have these records and these trades
@@ -54,13 +55,15 @@ pub record HaveRecords (orders trades : Log) (entries : List OrderRecord)
   pub records : order_log orders.form orders.bytes ≡ Ok entries
   pub trades_are : trade_log trades.form trades.bytes ≡ Ok paired
 
--- of two logs: an order log out of its grammar is answered by its first bad place, and the trade log is not
--- looked at; else a trade log out of its grammar is by its own; else the records of both are
+-- of two logs: an order log out of its grammar is answered by its first bad place,
+-- and the trade log is not looked at; else a trade log out of its grammar is by
+-- its own; else the records of both are
 abbrev pub OfLogs : (List OrderRecord → Result (List TradeRecord) Finding → Type 0)
     → (Which → BadPlace → Type 0) → Log → Log → Type 0
 OfLogs of_records of_bad orders trades =
     MatchResult (order_log orders.form orders.bytes)
-    (λ entries. MatchResult (trade_log trades.form trades.bytes) (of_records entries) (of_bad Trades))
+    (λ entries. MatchResult (trade_log trades.form trades.bytes) (of_records entries)
+    (of_bad Trades))
     (of_bad Orders)
 
 -- Verdict: that of the first bad place, or else that of the records

@@ -2,20 +2,20 @@
 -- in either form, as statements.
 use Rattle.std.specs.Prelude.{ℕ, IfOk, List}
 use Rattle.audit_base.specs.declared.terms.Form.{Form}
-use Rattle.audit_base.specs.RecordRanges.{AreRecords}
-use Rattle.audit_base.specs.Trades.{AreTrades}
+use Rattle.audit_base.specs.RecordRanges.{RecordsInRange}
+use Rattle.audit_base.specs.Trades.{TradesInRange}
 use Rattle.audit_base.specs.Verdicts.{paired_trades}
 use Rattle.log_source.specs.Collectors.{HasNineBytesEach}
 use Rattle.log_verdict.specs.LogVerdicts.{order_log, trade_log}
 
 -- the numbers of each record of a good order log are in range
 abbrev pub OrderLogsAreInRange : Type 0
-OrderLogsAreInRange = (form : Form) (bytes : List ℕ) → IfOk (order_log form bytes) AreRecords
+OrderLogsAreInRange = (form : Form) (bytes : List ℕ) → IfOk (order_log form bytes) RecordsInRange
 
 -- the numbers of each trade of a good trade log are in range
 abbrev pub TradeLogsAreInRange : Type 0
 TradeLogsAreInRange = (form : Form) (bytes : List ℕ)
-    → IfOk (trade_log form bytes) (λ paired. AreTrades (paired_trades paired))
+    → IfOk (trade_log form bytes) (λ paired. TradesInRange (paired_trades paired))
 
 -- each record of a good order log has at least nine bytes of it
 abbrev pub OrderLogsHaveNineBytes : Type 0

@@ -8,8 +8,8 @@ use Rattle.log_verdict.specs.declared.sources.Source.{Source}
 use Rattle.log_source.specs.Calls.{count_after}
 use Rattle.log_source.specs.Sources.{Slot, Rose, longest_log}
 
--- What a call knows of a shelf: how many bytes a log may have, whether the shelf tells what it has, what it
--- has in each slot under a name, and its slots before and after the call.
+-- What a call knows of a shelf: how many bytes a log may have, whether what the shelf has is
+-- known, what it has in each slot under a name, and its slots before and after the call.
 pub record Reading : Type 0 where
   pub limit : ℕ
   pub tells : Bool
@@ -36,25 +36,26 @@ reading_by source shelf old new = reading_within source.limit shelf old new
 abbrev pub reading : {S : Type 0} → Shelf S → S → S → Reading
 reading shelf old new = reading_within longest_log shelf old new
 
--- No call changes whether the shelf tells, or what it has in a slot under a name.
-pub record KeepsLogs {S : Type 0} (shelf : Shelf S) (old new : S) : Type 0 where
+-- No call changes whether what the shelf has is known, or what it has in a slot under a name.
+pub record KeepsShelfLogs {S : Type 0} (shelf : Shelf S) (old new : S) : Type 0 where
   pub tells : shelf.tells new ≡ shelf.tells old
-  pub logs : (log : Which) (name : List ℕ) → shelf.log_of new log name ≡ shelf.log_of old log name
+  pub logs : (log : Which) (name : List ℕ)
+      → shelf.log_of new log name ≡ shelf.log_of old log name
 
--- A log that was started: its slot, its name, and what stood in the slot before and after.
-pub record Step : Type 0 where
+-- A log that was started: its slot, its name, and what was in the slot before and after.
+pub record LogStep : Type 0 where
   pub log : Which
   pub name : List ℕ
   pub before : Slot
   pub after : Slot
 
 -- the log was started once
-abbrev pub IsStartedOnce : Step → Type 0
+abbrev pub IsStartedOnce : LogStep → Type 0
 IsStartedOnce step = step.after.starts ≡ count_after step.before.starts
 
--- The log was started once and read to its end, and these are its bytes, whatever pieces they came in; where
--- the shelf tells, they are what it has under the name.
-pub record IsRead (r : Reading) (step : Step) (bytes : List ℕ) : Type 0 where
+-- The log was started once and read to its end, and these are its bytes, whatever pieces they
+-- came in; where it is known what the shelf has, they are what it has under the name.
+pub record IsRead (r : Reading) (step : LogStep) (bytes : List ℕ) : Type 0 where
   pub once : IsStartedOnce step
   pub started : step.after.started ≡ true
   pub at_end : IsAtEnd step.after.left
@@ -62,42 +63,43 @@ pub record IsRead (r : Reading) (step : Step) (bytes : List ℕ) : Type 0 where
   pub taken : length bytes ≡ step.after.taken
   pub known : r.tells ≡ true → r.log_of step.log step.name ≡ Some bytes
 
--- The log was started once and could not be read: its faults rose, or the shelf knows that it lacks the log.
-pub record IsReadFault (r : Reading) (step : Step) : Type 0 where
+-- The log was started once and could not be read: its faults rose, or the
+-- shelf knows that it lacks the log.
+pub record IsReadFault (r : Reading) (step : LogStep) : Type 0 where
   pub once : IsStartedOnce step
   pub cause : Rose step.before.faults step.after.faults
       ⊎ ((r.tells ≡ true) × (r.log_of step.log step.name ≡ None))
 
--- The log was started once and is too long: more of it was taken than a log may have, and where the shelf
--- tells it has more.
-pub record IsTooLong (r : Reading) (step : Step) : Type 0 where
+-- The log was started once and is too long: more of it was taken than a log may have, and where
+-- it is known what the shelf has, the log has more bytes.
+pub record IsTooLong (r : Reading) (step : LogStep) : Type 0 where
   pub once : IsStartedOnce step
   pub taken : r.limit < step.after.taken
   pub longer : r.tells ≡ true
       → IsSomeAnd (r.log_of step.log step.name) (λ bytes. r.limit < length bytes)
 
--- the slots with this in the place of what stands in one of them
+-- the slots with this in the place of what is in one of them
 abbrev pub with_slot : (Which → Slot) → Which → Slot → Which → Slot
 with_slot slots Orders slot Orders = slot
 with_slot slots Orders slot Trades = slots Trades
 with_slot slots Trades slot Orders = slots Orders
 with_slot slots Trades slot Trades = slot
 
--- A step begins at what stands in its slot, and its faults never fall.
-pub record BeginsAt (slots : Which → Slot) (step : Step) : Type 0 where
+-- A step begins at what is in its slot, and its faults never fall.
+pub record BeginsAt (slots : Which → Slot) (step : LogStep) : Type 0 where
   pub at : step.before ≡ slots step.log
   pub later : step.before.faults ≤ step.after.faults
 
--- the steps, one after another, lead from what stood in the slots before to what stands there after, and
--- change nothing else
-abbrev pub Lead : (Which → Slot) → List Step → (Which → Slot) → Type 0
-Lead before [] after = (log : Which) → after log ≡ before log
-Lead before (step ∷ steps) after =
-    BeginsAt before step × Lead (with_slot before step.log step.after) steps after
+-- the steps, one after another, lead from what was in the slots before to what is there after,
+-- and change nothing else
+abbrev pub StepsLead : (Which → Slot) → List LogStep → (Which → Slot) → Type 0
+StepsLead before [] after = (log : Which) → after log ≡ before log
+StepsLead before (step ∷ steps) after =
+    BeginsAt before step × StepsLead (with_slot before step.log step.after) steps after
 
 -- no count of faults fell
-abbrev pub NeverFall : Reading → Type 0
-NeverFall r = (log : Which) → (r.before log).faults ≤ (r.after log).faults
+abbrev pub FaultsNeverFall : Reading → Type 0
+FaultsNeverFall r = (log : Which) → (r.before log).faults ≤ (r.after log).faults
 
 -- both slots were within the limit when the call began, as those of a new shelf are
 abbrev pub BeginsWithin : Reading → Type 0

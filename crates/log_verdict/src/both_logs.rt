@@ -1,5 +1,5 @@
-//! Reading two logs up to the rule: each is handed record by record to what is kept of it, and what they
-//! come to is given, or why that is not known.
+//! Reading two logs up to the rule: each is handed record by record to what is kept of it, and
+//! what they give is answered, or why that is not known.
 ghost use Rattle.std.specs.Prelude.{◌≡◌, ◌≤◌, List, IfOk, Result, Some};
 ghost use Rattle.audit_base.specs.declared.findings.Finding.{Finding};
 ghost use Rattle.audit_base.specs.declared.records.OrderRecord.{OrderRecord};
@@ -12,7 +12,7 @@ ghost use Rattle.record_verdict.specs.Scopes.{early_finding};
 ghost use Rattle.log_verdict.specs.BothLogs.{Decides, DecidesTrades, HaveOneLimit, IsAdmitted};
 ghost use Rattle.log_verdict.specs.BothLogs.{StaysWithin, StaysWithinAt, without_log};
 ghost use Rattle.log_verdict.specs.Collecting.{TouchesOnly};
-ghost use Rattle.log_verdict.specs.Steps.{reading_by, KeepsLogs, NeverFall};
+ghost use Rattle.log_verdict.specs.Steps.{reading_by, KeepsShelfLogs, FaultsNeverFall};
 ghost use Rattle.record_verdict.specs.BeforeRule.{IsJudgeable};
 
 use crate::reading::{Collected, Unread, collect_orders, collect_trades};
@@ -53,7 +53,7 @@ fn after_finding<F: Shelf>(
     finding: Finding,
 ) -> Result<BeforeRule, Stop>
     requires limit { trades.now.limit ≤ longest_read }
-    ensures logs { KeepsLogs F.Shelf shelf.old shelf.new }
+    ensures logs { KeepsShelfLogs F.Shelf shelf.old shelf.new }
     ensures only { TouchesOnly (reading_by trades.now F.Shelf shelf.old shelf.new) Which.Trades }
     ensures decides { (entries : List OrderRecord)
         → ((paired : Result (List TradeRecord) Finding)
@@ -61,7 +61,8 @@ fn after_finding<F: Shelf>(
         → DecidesTrades (reading_by trades.now F.Shelf shelf.old shelf.new)
         scope.now trades.now entries result }
     ensures judgeable { IfOk result IsJudgeable }
-    ensures within { StaysWithinAt (reading_by trades.now F.Shelf shelf.old shelf.new) Which.Trades result }
+    ensures within { StaysWithinAt (reading_by trades.now F.Shelf shelf.old shelf.new)
+        Which.Trades result }
 {
     match collect_trades::<F, Counter<TradeRecord>>(alloc, shelf, trades, Counter::new()) {
         Ok(_) => Ok(BeforeRule::Found(finding)),
@@ -80,7 +81,7 @@ fn after_history<M: AuditedHistory, F: Shelf>(
     requires limit { trades.now.limit ≤ longest_read }
     requires symbol { scope.now.symbol ≡ M.symbol }
     requires orders { history ≡ M.orders }
-    ensures logs { KeepsLogs F.Shelf shelf.old shelf.new }
+    ensures logs { KeepsShelfLogs F.Shelf shelf.old shelf.new }
     ensures only { TouchesOnly (reading_by trades.now F.Shelf shelf.old shelf.new) Which.Trades }
     ensures decides { (entries : List OrderRecord) → IsAdmitted scope.now entries history
         → DecidesTrades (reading_by trades.now F.Shelf shelf.old shelf.new)
@@ -108,7 +109,7 @@ fn after_orders<S: AuditedSymbol, F: Shelf>(
     requires limit { trades.now.limit ≤ longest_read }
     requires symbol { scope.now.symbol ≡ S.symbol }
     requires place { HasPlace (IsHistoryDraft S.symbol) orders }
-    ensures logs { KeepsLogs F.Shelf shelf.old shelf.new }
+    ensures logs { KeepsShelfLogs F.Shelf shelf.old shelf.new }
     ensures only { TouchesOnly (reading_by trades.now F.Shelf shelf.old shelf.new) Which.Trades }
     ensures decides { (entries : List OrderRecord) → IsHistoryDraft S.symbol orders entries
         → DecidesTrades (reading_by trades.now F.Shelf shelf.old shelf.new)
@@ -129,7 +130,7 @@ fn after_orders<S: AuditedSymbol, F: Shelf>(
     }
 }
 
-/// What two logs come to before the rule is looked at, by the history of the symbol.
+/// What two logs give before the rule is looked at, by the history of the symbol.
 fn read_about<S: AuditedSymbol, F: Shelf>(
     alloc: Global,
     shelf: &mut F,
@@ -139,8 +140,8 @@ fn read_about<S: AuditedSymbol, F: Shelf>(
 ) -> Result<BeforeRule, Stop>
     requires symbol { scope.now.symbol ≡ S.symbol }
     requires limit { HaveOneLimit orders.now trades.now }
-    ensures logs { KeepsLogs F.Shelf shelf.old shelf.new }
-    ensures later { NeverFall (reading_by orders.now F.Shelf shelf.old shelf.new) }
+    ensures logs { KeepsShelfLogs F.Shelf shelf.old shelf.new }
+    ensures later { FaultsNeverFall (reading_by orders.now F.Shelf shelf.old shelf.new) }
     ensures decides { Decides (reading_by orders.now F.Shelf shelf.old shelf.new)
         scope.now orders.now trades.now result }
     ensures judgeable { IfOk result IsJudgeable }
@@ -153,8 +154,8 @@ fn read_about<S: AuditedSymbol, F: Shelf>(
     }
 }
 
-/// What two logs come to before the rule is looked at, or why that is not known. The order log is read
-/// first, and the trade log only where that is in its grammar.
+/// What two logs give before the rule is looked at, or why that is not known. The order log is
+/// read first, and the trade log only where that is in its grammar.
 pub fn read_both<F: Shelf>(
     alloc: Global,
     shelf: &mut F,
@@ -163,8 +164,8 @@ pub fn read_both<F: Shelf>(
     trades: &Source<'_>,
 ) -> Result<BeforeRule, Stop>
     requires limit { HaveOneLimit orders.now trades.now }
-    ensures logs { KeepsLogs F.Shelf shelf.old shelf.new }
-    ensures later { NeverFall (reading_by orders.now F.Shelf shelf.old shelf.new) }
+    ensures logs { KeepsShelfLogs F.Shelf shelf.old shelf.new }
+    ensures later { FaultsNeverFall (reading_by orders.now F.Shelf shelf.old shelf.new) }
     ensures decides { Decides (reading_by orders.now F.Shelf shelf.old shelf.new)
         scope.now orders.now trades.now result }
     ensures judgeable { IfOk result IsJudgeable }

@@ -1,7 +1,7 @@
 //! Reading a log that is there as a whole into records, in its form.
 ghost use Rattle.std.specs.Prelude.{◌≡◌, ◌<◌, ◌≤◌, ◌-◌, ◌^◌, length, vec_len, IfOk, MatchResult, Ok};
 ghost use Rattle.audit_base.specs.Verdicts.{paired_trades};
-ghost use Rattle.fix_messages.specs.Pairings.{pairing_of};
+ghost use Rattle.fix_messages.specs.Pairings.{result_of_paired};
 ghost use Rattle.log_source.specs.Sources.{longest_log};
 ghost use Rattle.log_verdict.specs.LogVerdicts.{order_log, trade_log, IsDecodeFault};
 
@@ -13,8 +13,9 @@ use fix_messages::logs::{fix_orders_of, fix_reports_of};
 use fix_messages::pairing::{Paired, TradeList, pair_reports};
 use std::alloc::Global;
 
-/// The records of an order log of at most 67,108,864 bytes, in order. `Bad` comes exactly where the log
-/// is bad, with its first bad place. There are as few records as `judge` asks for, also of a trade log.
+/// The records of an order log of at most 67,108,864 bytes, in order. `Bad` comes
+/// exactly where the log is bad, with its first bad place. There are as few records as
+/// `judge` asks for, also of a trade log.
 pub fn decode_orders(alloc: Global, form: Form, bytes: &[u8]) -> Result<Vec<OrderRecord>, LogFault>
     requires within { length bytes.now ≤ longest_log }
     ensures says { MatchResult result (λ entries. order_log form bytes.now ≡ Ok entries.items)
@@ -27,14 +28,14 @@ pub fn decode_orders(alloc: Global, form: Form, bytes: &[u8]) -> Result<Vec<Orde
     }
 }
 
-/// The trades of a trade log of at most 67,108,864 bytes, in order, or `Alone` with finding 4 where a
-/// report has no partner. `Bad` comes as for an order log.
+/// The trades of a trade log of at most 67,108,864 bytes, in order, or `Alone` with finding 4
+/// where a report has no partner. `Bad` comes as for an order log.
 pub fn decode_trades(alloc: Global, form: Form, bytes: &[u8]) -> Result<Paired, LogFault>
     requires within { length bytes.now ≤ longest_log }
-    ensures says { MatchResult result (λ paired. trade_log form bytes.now ≡ Ok (pairing_of paired))
+    ensures says { MatchResult result (λ paired. trade_log form bytes.now ≡ Ok (result_of_paired paired))
         (IsDecodeFault (trade_log form bytes.now)) }
     ensures few { IfOk result
-        (λ paired. length (paired_trades (pairing_of paired)) < 2 ^ 32 - 1) }
+        (λ paired. length (paired_trades (result_of_paired paired)) < 2 ^ 32 - 1) }
 {
     match form {
         Form::Csv => Ok(Paired::Trades(TradeList::of(csv_trades_of(alloc, bytes)?))),

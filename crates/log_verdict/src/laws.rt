@@ -1,5 +1,5 @@
-//! That two logs have one verdict, whatever forms they are in, that they have one, and what their records hold,
-//! each law as a contract with no body.
+//! That two logs have one verdict, whatever forms they are in, that they have one, and what their
+//! records hold, each law as a contract with no body.
 ghost use Rattle.log_verdict.specs.Existence.{LogVerdictExists};
 ghost use Rattle.log_verdict.specs.Laws.{FormsAgree, OneVerdict};
 ghost use Rattle.log_verdict.specs.Ranges.{OrderLogsAreInRange, OrderLogsHaveNineBytes, TradeLogsAreInRange};
@@ -9,24 +9,24 @@ use fix_messages::reading_laws as fix_laws;
 use record_verdict::existence::a_judgement_exists;
 use record_verdict::laws::one_judgement;
 
-/// Two verdicts on one question about one pair of logs are the same verdict, so that its status and its
-/// text are.
+/// Two verdicts on one question about one pair of logs are the same verdict,
+/// so that its status and its text are.
 pub fn one_verdict()
     ensures { OneVerdict }
 {
     one_judgement();
 }
 
-/// Two pairs of logs, in whatever forms, whose order logs have the same records and whose trade logs have
-/// the same trades, have the same verdict.
+/// Two pairs of logs, in whatever forms, whose order logs have the same records and whose trade
+/// logs have the same trades, have the same verdict.
 pub fn forms_agree()
     ensures { FormsAgree }
 {
     one_judgement();
 }
 
-/// The records of a good log, in either form and of any length, have quantities from 1 to 10^12 and prices from 0 to
-/// 10^18 - 1; so have the trades that the reports of a FIX log pair into.
+/// The records of a good log, in either form and of any length, have quantities from 1 to 10^12
+/// and prices from 0 to 10^18 - 1; so have the trades that the reports of a FIX log pair into.
 pub fn records_are_in_range()
     ensures orders { OrderLogsAreInRange }
     ensures trades { TradeLogsAreInRange }
@@ -35,7 +35,8 @@ pub fn records_are_in_range()
     fix_laws::records_are_in_range();
 }
 
-/// Each record of a good order log, in either form and of any length, has at least nine bytes of it.
+/// Each record of a good order log, in either form and of any
+/// length, has at least nine bytes of it.
 pub fn order_logs_have_nine_bytes()
     ensures { OrderLogsHaveNineBytes }
 {
@@ -43,8 +44,9 @@ pub fn order_logs_have_nine_bytes()
     fix_laws::records_have_nine_bytes();
 }
 
-/// Whatever bytes two logs have, in whatever forms, they have exactly one verdict on each question, under each of the
-/// five rules. The order log has at most 34,359,738,368 bytes, so that the places of its records fit 32 bits.
+/// Whatever bytes two logs have, in whatever forms, they have exactly one verdict on each
+/// question, under each of the five rules. The order log has at most 34,359,738,368 bytes, so
+/// that the places of its records fit 32 bits.
 pub fn two_logs_have_a_verdict()
     ensures { LogVerdictExists }
 {

@@ -1,22 +1,23 @@
-//! Handing the records of a log of a shelf to a collector, piece by piece, in the form that the log is read in.
+//! Handing the records of a log of a shelf to a collector, piece by piece,
+//! in the form that the log is read in.
 ghost use Rattle.std.specs.Prelude.{◌≡◌, ◌≤◌, ◌≢◌, [], IfOk};
 ghost use Rattle.audit_base.specs.declared.terms.Which.{Which};
-ghost use Rattle.csv_logs.specs.Logs.{read_log};
+ghost use Rattle.csv_logs.specs.Logs.{read_csv_log};
 ghost use Rattle.fix_messages.specs.Logs as fix;
 ghost use Rattle.log_source.specs.Collectors.{HasPlace};
 ghost use Rattle.log_source.specs.Sources.{longest_read};
 ghost use Rattle.log_verdict.specs.LogVerdicts.{order_log, trade_log, paired_reports};
 ghost use Rattle.log_verdict.specs.Collecting.{CollectsLog, CollectsTrades, HasFewCollected, TouchesOnly};
-ghost use Rattle.log_verdict.specs.Steps.{reading_by, KeepsLogs};
+ghost use Rattle.log_verdict.specs.Steps.{reading_by, KeepsShelfLogs};
 
 use crate::sources::Source;
 use audit_base::faults::{BadPlace, LogFault};
 use audit_base::findings::Finding;
 use audit_base::records::{OrderRecord, TradeRecord};
 use audit_base::terms::{Form, Which};
-use csv_logs::entries::LogEntry;
+use csv_logs::entries::CsvRecord;
 use csv_logs::feeds::CsvFeed;
-use fix_messages::entries::FixEntry;
+use fix_messages::entries::FixRecord;
 use fix_messages::feeds::FixFeed;
 use fix_messages::meanings::Report;
 use fix_messages::pairing_draft::PairingDraft;
@@ -39,9 +40,9 @@ pub enum Unread {
 }
 
 impl From<TakeFault> for Unread {
-    ghost use Rattle.log_verdict.specs.Collecting.{of_take};
+    ghost use Rattle.log_verdict.specs.Collecting.{unread_of_take};
 
-    ghost from_gives = { λ fault made. made ≡ of_take fault };
+    ghost from_gives = { λ fault made. made ≡ unread_of_take fault };
 
     fn from(fault: TakeFault) -> Unread {
         match fault {
@@ -53,9 +54,9 @@ impl From<TakeFault> for Unread {
 }
 
 impl From<LogFault> for Unread {
-    ghost use Rattle.log_verdict.specs.Collecting.{of_log};
+    ghost use Rattle.log_verdict.specs.Collecting.{unread_of_log};
 
-    ghost from_gives = { λ fault made. made ≡ of_log fault };
+    ghost from_gives = { λ fault made. made ≡ unread_of_log fault };
 
     fn from(fault: LogFault) -> Unread {
         match fault {
@@ -65,9 +66,9 @@ impl From<LogFault> for Unread {
     }
 }
 
-/// Hands the records of the CSV log of this name to a collector. Where the log is not in its grammar it
-/// is still read to its end.
-fn collect_csv<F: Shelf, R: LogEntry, K: Collector<Entry = R>>(
+/// Hands the records of the CSV log of this name to a collector. Where the log is not in its
+/// grammar it is still read to its end.
+fn collect_csv<F: Shelf, R: CsvRecord, K: Collector<Entry = R>>(
     alloc: Global,
     shelf: &mut F,
     which: Which,
@@ -76,9 +77,9 @@ fn collect_csv<F: Shelf, R: LogEntry, K: Collector<Entry = R>>(
 ) -> Result<K, Unread>
     requires limit { source.now.limit ≤ longest_read }
     requires fresh { K.has_taken collector [] }
-    ensures logs { KeepsLogs F.Shelf shelf.old shelf.new }
+    ensures logs { KeepsShelfLogs F.Shelf shelf.old shelf.new }
     ensures only { TouchesOnly (reading_by source.now F.Shelf shelf.old shelf.new) which }
-    ensures read { CollectsLog K.has_taken (read_log R.names R.meaning)
+    ensures read { CollectsLog K.has_taken (read_csv_log R.names R.meaning)
         (reading_by source.now F.Shelf shelf.old shelf.new) which source.now.name.now result }
     ensures within { result ≢ Err Unread.TooLong
         → (F.slot shelf.new which).taken ≤ source.now.limit }
@@ -93,7 +94,7 @@ fn collect_csv<F: Shelf, R: LogEntry, K: Collector<Entry = R>>(
 }
 
 /// The same of a FIX log.
-fn collect_fix<F: Shelf, R: FixEntry, K: Collector<Entry = R>>(
+fn collect_fix<F: Shelf, R: FixRecord, K: Collector<Entry = R>>(
     alloc: Global,
     shelf: &mut F,
     which: Which,
@@ -102,9 +103,9 @@ fn collect_fix<F: Shelf, R: FixEntry, K: Collector<Entry = R>>(
 ) -> Result<K, Unread>
     requires limit { source.now.limit ≤ longest_read }
     requires fresh { K.has_taken collector [] }
-    ensures logs { KeepsLogs F.Shelf shelf.old shelf.new }
+    ensures logs { KeepsShelfLogs F.Shelf shelf.old shelf.new }
     ensures only { TouchesOnly (reading_by source.now F.Shelf shelf.old shelf.new) which }
-    ensures read { CollectsLog K.has_taken (fix.read_log R.meaning)
+    ensures read { CollectsLog K.has_taken (fix.read_fix_log R.meaning)
         (reading_by source.now F.Shelf shelf.old shelf.new) which source.now.name.now result }
     ensures within { result ≢ Err Unread.TooLong
         → (F.slot shelf.new which).taken ≤ source.now.limit }
@@ -136,10 +137,11 @@ pub fn collect_orders<F: Shelf, K: Collector<Entry = OrderRecord>>(
 ) -> Result<K, Unread>
     requires limit { source.now.limit ≤ longest_read }
     requires fresh { K.has_taken collector [] }
-    ensures logs { KeepsLogs F.Shelf shelf.old shelf.new }
+    ensures logs { KeepsShelfLogs F.Shelf shelf.old shelf.new }
     ensures only { TouchesOnly (reading_by source.now F.Shelf shelf.old shelf.new) Which.Orders }
     ensures read { CollectsLog K.has_taken (order_log source.now.form)
-        (reading_by source.now F.Shelf shelf.old shelf.new) Which.Orders source.now.name.now result }
+        (reading_by source.now F.Shelf shelf.old shelf.new) Which.Orders
+        source.now.name.now result }
     ensures within { result ≢ Err Unread.TooLong
         → (F.slot shelf.new Which.Orders).taken ≤ source.now.limit }
     ensures few { IfOk result (HasPlace K.has_taken) }
@@ -171,10 +173,11 @@ fn collect_pairs<F: Shelf, K: Collector<Entry = TradeRecord>>(
 ) -> Result<Collected<K>, Unread>
     requires limit { source.now.limit ≤ longest_read }
     requires fresh { K.has_taken collector [] }
-    ensures logs { KeepsLogs F.Shelf shelf.old shelf.new }
+    ensures logs { KeepsShelfLogs F.Shelf shelf.old shelf.new }
     ensures only { TouchesOnly (reading_by source.now F.Shelf shelf.old shelf.new) Which.Trades }
     ensures read { CollectsTrades K.has_taken (λ bytes. paired_reports (fix.report_log bytes))
-        (reading_by source.now F.Shelf shelf.old shelf.new) Which.Trades source.now.name.now result }
+        (reading_by source.now F.Shelf shelf.old shelf.new) Which.Trades
+        source.now.name.now result }
     ensures within { result ≢ Err Unread.TooLong
         → (F.slot shelf.new Which.Trades).taken ≤ source.now.limit }
     ensures few { IfOk result (HasFewCollected K.has_taken) }
@@ -202,10 +205,11 @@ pub fn collect_trades<F: Shelf, K: Collector<Entry = TradeRecord>>(
 ) -> Result<Collected<K>, Unread>
     requires limit { source.now.limit ≤ longest_read }
     requires fresh { K.has_taken collector [] }
-    ensures logs { KeepsLogs F.Shelf shelf.old shelf.new }
+    ensures logs { KeepsShelfLogs F.Shelf shelf.old shelf.new }
     ensures only { TouchesOnly (reading_by source.now F.Shelf shelf.old shelf.new) Which.Trades }
     ensures read { CollectsTrades K.has_taken (trade_log source.now.form)
-        (reading_by source.now F.Shelf shelf.old shelf.new) Which.Trades source.now.name.now result }
+        (reading_by source.now F.Shelf shelf.old shelf.new) Which.Trades
+        source.now.name.now result }
     ensures within { result ≢ Err Unread.TooLong
         → (F.slot shelf.new Which.Trades).taken ≤ source.now.limit }
     ensures few { IfOk result (HasFewCollected K.has_taken) }

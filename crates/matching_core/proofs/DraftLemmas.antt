@@ -7,81 +7,81 @@ use Rattle.audit_base.specs.declared.orders.Deal.{Deal}
 use Rattle.audit_base.specs.declared.records.TradeRecord.{TradeRecord}
 use Rattle.audit_base.specs.Deals.{IsDealList}
 use Rattle.audit_base.specs.Orders.{same_name}
-use Rattle.audit_base.specs.Trades.{trades_of, deals_of, unsound_trade}
+use Rattle.audit_base.specs.Trades.{trades_of_symbol, deals_of_symbol, unsound_trade}
 use Rattle.audit_base.proofs.TradeLemmas.{deals-are}
 use Rattle.matching_core.specs.declared.outcomes.CheckFault.TheVariants.{Found}
-use Rattle.matching_core.specs.Answers.{AreResolved}
+use Rattle.matching_core.specs.Answers.{IsResolveAnswer}
 use Rattle.matching_core.specs.declared.sound_deals.SoundDeals.{SoundDeals}
-use Rattle.matching_core.specs.DealsSoFar.{IsResolved, IsKnown, KnowsOneMore, finding_in, entry_of}
+use Rattle.matching_core.specs.DealsSoFar.{AreKeptOfTrades, AreTradesKnown, KnowsNextTrade, finding_in_trades, trade_of_symbol}
 use Rattle.matching_core.proofs.ResolveLemmas.{Listed, finding_in-append, trades_of-push, unsound-is}
 
 -- the trades of one record more, at its place
-pushed : (symbol : List ℕ) (trades : List TradeRecord) (x : TradeRecord) (place : ℕ) → place ≡ length trades + 1 → trades_of symbol (trades ++ x ∷ []) ≡ trades_of symbol trades ++ entry_of symbol place x
-pushed symbol trades x place at = trades_of-push symbol trades x ∙ ap (λ (n : ℕ). trades_of symbol trades ++ entry_of symbol n x) (sym at)
+pushed : (symbol : List ℕ) (trades : List TradeRecord) (x : TradeRecord) (place : ℕ) → place ≡ length trades + 1 → trades_of_symbol symbol (trades ++ x ∷ []) ≡ trades_of_symbol symbol trades ++ trade_of_symbol symbol place x
+pushed symbol trades x place at = trades_of-push symbol trades x ∙ ap (λ (n : ℕ). trades_of_symbol symbol trades ++ trade_of_symbol symbol n x) (sym at)
 
-not-of-it : (symbol : List ℕ) (place : ℕ) (x : TradeRecord) → same_name x.symbol symbol ≡ false → entry_of symbol place x ≡ []
+not-of-it : (symbol : List ℕ) (place : ℕ) (x : TradeRecord) → same_name x.symbol symbol ≡ false → trade_of_symbol symbol place x ≡ []
 not-of-it symbol place x other = rw other refl
 
-of-it : (symbol : List ℕ) (place : ℕ) (x : TradeRecord) → same_name x.symbol symbol ≡ true → entry_of symbol place x ≡ (place, x) ∷ []
+of-it : (symbol : List ℕ) (place : ℕ) (x : TradeRecord) → same_name x.symbol symbol ≡ true → trade_of_symbol symbol place x ≡ (place, x) ∷ []
 of-it symbol place x same = rw same refl
 
 -- a record of the symbol
 known-of : (orders : List Order) (symbol : List ℕ) (trades : List TradeRecord) (x : TradeRecord) (place : ℕ) (new : SoundDeals) (found : Option Finding) → place ≡ length trades + 1 → same_name x.symbol symbol ≡ true
-    → IsKnown orders (trades_of symbol trades ++ (place, x) ∷ []) new found → IsKnown orders (trades_of symbol (trades ++ x ∷ [])) new found
+    → AreTradesKnown orders (trades_of_symbol symbol trades ++ (place, x) ∷ []) new found → AreTradesKnown orders (trades_of_symbol symbol (trades ++ x ∷ [])) new found
 known-of orders symbol trades x place new found at same known =
-    subst (λ (h : Listed). IsKnown orders h new found) (sym (pushed symbol trades x place at ∙ ap (λ (h : Listed). trades_of symbol trades ++ h) (of-it symbol place x same))) known
+    subst (λ (h : Listed). AreTradesKnown orders h new found) (sym (pushed symbol trades x place at ∙ ap (λ (h : Listed). trades_of_symbol symbol trades ++ h) (of-it symbol place x same))) known
 
 -- a record of another symbol
 pub known-other : (orders : List Order) (symbol : List ℕ) (trades : List TradeRecord) (x : TradeRecord) (kept : SoundDeals) (found : Option Finding) → same_name x.symbol symbol ≡ false
-    → IsKnown orders (trades_of symbol trades) kept found → IsKnown orders (trades_of symbol (trades ++ x ∷ [])) kept found
+    → AreTradesKnown orders (trades_of_symbol symbol trades) kept found → AreTradesKnown orders (trades_of_symbol symbol (trades ++ x ∷ [])) kept found
 known-other orders symbol trades x kept found other known =
-    subst (λ (h : Listed). IsKnown orders h kept found) (sym (trades_of-push symbol trades x ∙ ap (λ (h : Listed). trades_of symbol trades ++ h) (not-of-it symbol (length trades + 1) x other) ∙ append-nil (trades_of symbol trades))) known
+    subst (λ (h : Listed). AreTradesKnown orders h kept found) (sym (trades_of-push symbol trades x ∙ ap (λ (h : Listed). trades_of_symbol symbol trades ++ h) (not-of-it symbol (length trades + 1) x other) ∙ append-nil (trades_of_symbol symbol trades))) known
 
 -- after a finding
 pub still-known : (orders : List Order) (symbol : List ℕ) (trades : List TradeRecord) (x : TradeRecord) (kept : SoundDeals) (found : Option Finding) (f : Finding) → found ≡ Some f
-    → IsKnown orders (trades_of symbol trades) kept found → IsKnown orders (trades_of symbol (trades ++ x ∷ [])) kept found
+    → AreTradesKnown orders (trades_of_symbol symbol trades) kept found → AreTradesKnown orders (trades_of_symbol symbol (trades ++ x ∷ [])) kept found
 still-known orders symbol trades x kept None f is known = absurd (cc is)
 still-known orders symbol trades x kept (Some g) f is known =
-    ap (finding_in orders) (trades_of-push symbol trades x) ∙ finding_in-append orders (trades_of symbol trades) (entry_of symbol (length trades + 1) x) g known
+    ap (finding_in_trades orders) (trades_of-push symbol trades x) ∙ finding_in-append orders (trades_of_symbol symbol trades) (trade_of_symbol symbol (length trades + 1) x) g known
 
 -- where there is no finding the trades are resolved
-pub resolved-known : (orders : List Order) (h : Listed) (kept : SoundDeals) (found : Option Finding) → found ≡ None → IsKnown orders h kept found → IsResolved orders h kept
+pub resolved-known : (orders : List Order) (h : Listed) (kept : SoundDeals) (found : Option Finding) → found ≡ None → AreTradesKnown orders h kept found → AreKeptOfTrades orders h kept
 resolved-known orders h kept None none known = known
 resolved-known orders h kept (Some f) none known = absurd (cc none)
 
 -- a trade of the symbol was taken, and its finding, if it has one, is kept
 pub known-next : (orders : List Order) (symbol : List ℕ) (trades : List TradeRecord) (x : TradeRecord) (count : ℕ) (old new : SoundDeals) (before found : Option Finding) → count ≡ length trades → before ≡ None
-    → same_name x.symbol symbol ≡ true → IsKnown orders (trades_of symbol trades) old before → KnowsOneMore orders old new (count + 1) x found → IsKnown orders (trades_of symbol (trades ++ x ∷ [])) new found
+    → same_name x.symbol symbol ≡ true → AreTradesKnown orders (trades_of_symbol symbol trades) old before → KnowsNextTrade orders old new (count + 1) x found → AreTradesKnown orders (trades_of_symbol symbol (trades ++ x ∷ [])) new found
 known-next orders symbol trades x count old new before found counted none same known takes =
     let place : count + 1 ≡ length trades + 1 = ap (λ (n : ℕ). n + 1) counted in
-    known-of orders symbol trades x (count + 1) new found place same (takes (trades_of symbol trades) (resolved-known orders (trades_of symbol trades) old before none known))
+    known-of orders symbol trades x (count + 1) new found place same (takes (trades_of_symbol symbol trades) (resolved-known orders (trades_of_symbol symbol trades) old before none known))
 
 pub size-more : (count : ℕ) (trades : List TradeRecord) (x : TradeRecord) → count ≡ length trades → count + 1 ≡ length (trades ++ x ∷ [])
 size-more count trades x is = simp length-append (omega (arith, is))
 
-known-finding : (orders : List Order) (h : Listed) (kept : SoundDeals) (found : Option Finding) → IsKnown orders h kept found → finding_in orders h ≡ found
+known-finding : (orders : List Order) (h : Listed) (kept : SoundDeals) (found : Option Finding) → AreTradesKnown orders h kept found → finding_in_trades orders h ≡ found
 known-finding orders h kept None known = known.clean
 known-finding orders h kept (Some f) known = known
 
-pub ends-finding : (orders : List Order) (symbol : List ℕ) (trades : List TradeRecord) (kept : SoundDeals) (found : Option Finding) → IsKnown orders (trades_of symbol trades) kept found → unsound_trade orders symbol trades ≡ found
-ends-finding orders symbol trades kept found known = unsound-is orders symbol trades ∙ known-finding orders (trades_of symbol trades) kept found known
+pub ends-finding : (orders : List Order) (symbol : List ℕ) (trades : List TradeRecord) (kept : SoundDeals) (found : Option Finding) → AreTradesKnown orders (trades_of_symbol symbol trades) kept found → unsound_trade orders symbol trades ≡ found
+ends-finding orders symbol trades kept found known = unsound-is orders symbol trades ∙ known-finding orders (trades_of_symbol symbol trades) kept found known
 
-pub ends-deals : (orders : List Order) (symbol : List ℕ) (trades : List TradeRecord) (kept : SoundDeals) (found : Option Finding) → found ≡ None → IsKnown orders (trades_of symbol trades) kept found → kept.deals.items ≡ deals_of orders symbol trades
-unfolding deals_of
-ends-deals orders symbol trades kept found none known = (resolved-known orders (trades_of symbol trades) kept found none known).deals
+pub ends-deals : (orders : List Order) (symbol : List ℕ) (trades : List TradeRecord) (kept : SoundDeals) (found : Option Finding) → found ≡ None → AreTradesKnown orders (trades_of_symbol symbol trades) kept found → kept.deals.items ≡ deals_of_symbol orders symbol trades
+unfolding deals_of_symbol
+ends-deals orders symbol trades kept found none known = (resolved-known orders (trades_of_symbol symbol trades) kept found none known).deals
 
-pub ends-list : (orders : List Order) (symbol : List ℕ) (trades : List TradeRecord) (kept : SoundDeals) (found : Option Finding) → length trades < 2 ^ 32 - 1 → found ≡ None → IsKnown orders (trades_of symbol trades) kept found → IsDealList orders kept.deals.items
+pub ends-list : (orders : List Order) (symbol : List ℕ) (trades : List TradeRecord) (kept : SoundDeals) (found : Option Finding) → length trades < 2 ^ 32 - 1 → found ≡ None → AreTradesKnown orders (trades_of_symbol symbol trades) kept found → IsDealList orders kept.deals.items
 ends-list orders symbol trades kept found few none known =
     subst (λ (deals : List Deal). IsDealList orders deals) (sym (ends-deals orders symbol trades kept found none known))
     (deals-are orders symbol trades (omega (arith, few)) (ends-finding orders symbol trades kept found known ∙ none))
 
-pub known-none : (orders : List Order) (symbol : List ℕ) (kept : SoundDeals) → IsResolved orders [] kept → IsKnown orders (trades_of symbol []) kept None
-unfolding trades_of
+pub known-none : (orders : List Order) (symbol : List ℕ) (kept : SoundDeals) → AreKeptOfTrades orders [] kept → AreTradesKnown orders (trades_of_symbol symbol []) kept None
+unfolding trades_of_symbol
 known-none orders symbol kept is = is
 
 -- the answer, where all records are known
 pub resolved-found : (orders : List Order) (symbol : List ℕ) (trades : List TradeRecord) (kept : SoundDeals) (found : Option Finding) (f : Finding) → found ≡ Some f
-    → IsKnown orders (trades_of symbol trades) kept found → AreResolved orders symbol trades (Err (Found f))
+    → AreTradesKnown orders (trades_of_symbol symbol trades) kept found → IsResolveAnswer orders symbol trades (Err (Found f))
 resolved-found orders symbol trades kept found f is known = record {
   sound = tt;
   deals = tt;
@@ -91,11 +91,11 @@ resolved-found orders symbol trades kept found f is known = record {
 }
 
 pub resolved-deals : (orders : List Order) (symbol : List ℕ) (trades : List TradeRecord) (kept : SoundDeals) (found : Option Finding) → length trades < 2 ^ 32 - 1 → found ≡ None
-    → IsKnown orders (trades_of symbol trades) kept found → AreResolved orders symbol trades (Ok kept.deals)
+    → AreTradesKnown orders (trades_of_symbol symbol trades) kept found → IsResolveAnswer orders symbol trades (Ok kept.deals)
 resolved-deals orders symbol trades kept found few none known = record {
   sound = ends-finding orders symbol trades kept found known ∙ none;
   deals = ends-deals orders symbol trades kept found none known;
   deal_list = ends-list orders symbol trades kept found few none known;
-  numbers = (resolved-known orders (trades_of symbol trades) kept found none known).numbers;
+  numbers = (resolved-known orders (trades_of_symbol symbol trades) kept found none known).numbers;
   found = λ g e. absurd (cc e);
 }

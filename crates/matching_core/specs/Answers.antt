@@ -7,24 +7,24 @@ use Rattle.audit_base.specs.declared.orders.Order.{Order}
 use Rattle.audit_base.specs.declared.orders.Deal.{Deal}
 use Rattle.audit_base.specs.declared.records.TradeRecord.{TradeRecord}
 use Rattle.audit_base.specs.Calls.{Matching, OnePrice}
-use Rattle.audit_base.specs.Deals.{IsDealList, AreDeals}
-use Rattle.audit_base.specs.Trades.{Sound, deals_of, unsound_trade}
+use Rattle.audit_base.specs.Deals.{IsDealList, DealsInRange}
+use Rattle.audit_base.specs.Trades.{SoundTrades, deals_of_symbol, unsound_trade}
 use Rattle.matching_core.specs.declared.outcomes.CheckFault.{CheckFault}
 use Rattle.matching_core.specs.declared.outcomes.CheckFault.TheVariants.{Found}
 
 -- a fact of the finding that is answered, if one is
-abbrev pub IfFound : {A : Type 0} → Result A CheckFault → (Finding → Type 0) → Type 0
-IfFound result P = (finding : Finding) → result ≡ Err (Found finding) → P finding
+abbrev pub IfCheckFinding : {A : Type 0} → Result A CheckFault → (Finding → Type 0) → Type 0
+IfCheckFinding result P = (finding : Finding) → result ≡ Err (Found finding) → P finding
 
 -- the deals are no matching, or not of one price where that is asked
 abbrev pub IsNoMatching : Bool → List Order → List Deal → Type 0
 IsNoMatching uniform orders deals = Matching orders deals → OnTrue uniform (OnePrice deals) → ⊥
 
 -- the answer to the trades of a symbol
-pub record AreResolved (orders : List Order) (symbol : List ℕ) (trades : List TradeRecord)
+pub record IsResolveAnswer (orders : List Order) (symbol : List ℕ) (trades : List TradeRecord)
     (result : Result (Vec Deal Global) CheckFault) : Type 0 where
-  pub sound : OnOk result (Sound orders symbol trades)
-  pub deals : IfOk result (λ deals. deals.items ≡ deals_of orders symbol trades)
+  pub sound : OnOk result (SoundTrades orders symbol trades)
+  pub deals : IfOk result (λ deals. deals.items ≡ deals_of_symbol orders symbol trades)
   pub deal_list : IfOk result (λ deals. IsDealList orders deals.items)
-  pub numbers : IfOk result (λ deals. AreDeals deals.items)
-  pub found : IfFound result (λ finding. unsound_trade orders symbol trades ≡ Some finding)
+  pub numbers : IfOk result (λ deals. DealsInRange deals.items)
+  pub found : IfCheckFinding result (λ finding. unsound_trade orders symbol trades ≡ Some finding)

@@ -9,20 +9,21 @@ use Rattle.audit_base.specs.declared.flaws.Evidence.{Evidence}
 use Rattle.audit_base.specs.declared.flaws.Evidence.TheVariants.{Inactive, Limit, UniformPrice, Quantity}
 use Rattle.audit_base.specs.CallOffences.{is_cancelled, keeps_limits}
 use Rattle.audit_base.specs.Flaws.{finding_of}
-use Rattle.audit_base.specs.Least.{first_of, only_if}
+use Rattle.audit_base.specs.Least.{first_answer, only_if}
 use Rattle.audit_base.specs.Orders.{order_at}
 
 -- the order trades more than its quantity
 abbrev pub is_overfilled : Order → ℕ → Bool
 is_overfilled o traded = nat_lt o.quantity traded
 
--- the first of what is wrong with a deal: 7 of the bid, or else of the ask; 8; 9, where one price is asked
--- for; 10 of the bid; and 11 of the ask. The two orders are shown with what they trade up to it
-abbrev pub evidence_of : Bool → List Order → Deal → Deal → ℕ → ℕ → Option Evidence
-evidence_of uniform orders d first bid_traded ask_traded =
+-- the first of what is wrong with a deal: 7 of the bid, or else of the ask; 8; 9, where one
+-- price is asked for; 10 of the bid; and 11 of the ask. The two orders are shown with what
+-- they trade up to it
+abbrev pub matching_evidence : Bool → List Order → Deal → Deal → ℕ → ℕ → Option Evidence
+matching_evidence uniform orders d first bid_traded ask_traded =
     let bid : TradedOrder = record { index = d.bid; traded = bid_traded } in
     let ask : TradedOrder = record { index = d.ask; traded = ask_traded } in
-    first_of (only_if (is_cancelled orders d.bid) (Inactive bid)
+    first_answer (only_if (is_cancelled orders d.bid) (Inactive bid)
     ∷ only_if (is_cancelled orders d.ask) (Inactive ask)
     ∷ only_if (not (keeps_limits orders d)) (Limit bid ask)
     ∷ only_if (uniform && not (d.price == first.price)) (UniformPrice first.place)
@@ -31,9 +32,11 @@ evidence_of uniform orders d first bid_traded ask_traded =
 
 -- the finding at a deal, by what is wrong with it
 abbrev pub finding_at_deal : List Order → Deal → Evidence → Finding
-finding_at_deal orders d evidence = finding_of orders (record { place = d.place; evidence = evidence })
+finding_at_deal orders d evidence =
+    finding_of orders (record { place = d.place; evidence = evidence })
 
 -- what the orders trade, with a deal of this quantity between these two
-abbrev pub added : List ℕ → ℕ → ℕ → ℕ → List ℕ
-added traded bid ask quantity =
-    slice_set (slice_set traded bid (slice_index traded bid + quantity)) ask (slice_index traded ask + quantity)
+abbrev pub traded_with_deal : List ℕ → ℕ → ℕ → ℕ → List ℕ
+traded_with_deal traded bid ask quantity =
+    slice_set (slice_set traded bid (slice_index traded bid + quantity))
+    ask (slice_index traded ask + quantity)

@@ -2,10 +2,10 @@
 use Rattle.std.specs.Prelude.{ℕ, List, [], Option}
 use Rattle.indexmap.specs.IndexMap.{get}
 use Rattle.audit_base.specs.Orders.{same_name}
-use Rattle.seeded_hash.specs.ShortPairs.{same_block, short_pair_of, held_by}
+use Rattle.seeded_hash.specs.ShortPairs.{same_block, short_pair_of, value_by_pair}
 use Rattle.matching_core.specs.declared.mapped_ids.MappedIds.{MappedIds}
 
 -- the place of an id, as two maps hold it
-abbrev pub first_mapped : MappedIds → List ℕ → Option ℕ
-first_mapped ids id =
-    held_by (get same_block ids.short) (get same_name ids.long id) (short_pair_of id [])
+abbrev pub mapped_place_of_id : MappedIds → List ℕ → Option ℕ
+mapped_place_of_id ids id =
+    value_by_pair (get same_block ids.short) (get same_name ids.long id) (short_pair_of id [])

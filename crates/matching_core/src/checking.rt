@@ -4,10 +4,10 @@ ghost use Rattle.std.specs.Bool.{OnTrue};
 ghost use Rattle.audit_base.specs.CallOffences.{matching_offence};
 ghost use Rattle.audit_base.specs.Calls.{Matching, OnePrice};
 ghost use Rattle.audit_base.specs.Deals.{IsDealList, AreTotals, volume};
-ghost use Rattle.matching_core.specs.Answers.{IfFound, IsNoMatching};
+ghost use Rattle.matching_core.specs.Answers.{IfCheckFinding, IsNoMatching};
 ghost use Rattle.matching_core.specs.DealFlaws as at;
 
-use super::deal_flaws::evidence_of;
+use super::deal_flaws::matching_evidence;
 use super::outcomes::CheckFault;
 use super::totals::{Totals, zeros};
 use audit_base::flaws::Flaw;
@@ -22,7 +22,8 @@ pub fn add_deal(traded: &mut Vec<u128>, bid: usize, ask: usize, quantity: u128) 
     requires apart { bid ≢ ask }
     requires bid_fits { slice_index traded.old.items bid + quantity < 2 ^ 128 }
     requires ask_fits { slice_index traded.old.items ask + quantity < 2 ^ 128 }
-    ensures added { traded.new.items ≡ at.added traded.old.items bid ask quantity }
+    ensures added { traded.new.items
+        ≡ at.traded_with_deal traded.old.items bid ask quantity }
     ensures bid { result.0 ≡ slice_index traded.old.items bid + quantity }
     ensures ask { result.1 ≡ slice_index traded.old.items ask + quantity }
 {
@@ -49,8 +50,8 @@ pub fn check_matching(
     ensures totals { IfOk result (λ totals. AreTotals orders.now deals.now totals.0) }
     ensures volume { IfOk result (λ totals. totals.1 ≡ volume deals.now) }
     ensures found { let offence = matching_offence uniform orders.now deals.now in
-        IfFound result (λ f. offence ≡ Some f) }
-    ensures only { IfFound result (λ _. IsNoMatching uniform orders.now deals.now) }
+        IfCheckFinding result (λ f. offence ≡ Some f) }
+    ensures only { IfCheckFinding result (λ _. IsNoMatching uniform orders.now deals.now) }
 {
     let mut traded = zeros(alloc, orders.len())?;
     let mut volume: u128 = 0;
@@ -58,7 +59,9 @@ pub fn check_matching(
         let quantity = deal.quantity.value() as u128;
         let (bid_traded, ask_traded) = add_deal(&mut traded, deal.bid, deal.ask, quantity);
         let first = &deals[0];
-        if let Some(evidence) = evidence_of(uniform, orders, deal, first, bid_traded, ask_traded) {
+        if let Some(evidence) = matching_evidence(
+            uniform, orders, deal, first, bid_traded, ask_traded,
+        ) {
             let place = deal.place;
             return Err(CheckFault::Found(orders.finding(Flaw { place, evidence })));
         }

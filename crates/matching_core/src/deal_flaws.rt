@@ -1,6 +1,6 @@
 //! Findings 7 to 11: what is wrong with a deal of a matching.
 ghost use Rattle.std.specs.Prelude.{◌≡◌, ◌<◌, IfSome, length};
-ghost use Rattle.audit_base.specs.Flaws.{IsInside};
+ghost use Rattle.audit_base.specs.Flaws.{IsEvidenceInside};
 ghost use Rattle.matching_core.specs.DealFlaws as at;
 
 use audit_base::flaws::{Evidence, TradedOrder};
@@ -16,8 +16,9 @@ fn is_overfilled(order: &ListedOrder<'_>, traded: u128) -> bool
     u128::from(order.quantity().value()) < traded
 }
 
-/// What is wrong with a deal, if anything is, by the first deal and by what its two orders trade up to it.
-pub(crate) fn evidence_of(
+/// What is wrong with a deal, if anything is, by the first deal and by what its two
+/// orders trade up to it.
+pub(crate) fn matching_evidence(
     uniform: bool,
     orders: &OrderList<'_>,
     deal: &Deal,
@@ -27,9 +28,9 @@ pub(crate) fn evidence_of(
 ) -> Option<Evidence>
     requires bid { deal.now.bid < length orders.now }
     requires ask { deal.now.ask < length orders.now }
-    ensures first { let evidence = at.evidence_of uniform orders.now deal.now first.now in
+    ensures first { let evidence = at.matching_evidence uniform orders.now deal.now first.now in
         result ≡ evidence bid_traded ask_traded }
-    ensures inside { IfSome result (IsInside orders.now) }
+    ensures inside { IfSome result (IsEvidenceInside orders.now) }
 {
     let bid = TradedOrder {
         index: deal.bid,

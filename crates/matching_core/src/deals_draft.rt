@@ -1,13 +1,14 @@
-//! The draft of deals: what is handed the records of a trade log one after another, and keeps what the
-//! deals of its symbol need of them.
+//! The draft of deals: what is handed the records of a trade log one after another, and keeps what
+//! the deals of its symbol need of them.
 //!
-//! A draft counts every record, since places are counted over all symbols. A record of another symbol is
-//! only counted, and after the first finding so is every record. No room is reserved, since only the end
-//! of the log tells how many deals there are: the deals and the ids grow with them, by doubling.
+//! A draft counts every record, since places are counted over all symbols. A record of another
+//! symbol is only counted, and after the first finding so is every record. No room is reserved,
+//! since only the end of the log says how many deals there are: the deals and the ids grow with
+//! them, by doubling.
 ghost use Rattle.std.specs.Prelude.{◌≡◌, ◌<◌, ◌-◌, ◌^◌, [], None, length};
-ghost use Rattle.audit_base.specs.Deals.{IsDealList, AreDeals};
-ghost use Rattle.instruction_history.specs.Flaws.{found_by, NamesNoOrder};
-ghost use Rattle.matching_core.specs.DealsDraft.{IsDealsDraft, ForHanded, IsFindingOf, AreDealsOf};
+ghost use Rattle.audit_base.specs.Deals.{IsDealList, DealsInRange};
+ghost use Rattle.instruction_history.specs.Flaws.{flaw_finding, NamesNoOrder};
+ghost use Rattle.matching_core.specs.DealsDraft.{IsDealsDraft, ForHandedTrades, IsFindingOfTrades, AreDealsOf};
 ghost use Rattle.log_source.specs.Collectors.{HasPlace};
 
 pub use super::deals_so_far::AuditedHistory;
@@ -23,8 +24,8 @@ use log_source::collector::Collector;
 use seeded_hash::seed::HashSeed;
 use std::alloc::Global;
 
-/// What is known of the trades of a symbol after some records of a trade log: their deals, or their first
-/// finding.
+/// What is known of the trades of a symbol after some records of a trade log: their deals, or
+/// their first finding.
 #[derive(Drop)]
 pub struct DealsDraft<M> {
     symbol: Name,
@@ -32,7 +33,7 @@ pub struct DealsDraft<M> {
     so_far: DealsSoFar<M>,
 }
 
-/// What the trades of a log come to, between the orders of a history.
+/// The deals of the trades of a log, between the orders of a history, or their first finding.
 #[derive(Drop)]
 pub struct ResolvedTrades {
     pub history: History,
@@ -46,7 +47,7 @@ pub struct ResolvedTrades {
 /// The finding of a flaw, if there is one.
 fn finding_of(flaw: Option<Flaw>) -> Option<Finding>
     requires { NamesNoOrder flaw }
-    ensures { result ≡ found_by flaw }
+    ensures { result ≡ flaw_finding flaw }
 {
     match flaw {
         Some(flaw) => Some(flaw.finding()),
@@ -55,7 +56,8 @@ fn finding_of(flaw: Option<Flaw>) -> Option<Finding>
 }
 
 impl<M: AuditedHistory> DealsDraft<M> {
-    /// A draft that has been handed no records, and finds ids by hashes of this seed. Takes no memory.
+    /// A draft that has been handed no records, and finds ids by hashes of this
+    /// seed. Takes no memory.
     pub fn new(alloc: Global, seed: HashSeed, symbol: Name, history: History) -> DealsDraft<M>
         requires symbol { symbol ≡ M.symbol }
         requires orders { history ≡ M.orders }
@@ -72,12 +74,12 @@ impl<M: AuditedHistory> DealsDraft<M> {
     pub fn end(self) -> ResolvedTrades
         requires { HasPlace (IsDealsDraft M.symbol M.orders) self }
         ensures history { result.history ≡ M.orders }
-        ensures count { ForHanded M.symbol M.orders self
+        ensures count { ForHandedTrades M.symbol M.orders self
             (λ trades. result.count ≡ length trades) }
-        ensures finding { IsFindingOf M.symbol M.orders self result.finding }
+        ensures finding { IsFindingOfTrades M.symbol M.orders self result.finding }
         ensures deals { AreDealsOf M.symbol M.orders self result.finding result.deals.items }
         ensures deal_list { result.finding ≡ None → IsDealList M.orders result.deals.items }
-        ensures numbers { result.finding ≡ None → AreDeals result.deals.items }
+        ensures numbers { result.finding ≡ None → DealsInRange result.deals.items }
     {
         let DealsDraft {
             history,

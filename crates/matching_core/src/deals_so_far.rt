@@ -16,10 +16,10 @@ use seeded_hash::seed::HashSeed;
 use std::alloc::Global;
 use std::marker::{Brand, PhantomData};
 
-/// The symbol of trades and the orders that they name, for proofs alone. What hands records to collectors
-/// of any kind can say of one only which records it has been handed, and not which history it was made
-/// for. So the type of a draft says that. Whoever makes a draft picks both, at `Brand`, and nothing of
-/// them is there when the program runs.
+/// The symbol of trades and the orders that they name, for proofs alone. What hands records to
+/// collectors of any kind can say of one only which records it has been handed, and not which
+/// history it was made for. So the type of a draft says that. Whoever makes a draft picks both, at
+/// `Brand`, and nothing of them is there when the program runs.
 pub trait AuditedHistory {
     ghost symbol: { List ℕ };
 
@@ -39,8 +39,8 @@ fn has_symbol(trade: &TradeRecord, symbol: &Name) -> bool
     trade.symbol == *symbol
 }
 
-/// What is known of the trades of a symbol after some records of a trade log: their deals, or their first
-/// flaw.
+/// What is known of the trades of a symbol after some records of a trade log: their deals,
+/// or their first flaw.
 #[derive(Drop)]
 pub(crate) struct DealsSoFar<M> {
     /// How many records of the log there were, of all symbols.
@@ -64,8 +64,8 @@ impl<M: AuditedHistory> DealsSoFar<M> {
         }
     }
 
-    /// Takes the next record of the log. A record of another symbol is only counted, and after a finding
-    /// so is every record.
+    /// Takes the next record of the log. A record of another symbol is only counted, and after a
+    /// finding so is every record.
     pub fn take(
         &mut self,
         history: &History,

@@ -1,10 +1,10 @@
 //! Trade ids in any order, and the place of each.
 //!
-//! An id of at most 30 bytes is short: it is kept as the pair of itself and an empty text, in one block.
-//! Only a longer id is kept as it is.
+//! An id of at most 30 bytes is short: it is kept as the pair of itself and an empty text, in one
+//! block. Only a longer id is kept as it is.
 ghost use Rattle.std.specs.Prelude.{◌≡◌, ℕ, List, None, Some, IfOk, OnOk, OnErr, if◌then◌else◌};
 ghost use Rattle.audit_base.specs.Orders.{same_name};
-ghost use Rattle.matching_core.specs.MappedIds.{first_mapped};
+ghost use Rattle.matching_core.specs.MappedIds.{mapped_place_of_id};
 
 use audit_base::faults::NoMemory;
 use audit_base::names::Name;
@@ -25,7 +25,7 @@ pub(crate) struct MappedIds {
 impl MappedIds {
     /// No ids.
     pub fn new(alloc: Global, seed: HashSeed) -> MappedIds
-        ensures { (id : List ℕ) → first_mapped result id ≡ None }
+        ensures { (id : List ℕ) → mapped_place_of_id result id ≡ None }
     {
         MappedIds {
             short: IndexMap::with_hasher(alloc, BlockSeed::of(seed)),
@@ -33,14 +33,14 @@ impl MappedIds {
         }
     }
 
-    /// One more id, and the place that it had before. Where it had one, it has the new one now. Only a long
-    /// id is copied.
+    /// One more id, and the place that it had before. Where it had one, it has the new one now.
+    /// Only a long id is copied.
     pub fn add(&mut self, id: &Name, place: u32) -> Result<Option<u32>, NoMemory>
-        ensures earlier { IfOk result (λ earlier. earlier ≡ first_mapped self.old id.now) }
-        ensures adds { OnOk result ((other : List ℕ) → first_mapped self.new other
-            ≡ (if same_name id.now other then Some place else first_mapped self.old other)) }
+        ensures earlier { IfOk result (λ earlier. earlier ≡ mapped_place_of_id self.old id.now) }
+        ensures adds { OnOk result ((other : List ℕ) → mapped_place_of_id self.new other
+            ≡ (if same_name id.now other then Some place else mapped_place_of_id self.old other)) }
         ensures stays { OnErr result ((other : List ℕ) →
-            first_mapped self.new other ≡ first_mapped self.old other) }
+            mapped_place_of_id self.new other ≡ mapped_place_of_id self.old other) }
     {
         match ShortPair::of(id.bytes(), &[]) {
             Some(short) => Ok(self.short.insert(short, place)?),

@@ -34,7 +34,7 @@ impl From<NoMemory> for CheckFault {
     }
 }
 
-/// What conforming deals come to.
+/// What each order traded in deals that conform, and the volume.
 #[derive(Debug, Drop)]
 pub struct Reached {
     pub traded: Totals,

@@ -1,8 +1,8 @@
 //! The deals of the trades of one symbol: each trade with its bid and its ask.
 ghost use Rattle.std.specs.Prelude.{◌≡◌, ◌<◌, ◌-◌, ◌^◌, Some, IfOk, OnOk, length};
-ghost use Rattle.audit_base.specs.Deals.{IsDealList, AreDeals};
-ghost use Rattle.audit_base.specs.Trades.{Sound, deals_of, unsound_trade};
-ghost use Rattle.matching_core.specs.Answers.{IfFound, AreResolved};
+ghost use Rattle.audit_base.specs.Deals.{IsDealList, DealsInRange};
+ghost use Rattle.audit_base.specs.Trades.{SoundTrades, deals_of_symbol, unsound_trade};
+ghost use Rattle.matching_core.specs.Answers.{IfCheckFinding, IsResolveAnswer};
 ghost use Rattle.matching_core.specs.DealsSoFar.{IsDealsSoFar};
 
 use super::deals_so_far::{AuditedHistory, DealsSoFar};
@@ -46,7 +46,7 @@ fn resolve_all<M: AuditedHistory>(
     requires orders { history.now ≡ M.orders }
     requires symbol { symbol.now ≡ M.symbol }
     requires few { length trades.now < 2 ^ 32 - 1 }
-    ensures { AreResolved history.now symbol.now trades.now result }
+    ensures { IsResolveAnswer history.now symbol.now trades.now result }
 {
     let DealsSoFar { sound, flaw, .. } = deals_after::<M>(alloc, history, trades, symbol)?;
     let SoundDeals { deals, .. } = sound;
@@ -56,11 +56,11 @@ fn resolve_all<M: AuditedHistory>(
     }
 }
 
-/// The deals of the symbol's trades, in log order, where they are sound: each trade id of the symbol
-/// stands once, and each trade names the key of a bid and the key of an ask of the history. Trades
-/// stand at the places 1, 2 and so on of their log; those of other symbols are passed over. Ok exactly
-/// where the trades are sound and Found exactly where one has a finding of number 5 or 6, out of memory
-/// aside. One pass over the trades.
+/// The deals of the symbol's trades, in log order, where they are sound: each trade id of the
+/// symbol comes once, and each trade names the key of a bid and the key of an ask of the history.
+/// Trades have the places 1, 2 and so on of their log; those of other symbols are passed over. Ok
+/// exactly where the trades are sound and Found exactly where one has a finding of number 5 or 6,
+/// out of memory aside. One pass over the trades.
 pub fn resolve(
     alloc: Global,
     history: &History,
@@ -68,13 +68,13 @@ pub fn resolve(
     symbol: &Name,
 ) -> Result<Vec<Deal>, CheckFault>
     requires { length trades.now < 2 ^ 32 - 1 }
-    ensures sound { OnOk result (Sound history.now symbol.now trades.now) }
-    ensures deals { let deals = deals_of history.now symbol.now trades.now in
+    ensures sound { OnOk result (SoundTrades history.now symbol.now trades.now) }
+    ensures deals { let deals = deals_of_symbol history.now symbol.now trades.now in
         IfOk result (λ made. made.items ≡ deals) }
     ensures deal_list { IfOk result (λ deals. IsDealList history.now deals.items) }
-    ensures numbers { IfOk result (λ deals. AreDeals deals.items) }
+    ensures numbers { IfOk result (λ deals. DealsInRange deals.items) }
     ensures found { let first = unsound_trade history.now symbol.now trades.now in
-        IfFound result (λ f. first ≡ Some f) }
+        IfCheckFinding result (λ f. first ≡ Some f) }
 {
     resolve_all::<Brand>(alloc, history, trades, symbol)
 }

@@ -1,10 +1,10 @@
 //! Trade ids that rise: each is greater than those before it, so none of them came before.
 //!
-//! Most exchanges number their trades upward. Such ids need no map: their bytes lie in one row, as they came,
-//! and one that is asked for is found by halving.
+//! Most exchanges number their trades upward. Such ids need no map: their bytes lie in one row, as
+//! they came, and one that is asked for is found by halving.
 ghost use Rattle.std.specs.Prelude.{◌≡◌, ◌∷◌, ◌++◌, [], true, drop, take, IfOk, OnOk, OnErr};
-ghost use Rattle.matching_core.specs.IdOrder.{compare_ids, is_above, place_among};
-ghost use Rattle.matching_core.specs.RisingIds.{text_of, entries_of, AreInside};
+ghost use Rattle.matching_core.specs.IdOrder.{compare_ids, is_above_ids, rising_place_of_id};
+ghost use Rattle.matching_core.specs.RisingIds.{id_text, ids_with_places, AreIdsInside};
 
 use audit_base::faults::NoMemory;
 use audit_base::names::Name;
@@ -31,7 +31,8 @@ fn part(bytes: &[u8], start: usize, size: usize) -> &[u8]
     &bytes[start..start + size]
 }
 
-/// Which of two ids comes first: the shorter, and of two as long the one of the lesser bytes.
+/// Which of two ids comes first: the shorter, and of two of one length the one of
+/// the smaller bytes.
 fn compare_ids(a: &[u8], b: &[u8]) -> Ordering
     ensures { result ≡ compare_ids a.now b.now }
 {
@@ -44,7 +45,7 @@ fn compare_ids(a: &[u8], b: &[u8]) -> Ordering
 impl RisingId {
     /// The id, whose bytes lie among these.
     fn text<'a>(&self, bytes: &'a [u8]) -> &'a [u8]
-        ensures { result.now ≡ text_of bytes.now self.now }
+        ensures { result.now ≡ id_text bytes.now self.now }
     {
         part(bytes, self.start as usize, self.size as usize)
     }
@@ -67,12 +68,12 @@ fn append(
     id: &Name,
     place: u32,
 ) -> Result<(), NoMemory>
-    requires { AreInside bytes.old.items ids.old.items }
-    ensures inside { AreInside bytes.new.items ids.new.items }
-    ensures adds { OnOk result (entries_of bytes.new.items ids.new.items
-        ≡ entries_of bytes.old.items ids.old.items ++ (id.now, place) ∷ []) }
-    ensures stays { OnErr result (entries_of bytes.new.items ids.new.items
-        ≡ entries_of bytes.old.items ids.old.items) }
+    requires { AreIdsInside bytes.old.items ids.old.items }
+    ensures inside { AreIdsInside bytes.new.items ids.new.items }
+    ensures adds { OnOk result (ids_with_places bytes.new.items ids.new.items
+        ≡ ids_with_places bytes.old.items ids.old.items ++ (id.now, place) ∷ []) }
+    ensures stays { OnErr result (ids_with_places bytes.new.items ids.new.items
+        ≡ ids_with_places bytes.old.items ids.old.items) }
 {
     let text = id.bytes();
     let own = RisingId {
@@ -85,8 +86,8 @@ fn append(
     Ok(())
 }
 
-/// Trade ids, each greater than those before it, with the places of their trades. Contracts see the list of
-/// the pairs.
+/// Trade ids, each greater than those before it, with the places of their trades. Contracts see the
+/// list of the pairs.
 #[derive(Drop)]
 pub(crate) struct RisingIds {
     bytes: Vec<u8>,
@@ -98,11 +99,11 @@ impl Model for RisingIds {
 
     ghost Value = { List (List ℕ × ℕ) };
 
-    ghost use Rattle.matching_core.specs.RisingIds.{entries_of, HoldsRising};
+    ghost use Rattle.matching_core.specs.RisingIds.{ids_with_places, HoldsRisingIds};
 
-    ghost view = { λ r. entries_of r.bytes.items r.ids.items };
+    ghost view = { λ r. ids_with_places r.bytes.items r.ids.items };
 
-    ghost invariant = { λ r. HoldsRising r.bytes.items r.ids.items };
+    ghost invariant = { λ r. HoldsRisingIds r.bytes.items r.ids.items };
 }
 
 impl RisingIds {
@@ -118,7 +119,7 @@ impl RisingIds {
 
     /// Whether the id is greater than all that are here.
     pub fn are_below(&self, id: &Name) -> bool
-        ensures { result ≡ is_above self.now id.now }
+        ensures { result ≡ is_above_ids self.now id.now }
     {
         match self.ids.last() {
             Some(last) => compare_ids(last.text(&self.bytes), id.bytes()) == Ordering::Less,
@@ -128,7 +129,7 @@ impl RisingIds {
 
     /// The place of the trade with the id, if it is here.
     pub fn find(&self, id: &Name) -> Option<u32>
-        ensures { result ≡ place_among self.now id.now }
+        ensures { result ≡ rising_place_of_id self.now id.now }
     {
         let bytes = self.bytes.as_slice();
         let text = id.bytes();
@@ -141,7 +142,7 @@ impl RisingIds {
 
     /// One more id, which is greater than all that are here.
     pub fn push(&mut self, id: &Name, place: u32) -> Result<(), NoMemory>
-        requires { is_above self.old id.now ≡ true }
+        requires { is_above_ids self.old id.now ≡ true }
         ensures adds { OnOk result (self.new ≡ self.old ++ (id.now, place) ∷ []) }
         ensures stays { OnErr result (self.new ≡ self.old) }
     {

@@ -25,15 +25,15 @@ pub fn volume_of(deals: &[Deal]) -> u128
         .sum()
 }
 
-/// What is left of a size of which so much has traded.
+/// What is left of a size of which this much has traded.
 pub fn left_of(size: u64, traded: u128) -> u64
     ensures { result ≡ size - traded }
 {
     u128::from(size).saturating_sub(traded) as u64
 }
 
-/// What each order has traded, by its index in the order list, and the volume, the quantities of all
-/// deals added. Contracts see the pair of the two.
+/// What each order has traded, by its index in the order list, and the volume, the quantities of
+/// all deals added. Contracts see the pair of the two.
 #[derive(Debug, Drop)]
 pub struct Totals {
     traded: Vec<u128>,

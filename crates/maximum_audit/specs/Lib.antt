@@ -1,1 +1,2 @@
--- What the public contracts cite stands in audit_base and call_auction. Private functions pass on nothing else.
+-- What the public contracts cite is in audit_base and call_auction. Private functions
+-- pass on nothing else.

@@ -3,7 +3,7 @@ ghost use Rattle.std.specs.Prelude.{◌<◌, ◌-◌, ◌^◌, IfOk};
 ghost use Rattle.audit_base.specs.declared.terms.VolumeRule.TheVariants.{Maximum};
 ghost use Rattle.audit_base.specs.Orders.{IsOrderList};
 ghost use Rattle.audit_base.specs.Deals.{IsDealList};
-ghost use Rattle.call_auction.specs.Audits.{IsGreatestOf, IsAudited};
+ghost use Rattle.call_auction.specs.Audits.{IsGreatestOf, IsAuditedCall};
 
 use audit_base::faults::NoMemory;
 use audit_base::orders::{Cut, Deal};
@@ -25,10 +25,10 @@ fn greatest_of(alloc: Global, orders: &OrderList<'_>) -> Result<Cut, NoMemory>
     least_cut(alloc, orders)
 }
 
-/// The audit of the rule `maximum` over the deals of a log of `count` trades. Conforms exactly where
-/// they are a fair matching and no matching has a greater volume, out of memory aside: with what each
-/// order traded, the only quantities that conform, the volume, and the least price whose cut is the
-/// volume. Else Broken has the first offence, of the properties 7, 8 and 10 to 14.
+/// The audit of the rule `maximum` over the deals of a log of `count` trades. Conforms exactly
+/// where they are a fair matching and no matching has a greater volume, out of memory aside: with
+/// what each order traded, the only quantities that conform, the volume, and the least price whose
+/// cut is the volume. Else Broken has the first offence, of the properties 7, 8 and 10 to 14.
 pub fn audit_maximum(
     alloc: Global,
     orders: &OrderList<'_>,
@@ -38,7 +38,7 @@ pub fn audit_maximum(
     requires order_list { IsOrderList orders.now }
     requires deal_list { IsDealList orders.now deals.now }
     requires few { count < 2 ^ 32 - 1 }
-    ensures { IfOk result (IsAudited Maximum orders.now deals.now count) }
+    ensures { IfOk result (IsAuditedCall Maximum orders.now deals.now count) }
 {
     let most = greatest_of(alloc, orders)?;
     audit_call(alloc, VolumeRule::Maximum, orders, deals, count, most)

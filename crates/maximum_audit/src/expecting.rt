@@ -16,9 +16,9 @@ use std::alloc::Global;
 use unit_pairs::pairing::maximum_pairs;
 use volume_bound::extremes::least_cut;
 
-/// The Expected trades of `maximum`, which are a matching of the greatest volume V: unit V + 1 - j of the
-/// bids meets unit j of the asks, both in rank order, at the ask's limit. They conform to the rule. In
-/// n log n steps for n orders. Err only out of memory.
+/// The Expected trades of `maximum`, which are a matching of the greatest volume V: unit V + 1 - j
+/// of the bids meets unit j of the asks, both in rank order, at the ask's limit. They conform to
+/// the rule. In n log n steps for n orders. Err only out of memory.
 pub fn greatest_matching(alloc: Global, orders: &OrderList<'_>) -> Result<Vec<Deal>, NoMemory>
     requires { IsOrderList orders.now }
     ensures expected { IfOk result (λ deals. IsExpectedMaximum orders.now deals.items) }

@@ -3,7 +3,7 @@ ghost use Rattle.std.specs.Prelude.{◌≡◌, ◌<◌, ◌≤◌, ◌^◌, All,
 ghost use Rattle.std.specs.BTreeMap.{get, is_at};
 ghost use Rattle.std.specs.List.{list_any};
 ghost use Rattle.std.specs.Map.{set_value};
-ghost use Rattle.order_book.specs.Books.{IsAhead, HasLeft, is_pair, without_order, after_take, first, with_added};
+ghost use Rattle.order_book.specs.Books.{IsAheadInBook, IsRestingOrder, has_index_and_limit, without_order, after_take, best_resting, book_with_order};
 
 use audit_base::faults::NoMemory;
 use audit_base::numbers::Price;
@@ -42,13 +42,13 @@ fn put(orders: &mut BTreeMap<Rank, Resting>, rank: Rank, order: Resting)
 impl Model for Book {
     ghost use Rattle.std.specs.BTreeMap.{values};
     ghost use Rattle.order_book.specs.Books.{BookSide};
-    ghost use Rattle.order_book.specs.Entries.{AreEntries};
+    ghost use Rattle.order_book.specs.Entries.{AreBookEntries};
 
     ghost Value = { BookSide };
 
     ghost view = { λ b. record { side = b.side; resting = values b.orders } };
 
-    ghost invariant = { λ b. AreEntries b.side b.orders.entries };
+    ghost invariant = { λ b. AreBookEntries b.side b.orders.entries };
 }
 
 impl Book {
@@ -62,12 +62,12 @@ impl Book {
         }
     }
 
-    /// Adds an order that is later than all that rest, behind those whose limit is not worse. Where it
-    /// is out of memory the book is as before.
+    /// Adds an order that is later than all that rest, behind those whose limit is not worse. Where
+    /// it is out of memory the book is as before.
     pub fn add(&mut self, index: usize, limit: Price, left: u64) -> Result<(), NoMemory>
         requires some { 0 < left }
         requires latest { All (λ r. r.index < index) self.old.resting }
-        ensures ok { OnOk result (self.new ≡ with_added self.old index limit left) }
+        ensures ok { OnOk result (self.new ≡ book_with_order self.old index limit left) }
         ensures err { OnErr result (self.new ≡ self.old) }
     {
         let rank = Rank::of(self.side, index, limit);
@@ -80,7 +80,7 @@ impl Book {
 
     /// Takes out the order with this index and limit. True exactly where it was there.
     pub fn cancel(&mut self, index: usize, limit: Price) -> bool
-        ensures there { result ≡ list_any (is_pair index limit) self.old.resting }
+        ensures there { result ≡ list_any (has_index_and_limit index limit) self.old.resting }
         ensures gone { self.new
             ≡ record self.old { resting = without_order index limit self.old.resting } }
     {
@@ -90,9 +90,9 @@ impl Book {
 
     /// The best order; None exactly where none rests.
     pub fn best(&self) -> Option<Resting>
-        ensures best { result ≡ first self.now.resting }
-        ensures ranked { AllPairs (IsAhead self.now.side) self.now.resting }
-        ensures held { All HasLeft self.now.resting }
+        ensures best { result ≡ best_resting self.now.resting }
+        ensures ranked { AllPairs (IsAheadInBook self.now.side) self.now.resting }
+        ensures held { All IsRestingOrder self.now.resting }
     {
         match self.orders.first_key_value() {
             Some((_, resting)) => Some(*resting),
@@ -100,10 +100,10 @@ impl Book {
         }
     }
 
-    /// Takes this quantity from the best order, which goes where nothing is left of it.
+    /// Takes this quantity from the best order, which is taken out where nothing is left of it.
     pub fn take(&mut self, quantity: u64)
         requires some { 0 < quantity }
-        requires within { IfSome (first self.old.resting) (λ r. quantity ≤ r.left) }
+        requires within { IfSome (best_resting self.old.resting) (λ r. quantity ≤ r.left) }
         ensures { self.new ≡ record self.old { resting = after_take quantity self.old.resting } }
     {
         let Some((rank, best)) = self.orders.first_key_value() else {

@@ -9,7 +9,7 @@ use Rattle.seeded_hash.specs.declared.short_pairs.ShortPair.{ShortPair}
 use Rattle.seeded_hash.specs.ShortPairs.{short_pair_of, first_text, second_text}
 use Rattle.seeded_hash.proofs.ShortPairLemmas.{given, texts-back}
 use Rattle.order_list.specs.declared.keys.Keys.{Keys}
-use Rattle.order_list.specs.declared.keys.Seen.{Seen}
+use Rattle.order_list.specs.declared.keys.SeenRecord.{SeenRecord}
 use Rattle.order_list.specs.Keys.{key_of_pair, name_from, short_key, long_key, key_in, HasNumber, AddsNumber}
 
 -- entries with one more
@@ -33,12 +33,12 @@ pair-back key pair is firm id =
     λ i. record { firm = (ap name_from one ∙ name-back key.firm firm) i; id = (ap name_from two ∙ name-back key.id id) i }
 
 module _ (old new : Keys) where
-  pub adds-short : (key : Key) (pair : ShortPair) (seen : Seen) → short_pair_of key.firm key.id ≡ Some pair → is_name key.firm ≡ true → is_name key.id ≡ true
+  pub adds-short : (key : Key) (pair : ShortPair) (seen : SeenRecord) → short_pair_of key.firm key.id ≡ Some pair → is_name key.firm ≡ true → is_name key.id ≡ true
       → new.short.entries ≡ old.short.entries ++ (pair, seen) ∷ [] → new.long ≡ old.long → AddsNumber old new key (record { index = length old.short.entries; is_short = true })
   adds-short key pair seen is firm id more same = record {
     has = record {
       inside = omega (arith, ap length more, length_push old.short.entries (pair, seen));
-      is = ap (λ (es : List (ShortPair × Seen)). short_key (slice_get es (length old.short.entries))) more ∙ ap short_key (comes old.short.entries (pair, seen)) ∙ pair-back key pair is firm id;
+      is = ap (λ (es : List (ShortPair × SeenRecord)). short_key (slice_get es (length old.short.entries))) more ∙ ap short_key (comes old.short.entries (pair, seen)) ∙ pair-back key pair is firm id;
     };
     keeps = λ number. kept number.index number.is_short;
   }
@@ -47,19 +47,19 @@ module _ (old new : Keys) where
           → HasNumber new (key_in old (record { index = index; is_short = short })) (record { index = index; is_short = short })
       kept index true lt = record {
         inside = omega (arith, lt, ap length more, length_push old.short.entries (pair, seen));
-        is = ap (λ (es : List (ShortPair × Seen)). short_key (slice_get es index)) more ∙ ap short_key (stays old.short.entries (pair, seen) index lt);
+        is = ap (λ (es : List (ShortPair × SeenRecord)). short_key (slice_get es index)) more ∙ ap short_key (stays old.short.entries (pair, seen) index lt);
       }
       kept index false lt = record {
         inside = subst (λ m. index < length m.entries) (sym same) lt;
         is = ap (λ m. long_key (slice_get m.entries index)) same;
       }
 
-  pub adds-long : (key : Key) (seen : Seen) → new.long.entries ≡ old.long.entries ++ (key, seen) ∷ [] → new.short ≡ old.short
+  pub adds-long : (key : Key) (seen : SeenRecord) → new.long.entries ≡ old.long.entries ++ (key, seen) ∷ [] → new.short ≡ old.short
       → AddsNumber old new key (record { index = length old.long.entries; is_short = false })
   adds-long key seen more same = record {
     has = record {
       inside = omega (arith, ap length more, length_push old.long.entries (key, seen));
-      is = ap (λ (es : List (Key × Seen)). long_key (slice_get es (length old.long.entries))) more ∙ ap long_key (comes old.long.entries (key, seen));
+      is = ap (λ (es : List (Key × SeenRecord)). long_key (slice_get es (length old.long.entries))) more ∙ ap long_key (comes old.long.entries (key, seen));
     };
     keeps = λ number. kept number.index number.is_short;
   }
@@ -68,7 +68,7 @@ module _ (old new : Keys) where
           → HasNumber new (key_in old (record { index = index; is_short = short })) (record { index = index; is_short = short })
       kept index false lt = record {
         inside = omega (arith, lt, ap length more, length_push old.long.entries (key, seen));
-        is = ap (λ (es : List (Key × Seen)). long_key (slice_get es index)) more ∙ ap long_key (stays old.long.entries (key, seen) index lt);
+        is = ap (λ (es : List (Key × SeenRecord)). long_key (slice_get es index)) more ∙ ap long_key (stays old.long.entries (key, seen) index lt);
       }
       kept index true lt = record {
         inside = subst (λ m. index < length m.entries) (sym same) lt;

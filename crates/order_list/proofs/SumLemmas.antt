@@ -3,7 +3,7 @@ use Rattle.std.proofs.Common.{◌≡◌, ◌<◌, ◌≤◌, ◌+◌, ◌^◌, �
 use Rattle.std.proofs.lemmas.List.{take_all}
 use Rattle.std.proofs.lemmas.List.Sums.{sum_by_more}
 use Rattle.audit_base.specs.declared.orders.Order.{Order}
-use Rattle.audit_base.specs.Orders.{order_at, missing_order}
+use Rattle.audit_base.specs.Orders.{order_at, order_past_end}
 use Rattle.order_list.specs.Sums.{IsSumUpto}
 
 module _ (f : Order → ℕ) (orders : List Order) where
@@ -14,7 +14,7 @@ module _ (f : Order → ℕ) (orders : List Order) where
   pub sum-more : (n sum : ℕ) (o : Order) (more : ℕ) → n < length orders → o ≡ order_at orders n → more ≡ f o → more < 2 ^ 64
       → IsSumUpto f orders n sum → IsSumUpto f orders (n + 1) (sum + more)
   sum-more n sum o more lt here number under so_far = record {
-    is = ap (λ (m : ℕ). sum + m) (number ∙ ap f here) ∙ ap (λ (s : ℕ). s + f (order_at orders n)) so_far.is ∙ sym (sum_by_more f orders n missing_order lt);
+    is = ap (λ (m : ℕ). sum + m) (number ∙ ap f here) ∙ ap (λ (s : ℕ). s + f (order_at orders n)) so_far.is ∙ sym (sum_by_more f orders n order_past_end lt);
     small = omega (arith, so_far.small);
   }
 

@@ -6,24 +6,27 @@ use Rattle.audit_base.specs.declared.terms.Side.{Side}
 use Rattle.audit_base.specs.Names.{is_name}
 use Rattle.audit_base.specs.Orders.{same_key, same_side}
 use Rattle.seeded_hash.specs.declared.short_pairs.ShortPair.{ShortPair}
-use Rattle.seeded_hash.specs.ShortPairs.{same_block, short_pair_of, held_by, first_text, second_text}
+use Rattle.seeded_hash.specs.ShortPairs.{same_block, short_pair_of, value_by_pair, first_text, second_text}
 use Rattle.order_list.specs.declared.keys.Keys.{Keys}
 use Rattle.order_list.specs.declared.keys.KeyNumber.{KeyNumber}
-use Rattle.order_list.specs.declared.keys.Seen.{Seen}
+use Rattle.order_list.specs.declared.keys.SeenRecord.{SeenRecord}
 
 -- what a key names in the maps, if it is there
-abbrev pub seen_in : Keys → Key → Option Seen
+abbrev pub seen_in : Keys → Key → Option SeenRecord
 seen_in keys key =
-    held_by (get same_block keys.short) (get same_key keys.long key) (short_pair_of key.firm key.id)
+    value_by_pair (get same_block keys.short) (get same_key keys.long key)
+    (short_pair_of key.firm key.id)
 
 -- one key more: it names this, and every other key names what it did
-abbrev pub AddsKey : Keys → Keys → Key → Seen → Type 0
+abbrev pub AddsKey : Keys → Keys → Key → SeenRecord → Type 0
 AddsKey old new key seen =
-    (other : Key) → seen_in new other ≡ (if same_key key other then Some seen else seen_in old other)
+    (other : Key) → seen_in new other
+    ≡ (if same_key key other then Some seen else seen_in old other)
 
 -- the index of what is seen, if it is an order of the side
-abbrev pub index_on : Side → Seen → Option ℕ
-index_on side seen = option_and_then (λ own. if same_side own side then seen.index else None) seen.side
+abbrev pub index_on : Side → SeenRecord → Option ℕ
+index_on side seen =
+    option_and_then (λ own. if same_side own side then seen.index else None) seen.side
 
 -- a text as a name; where it is none, `?`
 abbrev pub name_from : List ℕ → List ℕ
@@ -34,16 +37,16 @@ abbrev pub key_of_pair : ShortPair → Key
 key_of_pair pair =
     record { firm = name_from (first_text pair.block); id = name_from (second_text pair.block) }
 
--- what stands where no key has a number
+-- what is given where no key has a number
 abbrev pub no_key : Key
 no_key = record { firm = 63 ∷ []; id = 63 ∷ [] }
 
 -- the key of an entry of either map
-abbrev pub short_key : Option (ShortPair × Seen) → Key
+abbrev pub short_key : Option (ShortPair × SeenRecord) → Key
 short_key None = no_key
 short_key (Some entry) = key_of_pair entry.0
 
-abbrev pub long_key : Option (Key × Seen) → Key
+abbrev pub long_key : Option (Key × SeenRecord) → Key
 long_key None = no_key
 long_key (Some entry) = entry.0
 
@@ -52,12 +55,12 @@ abbrev pub key_in : Keys → KeyNumber → Key
 key_in keys number = if number.is_short then short_key (slice_get keys.short.entries number.index)
     else long_key (slice_get keys.long.entries number.index)
 
--- a key has the number
+-- some key has the number
 abbrev pub IsNumbered : Keys → KeyNumber → Type 0
 IsNumbered keys number = number.index
     < (if number.is_short then length keys.short.entries else length keys.long.entries)
 
--- the key has the number
+-- this key has the number
 pub record HasNumber (keys : Keys) (key : Key) (number : KeyNumber) : Type 0 where
   pub inside : IsNumbered keys number
   pub is : key_in keys number ≡ key
@@ -65,4 +68,5 @@ pub record HasNumber (keys : Keys) (key : Key) (number : KeyNumber) : Type 0 whe
 -- the key has the number now, and each number that a key had is still that of the key
 pub record AddsNumber (old new : Keys) (key : Key) (added : KeyNumber) : Type 0 where
   pub has : HasNumber new key added
-  pub keeps : (number : KeyNumber) → IsNumbered old number → HasNumber new (key_in old number) number
+  pub keeps : (number : KeyNumber) → IsNumbered old number
+      → HasNumber new (key_in old number) number

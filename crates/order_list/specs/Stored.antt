@@ -9,21 +9,21 @@ use Rattle.order_list.specs.declared.stored.StoredOrder.{StoredOrder}
 use Rattle.order_list.specs.declared.stored.OrderParts.{OrderParts}
 use Rattle.order_list.specs.Keys.{key_in, IsNumbered}
 
--- where its key stands
+-- the number of its key
 abbrev pub number_of : StoredOrder → KeyNumber
 number_of s = record { index = s.key; is_short = s.is_short }
 
--- its time; numbers that are none of a time stand for the first one
+-- its time; numbers that are none of a time mean the first one
 abbrev pub time_from : ℕ → ℕ → Moment
 time_from second nano = if nat_lt second end_of_time && nat_lt nano (10 ^ 9)
     then record { second = second; nano = nano } else record { second = 0; nano = 0 }
 
 -- the place of the record that ends it, if one does
-abbrev pub ended_at : Bool → ℕ → Option ℕ
-ended_at true place = Some place
-ended_at false place = None
+abbrev pub cancelled_from : Bool → ℕ → Option ℕ
+cancelled_from true place = Some place
+cancelled_from false place = None
 
--- its target: 2^32 - 1 is none
+-- the target that a number means: 2^32 - 1 is none
 abbrev pub target_from : ℕ → Option ℕ
 target_from target = if nat_lt target 4294967295 then Some target else None
 
@@ -36,7 +36,7 @@ order_by key s = record {
   side = s.side;
   quantity = s.quantity;
   limit = s.limit;
-  cancelled = ended_at s.is_ended s.cancelled;
+  cancelled = cancelled_from s.is_ended s.cancelled;
   target = target_from s.target;
   life = s.life;
 }
@@ -63,5 +63,5 @@ order_with key parts = record {
 }
 
 -- each key has its number in the table
-abbrev pub AreNumbered : Keys → List StoredOrder → Type 0
-AreNumbered keys stored = All (λ s. IsNumbered keys (number_of s)) stored
+abbrev pub AreKeysNumbered : Keys → List StoredOrder → Type 0
+AreKeysNumbered keys stored = All (λ s. IsNumbered keys (number_of s)) stored

@@ -1,11 +1,11 @@
-//! Orders of an order list that stand with other terms in a list of their own, as those of a phase do.
+//! Orders of an order list, with other terms, in a list of their own, as the orders of a phase are.
 ghost use Rattle.std.specs.Prelude.{◌≡◌, ◌<◌, [], IfOk, IfSome, OnOk, length};
 ghost use Rattle.audit_base.specs.Orders.{order_at};
-ghost use Rattle.order_list.specs.Changed.{with_more, with_terms};
+ghost use Rattle.order_list.specs.Changed.{with_changed_order, with_terms};
 
 use super::keys::Keys;
 use super::lists::OrderList;
-use super::stored::{StoredOrder, Terms};
+use super::stored::{ChangedTerms, StoredOrder};
 use audit_base::faults::NoMemory;
 use std::alloc::Global;
 use std::marker::Model;
@@ -19,9 +19,9 @@ pub struct ChangedOrders<'a> {
 }
 
 impl<'a> Model for ChangedOrders<'a> {
-    ghost use Rattle.order_list.specs.Changed.{Changed};
+    ghost use Rattle.order_list.specs.Changed.{ChangedList};
 
-    ghost Value = { Changed };
+    ghost Value = { ChangedList };
 
     ghost use Rattle.order_list.specs.Stored.{orders_of};
 
@@ -32,7 +32,7 @@ impl<'a> Model for ChangedOrders<'a> {
 }
 
 impl<'a> ChangedOrders<'a> {
-    /// No orders so far, with room for so many.
+    /// No orders so far, with room for this many.
     pub fn new(
         alloc: Global,
         source: &OrderList<'a>,
@@ -48,11 +48,12 @@ impl<'a> ChangedOrders<'a> {
     }
 
     /// Adds the order at an index of the list, with these terms.
-    pub fn push(&mut self, index: usize, terms: Terms) -> Result<(), NoMemory>
+    pub fn push(&mut self, index: usize, terms: ChangedTerms) -> Result<(), NoMemory>
         requires inside { index < length self.old.source }
         requires small { IfSome terms.target (λ t. t < 4294967295) }
         ensures { let o = with_terms terms.quantity terms.cancelled terms.target
-            (order_at self.old.source index) in OnOk result (self.new ≡ with_more o self.old) }
+            (order_at self.old.source index) in
+            OnOk result (self.new ≡ with_changed_order o self.old) }
     {
         let source = self.source;
         self.orders.push(source[index].with_terms(terms))?;

@@ -1,4 +1,4 @@
-//! The finding of a flaw: what is wrong with a record, told by the names of the orders that it shows.
+//! The finding of a flaw: what is wrong with a record, with the names of the orders that it shows.
 ghost use Rattle.std.specs.Prelude.{◌≡◌};
 ghost use Rattle.audit_base.specs.Flaws as spec;
 
@@ -20,10 +20,10 @@ impl<'a> OrderLines for OrderList<'a> {
 }
 
 impl<'a> OrderList<'a> {
-    /// The finding of a flaw: property, log and place, with what shows it. The indices in it are those of
-    /// this list.
+    /// The finding of a flaw: property, log and place, with what shows it. The indices in it are
+    /// those of this list.
     pub fn finding(&self, flaw: Flaw) -> Finding
-        requires { spec.IsInside self.now flaw.evidence }
+        requires { spec.IsEvidenceInside self.now flaw.evidence }
         ensures { result ≡ spec.finding_of self.now flaw }
     {
         flaw.finding_among(self)

@@ -1,6 +1,7 @@
 //! The keys of a history: what each of them names, and which key has a number.
 //!
-//! A key is kept as the pair of its firm and its id where the two are short, and only a longer key as it is.
+//! A key is kept as the pair of its firm and its id where the two are short, and only a
+//! longer key as it is.
 ghost use Rattle.std.specs.Prelude.{◌≡◌, true, false, None, IfOk, OnOk, slice_get};
 ghost use Rattle.audit_base.specs.declared.names.Key.{Key};
 ghost use Rattle.order_list.specs.Keys.{index_on, seen_in, name_from, key_of_pair, no_key, key_in, short_key, long_key};
@@ -17,17 +18,17 @@ use std::alloc::Global;
 
 /// What a key names.
 #[derive(Clone, Copy)]
-pub struct Seen {
+pub struct SeenRecord {
     /// The number of its record in the log.
     pub place: u32,
-    /// The side of a new order or a replacement. It stands here so that a trade's order, which lies far
-    /// away, is not looked at for its side.
+    /// The side of a new order or a replacement. It is kept here so that a trade's order, which
+    /// lies far away, is not looked at for its side.
     pub side: Option<Side>,
     /// Its index in the order list, where it is a new order or a replacement.
     pub index: Option<u32>,
 }
 
-impl Seen {
+impl SeenRecord {
     /// The index in the order list, if it is an order of the side.
     pub fn index_on(self, side: Side) -> Option<u32>
         ensures { result ≡ index_on side self }
@@ -36,7 +37,7 @@ impl Seen {
     }
 }
 
-/// Where a key stands: its index in the map of the short keys or of the others.
+/// Where a key is: its index in the map of the short keys or of the others.
 #[derive(Clone, Copy, Debug)]
 pub struct KeyNumber {
     pub index: u32,
@@ -45,17 +46,17 @@ pub struct KeyNumber {
 
 /// What a key named before it was added, and its number.
 #[derive(Clone, Copy)]
-pub struct Added {
-    pub earlier: Option<Seen>,
+pub struct AddedKey {
+    pub earlier: Option<SeenRecord>,
     pub number: KeyNumber,
 }
 
 /// What the keys of the records so far name.
 #[derive(Drop)]
 pub struct Keys {
-    short: IndexMap<ShortPair, Seen, BlockSeed>,
+    short: IndexMap<ShortPair, SeenRecord, BlockSeed>,
     /// The keys that are not short.
-    long: IndexMap<Key, Seen, HashSeed>,
+    long: IndexMap<Key, SeenRecord, HashSeed>,
 }
 
 /// A text as a name; where it is none, `?`.
@@ -79,7 +80,7 @@ fn key_of_pair(pair: &ShortPair) -> Key
     }
 }
 
-/// What stands where no key has a number.
+/// What is given where no key has a number.
 fn no_key() -> Key
     ensures { result ≡ no_key }
 {
@@ -130,9 +131,9 @@ impl Keys {
         }
     }
 
-    /// What the key of these names names, if a record has it. A key is a copy of both names, which only a
-    /// long one needs.
-    pub fn find(&self, firm: &Name, id: &Name) -> Option<Seen>
+    /// What the key of this firm and this id names, if a record has it. A key is a copy of both
+    /// names, which only a long one needs.
+    pub fn find(&self, firm: &Name, id: &Name) -> Option<SeenRecord>
         ensures { result ≡ seen_in self.now (record { firm = firm.now; id = id.now }) }
     {
         match ShortPair::of(firm.bytes(), id.bytes()) {
@@ -147,9 +148,9 @@ impl Keys {
         }
     }
 
-    /// One more key: what it named before, and where nothing, its number. Where it named something, it names
-    /// the new record now.
-    pub fn add(&mut self, key: &Key, seen: Seen) -> Result<Added, NoMemory>
+    /// One more key: what it named before, and where nothing, its number. Where it named something,
+    /// it names the new record now.
+    pub fn add(&mut self, key: &Key, seen: SeenRecord) -> Result<AddedKey, NoMemory>
         ensures earlier { IfOk result (λ added. added.earlier ≡ seen_in self.old key.now) }
         ensures adds { OnOk result (AddsKey self.old self.new key.now seen) }
         ensures number { IfOk result (λ added. added.earlier ≡ None
@@ -159,12 +160,12 @@ impl Keys {
             Some(short) => {
                 let number = short_number(kept_index(self.short.len())?);
                 let earlier = self.short.insert(short, seen)?;
-                Ok(Added { earlier, number })
+                Ok(AddedKey { earlier, number })
             }
             None => {
                 let number = long_number(kept_index(self.long.len())?);
                 let earlier = self.long.insert(*key, seen)?;
-                Ok(Added { earlier, number })
+                Ok(AddedKey { earlier, number })
             }
         }
     }

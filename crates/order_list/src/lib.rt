@@ -1,5 +1,5 @@
-//! Order lists, as audits read them. An order has 48 bytes, in which a number stands for its key: the names
-//! are asked for where a text shows them.
+//! Order lists, as audits read them. An order has 48 bytes, with a number in place of its key: the
+//! names are asked for where a text shows them.
 #![tactic(auto)]
 
 pub mod changed;

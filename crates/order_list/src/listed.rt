@@ -1,8 +1,8 @@
-//! An order of an order list, where it stands.
+//! One order of an order list, as audits read it.
 ghost use Rattle.std.specs.Prelude.{◌≡◌, ◌<◌, IfSome};
-ghost use Rattle.audit_base.specs.Deals.{is_within};
+ghost use Rattle.audit_base.specs.Deals.{is_price_within};
 ghost use Rattle.audit_base.specs.Orders as spec;
-ghost use Rattle.audit_base.specs.Shows.{with_traded};
+ghost use Rattle.audit_base.specs.Shows.{with_traded_number};
 ghost use Rattle.order_list.specs.Stored.{order_of};
 
 use super::keys::Keys;
@@ -15,7 +15,7 @@ use audit_base::stamps::Stamp;
 use audit_base::terms::{Life, Side};
 use std::marker::Model;
 
-/// An order of an order list, where it stands. Contracts see the order.
+/// One order of an order list, read from what the list keeps. Contracts see the order.
 #[derive(Drop)]
 pub struct ListedOrder<'a> {
     stored: &'a StoredOrder,
@@ -33,7 +33,7 @@ impl<'a> Model for ListedOrder<'a> {
 }
 
 impl<'a> ListedOrder<'a> {
-    /// The order that stands there.
+    /// The order of what is stored, with the keys of the list.
     #[inline(always)]
     pub(crate) fn of(stored: &'a StoredOrder, keys: &'a Keys) -> ListedOrder<'a>
         ensures { result ≡ order_of keys.now stored.now }
@@ -41,7 +41,7 @@ impl<'a> ListedOrder<'a> {
         ListedOrder { stored, keys }
     }
 
-    /// The name of its record.
+    /// The key of its record: firm and id.
     pub fn key(&self) -> Key
         ensures { result ≡ self.now.key }
     {
@@ -116,7 +116,7 @@ impl<'a> ListedOrder<'a> {
     /// Its numbers are in their ranges. Nothing is computed here.
     #[inline(always)]
     pub fn in_range(&self)
-        ensures { spec.IsOrder self.now }
+        ensures { spec.OrderInRange self.now }
     {
         let _quantity = self.quantity().value();
         let _limit = self.limit().units();
@@ -141,7 +141,7 @@ impl<'a> ListedOrder<'a> {
 
     /// The line of the order, where it has traded this much.
     pub fn line(&self, traded: u128) -> OrderLine
-        ensures { result ≡ with_traded self.now traded }
+        ensures { result ≡ with_traded_number self.now traded }
     {
         OrderLine {
             place: self.place(),
@@ -156,7 +156,7 @@ impl<'a> ListedOrder<'a> {
     /// Whether the order is of the side and no record cancels it, so that it takes part in a call.
     #[inline(always)]
     pub fn stands_on(&self, side: Side) -> bool
-        ensures { result ≡ spec.stands_on side self.now }
+        ensures { result ≡ spec.is_uncancelled_on side self.now }
     {
         self.cancelled().is_none() && self.side() == side
     }
@@ -164,7 +164,7 @@ impl<'a> ListedOrder<'a> {
 
 /// Whether the price of a deal is from the ask's limit to the bid's, both included.
 pub fn is_within(deal: &Deal, bid: &ListedOrder<'_>, ask: &ListedOrder<'_>) -> bool
-    ensures { result ≡ is_within bid.now ask.now deal.now }
+    ensures { result ≡ is_price_within bid.now ask.now deal.now }
 {
     ask.limit() <= deal.price && deal.price <= bid.limit()
 }

@@ -1,6 +1,6 @@
 //! An order list, as audits read it.
 ghost use Rattle.std.specs.Prelude.{◌≡◌, ◌<◌, length, slice_get};
-ghost use Rattle.audit_base.specs.Orders.{order_at, AreOrders};
+ghost use Rattle.audit_base.specs.Orders.{order_at, OrdersInRange};
 ghost use Rattle.order_list.specs.Stored.{orders_of};
 
 use super::keys::Keys;
@@ -27,7 +27,7 @@ impl<'a> Model for OrderList<'a> {
 }
 
 impl<'a> OrderList<'a> {
-    /// The list of these orders, whose keys stand in the table.
+    /// The list of these orders, whose keys are in the table.
     pub fn of(stored: &'a [StoredOrder], keys: &'a Keys) -> OrderList<'a>
         ensures same { result ≡ orders_of keys.now stored.now }
         ensures len { length result ≡ length stored.now }
@@ -67,7 +67,7 @@ impl<'a> OrderList<'a> {
 
     /// The numbers of all orders are in their ranges. Nothing is computed here.
     pub fn in_range(&self)
-        ensures { AreOrders self.now }
+        ensures { OrdersInRange self.now }
     {
         for index in 0..self.len() {
             self.at(index).in_range();

@@ -1,19 +1,19 @@
-//! What an order list keeps of an order: 48 bytes, in which a number stands for the key.
+//! What an order list keeps of an order: 48 bytes, with a number in place of the key.
 ghost use Rattle.std.specs.Prelude.{◌≡◌, ◌<◌, IfSome, Some, None};
 ghost use Rattle.audit_base.specs.declared.names.Key.{Key as AKey};
-ghost use Rattle.order_list.specs.Changed.{with_terms, ended};
-ghost use Rattle.order_list.specs.Stored.{number_of, time_from, ended_at, target_from, order_by, order_with};
+ghost use Rattle.order_list.specs.Changed.{with_terms, with_ending};
+ghost use Rattle.order_list.specs.Stored.{number_of, time_from, cancelled_from, target_from, order_by, order_with};
 
 use super::keys::KeyNumber;
 use audit_base::numbers::{Price, Quantity};
 use audit_base::stamps::Stamp;
 use audit_base::terms::{Life, Side};
 
-/// What stands for no target. No index of an order list is as great.
+/// The number that means no target. No index of an order list is as great.
 const NO_TARGET: u32 = 4_294_967_295;
 
 /// What an order list keeps of an order: all but its key, which has a number in a table of keys.
-// The fields stand by their sizes, so that none of the 48 bytes is a gap.
+// The fields are in the order of their sizes, so that none of the 48 bytes is a gap.
 #[derive(Clone, Copy, Debug)]
 pub struct StoredOrder {
     pub(crate) quantity: Quantity,
@@ -48,9 +48,9 @@ pub struct OrderParts {
     pub target: Option<usize>,
 }
 
-/// What of an order may be another in a list of its own.
+/// The terms of an order that may be others in a list of its own.
 #[derive(Clone, Copy, Debug)]
-pub struct Terms {
+pub struct ChangedTerms {
     pub quantity: Quantity,
     /// The place of the record that ends it, if one does.
     pub cancelled: Option<u32>,
@@ -95,7 +95,7 @@ impl StoredOrder {
     }
 
     /// The same order with other terms.
-    pub(crate) fn with_terms(&self, terms: Terms) -> StoredOrder
+    pub(crate) fn with_terms(&self, terms: ChangedTerms) -> StoredOrder
         requires { IfSome terms.target (λ t. t < 4294967295) }
         ensures order { (key : AKey) → order_by key result
             ≡ with_terms terms.quantity terms.cancelled terms.target (order_by key self.now) }
@@ -112,7 +112,8 @@ impl StoredOrder {
 
     /// Ends the order at a place, unless an earlier record did.
     pub fn end(&mut self, place: u32)
-        ensures order { (key : AKey) → order_by key self.new ≡ ended place (order_by key self.old) }
+        ensures order { (key : AKey) → order_by key self.new
+            ≡ with_ending place (order_by key self.old) }
         ensures number { number_of self.new ≡ number_of self.old }
     {
         if !self.is_ended {
@@ -132,7 +133,7 @@ impl StoredOrder {
     /// The place of the record that ends it, if one does.
     #[inline(always)]
     pub fn cancelled(&self) -> Option<u32>
-        ensures { result ≡ ended_at self.now.is_ended self.now.cancelled }
+        ensures { result ≡ cancelled_from self.now.is_ended self.now.cancelled }
     {
         if self.is_ended {
             Some(self.cancelled)
@@ -168,7 +169,7 @@ impl StoredOrder {
         }
     }
 
-    /// Where its key stands.
+    /// The number of its key.
     #[inline(always)]
     pub(crate) fn number(&self) -> KeyNumber
         ensures { result ≡ number_of self.now }

@@ -12,7 +12,7 @@ use Rattle.std.proofs.lemmas.Map.Keys.{IsDistinct-from_apart, IsDistinct-IsPermu
 use Rattle.audit_base.specs.declared.terms.Side.{Side}
 use Rattle.audit_base.specs.declared.terms.Side.TheVariants.{Buy, Sell}
 use Rattle.audit_base.specs.declared.orders.Order.{Order}
-use Rattle.audit_base.specs.Orders.{order_at, limit_at, stands_on, Stands, IsOrderList}
+use Rattle.audit_base.specs.Orders.{order_at, limit_at, is_uncancelled_on, IsUncancelledOn, IsOrderList}
 use Rattle.audit_base.specs.Priority.{outranks, Better, IsRanked}
 use Rattle.audit_base.proofs.SumLemmas.{AllPairs-head, AllPairs-tail, AllPairs-cons}
 use Rattle.audit_base.proofs.OrderLemmas.{place-rises, test-stands, stands-test}
@@ -45,18 +45,18 @@ module _ (orders : List Order) (side : Side) where
     within-more : All (λ r. r.index < n + 1) ranks
     within-more = All-weaker (λ (r : Rank). r.index < n) (λ (r : Rank). r.index < n + 1) (λ r less. omega arith) ranks are.within
 
-    left_out : stands_on side (order_at orders n) ≡ false → AreRanks orders side (n + 1) ranks
+    left_out : is_uncancelled_on side (order_at orders n) ≡ false → AreRanks orders side (n + 1) ranks
     left_out off = record {
       only = are.only;
       each = λ i below s. elim (cases_eq i n) [
-        | inl same ↦ absurd (both_ways _ off (subst (λ k. stands_on side (order_at orders k) ≡ true) same (stands-test orders side i s)))
+        | inl same ↦ absurd (both_ways _ off (subst (λ k. is_uncancelled_on side (order_at orders k) ≡ true) same (stands-test orders side i s)))
         | inr ne ↦ are.each i (omega (arith, ne)) s
       ];
       within = within-more;
       rising = are.rising;
     }
 
-    added : stands_on side (order_at orders n) ≡ true → AreRanks orders side (n + 1) (ranks ++ rank ∷ [])
+    added : is_uncancelled_on side (order_at orders n) ≡ true → AreRanks orders side (n + 1) (ranks ++ rank ∷ [])
     added on = record {
       only = All-push (IsRankOf orders side) ranks rank are.only (record { stands = test-stands orders side n lt on; is = refl; priced = priced });
       each = λ i below s. elim (cases_eq i n) [
@@ -68,7 +68,7 @@ module _ (orders : List Order) (side : Side) where
     }
 
     ranks-more : AreRanks orders side (n + 1) (ranks ++ rank_if side n (order_at orders n))
-    ranks-more = elim (cases_Bool (stands_on side (order_at orders n))) [
+    ranks-more = elim (cases_Bool (is_uncancelled_on side (order_at orders n))) [
       | inl on ↦ rw on (added on)
       | inr off ↦ rw (off, append-nil) (left_out off)
     ]
@@ -123,7 +123,7 @@ module _ (orders : List Order) (list : IsOrderList orders) (side : Side) where
   pub sorted-ranked : (ranks sorted : List Rank) → AreRanks orders side (length orders) ranks → IsPermutation ranks sorted → IsSorted rank_cmp sorted
       → IsRanked orders side (map index_of sorted)
   sorted-ranked ranks sorted are moved in_order = record {
-    only = All-map (Stands orders side) index_of sorted (All-weaker (IsRankOf orders side) (λ (r : Rank). Stands orders side r.index) (λ r is. is.stands) sorted each_is);
+    only = All-map (IsUncancelledOn orders side) index_of sorted (All-weaker (IsRankOf orders side) (λ (r : Rank). IsUncancelledOn orders side r.index) (λ r is. is.stands) sorted each_is);
     each = λ i s.
         let c = Contains-permutation ranks sorted (order_rank i (order_at orders i)) moved (are.each i s.inside s) in
         (c.0, omega (arith, c.1, length-map sorted index_of), get_or-map index_of sorted c.0 (order_rank i (order_at orders i)) i c.1 ∙ ap index_of c.2);

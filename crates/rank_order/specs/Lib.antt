@@ -1,3 +1,4 @@
--- What the public contracts cite, beside the order of a side that audit_base defines: better, IsRanked.
+-- What the public contracts cite, beside the order of a side that audit_base
+-- defines: better, IsRanked.
 pub mod Ranks
 pub mod Sides

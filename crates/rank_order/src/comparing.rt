@@ -16,8 +16,8 @@ fn is_better_limit(side: Side, first: Price, second: Price) -> bool
     }
 }
 
-/// Whether `a` is better than `b`, an order of the same side: its limit is better, or the limits are the
-/// same and its place in the log is smaller (price-time priority).
+/// Whether `a` is better than `b`, an order of the same side: its limit is better, or the limits
+/// are the same and its place in the log is smaller (price-time priority).
 pub fn better(a: &ListedOrder<'_>, b: &ListedOrder<'_>) -> bool
     requires { a.now.side ≡ b.now.side }
     ensures { result ≡ priority.better a.now b.now }

@@ -54,8 +54,8 @@ fn indices_of(alloc: Global, ranks: &[Rank]) -> Result<Vec<usize>, NoMemory>
 }
 
 /// The orders of a side that no record cancels, by their indices, each once, the best first: by the
-/// better limit, and among equal limits by the smaller place (price-time priority). In n log n steps for
-/// n orders. Err only out of memory.
+/// better limit, and among equal limits by the smaller place (price-time priority). In n log n
+/// steps for n orders. Err only out of memory.
 pub fn ranked(alloc: Global, orders: &OrderList<'_>, side: Side) -> Result<Vec<usize>, NoMemory>
     requires { IsOrderList orders.now }
     ensures { IfOk result (λ ranks. IsRanked orders.now side ranks.items) }
@@ -74,8 +74,10 @@ struct BothRanks {
 
 /// The ranks of both sides, in one pass over the orders.
 fn ranks_of_both(alloc: Global, orders: &OrderList<'_>) -> Result<BothRanks, NoMemory>
-    ensures bids { IfOk result (λ both. AreRanks orders.now Buy (length orders.now) both.bids.items) }
-    ensures asks { IfOk result (λ both. AreRanks orders.now Sell (length orders.now) both.asks.items) }
+    ensures bids { IfOk result (λ both.
+        AreRanks orders.now Buy (length orders.now) both.bids.items) }
+    ensures asks { IfOk result (λ both.
+        AreRanks orders.now Sell (length orders.now) both.asks.items) }
 {
     let mut bids = Vec::with_capacity(alloc, orders.len())?;
     let mut asks = Vec::with_capacity(alloc, orders.len())?;

@@ -5,7 +5,8 @@ ghost use Rattle.rank_order.specs.Ranks.{rank_of};
 use audit_base::numbers::Price;
 use audit_base::terms::Side;
 
-/// The rank of an order on its side: of two ranks of a side, the lesser is that of the better order.
+/// The rank of an order on its side: of two ranks of a side, the smaller is that
+/// of the better order.
 #[derive(Clone, Copy, Debug, PartialEq, Eq, PartialOrd, Ord, Drop)]
 pub struct Rank {
     /// The limit of an ask in units of 10^-8; of a bid, what its limit is below 10^18.

@@ -11,16 +11,16 @@ use Rattle.audit_base.specs.declared.terms.Rule.{Rule}
 use Rattle.audit_base.specs.declared.terms.Rule.TheVariants as rule
 use Rattle.audit_base.specs.declared.terms.VolumeRule.{VolumeRule}
 use Rattle.audit_base.specs.declared.terms.VolumeRule.TheVariants as of_volume
-use Rattle.audit_base.specs.Bounds.{IsBound}
-use Rattle.audit_base.specs.Deals.{AreDeals, volume}
+use Rattle.audit_base.specs.Bounds.{IsBoundPrice}
+use Rattle.audit_base.specs.Deals.{DealsInRange, volume}
 use Rattle.audit_base.specs.Histories.{Regular, history_finding, order_list}
-use Rattle.audit_base.specs.Least.{first_of}
-use Rattle.audit_base.specs.Orders.{AreOrders, IsOrderList}
-use Rattle.audit_base.specs.RecordRanges.{AreRecords}
+use Rattle.audit_base.specs.Least.{first_answer}
+use Rattle.audit_base.specs.Orders.{OrdersInRange, IsOrderList}
+use Rattle.audit_base.specs.RecordRanges.{RecordsInRange}
 use Rattle.audit_base.specs.RuleKinds.{rule_of_volume}
 use Rattle.audit_base.specs.Rules.{Conforms}
-use Rattle.audit_base.specs.Trades.{AreTrades, deals_of, unsound_trade}
-use Rattle.audit_base.specs.Verdicts.{IsRuleVerdict, IsVerdict, call_finding, log_finding, paired_trades, pairing_finding}
+use Rattle.audit_base.specs.Trades.{TradesInRange, deals_of_symbol, unsound_trade}
+use Rattle.audit_base.specs.Verdicts.{IsRuleVerdict, IsVerdict, instant_order_finding, log_finding, paired_trades, pairing_finding}
 use Rattle.audit_base.proofs.HistoryLemmas.{order_list-is, order_list-regular}
 use Rattle.audit_base.proofs.LeastLemmas.{none_some, option_or-parts}
 use Rattle.audit_base.proofs.RangeLemmas.{orders-range}
@@ -28,7 +28,7 @@ use Rattle.audit_base.proofs.TradeLemmas.{deals-ranges}
 use Rattle.audit_base.proofs.VerdictLemmas.{one-greatest}
 use Rattle.audit_report.specs.declared.verdicts.Verdict.{Verdict}
 use Rattle.audit_report.specs.declared.verdicts.Verdict.TheVariants as verdict
-use Rattle.call_auction.specs.Audits.{IsBoundOf}
+use Rattle.call_auction.specs.Audits.{IsReachedBound}
 use Rattle.call_laws.specs.Existence.{GreatestExecutableVolumeExists, LeastCutExists}
 use Rattle.call_laws.specs.Laws.{OnlyQuantities}
 use Rattle.call_laws.specs.Optimum.{MaximumTradesAreExpected, UniformTradesAreExpected}
@@ -36,7 +36,7 @@ use Rattle.continuous_laws.specs.Laws.{OnlyPairs}
 use Rattle.verdict_laws.specs.Existence.{VerdictExists, VerdictIsTheOnlyOne}
 use Rattle.record_verdict.specs.declared.questions.Question.{Question}
 use Rattle.record_verdict.specs.Existence.{JudgementExists}
-use Rattle.record_verdict.specs.Judgements.{AreOnlyQuantities, IsAcceptance, IsBoundShown, IsJudged, table_lines}
+use Rattle.record_verdict.specs.Judgements.{AreOnlyQuantities, IsAcceptance, IsReportedBound, IsJudged, table_lines}
 
 -- the laws on which this rests
 pub record Laws : Type 0 where
@@ -51,36 +51,36 @@ pub record Laws : Type 0 where
 
 module _ (laws : Laws) where
   -- deals that conform have the greatest volume, so they have its bound
-  bound-of : (r : VolumeRule) (orders : List Order) (deals : List Deal) → IsOrderList orders → AreOrders orders → AreDeals deals → Conforms (rule_of_volume r) orders deals
-      → (bound : Cut) × IsBoundOf r orders (volume deals) bound
+  bound-of : (r : VolumeRule) (orders : List Order) (deals : List Deal) → IsOrderList orders → OrdersInRange orders → DealsInRange deals → Conforms (rule_of_volume r) orders deals
+      → (bound : Cut) × IsReachedBound r orders (volume deals) bound
   bound-of of_volume.Maximum orders deals list numbers ranges c =
       let best = laws.cut orders in
       let is = laws.maximum orders best.0 list numbers best.1 in
       let same = one-greatest of_volume.Maximum orders best.0.volume (volume deals) is.1 (record { deals = deals; ranges = ranges; matching = c.matching; greatest = c.greatest; reached = refl }) in
-      (best.0, record { volume_is = same; shows = subst (λ (v : ℕ). IsBound of_volume.Maximum orders v best.0.price) same is.2 })
+      (best.0, record { volume_is = same; shows = subst (λ (v : ℕ). IsBoundPrice of_volume.Maximum orders v best.0.price) same is.2 })
   bound-of of_volume.Uniform orders deals list numbers ranges c =
       let best = laws.executable orders in
       let is = laws.uniform orders best.0 list numbers best.1 in
       let same = one-greatest of_volume.Uniform orders best.0.volume (volume deals) is.1 (record { deals = deals; ranges = ranges; matching = c.matching; one_price = c.one_price; greatest = c.greatest; reached = refl }) in
-      (best.0, record { volume_is = same; shows = subst (λ (v : ℕ). IsBound of_volume.Uniform orders v best.0.price) same is.2 })
+      (best.0, record { volume_is = same; shows = subst (λ (v : ℕ). IsBoundPrice of_volume.Uniform orders v best.0.price) same is.2 })
 
-  bound-shown : (the_rule : Rule) (orders : List Order) (deals : List Deal) → IsOrderList orders → AreOrders orders → AreDeals deals → Conforms the_rule orders deals
-      → (bound : Option Cut) × IsBoundShown the_rule orders (volume deals) bound
+  bound-shown : (the_rule : Rule) (orders : List Order) (deals : List Deal) → IsOrderList orders → OrdersInRange orders → DealsInRange deals → Conforms the_rule orders deals
+      → (bound : Option Cut) × IsReportedBound the_rule orders (volume deals) bound
   bound-shown rule.Matching orders deals list numbers ranges c = (None, refl)
   bound-shown rule.Fair orders deals list numbers ranges c = (None, refl)
   bound-shown rule.Uniform orders deals list numbers ranges c = let b = bound-of of_volume.Uniform orders deals list numbers ranges c in (Some b.0, b.1)
   bound-shown rule.Maximum orders deals list numbers ranges c = let b = bound-of of_volume.Maximum orders deals list numbers ranges c in (Some b.0, b.1)
   bound-shown rule.Continuous orders deals list numbers ranges c = (None, refl)
 
-  only-ones : (the_rule : Rule) (orders : List Order) (deals : List Deal) → IsOrderList orders → Regular orders → AreDeals deals → Conforms the_rule orders deals → AreOnlyQuantities the_rule orders deals
+  only-ones : (the_rule : Rule) (orders : List Order) (deals : List Deal) → IsOrderList orders → Regular orders → DealsInRange deals → Conforms the_rule orders deals → AreOnlyQuantities the_rule orders deals
   only-ones rule.Matching orders deals list regular ranges c = tt
   only-ones rule.Fair orders deals list regular ranges c = tt
   only-ones rule.Uniform orders deals list regular ranges c = λ i lt. laws.quantities of_volume.Uniform orders deals list ranges c i
   only-ones rule.Maximum orders deals list regular ranges c = λ i lt. laws.quantities of_volume.Maximum orders deals list ranges c i
   only-ones rule.Continuous orders deals list regular ranges c = laws.pairs orders deals list regular ranges c
 
-  -- deals that conform come to an accepted log
-  acceptance : (q : Question) (orders : List Order) (deals : List Deal) → IsOrderList orders → AreOrders orders → Regular orders → AreDeals deals → Conforms q.rule orders deals
+  -- deals that conform give an accepted log
+  acceptance : (q : Question) (orders : List Order) (deals : List Deal) → IsOrderList orders → OrdersInRange orders → Regular orders → DealsInRange deals → Conforms q.rule orders deals
       → (the_verdict : Verdict) × IsAcceptance q orders deals the_verdict
   acceptance q orders deals list numbers regular ranges c =
       let bound = bound-shown q.rule orders deals list numbers ranges c in (
@@ -105,12 +105,12 @@ module _ (laws : Laws) where
         },
       )
 
-  module _ (q : Question) (entries : List OrderRecord) (paired : Result (List TradeRecord) Finding) (few : length entries < 2 ^ 32) (records : AreRecords entries) (trades : AreTrades (paired_trades paired)) where
+  module _ (q : Question) (entries : List OrderRecord) (paired : Result (List TradeRecord) Finding) (few : length entries < 2 ^ 32) (records : RecordsInRange entries) (trades : TradesInRange (paired_trades paired)) where
     abbrev history : List Order
     history = order_list q.symbol entries
 
     abbrev deals : List Deal
-    deals = deals_of history q.symbol (paired_trades paired)
+    deals = deals_of_symbol history q.symbol (paired_trades paired)
 
     -- what the rules say, where the stages before the rule have this finding
     abbrev By : Option Finding → Option Finding → Type 0
@@ -127,7 +127,7 @@ module _ (laws : Laws) where
     )
     judged-as None is =
         let c = conforms (log_finding q.rule q.symbol entries paired) refl is in
-        let formed = option_or-parts (history_finding q.symbol entries) (first_of (call_finding q.rule history ∷ pairing_finding paired ∷ unsound_trade history q.symbol (paired_trades paired) ∷ [])) c.0 in
+        let formed = option_or-parts (history_finding q.symbol entries) (first_answer (instant_order_finding q.rule history ∷ pairing_finding paired ∷ unsound_trade history q.symbol (paired_trades paired) ∷ [])) c.0 in
         let accepted = acceptance q history deals (order_list-is q.symbol entries few) (orders-range q.symbol entries records) (order_list-regular q.symbol entries formed.0) (deals-ranges history q.symbol (paired_trades paired) trades) c.1 in (
           accepted.0,
           record { found = None; by_the_rules = is; one = λ other by. laws.one q.rule q.symbol entries paired other None trades by is; outcome = accepted.1 },

@@ -5,7 +5,7 @@ use Rattle.std.specs.Option.{ForSome}
 use Rattle.audit_base.specs.declared.terms.VolumeRule.{VolumeRule}
 use Rattle.audit_base.specs.declared.terms.VolumeRule.TheVariants as of_volume
 use Rattle.audit_base.specs.RuleKinds.{volume_rule}
-use Rattle.call_auction.specs.Audits.{IsBoundOf}
+use Rattle.call_auction.specs.Audits.{IsReachedBound}
 use Rattle.audit_base.specs.declared.terms.Which.TheVariants as which
 use Rattle.audit_base.specs.declared.findings.Property.TheVariants as property
 use Rattle.audit_base.specs.declared.records.OrderRecord.{OrderRecord}
@@ -14,21 +14,21 @@ use Rattle.audit_base.specs.declared.orders.Order.{Order}
 use Rattle.audit_base.specs.declared.orders.Deal.{Deal}
 use Rattle.audit_base.specs.declared.orders.Cut.{Cut}
 use Rattle.audit_base.specs.declared.findings.Finding.{Finding}
-use Rattle.audit_base.specs.Shows.{found}
-use Rattle.audit_base.specs.Orders.{is_rests, order_at}
+use Rattle.audit_base.specs.Shows.{finding_at_record}
+use Rattle.audit_base.specs.Orders.{may_rest, order_at}
 use Rattle.audit_base.specs.Deals.{volume}
 use Rattle.audit_base.specs.Histories.{history_finding, order_list, instant_order, WellFormed}
-use Rattle.audit_base.specs.Least.{first_of, least_with}
+use Rattle.audit_base.specs.Least.{first_answer, least_with}
 use Rattle.audit_base.proofs.VerdictLemmas.{one-verdict}
-use Rattle.audit_base.specs.Trades.{AreTrades, deals_of, unsound_trade, Sound}
-use Rattle.audit_base.specs.Verdicts.{IsRuleVerdict, call_finding, pairing_finding, paired_trades}
+use Rattle.audit_base.specs.Trades.{TradesInRange, deals_of_symbol, unsound_trade, SoundTrades}
+use Rattle.audit_base.specs.Verdicts.{IsRuleVerdict, instant_order_finding, pairing_finding, paired_trades}
 use Rattle.audit_base.proofs.LeastLemmas.{with-at, none-with}
 use Rattle.audit_report.specs.declared.verdicts.Verdict.{Verdict}
 use Rattle.audit_report.specs.declared.verdicts.Verdict.TheVariants.{Accepted as IsAccepted, Rejected, Malformed}
 use Rattle.audit_report.specs.Texts.{IsVerdictInRange, IsBoundInRange}
 use Rattle.record_verdict.specs.declared.questions.Question.{Question}
-use Rattle.record_verdict.specs.Judgements.{IsOutcome, IsJudged}
-use Rattle.record_verdict.specs.Stages.{FoundAfter, IsJudgedRecords, IsJudgedHistory, IsJudgedTrades, IsJudgedDeals}
+use Rattle.record_verdict.specs.Judgements.{IsVerdictOfFinding, IsJudged}
+use Rattle.record_verdict.specs.Stages.{IsFindingAfter, IsJudgedRecords, IsJudgedHistory, IsJudgedTrades, IsJudgedDeals}
 
 -- what holds of an answer holds of what follows from it
 pub ok-then : {X E : Type 0} (result : Result X E) (P Q : X → Type 0) → ((x : X) → P x → Q x) → IfOk result P → IfOk result Q
@@ -37,11 +37,11 @@ ok-then (Err e) P Q follows is = tt
 
 -- what is found before the rule is looked at, given a finding in the place of one of the stages
 abbrev stages : Question → List Order → Result (List TradeRecord) Finding → Option Finding → Option Finding → Option Finding
-stages q orders trades h i = first_of (h ∷ i ∷ pairing_finding trades ∷ unsound_trade orders q.symbol (paired_trades trades) ∷ [])
+stages q orders trades h i = first_answer (h ∷ i ∷ pairing_finding trades ∷ unsound_trade orders q.symbol (paired_trades trades) ∷ [])
 
 abbrev after_stages : Question → List Order → Result (List TradeRecord) Finding → Option Finding → Option Finding → Option Finding → Type 0
 after_stages q orders trades verdict h i =
-    FoundAfter (stages q orders trades h i) q orders (deals_of orders q.symbol (paired_trades trades)) (length (paired_trades trades)) verdict
+    IsFindingAfter (stages q orders trades h i) q orders (deals_of_symbol orders q.symbol (paired_trades trades)) (length (paired_trades trades)) verdict
 
 -- a finding of the history is the verdict
 pub judged_found : (q : Question) (entries : List OrderRecord) (trades : Result (List TradeRecord) Finding) (finding : Finding) → history_finding q.symbol entries ≡ Some finding
@@ -50,7 +50,7 @@ judged_found q entries trades finding is =
     let orders : List Order = order_list q.symbol entries in
     record {
       found = Some finding;
-      by_the_rules = subst (λ (h : Option Finding). after_stages q orders trades (Some finding) h (call_finding q.rule orders)) (sym is) refl;
+      by_the_rules = subst (λ (h : Option Finding). after_stages q orders trades (Some finding) h (instant_order_finding q.rule orders)) (sym is) refl;
       outcome = refl;
     }
 
@@ -61,7 +61,7 @@ judged_after q entries trades the_verdict formed is =
     let orders : List Order = order_list q.symbol entries in
     record {
       found = is.found;
-      by_the_rules = subst (λ (h : Option Finding). after_stages q orders trades is.found h (call_finding q.rule orders)) (sym formed) is.by_the_rules;
+      by_the_rules = subst (λ (h : Option Finding). after_stages q orders trades is.found h (instant_order_finding q.rule orders)) (sym formed) is.by_the_rules;
       outcome = is.outcome;
     }
 
@@ -73,7 +73,7 @@ judged_of q entries trades orders the_verdict formed same is =
 
 module _ (q : Question) (orders : List Order) where
   -- an order that doesn't rest is the verdict
-  pub history_instant : (trades : Result (List TradeRecord) Finding) (finding : Finding) → call_finding q.rule orders ≡ Some finding
+  pub history_instant : (trades : Result (List TradeRecord) Finding) (finding : Finding) → instant_order_finding q.rule orders ≡ Some finding
       → IsJudgedHistory q orders trades (Rejected finding)
   history_instant trades finding is = record {
     found = Some finding;
@@ -82,24 +82,24 @@ module _ (q : Question) (orders : List Order) where
   }
 
   -- else a report without its partner is
-  pub history_alone : (finding : Finding) → call_finding q.rule orders ≡ None → IsJudgedHistory q orders (Err finding) (Rejected finding)
+  pub history_alone : (finding : Finding) → instant_order_finding q.rule orders ≡ None → IsJudgedHistory q orders (Err finding) (Rejected finding)
   history_alone finding none = record {
     found = Some finding;
     by_the_rules = subst (λ (i : Option Finding). after_stages q orders (Err finding) (Some finding) None i) (sym none) refl;
     outcome = refl;
   }
 
-  or_none : (o : Option Finding) → first_of (o ∷ []) ≡ o
+  or_none : (o : Option Finding) → first_answer (o ∷ []) ≡ o
   or_none None = refl
   or_none (Some f) = refl
 
   -- else the trades decide
-  pub history_trades : (trades : List TradeRecord) (the_verdict : Verdict) → call_finding q.rule orders ≡ None → IsJudgedTrades q orders trades the_verdict
+  pub history_trades : (trades : List TradeRecord) (the_verdict : Verdict) → instant_order_finding q.rule orders ≡ None → IsJudgedTrades q orders trades the_verdict
       → IsJudgedHistory q orders (Ok trades) the_verdict
   history_trades trades the_verdict none is = record {
     found = is.found;
     by_the_rules = subst (λ (i : Option Finding). after_stages q orders (Ok trades) is.found None i) (sym none)
-        (subst (λ (u : Option Finding). FoundAfter u q orders (deals_of orders q.symbol trades) (length trades) is.found) (sym (or_none (unsound_trade orders q.symbol trades))) is.by_the_rules);
+        (subst (λ (u : Option Finding). IsFindingAfter u q orders (deals_of_symbol orders q.symbol trades) (length trades) is.found) (sym (or_none (unsound_trade orders q.symbol trades))) is.by_the_rules);
     outcome = is.outcome;
   }
 
@@ -107,18 +107,18 @@ module _ (q : Question) (orders : List Order) where
   pub trades_unsound : (trades : List TradeRecord) (finding : Finding) → unsound_trade orders q.symbol trades ≡ Some finding → IsJudgedTrades q orders trades (Rejected finding)
   trades_unsound trades finding is = record {
     found = Some finding;
-    by_the_rules = subst (λ (u : Option Finding). FoundAfter u q orders (deals_of orders q.symbol trades) (length trades) (Some finding)) (sym is) refl;
+    by_the_rules = subst (λ (u : Option Finding). IsFindingAfter u q orders (deals_of_symbol orders q.symbol trades) (length trades) (Some finding)) (sym is) refl;
     outcome = refl;
   }
 
   -- else their deals decide
-  pub trades_sound : (trades : List TradeRecord) (deals : List Deal) (the_verdict : Verdict) → Sound orders q.symbol trades → deals ≡ deals_of orders q.symbol trades
+  pub trades_sound : (trades : List TradeRecord) (deals : List Deal) (the_verdict : Verdict) → SoundTrades orders q.symbol trades → deals ≡ deals_of_symbol orders q.symbol trades
       → IsJudgedDeals q orders deals (length trades) the_verdict → IsJudgedTrades q orders trades the_verdict
   trades_sound trades deals the_verdict sound same is = record {
     found = is.found;
-    by_the_rules = subst (λ (u : Option Finding). FoundAfter u q orders (deals_of orders q.symbol trades) (length trades) is.found) (sym sound)
+    by_the_rules = subst (λ (u : Option Finding). IsFindingAfter u q orders (deals_of_symbol orders q.symbol trades) (length trades) is.found) (sym sound)
         (subst (λ (ds : List Deal). IsRuleVerdict q.rule orders ds (length trades) is.found) same is.by_the_rule);
-    outcome = subst (λ (ds : List Deal). IsOutcome q orders ds is.found the_verdict) same is.outcome;
+    outcome = subst (λ (ds : List Deal). IsVerdictOfFinding q orders ds is.found the_verdict) same is.outcome;
   }
 
 -- What a verdict says is in its range.
@@ -135,13 +135,13 @@ some-shown c le x e = subst (λ (y : Cut). y.price ≤ 10 ^ 18) (same c x e) le
     same : (c x : Cut) → Some c ≡ Some x → c ≡ x
     same c x e = cc
 
-bound-in_range : (r : Option VolumeRule) (orders : List Order) (reached : ℕ) (bound : Option Cut) → MatchOption r (bound ≡ None) (λ v. IsSomeAnd bound (IsBoundOf v orders reached)) → ForSome bound IsBoundInRange
+bound-in_range : (r : Option VolumeRule) (orders : List Order) (reached : ℕ) (bound : Option Cut) → MatchOption r (bound ≡ None) (λ v. IsSomeAnd bound (IsReachedBound v orders reached)) → ForSome bound IsBoundInRange
 bound-in_range None orders reached bound is = none-shown bound is
 bound-in_range (Some r) orders reached None is = absurd is
 bound-in_range (Some of_volume.Uniform) orders reached (Some c) is = some-shown c is.shows.holds.0
 bound-in_range (Some of_volume.Maximum) orders reached (Some c) is = some-shown c is.shows.holds.0
 
-outcome-in_range : (q : Question) (orders : List Order) (deals : List Deal) (found : Option Finding) (the_verdict : Verdict) → IsOutcome q orders deals found the_verdict → IsVerdictInRange the_verdict
+outcome-in_range : (q : Question) (orders : List Order) (deals : List Deal) (finding_at_record : Option Finding) (the_verdict : Verdict) → IsVerdictOfFinding q orders deals finding_at_record the_verdict → IsVerdictInRange the_verdict
 outcome-in_range q orders deals None (IsAccepted a) is = bound-in_range (volume_rule q.rule) orders (volume deals) a.bound is.bound_is
 outcome-in_range q orders deals None (Rejected f) is = absurd is
 outcome-in_range q orders deals None (Malformed log bad) is = absurd is
@@ -149,10 +149,10 @@ outcome-in_range q orders deals (Some finding) the_verdict is = rw is tt
 
 pub judged-in_range : (q : Question) (entries : List OrderRecord) (trades : Result (List TradeRecord) Finding) (the_verdict : Verdict) → IsJudgedRecords q entries trades the_verdict → IsVerdictInRange the_verdict
 judged-in_range q entries trades the_verdict is =
-    outcome-in_range q (order_list q.symbol entries) (deals_of (order_list q.symbol entries) q.symbol (paired_trades trades)) is.found the_verdict is.outcome
+    outcome-in_range q (order_list q.symbol entries) (deals_of_symbol (order_list q.symbol entries) q.symbol (paired_trades trades)) is.found the_verdict is.outcome
 
 -- trades whose numbers are in range have one verdict
-pub judged_once : (q : Question) (entries : List OrderRecord) (trades : Result (List TradeRecord) Finding) (the_verdict : Verdict) → AreTrades (paired_trades trades)
+pub judged_once : (q : Question) (entries : List OrderRecord) (trades : Result (List TradeRecord) Finding) (the_verdict : Verdict) → TradesInRange (paired_trades trades)
     → IsJudgedRecords q entries trades the_verdict → IsJudged q entries trades the_verdict
 judged_once q entries trades the_verdict ranges is = record {
   found = is.found;
@@ -162,11 +162,11 @@ judged_once q entries trades the_verdict ranges is = record {
 }
 
 -- the first order that does not rest is the finding
-pub instant_at : (orders : List Order) (i : ℕ) (o : Order) → o ≡ order_at orders i → i < length orders → least_with (λ k. not (is_rests (order_at orders k).life)) i ≡ None → is_rests o.life ≡ false
-    → Some (found property.InstantOrder which.Orders o.place None None) ≡ instant_order orders
+pub instant_at : (orders : List Order) (i : ℕ) (o : Order) → o ≡ order_at orders i → i < length orders → least_with (λ k. not (may_rest (order_at orders k).life)) i ≡ None → may_rest o.life ≡ false
+    → Some (finding_at_record property.InstantOrder which.Orders o.place None None) ≡ instant_order orders
 instant_at orders i o same lt before away =
-    let test : ℕ → Bool = λ k. not (is_rests (order_at orders k).life) in
-    let here : test i ≡ true = ap not (ap (λ (x : Order). is_rests x.life) (sym same) ∙ away) in
+    let test : ℕ → Bool = λ k. not (may_rest (order_at orders k).life) in
+    let here : test i ≡ true = ap not (ap (λ (x : Order). may_rest x.life) (sym same) ∙ away) in
     let first : least_with test (length orders) ≡ Some i = with-at test (length orders) i lt here (none-with test i before) in
-    ap (λ (x : Order). Some (found property.InstantOrder which.Orders x.place None None)) same
-    ∙ ap (option_map (λ (k : ℕ). found property.InstantOrder which.Orders (order_at orders k).place None None)) (sym first)
+    ap (λ (x : Order). Some (finding_at_record property.InstantOrder which.Orders x.place None None)) same
+    ∙ ap (option_map (λ (k : ℕ). finding_at_record property.InstantOrder which.Orders (order_at orders k).place None None)) (sym first)

@@ -12,29 +12,29 @@ use Rattle.audit_base.specs.declared.terms.VolumeRule.{VolumeRule}
 use Rattle.audit_base.specs.RuleKinds.{volume_rule}
 use Rattle.audit_base.specs.Deals.{volume}
 use Rattle.audit_base.specs.Histories.{order_list}
-use Rattle.audit_base.specs.Trades.{deals_of}
+use Rattle.audit_base.specs.Trades.{deals_of_symbol}
 use Rattle.audit_base.specs.Verdicts.{paired_trades}
 use Rattle.audit_base.proofs.VerdictLemmas.{one-bound}
 use Rattle.audit_report.specs.declared.tables.Line.{Line}
 use Rattle.audit_report.specs.declared.verdicts.Accepted.{Accepted}
 use Rattle.audit_report.specs.declared.verdicts.Verdict.{Verdict}
 use Rattle.audit_report.specs.declared.verdicts.Verdict.TheVariants as verdict
-use Rattle.call_auction.specs.Audits.{IsBoundOf}
+use Rattle.call_auction.specs.Audits.{IsReachedBound}
 use Rattle.record_verdict.specs.declared.questions.Question.{Question}
-use Rattle.record_verdict.specs.Judgements.{IsAcceptance, IsAcceptedLog, IsJudged, IsOutcome}
+use Rattle.record_verdict.specs.Judgements.{IsAcceptance, IsAcceptedLog, IsJudged, IsVerdictOfFinding}
 
 same-cut : (c d : Cut) → c.price ≡ d.price → c.volume ≡ d.volume → c ≡ d
 same-cut c d price volume =
     ap (λ (p : ℕ). record { price = p; volume = c.volume }) price ∙ ap (λ (v : ℕ). record { price = d.price; volume = v }) volume
 
-one-cut : (r : VolumeRule) (orders : List Order) (reached : ℕ) (a b : Option Cut) → IsSomeAnd a (IsBoundOf r orders reached) → IsSomeAnd b (IsBoundOf r orders reached) → a ≡ b
+one-cut : (r : VolumeRule) (orders : List Order) (reached : ℕ) (a b : Option Cut) → IsSomeAnd a (IsReachedBound r orders reached) → IsSomeAnd b (IsReachedBound r orders reached) → a ≡ b
 one-cut r orders reached (Some c) (Some d) x y =
     ap (λ (z : Cut). Some z) (same-cut c d (one-bound r orders reached c.price d.price x.shows y.shows) (x.volume_is ∙ sym y.volume_is))
 one-cut r orders reached (Some c) None x y = absurd y
 one-cut r orders reached None b x y = absurd x
 
 one-shown : (r : Option VolumeRule) (orders : List Order) (reached : ℕ) (a b : Option Cut)
-    → MatchOption r (a ≡ None) (λ v. IsSomeAnd a (IsBoundOf v orders reached)) → MatchOption r (b ≡ None) (λ v. IsSomeAnd b (IsBoundOf v orders reached)) → a ≡ b
+    → MatchOption r (a ≡ None) (λ v. IsSomeAnd a (IsReachedBound v orders reached)) → MatchOption r (b ≡ None) (λ v. IsSomeAnd b (IsReachedBound v orders reached)) → a ≡ b
 one-shown (Some r) orders reached a b x y = one-cut r orders reached a b x y
 one-shown None orders reached a b x y = x ∙ sym y
 
@@ -61,7 +61,7 @@ module _ (q : Question) (orders : List Order) (deals : List Deal) where
   one-acceptance (verdict.Rejected f) b is same = absurd is
   one-acceptance (verdict.Malformed log bad) b is same = absurd is
 
-  one-outcome : (found : Option Finding) (a b : Verdict) → IsOutcome q orders deals found a → IsOutcome q orders deals found b → a ≡ b
+  one-outcome : (found : Option Finding) (a b : Verdict) → IsVerdictOfFinding q orders deals found a → IsVerdictOfFinding q orders deals found b → a ≡ b
   one-outcome None a b x y = one-acceptance a b x y
   one-outcome (Some f) a b x y = x ∙ sym y
 
@@ -69,6 +69,6 @@ module _ (q : Question) (orders : List Order) (deals : List Deal) where
 pub one-judged : (q : Question) (entries : List OrderRecord) (paired : Result (List TradeRecord) Finding) (a b : Verdict) → IsJudged q entries paired a → IsJudged q entries paired b → a ≡ b
 one-judged q entries paired a b x y =
     let orders : List Order = order_list q.symbol entries in
-    let deals : List Deal = deals_of orders q.symbol (paired_trades paired) in
+    let deals : List Deal = deals_of_symbol orders q.symbol (paired_trades paired) in
     one-outcome q orders deals x.found a b x.outcome
-    (subst (λ (f : Option Finding). IsOutcome q orders deals f b) (x.one y.found y.by_the_rules) y.outcome)
+    (subst (λ (f : Option Finding). IsVerdictOfFinding q orders deals f b) (x.one y.found y.by_the_rules) y.outcome)

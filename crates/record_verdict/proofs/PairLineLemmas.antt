@@ -16,7 +16,7 @@ use Rattle.audit_report.specs.declared.tables.Line.{Line}
 use Rattle.audit_report.specs.declared.tables.Line.TheVariants as line
 use Rattle.canonical_form.specs.declared.shares.Share.{Share}
 use Rattle.canonical_form.specs.Shares.{AreShares}
-use Rattle.record_verdict.specs.Judgements.{pair_line_at, pair_lines}
+use Rattle.record_verdict.specs.Judgements.{pair_line_at, pair_table_lines}
 use Rattle.record_verdict.specs.Tables.{IsShareOf, line_of_share, share_lines}
 
 abbrev ends : Share → ℕ × ℕ
@@ -90,7 +90,7 @@ module _ (orders : List Order) (deals : List Deal) where
   ]
 
   -- the lines of the pairs, by the list of one deal for each
-  lines-of_pairs : map deal_line paired ≡ pair_lines orders deals
+  lines-of_pairs : map deal_line paired ≡ pair_table_lines orders deals
   unfolding pair_deals
   lines-of_pairs =
       let indices = range_with_len 0 (length orders) in
@@ -156,7 +156,7 @@ module _ (orders : List Order) (deals : List Deal) where
         mapped : {s : Share} → Contains shares s → Contains (map ends shares) (ends s)
         mapped {s} (n, lt, at) = (n, rw (length-map shares ends) lt, get_or-map ends shares n s (ends s) lt ∙ ap ends at)
 
-    pub shares-lines : (lines : List Line) → lines ≡ share_lines orders shares (length shares) → lines ≡ pair_lines orders deals
+    pub shares-lines : (lines : List Line) → lines ≡ share_lines orders shares (length shares) → lines ≡ pair_table_lines orders deals
     shares-lines lines is =
         is ∙ ap (map (line_of_share orders)) (take_all (length shares) shares (omega arith))
         ∙ lines-of_shares shares are.quantities

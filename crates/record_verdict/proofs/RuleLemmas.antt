@@ -16,7 +16,7 @@ use Rattle.audit_base.specs.RuleKinds.{call_rule, rule_of_call, rule_of_volume}
 use Rattle.audit_base.specs.Orders.{order_at}
 use Rattle.audit_base.specs.Deals.{AreTotals, volume}
 use Rattle.audit_base.specs.Histories.{Regular}
-use Rattle.audit_base.specs.CallOffences.{early_offence}
+use Rattle.audit_base.specs.CallOffences.{offence_before_volume}
 use Rattle.audit_base.specs.Verdicts.{IsRuleVerdict}
 use Rattle.audit_report.specs.declared.tables.Line.{Line}
 use Rattle.audit_report.specs.declared.verdicts.Verdict.TheVariants.{Rejected}
@@ -26,12 +26,12 @@ use Rattle.matching_core.specs.declared.outcomes.Outcome.{Outcome}
 use Rattle.matching_core.specs.declared.outcomes.Outcome.TheVariants as outcome
 use Rattle.matching_core.specs.declared.outcomes.Reached.{Reached}
 use Rattle.call_laws.proofs.VolumeLemmas.{early-offence, first-of_call}
-use Rattle.call_auction.specs.Audits.{IsAudited, IsBoundOf}
+use Rattle.call_auction.specs.Audits.{IsAuditedCall, IsReachedBound}
 use Rattle.continuous_audit.specs.Audits as continuous
 use Rattle.record_verdict.specs.declared.questions.Question.{Question}
-use Rattle.record_verdict.specs.Judgements.{order_line_at, order_lines, AreOnlyQuantities, EachOnly, IsBoundShown}
+use Rattle.record_verdict.specs.Judgements.{order_line_at, order_table_lines, AreOnlyQuantities, EachOnly, IsReportedBound}
 use Rattle.record_verdict.specs.Stages.{IsJudgedDeals}
-use Rattle.record_verdict.specs.Tables.{line_of, lines_of, accepted_verdict, IsCallAudited, IsRuleConforming, IsOutcomeOfFault, IsRuleAudited}
+use Rattle.record_verdict.specs.Tables.{line_of_order, lines_of, accepted_verdict, IsCallAudited, IsRuleConforming, IsOutcomeOfFault, IsRuleAudited}
 
 the-same : {X : Type 0} (x y : X) → Some y ≡ Some x → x ≡ y
 the-same x y e = cc
@@ -43,9 +43,9 @@ map-same f g a (suc n) same =
     ∙ ap (λ (xs : List Line). g a ∷ xs) (map-same f g (a + 1) n (λ i lt. same i (omega arith)))
 
 -- the lines of what each order traded are the table of a call
-pub lines-are : (orders : List Order) (deals : List Deal) (totals : List ℕ) → AreTotals orders deals totals → lines_of orders totals ≡ order_lines orders deals
+pub lines-are : (orders : List Order) (deals : List Deal) (totals : List ℕ) → AreTotals orders deals totals → lines_of orders totals ≡ order_table_lines orders deals
 lines-are orders deals totals are =
-    map-same (λ i. line_of (order_at orders i) (slice_index totals i)) (order_line_at orders deals) 0 (length orders) (λ i lt. ap (line_of (order_at orders i)) (are.each i (omega arith)))
+    map-same (λ i. line_of_order (order_at orders i) (slice_index totals i)) (order_line_at orders deals) 0 (length orders) (λ i lt. ap (line_of_order (order_at orders i)) (are.each i (omega arith)))
 
 -- a rule of a call is one of the five, and the other one is continuous trading
 pub call-rule_is : (r : Rule) (c : CallRule) → call_rule r ≡ Some c → rule_of_call c ≡ r
@@ -64,12 +64,12 @@ no-call_rule_is rule.Continuous e = refl
 
 module _ (orders : List Order) (deals : List Deal) where
   -- what a check found is the first offence
-  pub broken-audited : (r : CallRule) (why : CheckFault) (answer : Outcome) → ((finding : Finding) → why ≡ fault.Found finding → early_offence r orders deals ≡ Some finding)
+  pub broken-audited : (r : CallRule) (why : CheckFault) (answer : Outcome) → ((finding : Finding) → why ≡ fault.Found finding → offence_before_volume r orders deals ≡ Some finding)
       → IsOutcomeOfFault why answer → IsCallAudited r orders deals answer
   broken-audited r (fault.Found finding) answer found is = λ count. rw is (first-of_call r orders deals count finding (early-offence r orders deals count finding (found finding refl)))
   broken-audited r fault.Memory answer found is = absurd is
 
-  bound-shown : (r : VolumeRule) (v : ℕ) (bound : Option Cut) → IsSomeAnd bound (IsBoundOf r orders v) → IsBoundShown (rule_of_volume r) orders v bound
+  bound-shown : (r : VolumeRule) (v : ℕ) (bound : Option Cut) → IsSomeAnd bound (IsReachedBound r orders v) → IsReportedBound (rule_of_volume r) orders v bound
   bound-shown of_volume.Uniform v bound is = is
   bound-shown of_volume.Maximum v bound is = is
 
@@ -79,7 +79,7 @@ module _ (orders : List Order) (deals : List Deal) where
 
 module _ (orders : List Order) (deals : List Deal) (count : ℕ) where
   -- what an audit of a rule with a greatest volume answers
-  pub greatest_audited : (r : VolumeRule) (answer : Outcome) → IsAudited r orders deals count answer → IsRuleAudited (rule_of_volume r) orders deals count answer
+  pub greatest_audited : (r : VolumeRule) (answer : Outcome) → IsAuditedCall r orders deals count answer → IsRuleAudited (rule_of_volume r) orders deals count answer
   greatest_audited r (outcome.Conforms reached) audited = record {
     conforms = audited.conforms;
     totals = audited.totals;
@@ -90,7 +90,7 @@ module _ (orders : List Order) (deals : List Deal) (count : ℕ) where
   greatest_audited r (outcome.Broken finding) audited = first-of_call (call.Greatest r) orders deals count finding audited.offence
 
   -- what the audit of continuous trading answers
-  pub continuous_audited : Regular orders → (answer : Outcome) → continuous.IsAudited orders deals answer → IsRuleAudited rule.Continuous orders deals count answer
+  pub continuous_audited : Regular orders → (answer : Outcome) → continuous.IsAuditedContinuous orders deals answer → IsRuleAudited rule.Continuous orders deals count answer
   continuous_audited regular (outcome.Conforms reached) audited = record {
     conforms = audited.conforms;
     totals = audited.totals;

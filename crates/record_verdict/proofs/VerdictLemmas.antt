@@ -1,4 +1,4 @@
--- The verdict on two logs by what they come to before the rule is looked at.
+-- The verdict on two logs by what they give before the rule is looked at.
 use Rattle.std.proofs.Common.{◌≡◌, ◌∙◌, sym, subst, refl, ℕ, List, length, cond, Option, Some, None, Result, Ok}
 use Rattle.std.specs.Prelude.{MatchOption, is_some, option_and_then}
 use Rattle.audit_base.specs.declared.faults.BadPlace.{BadPlace}
@@ -10,11 +10,11 @@ use Rattle.audit_base.specs.declared.records.TradeRecord.{TradeRecord}
 use Rattle.audit_base.specs.declared.terms.Rule.{Rule}
 use Rattle.audit_base.specs.declared.terms.CallRule.{CallRule}
 use Rattle.audit_base.specs.declared.terms.Which.{Which}
-use Rattle.audit_base.specs.Deals.{AreDeals}
+use Rattle.audit_base.specs.Deals.{DealsInRange}
 use Rattle.audit_base.specs.RuleKinds.{call_rule}
 use Rattle.audit_base.specs.Histories.{instant_order, order_list}
-use Rattle.audit_base.specs.Trades.{deals_of}
-use Rattle.audit_base.specs.Verdicts.{call_finding, log_finding, paired_trades, IsRuleVerdict}
+use Rattle.audit_base.specs.Trades.{deals_of_symbol}
+use Rattle.audit_base.specs.Verdicts.{instant_order_finding, log_finding, paired_trades, IsRuleVerdict}
 use Rattle.audit_base.proofs.VerdictLemmas.{one-verdict-of_deals}
 use Rattle.audit_report.specs.declared.verdicts.Verdict.{Verdict}
 use Rattle.audit_report.specs.declared.verdicts.Verdict.TheVariants as verdict
@@ -24,12 +24,12 @@ use Rattle.record_verdict.specs.declared.scopes.Admission.TheVariants as admissi
 use Rattle.record_verdict.specs.declared.questions.Question.{Question}
 use Rattle.record_verdict.specs.BeforeRule.{AreJudgeable, AreSound}
 use Rattle.record_verdict.specs.Laws.{SoundTradesAreJudged}
-use Rattle.record_verdict.specs.Judgements.{IsJudged, IsOutcome}
+use Rattle.record_verdict.specs.Judgements.{IsJudged, IsVerdictOfFinding}
 use Rattle.record_verdict.specs.Scopes.{admission_of, early_finding, scope_of, unadmitted_order}
 use Rattle.record_verdict.specs.Stages.{IsJudgedDeals, VerdictIs}
 
 -- what a rule does not admit is what it finds of the orders before it is looked at
-admitted-by : (the_rule : Rule) (orders : List Order) → unadmitted_order (admission_of the_rule) orders ≡ call_finding the_rule orders
+admitted-by : (the_rule : Rule) (orders : List Order) → unadmitted_order (admission_of the_rule) orders ≡ instant_order_finding the_rule orders
 admitted-by the_rule orders = either (call_rule the_rule)
   where
     either : (r : Option CallRule) → unadmitted_order (cond (is_some r) admission.Resting admission.All) orders ≡ option_and_then (λ call. instant_order orders) r
@@ -85,11 +85,11 @@ found_is q finding = record {
     apart : (other : Which) (place : BadPlace) → upto.Found finding ≡ upto.Malformed other place → ⊥
     apart other place e = cc
 
-sound_judged : (q : Question) (entries : List OrderRecord) (paired : Result (List TradeRecord) Finding) (resolved : ResolvedTrades) (v : Verdict) → AreDeals resolved.deals.items
+sound_judged : (q : Question) (entries : List OrderRecord) (paired : Result (List TradeRecord) Finding) (resolved : ResolvedTrades) (v : Verdict) → DealsInRange resolved.deals.items
     → IsJudgedDeals q resolved.history resolved.deals.items resolved.count v → AreSound (scope_of q) entries paired resolved → IsJudged q entries paired v
 sound_judged q entries paired resolved v numbers judged sound =
     let orders : List Order = order_list q.symbol entries in
-    let deals : List Deal = deals_of orders q.symbol (paired_trades paired) in
+    let deals : List Deal = deals_of_symbol orders q.symbol (paired_trades paired) in
     let by_orders : IsRuleVerdict q.rule orders resolved.deals.items resolved.count judged.found =
     subst (λ (os : List Order). IsRuleVerdict q.rule os resolved.deals.items resolved.count judged.found) sound.orders judged.by_the_rule in
     let by_deals : IsRuleVerdict q.rule orders deals resolved.count judged.found =
@@ -100,9 +100,9 @@ sound_judged q entries paired resolved v numbers judged sound =
     record {
       found = judged.found;
       by_the_rules = by_rules;
-      one = λ other others. one-verdict-of_deals q.rule q.symbol entries paired other judged.found (λ _. subst AreDeals sound.deals numbers) others by_rules;
-      outcome = subst (λ (ds : List Deal). IsOutcome q orders ds judged.found v) sound.deals
-          (subst (λ (os : List Order). IsOutcome q os resolved.deals.items judged.found v) sound.orders judged.outcome);
+      one = λ other others. one-verdict-of_deals q.rule q.symbol entries paired other judged.found (λ _. subst DealsInRange sound.deals numbers) others by_rules;
+      outcome = subst (λ (ds : List Deal). IsVerdictOfFinding q orders ds judged.found v) sound.deals
+          (subst (λ (os : List Order). IsVerdictOfFinding q os resolved.deals.items judged.found v) sound.orders judged.outcome);
     }
 
 -- the verdict on sound trades is that of the logs
@@ -130,12 +130,12 @@ sound_is q resolved v judgeable judged = record {
 pub sound-trades : SoundTradesAreJudged
 sound-trades q entries trades deals v none same numbers judged =
     let orders : List Order = order_list q.symbol entries in
-    let by_deals : IsRuleVerdict q.rule orders (deals_of orders q.symbol trades) (length trades) judged.found =
+    let by_deals : IsRuleVerdict q.rule orders (deals_of_symbol orders q.symbol trades) (length trades) judged.found =
     subst (λ (ds : List Deal). IsRuleVerdict q.rule orders ds (length trades) judged.found) same judged.by_the_rule in
-    let by_rules = subst (λ (o : Option Finding). MatchOption o (IsRuleVerdict q.rule orders (deals_of orders q.symbol trades) (length trades) judged.found) (λ finding. judged.found ≡ Some finding)) (sym none) by_deals in
+    let by_rules = subst (λ (o : Option Finding). MatchOption o (IsRuleVerdict q.rule orders (deals_of_symbol orders q.symbol trades) (length trades) judged.found) (λ finding. judged.found ≡ Some finding)) (sym none) by_deals in
     record {
       found = judged.found;
       by_the_rules = by_rules;
-      one = λ other others. one-verdict-of_deals q.rule q.symbol entries (Ok trades) other judged.found (λ _. subst AreDeals same numbers) others by_rules;
-      outcome = subst (λ (ds : List Deal). IsOutcome q orders ds judged.found v) same judged.outcome;
+      one = λ other others. one-verdict-of_deals q.rule q.symbol entries (Ok trades) other judged.found (λ _. subst DealsInRange same numbers) others by_rules;
+      outcome = subst (λ (ds : List Deal). IsVerdictOfFinding q orders ds judged.found v) same judged.outcome;
     }

@@ -1,12 +1,12 @@
--- What two logs come to before the rule is looked at: their first bad place, their first finding there, or
--- sound trades.
+-- What two logs give before the rule is looked at: their first bad place, their first finding
+-- there, or sound trades.
 use Rattle.std.specs.Prelude.{◌≡◌, ◌<◌, ◌≤◌, ◌-◌, ◌^◌, Bool, true, false, List, Option, None, Some, Result, length}
 use Rattle.audit_base.specs.declared.findings.Finding.{Finding}
 use Rattle.audit_base.specs.declared.records.OrderRecord.{OrderRecord}
 use Rattle.audit_base.specs.declared.records.TradeRecord.{TradeRecord}
-use Rattle.audit_base.specs.Deals.{AreDeals, IsDealList}
+use Rattle.audit_base.specs.Deals.{DealsInRange, IsDealList}
 use Rattle.audit_base.specs.Histories.{order_list}
-use Rattle.audit_base.specs.Trades.{deals_of}
+use Rattle.audit_base.specs.Trades.{deals_of_symbol}
 use Rattle.audit_base.specs.Verdicts.{paired_trades}
 use Rattle.matching_core.specs.declared.deals_draft.ResolvedTrades.{ResolvedTrades}
 use Rattle.record_verdict.specs.declared.before_rule.BeforeRule.{BeforeRule}
@@ -14,22 +14,24 @@ use Rattle.record_verdict.specs.declared.before_rule.BeforeRule.TheVariants as u
 use Rattle.record_verdict.specs.declared.scopes.Scope.{Scope}
 use Rattle.record_verdict.specs.Scopes.{early_finding}
 
--- The trades are sound: these are the orders of the history, which are admitted, and the deals between them.
+-- The trades are sound: these are the orders of the history, which are
+-- admitted, and the deals between them.
 pub record AreSound (scope : Scope) (entries : List OrderRecord)
     (paired : Result (List TradeRecord) Finding) (resolved : ResolvedTrades) : Type 0 where
   pub none : early_finding scope entries paired ≡ None
   pub orders : resolved.history ≡ order_list scope.symbol entries
   pub deals : let history = order_list scope.symbol entries in
-      resolved.deals.items ≡ deals_of history scope.symbol (paired_trades paired)
+      resolved.deals.items ≡ deals_of_symbol history scope.symbol (paired_trades paired)
   pub count : resolved.count ≡ length (paired_trades paired)
 
--- what records come to before the rule is looked at: the first finding there, or sound trades
+-- what records give before the rule is looked at: the first finding there, or sound trades
 abbrev pub IsBeforeRule : Scope → List OrderRecord → Result (List TradeRecord) Finding
     → BeforeRule → Type 0
 IsBeforeRule scope entries paired (upto.Malformed log bad) = ⊥
 IsBeforeRule scope entries paired (upto.Found finding) =
     early_finding scope entries paired ≡ Some finding
-IsBeforeRule scope entries paired (upto.Sound resolved) = AreSound scope entries paired resolved
+IsBeforeRule scope entries paired (upto.Sound resolved) =
+    AreSound scope entries paired resolved
 
 -- a log is not in its grammar
 abbrev pub is_malformed : BeforeRule → Bool
@@ -37,18 +39,18 @@ is_malformed (upto.Malformed log bad) = true
 is_malformed (upto.Found finding) = false
 is_malformed (upto.Sound resolved) = false
 
--- what trades come to that have been gathered: their first finding, or that they are sound
-abbrev pub found_or_sound : ResolvedTrades → Option Finding → BeforeRule
-found_or_sound resolved None = upto.Sound resolved
-found_or_sound resolved (Some finding) = upto.Found finding
+-- what trades give that have been gathered: their first finding, or that they are sound
+abbrev pub finding_or_sound : ResolvedTrades → Option Finding → BeforeRule
+finding_or_sound resolved None = upto.Sound resolved
+finding_or_sound resolved (Some finding) = upto.Found finding
 
--- Sound trades are fewer than there are places, and at least as many as their deals, which are a deal list
--- with numbers in range.
+-- Sound trades are fewer than there are places, and at least as many as their deals, which are a
+-- deal list with numbers in range.
 pub record AreJudgeable (resolved : ResolvedTrades) : Type 0 where
   pub few : resolved.count < 2 ^ 32 - 1
   pub counted : length resolved.deals.items ≤ resolved.count
   pub deal_list : IsDealList resolved.history resolved.deals.items
-  pub numbers : AreDeals resolved.deals.items
+  pub numbers : DealsInRange resolved.deals.items
 
 abbrev pub IsJudgeable : BeforeRule → Type 0
 IsJudgeable (upto.Malformed log bad) = Unit {0}

@@ -4,9 +4,9 @@ use Rattle.audit_base.specs.declared.findings.Finding.{Finding}
 use Rattle.audit_base.specs.declared.orders.Deal.{Deal}
 use Rattle.audit_base.specs.declared.records.OrderRecord.{OrderRecord}
 use Rattle.audit_base.specs.declared.records.TradeRecord.{TradeRecord}
-use Rattle.audit_base.specs.Deals.{AreDeals}
+use Rattle.audit_base.specs.Deals.{DealsInRange}
 use Rattle.audit_base.specs.Histories.{order_list}
-use Rattle.audit_base.specs.Trades.{deals_of}
+use Rattle.audit_base.specs.Trades.{deals_of_symbol}
 use Rattle.audit_base.specs.Verdicts.{log_finding}
 use Rattle.audit_report.specs.declared.verdicts.Verdict.{Verdict}
 use Rattle.record_verdict.specs.declared.questions.Question.{Question}
@@ -19,11 +19,12 @@ OneJudgement = (q : Question) (entries : List OrderRecord)
     (paired : Result (List TradeRecord) Finding) (a b : Verdict)
     → IsJudged q entries paired a → IsJudged q entries paired b → a ≡ b
 
--- where nothing is found before the rule, the verdict on the deals of the trades is that on the records
+-- where nothing is found before the rule, the verdict on the deals
+-- of the trades is that on the records
 abbrev pub SoundTradesAreJudged : Type 0
 SoundTradesAreJudged = (q : Question) (entries : List OrderRecord) (trades : List TradeRecord)
     (deals : List Deal) (the_verdict : Verdict)
     → log_finding q.rule q.symbol entries (Ok trades) ≡ None
-    → deals ≡ deals_of (order_list q.symbol entries) q.symbol trades → AreDeals deals
+    → deals ≡ deals_of_symbol (order_list q.symbol entries) q.symbol trades → DealsInRange deals
     → IsJudgedDeals q (order_list q.symbol entries) deals (length trades) the_verdict
     → IsJudged q entries (Ok trades) the_verdict

@@ -7,7 +7,7 @@ use Rattle.audit_base.specs.declared.records.TradeRecord.{TradeRecord}
 use Rattle.audit_base.specs.declared.terms.Rule.{Rule}
 use Rattle.audit_base.specs.RuleKinds.{call_rule}
 use Rattle.audit_base.specs.Histories.{history_finding, instant_order, order_list}
-use Rattle.audit_base.specs.Least.{first_of}
+use Rattle.audit_base.specs.Least.{first_answer}
 use Rattle.audit_base.specs.Trades.{unsound_trade}
 use Rattle.audit_base.specs.Verdicts.{pairing_finding, paired_trades}
 use Rattle.record_verdict.specs.declared.questions.Question.{Question}
@@ -24,7 +24,7 @@ admission_of the_rule =
 abbrev pub scope_of : Question → Scope
 scope_of q = record { symbol = q.symbol; admission = admission_of q.rule }
 
--- finding 16: the least order that is not admitted
+-- finding 16: the first order that is not admitted
 abbrev pub unadmitted_order : Admission → List Order → Option Finding
 unadmitted_order admission.Resting orders = instant_order orders
 unadmitted_order admission.All orders = None
@@ -34,11 +34,12 @@ abbrev pub early_finding : Scope → List OrderRecord → Result (List TradeReco
     → Option Finding
 early_finding scope entries trades =
     let orders = order_list scope.symbol entries in
-    first_of (history_finding scope.symbol entries ∷ unadmitted_order scope.admission orders
+    first_answer (history_finding scope.symbol entries ∷ unadmitted_order scope.admission orders
     ∷ pairing_finding trades
     ∷ unsound_trade orders scope.symbol (paired_trades trades) ∷ [])
 
--- what a reading needs to know of a question under a rule of a call, and of one that admits all orders
+-- what a reading needs to know of a question under a rule of a
+-- call, and of one that admits all orders
 abbrev pub call_scope : List ℕ → Scope
 call_scope symbol = record { symbol = symbol; admission = admission.Resting }
 

@@ -1,4 +1,5 @@
--- The verdict on records, stage by stage: what is known of it once the stages before have no finding.
+-- The verdict on records, stage by stage: what is known of it once
+-- the stages before have no finding.
 use Rattle.std.specs.Prelude.{◌≡◌, ℕ, List, [], ◌∷◌, Option, Some, Result, length, MatchOption}
 use Rattle.audit_base.specs.declared.records.OrderRecord.{OrderRecord}
 use Rattle.audit_base.specs.declared.records.TradeRecord.{TradeRecord}
@@ -6,9 +7,9 @@ use Rattle.audit_base.specs.declared.orders.Order.{Order}
 use Rattle.audit_base.specs.declared.orders.Deal.{Deal}
 use Rattle.audit_base.specs.declared.findings.Finding.{Finding}
 use Rattle.audit_base.specs.Histories.{order_list}
-use Rattle.audit_base.specs.Least.{first_of}
-use Rattle.audit_base.specs.Trades.{deals_of, unsound_trade}
-use Rattle.audit_base.specs.Verdicts.{IsVerdict, IsRuleVerdict, call_finding, pairing_finding, paired_trades}
+use Rattle.audit_base.specs.Least.{first_answer}
+use Rattle.audit_base.specs.Trades.{deals_of_symbol, unsound_trade}
+use Rattle.audit_base.specs.Verdicts.{IsVerdict, IsRuleVerdict, instant_order_finding, pairing_finding, paired_trades}
 use Rattle.audit_base.specs.declared.faults.BadPlace.{BadPlace}
 use Rattle.audit_base.specs.declared.terms.Which.{Which}
 use Rattle.audit_report.specs.declared.verdicts.Verdict.{Verdict}
@@ -19,12 +20,12 @@ use Rattle.record_verdict.specs.declared.before_rule.BeforeRule.TheVariants as u
 use Rattle.record_verdict.specs.declared.questions.Question.{Question}
 use Rattle.record_verdict.specs.BeforeRule.{IsBeforeRule}
 use Rattle.record_verdict.specs.Scopes.{scope_of}
-use Rattle.record_verdict.specs.Judgements.{IsJudged, IsOutcome}
+use Rattle.record_verdict.specs.Judgements.{IsJudged, IsVerdictOfFinding}
 
 -- the rule decides where no stage before it has a finding
-abbrev pub FoundAfter : Option Finding → Question → List Order → List Deal → ℕ → Option Finding
-    → Type 0
-FoundAfter before q orders deals count found =
+abbrev pub IsFindingAfter : Option Finding → Question → List Order → List Deal → ℕ
+    → Option Finding → Type 0
+IsFindingAfter before q orders deals count found =
     MatchOption before (IsRuleVerdict q.rule orders deals count found)
     (λ finding. found ≡ Some finding)
 
@@ -34,37 +35,42 @@ pub record IsJudgedRecords (q : Question) (entries : List OrderRecord)
   pub found : Option Finding
   pub by_the_rules : IsVerdict q.rule q.symbol entries trades found
   pub outcome : let orders = order_list q.symbol entries in
-      IsOutcome q orders (deals_of orders q.symbol (paired_trades trades)) found the_verdict
+      IsVerdictOfFinding q orders
+      (deals_of_symbol orders q.symbol (paired_trades trades)) found the_verdict
 
 -- The same where the history is well-formed and these are its orders.
 pub record IsJudgedHistory (q : Question) (orders : List Order)
     (trades : Result (List TradeRecord) Finding) (the_verdict : Verdict) : Type 0 where
   pub found : Option Finding
-  pub by_the_rules : FoundAfter (first_of (call_finding q.rule orders ∷ pairing_finding trades
+  pub by_the_rules : IsFindingAfter
+      (first_answer (instant_order_finding q.rule orders ∷ pairing_finding trades
       ∷ unsound_trade orders q.symbol (paired_trades trades) ∷ []))
-      q orders (deals_of orders q.symbol (paired_trades trades)) (length (paired_trades trades))
+      q orders (deals_of_symbol orders q.symbol (paired_trades trades))
+      (length (paired_trades trades))
       found
-  pub outcome : IsOutcome q orders (deals_of orders q.symbol (paired_trades trades))
+  pub outcome : IsVerdictOfFinding q orders (deals_of_symbol orders q.symbol (paired_trades trades))
       found the_verdict
 
 -- The same where these are the trades.
 pub record IsJudgedTrades (q : Question) (orders : List Order) (trades : List TradeRecord)
     (the_verdict : Verdict) : Type 0 where
   pub found : Option Finding
-  pub by_the_rules : FoundAfter (unsound_trade orders q.symbol trades)
-      q orders (deals_of orders q.symbol trades) (length trades) found
-  pub outcome : IsOutcome q orders (deals_of orders q.symbol trades) found the_verdict
+  pub by_the_rules : IsFindingAfter (unsound_trade orders q.symbol trades)
+      q orders (deals_of_symbol orders q.symbol trades) (length trades) found
+  pub outcome : IsVerdictOfFinding q orders (deals_of_symbol orders q.symbol trades) found
+      the_verdict
 
 -- The same where the trades are sound and these are their deals.
 pub record IsJudgedDeals (q : Question) (orders : List Order) (deals : List Deal) (count : ℕ)
     (the_verdict : Verdict) : Type 0 where
   pub found : Option Finding
   pub by_the_rule : IsRuleVerdict q.rule orders deals count found
-  pub outcome : IsOutcome q orders deals found the_verdict
+  pub outcome : IsVerdictOfFinding q orders deals found the_verdict
 
--- The verdict on what two logs come to before the rule is looked at: their first bad place, the finding, or
--- that of the rule on sound trades; and so it is that on whatever records come to this.
-pub record VerdictIs (q : Question) (reached : BeforeRule) (the_verdict : Verdict) : Type 0 where
+-- The verdict on what two logs give before the rule is looked at: their first bad place, the
+-- finding, or that of the rule on sound trades; and so it is that on whatever records give this.
+pub record VerdictIs (q : Question) (reached : BeforeRule) (the_verdict : Verdict)
+    : Type 0 where
   pub of_place : (log : Which) (bad : BadPlace) → reached ≡ upto.Malformed log bad
       → the_verdict ≡ verdict.Malformed log bad
   pub of_finding : (finding : Finding) → reached ≡ upto.Found finding
@@ -72,4 +78,5 @@ pub record VerdictIs (q : Question) (reached : BeforeRule) (the_verdict : Verdic
   pub of_deals : (sound : ResolvedTrades) → reached ≡ upto.Sound sound
       → IsJudgedDeals q sound.history sound.deals.items sound.count the_verdict
   pub of_records : (entries : List OrderRecord) (paired : Result (List TradeRecord) Finding)
-      → IsBeforeRule (scope_of q) entries paired reached → IsJudged q entries paired the_verdict
+      → IsBeforeRule (scope_of q) entries paired reached
+      → IsJudged q entries paired the_verdict

@@ -9,7 +9,7 @@ use Rattle.audit_base.specs.RuleKinds.{rule_of_call}
 use Rattle.audit_base.specs.Deals.{AreTotals, volume}
 use Rattle.audit_base.specs.Verdicts.{IsRuleVerdict}
 use Rattle.audit_base.specs.Orders.{order_at, place_at}
-use Rattle.audit_base.specs.Shows.{with_traded}
+use Rattle.audit_base.specs.Shows.{with_traded_number}
 use Rattle.audit_report.specs.declared.tables.Line.{Line}
 use Rattle.audit_report.specs.declared.tables.Line.TheVariants as line
 use Rattle.audit_report.specs.declared.verdicts.Verdict.{Verdict}
@@ -21,16 +21,16 @@ use Rattle.matching_core.specs.declared.outcomes.CheckFault.TheVariants as fault
 use Rattle.matching_core.specs.declared.outcomes.Reached.{Reached}
 use Rattle.record_verdict.specs.declared.questions.Question.{Question}
 use Rattle.canonical_form.specs.declared.shares.Share.{Share}
-use Rattle.record_verdict.specs.Judgements.{AreOnlyQuantities, IsBoundShown, table_lines}
+use Rattle.record_verdict.specs.Judgements.{AreOnlyQuantities, IsReportedBound, table_lines}
 
 -- the line of an order with what it traded
-abbrev pub line_of : Order → ℕ → Line
-line_of o traded = line.Order (with_traded o traded)
+abbrev pub line_of_order : Order → ℕ → Line
+line_of_order o traded = line.Order (with_traded_number o traded)
 
 -- one line for each of the first n orders, in log order
 abbrev pub lines_below : List Order → List ℕ → ℕ → List Line
 lines_below orders traded n =
-    map (λ i. line_of (order_at orders i) (slice_index traded i)) (range_with_len 0 n)
+    map (λ i. line_of_order (order_at orders i) (slice_index traded i)) (range_with_len 0 n)
 
 -- one line for each order
 abbrev pub lines_of : List Order → List ℕ → List Line
@@ -60,14 +60,14 @@ accepted_verdict q orders deals reached = verdict.Accepted (record {
   table = table_lines q.rule q.table orders deals;
 })
 
--- The deals conform to the rule, with what each order traded, the volume and the bound; the quantities are
--- the only ones.
+-- The deals conform to the rule, with what each order traded, the volume and the bound; the
+-- quantities are the only ones.
 pub record IsRuleConforming (the_rule : Rule) (orders : List Order) (deals : List Deal)
     (count : ℕ) (reached : Reached) : Type 0 where
   pub conforms : IsRuleVerdict the_rule orders deals count None
   pub totals : AreTotals orders deals reached.traded.0
   pub volume_is : reached.traded.1 ≡ volume deals
-  pub bound_is : IsBoundShown the_rule orders (volume deals) reached.bound
+  pub bound_is : IsReportedBound the_rule orders (volume deals) reached.bound
   pub only : AreOnlyQuantities the_rule orders deals
 
 -- what the audit of a rule answers: that the deals conform, or their first offence
@@ -82,12 +82,12 @@ abbrev pub IsCallAudited : CallRule → List Order → List Deal → Outcome →
 IsCallAudited the_rule orders deals the_outcome =
     (count : ℕ) → IsRuleAudited (rule_of_call the_rule) orders deals count the_outcome
 
--- what deals come to that conform to a rule without a bound
+-- the outcome of deals that conform to a rule without a bound
 abbrev pub conforming_outcome : List ℕ × ℕ → Outcome
 conforming_outcome totals =
     outcome.Conforms (record { traded = totals; bound = None })
 
--- what deals come to in which a check found this
+-- the outcome of deals in which a check found this
 abbrev pub IsOutcomeOfFault : CheckFault → Outcome → Type 0
 IsOutcomeOfFault (fault.Found finding) the_outcome = the_outcome ≡ outcome.Broken finding
 IsOutcomeOfFault fault.Memory the_outcome = ⊥

@@ -1,15 +1,15 @@
-//! What two logs come to before the rule is looked at. Every command that judges two logs reads them to
-//! here, and goes its own way from here on.
+//! What two logs give before the rule is looked at. Every command that judges two logs reads them
+//! to here, and goes its own way from here on.
 ghost use Rattle.std.specs.Prelude.{◌≡◌, ◌<◌, ◌≤◌, ◌-◌, ◌^◌, None, length};
-ghost use Rattle.audit_base.specs.Deals.{AreDeals, IsDealList};
-ghost use Rattle.record_verdict.specs.BeforeRule.{found_or_sound, is_malformed, IsJudgeable};
+ghost use Rattle.audit_base.specs.Deals.{DealsInRange, IsDealList};
+ghost use Rattle.record_verdict.specs.BeforeRule.{finding_or_sound, is_malformed, IsJudgeable};
 
 use audit_base::faults::BadPlace;
 use audit_base::findings::Finding;
 use audit_base::terms::Which;
 use matching_core::deals_draft::ResolvedTrades;
 
-/// What two logs come to before the rule is looked at.
+/// What two logs give before the rule is looked at.
 #[derive(Drop)]
 pub enum BeforeRule {
     /// A log is not in its grammar, and this is its first bad place.
@@ -28,8 +28,8 @@ impl BeforeRule {
             → length resolved.deals.items ≤ resolved.count }
         requires deal_list { resolved.finding ≡ None
             → IsDealList resolved.history resolved.deals.items }
-        requires numbers { resolved.finding ≡ None → AreDeals resolved.deals.items }
-        ensures found { result ≡ found_or_sound resolved resolved.finding }
+        requires numbers { resolved.finding ≡ None → DealsInRange resolved.deals.items }
+        ensures found { result ≡ finding_or_sound resolved resolved.finding }
         ensures judgeable { IsJudgeable result }
     {
         let finding = resolved.finding;

@@ -1,5 +1,5 @@
-//! That the records of two logs always have a verdict, apart from every call: so this holds where a call would run
-//! out of memory.
+//! That the records of two logs always have a verdict, apart from every call: so this holds where
+//! a call would run out of memory.
 ghost use Rattle.record_verdict.specs.Existence.{JudgementExists};
 
 use call_laws::existence::extremes_exist;
@@ -8,8 +8,8 @@ use call_laws::optimum::{maximum_trades_are_expected, uniform_trades_are_expecte
 use continuous_laws::laws::continuous_uniqueness;
 use verdict_laws::existence::{verdict_exists, verdict_is_the_only_one};
 
-/// Under each of the five rules the records of two logs, with numbers in range, have a verdict. An accepted log has
-/// a bound where its rule asks for one, and its quantities are the only ones.
+/// Under each of the five rules the records of two logs, with numbers in range, have a verdict.
+/// An accepted log has a bound where its rule asks for one, and its quantities are the only ones.
 pub fn a_judgement_exists()
     ensures { JudgementExists }
 {

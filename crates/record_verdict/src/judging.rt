@@ -1,11 +1,11 @@
-//! Judging logs that have been read: the stages of the verdict, each handed to the crate that decides
-//! it.
+//! Judging logs that have been read: the stages of the verdict, each
+//! handed to the crate that decides it.
 ghost use Rattle.std.specs.Prelude.{◌≡◌, ◌<◌, ◌-◌, ◌^◌, length, IfOk};
-ghost use Rattle.audit_base.specs.Trades.{AreTrades};
+ghost use Rattle.audit_base.specs.Trades.{TradesInRange};
 ghost use Rattle.audit_base.specs.Verdicts as spec;
 ghost use Rattle.audit_base.specs.Verdicts.{paired_trades};
 ghost use Rattle.audit_report.specs.Texts.{IsVerdictInRange};
-ghost use Rattle.fix_messages.specs.Pairings.{pairing_of};
+ghost use Rattle.fix_messages.specs.Pairings.{result_of_paired};
 ghost use Rattle.record_verdict.specs.Judgements.{question, IsJudged};
 ghost use Rattle.record_verdict.specs.Stages.{IsJudgedRecords, IsJudgedHistory, IsJudgedTrades};
 
@@ -29,7 +29,7 @@ use std::alloc::Global;
 
 /// The numbers of the trades of a log are in their ranges. Nothing is computed.
 fn paired_in_range(trades: &Paired)
-    ensures { AreTrades (paired_trades (pairing_of trades.now)) }
+    ensures { TradesInRange (paired_trades (result_of_paired trades.now)) }
 {
     match trades {
         Paired::Trades(list) => trades_in_range(list.as_slice()),
@@ -37,9 +37,10 @@ fn paired_in_range(trades: &Paired)
     }
 }
 
-/// What is found where the rule does not admit an order of the history: a call takes only orders that rest.
+/// What is found where the rule does not admit an order of the history:
+/// a call takes only orders that rest.
 pub fn call_finding(rule: Rule, orders: &OrderList<'_>) -> Option<Finding>
-    ensures { result ≡ spec.call_finding rule orders.now }
+    ensures { result ≡ spec.instant_order_finding rule orders.now }
 {
     Admission::of(rule).first_unadmitted(orders)
 }
@@ -74,8 +75,8 @@ fn judge_history(
     history: &History,
     trades: &Paired,
 ) -> Result<Verdict, NoMemory>
-    requires few { length (paired_trades (pairing_of trades.now)) < 2 ^ 32 - 1 }
-    ensures { IfOk result (IsJudgedHistory question.now history.now (pairing_of trades.now)) }
+    requires few { length (paired_trades (result_of_paired trades.now)) < 2 ^ 32 - 1 }
+    ensures { IfOk result (IsJudgedHistory question.now history.now (result_of_paired trades.now)) }
 {
     if let Some(finding) = call_finding(question.rule, &history.orders()) {
         return Ok(Verdict::Rejected(finding));
@@ -94,9 +95,9 @@ fn judge_records(
     trades: &Paired,
 ) -> Result<Verdict, NoMemory>
     requires few_entries { length entries.now < 2 ^ 32 - 1 }
-    requires few_trades { length (paired_trades (pairing_of trades.now)) < 2 ^ 32 - 1 }
+    requires few_trades { length (paired_trades (result_of_paired trades.now)) < 2 ^ 32 - 1 }
     ensures judged { IfOk result
-        (IsJudgedRecords question.now entries.now (pairing_of trades.now)) }
+        (IsJudgedRecords question.now entries.now (result_of_paired trades.now)) }
     ensures in_range { IfOk result IsVerdictInRange }
 {
     match History::build(alloc, entries, &question.symbol) {
@@ -106,14 +107,14 @@ fn judge_records(
     }
 }
 
-/// The verdict of a rule on the records of two logs: the first stage with a finding decides, and where
-/// there is none the log is accepted, with the bound of `uniform` and `maximum`, and, where a table is
-/// asked for, with the line of each order, or under `continuous` of each pair that trades. The verdict is
-/// never `Malformed`.
+/// The verdict of a rule on the records of two logs: the first stage with a finding decides, and
+/// where there is none the log is accepted, with the bound of `uniform` and `maximum`, and, where
+/// a table is asked for, with the line of each order, or under `continuous` of each pair that
+/// trades. The verdict is never `Malformed`.
 ///
-/// The stages are the history (a key twice, a time that goes back, an unknown target; then, under a rule
-/// of a call, an order that does not rest), a report without its partner, the trades (an id twice, an
-/// unknown order), and the rule.
+/// The stages are the history (a key twice, a time that goes back, an unknown target; then, under
+/// a rule of a call, an order that does not rest), a report without its partner, the trades (an
+/// id twice, an unknown order), and the rule.
 pub fn judge(
     alloc: Global,
     rule: Rule,
@@ -123,9 +124,9 @@ pub fn judge(
     trades: &Paired,
 ) -> Result<Verdict, NoMemory>
     requires few_entries { length entries.now < 2 ^ 32 - 1 }
-    requires few_trades { length (paired_trades (pairing_of trades.now)) < 2 ^ 32 - 1 }
+    requires few_trades { length (paired_trades (result_of_paired trades.now)) < 2 ^ 32 - 1 }
     ensures judged { IfOk result
-        (IsJudged (question rule symbol.now table) entries.now (pairing_of trades.now)) }
+        (IsJudged (question rule symbol.now table) entries.now (result_of_paired trades.now)) }
     ensures in_range { IfOk result IsVerdictInRange }
 {
     paired_in_range(trades);

@@ -6,7 +6,7 @@ ghost use Rattle.audit_base.specs.RuleKinds.{rule_of_call};
 ghost use Rattle.audit_base.specs.Histories.{Regular};
 ghost use Rattle.audit_base.specs.Orders.{IsOrderList};
 ghost use Rattle.audit_base.specs.Deals.{AreTotals, IsDealList};
-ghost use Rattle.call_auction.specs.Audits.{IsAudited};
+ghost use Rattle.call_auction.specs.Audits.{IsAuditedCall};
 ghost use Rattle.record_verdict.specs.Stages.{IsJudgedDeals};
 ghost use Rattle.record_verdict.specs.Tables.{accepted_verdict, conforming_outcome, IsCallAudited, IsOutcomeOfFault, IsRuleAudited};
 
@@ -84,7 +84,7 @@ fn audit_greatest(
     requires order_list { IsOrderList orders.now }
     requires deal_list { IsDealList orders.now deals.now }
     requires few { count < 2 ^ 32 - 1 }
-    ensures { IfOk result (IsAudited rule orders.now deals.now count) }
+    ensures { IfOk result (IsAuditedCall rule orders.now deals.now count) }
 {
     match rule {
         VolumeRule::Uniform => audit_uniform(alloc, orders, deals, count),
@@ -158,8 +158,8 @@ fn accept(
     }))
 }
 
-/// The verdict of a rule where the trades are sound; `count` is the number of trades of the
-/// whole log.
+/// The verdict of a rule where the trades are sound; `count` is the
+/// number of trades of the whole log.
 pub fn judge_deals(
     alloc: Global,
     question: &Question,

@@ -25,7 +25,7 @@ pub struct Scope {
     pub admission: Admission,
 }
 
-/// Finding 16: the least order that is not one that rests.
+/// Finding 16: the first order that does not rest.
 fn first_instant(orders: &OrderList<'_>) -> Option<Finding>
     ensures { result ≡ instant_order orders.now }
 {

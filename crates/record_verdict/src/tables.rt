@@ -1,5 +1,5 @@
-//! The table of an accepted log: under a rule of a call what each order of the history traded, under
-//! `continuous` what each pair of a bid and an ask did.
+//! The table of an accepted log: under a rule of a call what each order of the history traded,
+//! under `continuous` what each pair of a bid and an ask did.
 ghost use Rattle.std.specs.Prelude.{◌≡◌, ◌<◌, ◌++◌, ◌∷◌, [], All, IfOk, OnOk, length};
 ghost use Rattle.audit_base.specs.Deals.{AreTotals, IsDealList};
 ghost use Rattle.record_verdict.specs.Judgements as table;
@@ -17,7 +17,7 @@ use std::alloc::Global;
 
 /// The line of an order with what it traded.
 fn order_line(order: &ListedOrder<'_>, traded: u128) -> Line
-    ensures { result ≡ spec.line_of order.now traded }
+    ensures { result ≡ spec.line_of_order order.now traded }
 {
     Line::Order(order.line(traded))
 }
@@ -25,7 +25,7 @@ fn order_line(order: &ListedOrder<'_>, traded: u128) -> Line
 /// Adds the line of an order.
 fn push_line(lines: &mut Vec<Line>, order: &ListedOrder<'_>, traded: u128) -> Result<(), NoMemory>
     ensures { OnOk result
-        (lines.new.items ≡ lines.old.items ++ spec.line_of order.now traded ∷ []) }
+        (lines.new.items ≡ lines.old.items ++ spec.line_of_order order.now traded ∷ []) }
 {
     lines.push(order_line(order, traded))?;
     Ok(())
@@ -81,7 +81,7 @@ fn share_lines(
 /// The lines of all pairs that trade, in order of the bid and then of the ask.
 fn pair_lines(alloc: Global, orders: &OrderList<'_>, deals: &[Deal]) -> Result<Vec<Line>, NoMemory>
     requires { IsDealList orders.now deals.now }
-    ensures { IfOk result (λ lines. lines.items ≡ table.pair_lines orders.now deals.now) }
+    ensures { IfOk result (λ lines. lines.items ≡ table.pair_table_lines orders.now deals.now) }
 {
     let shares = canonical(alloc, deals)?;
     share_lines(alloc, orders, &shares)

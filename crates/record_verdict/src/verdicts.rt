@@ -1,4 +1,4 @@
-//! The verdict on two logs, by what they come to before the rule is looked at.
+//! The verdict on two logs, by what they give before the rule is looked at.
 ghost use Rattle.std.specs.Prelude.{IfOk};
 ghost use Rattle.audit_report.specs.Texts.{IsVerdictInRange};
 ghost use Rattle.record_verdict.specs.BeforeRule.{IsJudgeable};
@@ -11,8 +11,8 @@ use audit_base::faults::NoMemory;
 use audit_report::verdicts::Verdict;
 use std::alloc::Global;
 
-/// The verdict on two logs that come to this: the first bad place, the first finding before the rule is looked
-/// at, or what the rule says of sound trades.
+/// The verdict on two logs that give this: the first bad place, the first finding before the rule
+/// is looked at, or what the rule says of sound trades.
 pub fn verdict_after(
     alloc: Global,
     question: &Question,

@@ -1,6 +1,6 @@
--- The words of a command line that may tell them.
+-- The words of a command line, which may be known.
 use Rattle.std.specs.Prelude.{◌≡◌, ℕ, List, Option, IfSome}
 
--- these are the words that the command line tells, where it does
-abbrev pub AreWordsOf : Option (List (List ℕ)) → List (List ℕ) → Type 0
-AreWordsOf told words = IfSome told (λ given. words ≡ given)
+-- these are the known words of the command line, where they are known
+abbrev pub AreKnownWords : Option (List (List ℕ)) → List (List ℕ) → Type 0
+AreKnownWords told words = IfSome told (λ given. words ≡ given)

@@ -1,23 +1,24 @@
-//! What a program is asked: the words of its command line.
+//! What a program is asked: the words of its command line, which are its arguments.
 ghost use Rattle.std.specs.Prelude.{ℕ, List, Option, None, IfOk, map};
 ghost use Rattle.std.specs.String.{string_bytes};
-ghost use Rattle.run_notes.specs.CommandLines.{AreWordsOf};
+ghost use Rattle.run_notes.specs.CommandLines.{AreKnownWords};
 
 use audit_base::faults::NoMemory;
 use command_words::arguments::words_of;
 use std::rt::Env;
 
-/// A command line, whose words are known where it tells them.
+/// A command line, whose words are known or not.
 pub trait CommandLine {
     // The words without the program's name, where they are known.
     ghost told: { Self → Option (List (List ℕ)) };
 
     /// The words without the program's name. `NoMemory` comes only where memory ran out.
     fn words(&self) -> Result<Vec<String>, NoMemory>
-        ensures { IfOk result (λ words. AreWordsOf (told self.now) (map string_bytes words.items)) };
+        ensures { IfOk result (λ words.
+            AreKnownWords (told self.now) (map string_bytes words.items)) };
 }
 
-/// The command line of the runtime. It tells nothing of its words.
+/// The command line of the runtime. Nothing is known of its words.
 impl<R: Env + AllocGlobal> CommandLine for R {
     ghost told = { λ _. None };
 

@@ -1,28 +1,29 @@
-//! What is told of the database of a casebook.
+//! What is said of the database of a casebook.
 use crate::log_notes::refusal;
 use crate::word_parts::is_result;
 use command_words::word_forms::is_path;
 use std::fs;
 
 /// Whether the words name a database that is not there.
-pub fn is_missing(rt: &HostRuntime, words: &[String]) -> bool {
+pub fn is_database_missing(rt: &HostRuntime, words: &[String]) -> bool {
     match words.first() {
         Some(path) => fs::metadata(rt, path.as_str()).is_err(),
         None => false,
     }
 }
 
-/// Tells that the database which the words name was made, where it was missing and is there.
-pub fn tell_made(rt: &HostRuntime, words: &[String], was_missing: bool) {
+/// Says that the database which the words name was made, where it was missing and is there.
+pub fn print_made_database(rt: &HostRuntime, words: &[String], was_missing: bool) {
     if let Some(path) = words.first() {
-        if was_missing && !is_missing(rt, words) {
+        if was_missing && !is_database_missing(rt, words) {
             let _told = eprintln!(rt; "casebook: {path} was not there, and has been made");
         }
     }
 }
 
-/// Tells which database could not be opened, read or written, and why the system refuses its file, where it does.
-pub fn tell_database_fault(rt: &HostRuntime, words: &[String]) {
+/// Says which database could not be opened, read or written, and why the system refuses its
+/// file, where it does.
+pub fn print_database_fault(rt: &HostRuntime, words: &[String]) {
     let Some(path) = words.first() else {
         return;
     };
@@ -38,7 +39,8 @@ pub fn tell_database_fault(rt: &HostRuntime, words: &[String]) {
     };
 }
 
-/// Whether the words begin with `list` and one word that is a result's, and with no other of that command.
+/// Whether the words begin with `list` and one word that is a result's, and with no other of
+/// that command.
 fn lists_result(words: &[String]) -> bool {
     let mut rest = words.iter();
     match (rest.next(), rest.next(), rest.next()) {
@@ -50,8 +52,8 @@ fn lists_result(words: &[String]) -> bool {
     }
 }
 
-/// Tells that a list of one word is that of a symbol, where the word is a result's.
-pub fn tell_listed_symbols(rt: &HostRuntime, words: &[String]) {
+/// Says that a list of one word is that of a symbol, where the word is a result's.
+pub fn print_listed_symbols(rt: &HostRuntime, words: &[String]) {
     let mut begins = true;
     for place in 1..words.len() {
         if begins && lists_result(&words[place..]) {

@@ -1,10 +1,12 @@
-//! What both programs are handed by their machine: the words of a command line (`command_line`), files and an output
-//! (`program_ends`). And one line on standard error where a program ends above 1, for whoever sits before it: which word
-//! is wrong and what may stand there, which file could not be read and why, at which byte a log is malformed.
+//! What both programs are handed by their machine: the arguments of a command line
+//! (`command_line`), files and an output (`program_ends`). And one line on standard error where
+//! a program ends above 1, for whoever runs it: which word is wrong and what may be there,
+//! which file could not be read and why, at which byte a log is malformed.
 //!
-//! No contract speaks of these lines, and no program reads them: standard output has what the contracts say, and
-//! nothing else. What is told is taken from the words of the command line and from what passed through the shelf and
-//! the sink of the run (`noted_shelf`, `noted_sink`), so that nothing below knows of it.
+//! No contract speaks of these lines, and no program reads them: standard output has what the
+//! contracts say, and nothing else. What they say is taken from the words of the command line
+//! and from what passed through the shelf and the sink of the run (`noted_shelf`,
+//! `noted_sink`), so that nothing below knows of it.
 #![tactic(auto)]
 
 pub mod command_line;

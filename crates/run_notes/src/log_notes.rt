@@ -1,12 +1,12 @@
-//! What is told of a log that could not be read, is too long or is malformed.
+//! What is said of a log that could not be read, is too long or is malformed.
 use crate::noted_shelf::NotedShelf;
 use audit_base::terms::Which;
 use log_source::shelf::Shelf;
 use std::io::{self, Read};
 use std::{fs, str};
 
-/// Why the system does not let a file be read, as it says itself when it is asked once more. What may wait for its
-/// bytes, as a pipe, is not asked.
+/// Why the system does not let a file be read, as it says itself when it is asked once more.
+/// What may wait for its bytes, as a pipe, is not asked.
 pub(crate) fn refusal(rt: &HostRuntime, path: &str) -> Option<io::Error> {
     match fs::metadata(rt, path) {
         Ok(found) if found.is_file() || found.is_dir() => match fs::open(rt, path) {
@@ -18,7 +18,7 @@ pub(crate) fn refusal(rt: &HostRuntime, path: &str) -> Option<io::Error> {
     }
 }
 
-fn tell_unread(rt: &HostRuntime, program: &str, path: &str) {
+fn print_unread_log(rt: &HostRuntime, program: &str, path: &str) {
     let _told = match refusal(rt, path) {
         Some(error) => eprintln!(rt; "{program}: {path}: {error}"),
         None => eprintln!(rt; "{program}: {path}: it could not be read"),
@@ -35,9 +35,10 @@ fn log_named(word: &str) -> Option<Which> {
     }
 }
 
-/// Tells of the log that a line of a fault is of: `malformed,LOG,PLACE,OFFSET,REASON`, `readfault,LOG` or
-/// `toolong,LOG`. Any other line tells nothing.
-pub fn tell_log_fault<F: Shelf>(
+/// Says what is wrong with the log that a line of a fault names:
+/// `malformed,LOG,PLACE,OFFSET,REASON`, `readfault,LOG` or `toolong,LOG`. Of any other line it
+/// says nothing.
+pub fn print_log_fault<F: Shelf>(
     rt: &HostRuntime,
     program: &str,
     shelf: &NotedShelf<F>,
@@ -54,7 +55,7 @@ pub fn tell_log_fault<F: Shelf>(
         return;
     };
     if kind == "readfault" {
-        tell_unread(rt, program, path.as_str());
+        print_unread_log(rt, program, path.as_str());
     } else if kind == "toolong" {
         let _told = eprintln!(rt; "{program}: {path}: it has more than 67108864 bytes");
     } else if kind == "malformed" {

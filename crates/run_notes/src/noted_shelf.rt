@@ -6,7 +6,8 @@ use audit_base::terms::Which;
 use log_source::shelf::{Failed, Shelf, StartFault};
 use std::alloc::Global;
 
-/// A shelf that is asked in the place of another, and remembers the names. To contracts it is that shelf.
+/// A shelf that is asked in the place of another, and remembers the names. To contracts it is
+/// that shelf.
 #[derive(Drop)]
 pub struct NotedShelf<F> {
     shelf: F,
@@ -16,7 +17,8 @@ pub struct NotedShelf<F> {
 }
 
 impl<F: Shelf> NotedShelf<F> {
-    /// The shelf with no name remembered. What it tells, has and has started is what the shelf does. Takes no memory.
+    /// The shelf with no name remembered. What is known of it, what it has and what it has
+    /// started are those of the shelf. Takes no memory.
     pub fn new(alloc: Global, shelf: F) -> NotedShelf<F>
         ensures tells { ⟦<NotedShelf<F> as Shelf>⟧.tells result ≡ F.tells shelf }
         ensures logs { (which : Which) (name : List ℕ) →

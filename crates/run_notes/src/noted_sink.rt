@@ -8,8 +8,8 @@ use std::alloc::Global;
 /// The most bytes that are remembered. The lines of faults are shorter.
 const LONGEST: usize = 256;
 
-/// A sink that is asked in the place of another, and remembers the last piece that it took, or the end of it. To
-/// contracts it is that sink.
+/// A sink that is asked in the place of another, and remembers the last piece that it took, or
+/// the end of it. To contracts it is that sink.
 #[derive(Drop)]
 pub struct NotedSink<K> {
     sink: K,
@@ -17,7 +17,8 @@ pub struct NotedSink<K> {
 }
 
 impl<K: Sink> NotedSink<K> {
-    /// The sink with nothing remembered. What was written to it, and its faults, are those of the sink. Takes no memory.
+    /// The sink with nothing remembered. What was written to it, and its faults, are those of
+    /// the sink. Takes no memory.
     pub fn new(alloc: Global, sink: K) -> NotedSink<K>
         ensures { ⟦<NotedSink<K> as Sink>⟧.state result ≡ K.state sink }
     {

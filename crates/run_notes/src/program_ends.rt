@@ -12,7 +12,8 @@ use log_source::sink::Sink;
 use log_source::std_sink::StdSink;
 use std::alloc::Global;
 
-/// A shelf over these files that remembers names, with nothing started and no fault counted. Takes no memory.
+/// A shelf over these files that remembers names, with nothing started and no fault counted.
+/// Takes no memory.
 pub fn noted_files<S: FileSystem + Drop>(alloc: Global, files: S) -> NotedShelf<FileShelf<S>>
     ensures { let shelf = ⟦<NotedShelf<FileShelf<S>> as Shelf>⟧ in
         IsFreshOver shelf (S.tells files) (S.file_at files) result }

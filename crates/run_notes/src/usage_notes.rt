@@ -1,4 +1,5 @@
-//! What is told of words that are not well-formed: the first that is wrong or missing, and what may stand there.
+//! What is said of words that are not well-formed: the first that is wrong or missing, and what
+//! may be there.
 use crate::word_parts::Part;
 
 const AUDIT: [Part; 4] = [Part::Rule, Part::Symbol, Part::Path, Part::Path];
@@ -53,8 +54,9 @@ fn auditor_parts(command: &str) -> Option<&'static [Part]> {
     }
 }
 
-/// Tells the first part that a word does not fit or that has none. Where all fit it tells the word behind them.
-fn tell_parts(rt: &HostRuntime, program: &str, parts: &[Part], words: &[String]) {
+/// Says which is the first part that a word does not fit or that has none. Where all fit it
+/// names the word behind them.
+fn print_parts(rt: &HostRuntime, program: &str, parts: &[Part], words: &[String]) {
     let mut rest = words.iter();
     for part in parts {
         let (name, wanted) = (part.name(), part.wanted());
@@ -73,14 +75,14 @@ fn tell_parts(rt: &HostRuntime, program: &str, parts: &[Part], words: &[String])
     };
 }
 
-/// Tells what is wrong with words that are none of `auditor`.
-pub fn tell_auditor_usage(rt: &HostRuntime, words: &[String]) {
+/// Says what is wrong with words that are none of `auditor`.
+pub fn print_auditor_usage(rt: &HostRuntime, words: &[String]) {
     let Some((command, rest)) = words.split_first() else {
         let _told = eprintln!(rt; "auditor: no command is given: {AUDITOR_COMMANDS}");
         return;
     };
     match auditor_parts(command.as_str()) {
-        Some(parts) => tell_parts(rt, "auditor", parts, rest),
+        Some(parts) => print_parts(rt, "auditor", parts, rest),
         None => {
             let _told = eprintln!(rt; "auditor: no command '{command}': {AUDITOR_COMMANDS}");
         }
@@ -100,7 +102,8 @@ fn casebook_parts(command: &str) -> Option<&'static [Part]> {
     }
 }
 
-/// Whether each word fits its part, and none is left over. The last parts may have no word where that is said.
+/// Whether each word fits its part, and none is left over. The last parts may have no word
+/// where that is said.
 fn all_fit(parts: &[Part], words: &[String], may_end: bool) -> bool {
     let mut rest = words.iter();
     for part in parts {
@@ -113,8 +116,8 @@ fn all_fit(parts: &[Part], words: &[String], may_end: bool) -> bool {
     rest.next().is_none()
 }
 
-/// Tells what is wrong with one command of `casebook`, and whether something is.
-fn told_command(rt: &HostRuntime, words: &[String]) -> bool {
+/// Says what is wrong with one command of `casebook`, and whether something is.
+fn prints_command(rt: &HostRuntime, words: &[String]) -> bool {
     let Some((command, rest)) = words.split_first() else {
         let _told = eprintln!(rt; "casebook: no command is given: {CASEBOOK_COMMANDS}");
         return true;
@@ -126,30 +129,31 @@ fn told_command(rt: &HostRuntime, words: &[String]) -> bool {
     if all_fit(parts, rest, command.as_str() == "list") {
         return false;
     }
-    tell_parts(rt, "casebook", parts, rest);
+    print_parts(rt, "casebook", parts, rest);
     true
 }
 
-/// Tells what is wrong with the first command in which something is.
-fn tell_commands(rt: &HostRuntime, words: &[String]) {
+/// Says what is wrong with the first command in which something is.
+fn print_commands(rt: &HostRuntime, words: &[String]) {
     let first = words.iter().position(|word| word.as_str() == "then");
     match first {
         Some(place) => {
-            if !told_command(rt, &words[..place]) {
-                tell_commands(rt, &words[place + 1..]);
+            if !prints_command(rt, &words[..place]) {
+                print_commands(rt, &words[place + 1..]);
             }
         }
         None => {
-            let _told = told_command(rt, words);
+            let _told = prints_command(rt, words);
         }
     }
 }
 
-/// Tells what is wrong with words that are none of `casebook`: the first of its commands in which something is.
-pub fn tell_casebook_usage(rt: &HostRuntime, words: &[String]) {
+/// Says what is wrong with words that are none of `casebook`: the first of its commands in
+/// which something is.
+pub fn print_casebook_usage(rt: &HostRuntime, words: &[String]) {
     let Some((_database, commands)) = words.split_first() else {
         let _told = eprintln!(rt; "casebook: no database is given: {}", Part::Path.wanted());
         return;
     };
-    tell_commands(rt, commands);
+    print_commands(rt, commands);
 }

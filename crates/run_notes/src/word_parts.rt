@@ -1,7 +1,7 @@
-//! The parts of commands: how each is called, what may stand there, and whether a word does.
+//! The parts of commands: how each is called, what may be given for it, and whether a word may.
 use command_words::word_forms::{form_named, is_path, rule_named, symbol_named};
 
-/// What stands at a place of a command.
+/// What a word of a command is, by its place.
 #[derive(Clone, Copy, Debug, PartialEq, Eq)]
 pub(crate) enum Part {
     Rule,
@@ -75,7 +75,7 @@ impl Part {
         }
     }
 
-    /// What may stand there.
+    /// What may be given for it.
     pub(crate) fn wanted(self) -> &'static str {
         match self {
             Part::Rule => "matching, fair, uniform, maximum, continuous",
@@ -93,7 +93,7 @@ impl Part {
         }
     }
 
-    /// Whether the word may stand there, by its looks alone.
+    /// Whether the word may be given for it, by its form alone.
     pub(crate) fn takes(self, word: &str) -> bool {
         match self {
             Part::Rule => rule_named(word).is_some(),

@@ -4,7 +4,7 @@ use Rattle.std.specs.List.{AllPairs}
 use Rattle.std.proofs.lemmas.List.Elements.{All-nil, All-cons, All-head, All-tail, All-weaker}
 use Rattle.std.proofs.lemmas.List.{get_or-set_same, get_or-set_other, append-nil, take_all}
 use Rattle.std.proofs.lemmas.Bool.{cases_order}
-use Rattle.seeded_hash.specs.Blocks.{word_at, term_at, block_sum, block_of}
+use Rattle.seeded_hash.specs.Blocks.{block_word_at, term_at, block_sum, block_of}
 use Rattle.seeded_hash.specs.Collisions.{hash_with, AreBlocks, FewFactorsCollide}
 use Rattle.seeded_hash.specs.declared.blocks.BlockHasher.{BlockHasher}
 use Rattle.std.proofs.Math.Nat.{le-div_iff_mul-le, div-mul-le_self, mul-le-mul_right}
@@ -98,16 +98,16 @@ few-seats d c pos small cb (n ∷ ns) from rises collide low le =
 -- Blocks.
 
 -- the sum where one factor is another one: its own term is another one too
-isolated : (f b : List ℕ) (n j : ℕ) → length f ≡ 8 → j < 8 → block_sum (set f j n) b + term_at f b j ≡ block_sum f b + n * word_at b (4 * j)
+isolated : (f b : List ℕ) (n j : ℕ) → length f ≡ 8 → j < 8 → block_sum (set f j n) b + term_at f b j ≡ block_sum f b + n * block_word_at b (4 * j)
 isolated f b n j size h = by_index j h
   where
-    own : (i : ℕ) → i < 8 → term_at (set f i n) b i ≡ n * word_at b (4 * i)
-    own i lt = ap (λ k. k * word_at b (4 * i)) (get_or-set_same f i n 0 (omega (arith, lt, size)))
+    own : (i : ℕ) → i < 8 → term_at (set f i n) b i ≡ n * block_word_at b (4 * i)
+    own i lt = ap (λ k. k * block_word_at b (4 * i)) (get_or-set_same f i n 0 (omega (arith, lt, size)))
 
     other : (i k : ℕ) → k ≢ i → term_at (set f i n) b k ≡ term_at f b k
-    other i k ne = ap (λ x. x * word_at b (4 * k)) (get_or-set_other f i k n 0 ne)
+    other i k ne = ap (λ x. x * block_word_at b (4 * k)) (get_or-set_other f i k n 0 ne)
 
-    by_index : (i : ℕ) → i < 8 → block_sum (set f i n) b + term_at f b i ≡ block_sum f b + n * word_at b (4 * i)
+    by_index : (i : ℕ) → i < 8 → block_sum (set f i n) b + term_at f b i ≡ block_sum f b + n * block_word_at b (4 * i)
     by_index zero lt = omega (arith, own 0 lt, other 0 1 (λ e. cc), other 0 2 (λ e. cc), other 0 3 (λ e. cc), other 0 4 (λ e. cc), other 0 5 (λ e. cc), other 0 6 (λ e. cc), other 0 7 (λ e. cc))
     by_index (suc zero) lt = omega (arith, own 1 lt, other 1 0 (λ e. cc), other 1 2 (λ e. cc), other 1 3 (λ e. cc), other 1 4 (λ e. cc), other 1 5 (λ e. cc), other 1 6 (λ e. cc), other 1 7 (λ e. cc))
     by_index (suc (suc zero)) lt = omega (arith, own 2 lt, other 2 0 (λ e. cc), other 2 1 (λ e. cc), other 2 3 (λ e. cc), other 2 4 (λ e. cc), other 2 5 (λ e. cc), other 2 6 (λ e. cc), other 2 7 (λ e. cc))
@@ -126,8 +126,8 @@ own-block text size =
     ap (λ (n : ℕ). take (min (length text) 32) text ++ drop n (replicate 32 0)) least ∙ ap (λ (t : List ℕ). t ++ []) whole ∙ append-nil text
 
 -- a word has 32 bits
-word-small : (block : List ℕ) (j : ℕ) → length block ≡ 32 → j < 8 → All (λ byte. byte < 256) block → word_at block (4 * j) < 2 ^ 32
-unfolding word_at
+word-small : (block : List ℕ) (j : ℕ) → length block ≡ 32 → j < 8 → All (λ byte. byte < 256) block → block_word_at block (4 * j) < 2 ^ 32
+unfolding block_word_at
 word-small block j size lt bytes =
     let a : get_or block (4 * j) 0 < 256 = bytes (4 * j) 0 (omega (arith, size, lt)) in
     let b : get_or block (4 * j + 1) 0 < 256 = bytes (4 * j + 1) 0 (omega (arith, size, lt)) in
@@ -145,13 +145,13 @@ in-window a b w v d n parts same =
     let split : n * w ≡ n * d + n * v = ap (λ k. n * k) parts ∙ (grind arith) in
     omega (arith, split, same)
 
--- the hash under a factor, as a sum in which it stands alone
+-- the hash under a factor, as a sum in which it is a term of its own
 alone : (hasher : BlockHasher) (j : ℕ) (block : List ℕ) (n : ℕ) → length hasher.factors ≡ 8 → j < 8 → length block ≡ 32
-    → hash_with hasher j block n ≡ ((hasher.sum + block_sum hasher.factors block - term_at hasher.factors block j) + n * word_at block (4 * j)) % 2 ^ 64 / 2 ^ 32
+    → hash_with hasher j block n ≡ ((hasher.sum + block_sum hasher.factors block - term_at hasher.factors block j) + n * block_word_at block (4 * j)) % 2 ^ 64 / 2 ^ 32
 alone hasher j block n size lt whole =
-    let e : block_sum (set hasher.factors j n) block + term_at hasher.factors block j ≡ block_sum hasher.factors block + n * word_at block (4 * j) = isolated hasher.factors block n j size lt in
+    let e : block_sum (set hasher.factors j n) block + term_at hasher.factors block j ≡ block_sum hasher.factors block + n * block_word_at block (4 * j) = isolated hasher.factors block n j size lt in
     let least : term_at hasher.factors block j ≤ block_sum hasher.factors block = among j lt in
-    let sum : hasher.sum + block_sum (set hasher.factors j n) block ≡ hasher.sum + block_sum hasher.factors block - term_at hasher.factors block j + n * word_at block (4 * j) = omega (arith, e, least) in
+    let sum : hasher.sum + block_sum (set hasher.factors j n) block ≡ hasher.sum + block_sum hasher.factors block - term_at hasher.factors block j + n * block_word_at block (4 * j) = omega (arith, e, least) in
     ap (λ (b : List ℕ). (hasher.sum + block_sum (set hasher.factors j n) b) % 2 ^ 64 / 2 ^ 32) (own-block block whole)
     ∙ ap (λ (s : ℕ). s % 2 ^ 64 / 2 ^ 32) sum
   where
@@ -168,7 +168,7 @@ alone hasher j block n size lt whole =
 
 -- the same of two blocks of which the first has the greater word
 few-ordered : (hasher : BlockHasher) (j : ℕ) (first second : List ℕ) (values : List ℕ) → length hasher.factors ≡ 8 → j < 8 → AreBlocks first second
-    → word_at second (4 * j) < word_at first (4 * j) → AllPairs (λ m n. m < n) values
+    → block_word_at second (4 * j) < block_word_at first (4 * j) → AllPairs (λ m n. m < n) values
     → All (λ n. (n < 2 ^ 64) × (hash_with hasher j first n ≡ hash_with hasher j second n)) values → length values ≤ 2 ^ 35
 few-ordered hasher j first second values size lt are greater rises collide =
     let few : 0 + length values ≤ 2 ^ 35 = few-seats d c (omega (arith, greater)) (omega (arith, small)) (omega arith) values 0 rises
@@ -178,7 +178,7 @@ few-ordered hasher j first second values size lt are greater rises collide =
     omega (arith, few)
   where
     d : ℕ
-    d = word_at first (4 * j) - word_at second (4 * j)
+    d = block_word_at first (4 * j) - block_word_at second (4 * j)
 
     a : ℕ
     a = hasher.sum + block_sum hasher.factors first - term_at hasher.factors first j
@@ -189,18 +189,18 @@ few-ordered hasher j first second values size lt are greater rises collide =
     c : ℕ
     c = (a + 2 ^ 32 + (2 ^ 64 - b % 2 ^ 64)) % 2 ^ 64
 
-    small : word_at first (4 * j) < 2 ^ 32
+    small : block_word_at first (4 * j) < 2 ^ 32
     small = word-small first j are.first_size lt are.first_bytes
 
     window : (n : ℕ) → (n < 2 ^ 64) × (hash_with hasher j first n ≡ hash_with hasher j second n) → Collides d c n
     window n h = (
       h.0,
-      in-window a b (word_at first (4 * j)) (word_at second (4 * j)) d n (omega (arith, greater))
+      in-window a b (block_word_at first (4 * j)) (block_word_at second (4 * j)) d n (omega (arith, greater))
           (sym (alone hasher j first n size lt are.first_size) ∙ h.1 ∙ alone hasher j second n size lt are.second_size),
     )
 
 pub few-collide : FewFactorsCollide
-few-collide hasher j first second values size lt are differ rises collide = elim (cases_order (word_at first (4 * j)) (word_at second (4 * j))) [
+few-collide hasher j first second values size lt are differ rises collide = elim (cases_order (block_word_at first (4 * j)) (block_word_at second (4 * j))) [
   | inl same ↦ absurd (differ same)
   | inr ne ↦ elim ne [
     | inl less ↦ few-ordered hasher j second first values size lt

@@ -6,9 +6,9 @@ use Rattle.std.proofs.Math.Seq.{take-append_seam, drop-append_seam, drop-append-
 use Rattle.std.proofs.lemmas.Bool.{cases_Bool, leb-true, both_ways, false_from_ne_true, and_parts, and_from}
 use Rattle.std.proofs.lemmas.Slice.Eq.{bytes_eq-Decides}
 use Rattle.seeded_hash.specs.declared.short_pairs.ShortPair.{ShortPair}
-use Rattle.seeded_hash.specs.ShortPairs.{is_short, put_at, sizes_block, short_block, short_pair_of, same_block, held_by, first_text, second_text}
+use Rattle.seeded_hash.specs.ShortPairs.{fit_short_block, put_at, sizes_block, short_block, short_pair_of, same_block, value_by_pair, first_text, second_text}
 
--- what stands behind the first two
+-- what is behind the first two
 abbrev behind : List ℕ → List ℕ
 behind [] = []
 behind (x ∷ []) = []
@@ -51,7 +51,7 @@ one_pair a b c d e =
     (fronts a c b d firsts both, rests a c b d firsts both)
 
 -- a block of two texts gives both back
-pub texts-back : (a b : List ℕ) → is_short a b ≡ true → (first_text (short_block a b) ≡ a) × (second_text (short_block a b) ≡ b)
+pub texts-back : (a b : List ℕ) → fit_short_block a b ≡ true → (first_text (short_block a b) ≡ a) × (second_text (short_block a b) ≡ b)
 texts-back a b short =
     let few : length a + length b ≤ 30 = leb-true (length a + length b) 30 short in
     let tail : List ℕ = zeros a b in
@@ -80,10 +80,10 @@ same_pair a b c d = elim (cases_Bool (bytes_eq a c && bytes_eq b d)) [
 ]
 
 -- texts that are given as a pair are short, and given as their own
-pub given : (a b : List ℕ) (pair : ShortPair) → short_pair_of a b ≡ Some pair → (is_short a b ≡ true) × (short_pair a b ≡ pair)
-given a b pair is = go (is_short a b) refl is
+pub given : (a b : List ℕ) (pair : ShortPair) → short_pair_of a b ≡ Some pair → (fit_short_block a b ≡ true) × (short_pair a b ≡ pair)
+given a b pair is = go (fit_short_block a b) refl is
   where
-    go : (short : Bool) → is_short a b ≡ short → (if short then Some (short_pair a b) else None) ≡ Some pair → (is_short a b ≡ true) × (short_pair a b ≡ pair)
+    go : (short : Bool) → fit_short_block a b ≡ short → (if short then Some (short_pair a b) else None) ≡ Some pair → (fit_short_block a b ≡ true) × (short_pair a b ≡ pair)
     go true on e = (on, ap (λ (o : Option ShortPair). unwrap_or o pair) e)
     go false off e = absurd (both_ways false refl (ap is_some e))
 
@@ -92,11 +92,11 @@ given a b pair is = go (is_short a b) refl is
 pub adds_short : {K A : Type 0} (same : K → K → Bool) (first second : K → List ℕ) → ((k q : K) → same k q ≡ (bytes_eq (first k) (first q) && bytes_eq (second k) (second q)))
     → (new old : ShortPair → Option A) (long : K → Option A) (key : K) (value : A) (pair : ShortPair) → short_pair_of (first key) (second key) ≡ Some pair
     → ((q : ShortPair) → new q ≡ cond (same_block pair q) (Some value) (old q))
-    → (other : K) → held_by new (long other) (short_pair_of (first other) (second other)) ≡ (if same key other then Some value else held_by old (long other) (short_pair_of (first other) (second other)))
-adds_short {A = A} same first second same_is new old long key value pair is adds other = go (is_short (first other) (second other)) refl
+    → (other : K) → value_by_pair new (long other) (short_pair_of (first other) (second other)) ≡ (if same key other then Some value else value_by_pair old (long other) (short_pair_of (first other) (second other)))
+adds_short {A = A} same first second same_is new old long key value pair is adds other = go (fit_short_block (first other) (second other)) refl
   where
-    go : (short : Bool) → is_short (first other) (second other) ≡ short
-        → held_by new (long other) (if short then Some (short_pair (first other) (second other)) else None) ≡ (if same key other then Some value else held_by old (long other) (if short then Some (short_pair (first other) (second other)) else None))
+    go : (short : Bool) → fit_short_block (first other) (second other) ≡ short
+        → value_by_pair new (long other) (if short then Some (short_pair (first other) (second other)) else None) ≡ (if same key other then Some value else value_by_pair old (long other) (if short then Some (short_pair (first other) (second other)) else None))
     go true on =
         let own : same_block pair (short_pair (first other) (second other)) ≡ same key other =
         ap (λ (p : ShortPair). same_block p (short_pair (first other) (second other))) (sym (given (first key) (second key) pair is).1)
@@ -107,5 +107,5 @@ adds_short {A = A} same first second same_is new old long key value pair is adds
         let parts = and_parts (bytes_eq (first key) (first other)) (bytes_eq (second key) (second other)) e in
         let one : first key ≡ first other = (bytes_eq-Decides (first key) (first other)).0 parts.0 in
         let two : second key ≡ second other = (bytes_eq-Decides (second key) (second other)).0 parts.1 in
-        both_ways _ off (sym (λ i. is_short (one i) (two i)) ∙ (given (first key) (second key) pair is).0)) in
+        both_ways _ off (sym (λ i. fit_short_block (one i) (two i)) ∙ (given (first key) (second key) pair is).0)) in
         sym (ap (λ (t : Bool). cond t (Some value) (long other)) apart)

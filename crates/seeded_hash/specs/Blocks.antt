@@ -7,13 +7,13 @@ use Rattle.std.specs.declared.hash.DefaultHasher.{DefaultHasher}
 use Rattle.seeded_hash.specs.declared.blocks.BlockHasher.{BlockHasher}
 
 -- the four bytes of a block from a place on as a number, the lowest first
-unfoldable pub word_at : List ℕ → ℕ → ℕ
-word_at block at = slice_index block at + slice_index block (at + 1) * 256
+unfoldable pub block_word_at : List ℕ → ℕ → ℕ
+block_word_at block at = slice_index block at + slice_index block (at + 1) * 256
     + slice_index block (at + 2) * 65536 + slice_index block (at + 3) * 16777216
 
 -- the word of a block at an index, times its factor
 abbrev pub term_at : List ℕ → List ℕ → ℕ → ℕ
-term_at factors block index = slice_index factors index * word_at block (4 * index)
+term_at factors block index = slice_index factors index * block_word_at block (4 * index)
 
 -- four of the eight terms, from an index on
 abbrev pub half_sum : List ℕ → List ℕ → ℕ → ℕ

@@ -1,6 +1,6 @@
 -- How seldom two blocks have one hash.
 use Rattle.std.specs.Prelude.{◌≡◌, ◌≢◌, ◌<◌, ◌≤◌, ◌*◌, ◌^◌, ℕ, List, All, AllPairs, length, slice_set}
-use Rattle.seeded_hash.specs.Blocks.{word_at, write, finish}
+use Rattle.seeded_hash.specs.Blocks.{block_word_at, write, finish}
 use Rattle.seeded_hash.specs.declared.blocks.BlockHasher.{BlockHasher}
 
 -- the hash of a block, where the factor of the word at an index is this
@@ -15,12 +15,12 @@ pub record AreBlocks (first second : List ℕ) : Type 0 where
   pub first_bytes : All (λ byte. byte < 256) first
   pub second_bytes : All (λ byte. byte < 256) second
 
--- Two blocks that differ in a word have one hash for few values of its factor, whatever the other secrets
--- are: of the 2^64 values, for at most 2^35.
+-- Two blocks that differ in a word have one hash for few values of its factor,
+-- whatever the other secrets are: of the 2^64 values, for at most 2^35.
 abbrev pub FewFactorsCollide : Type 0
 FewFactorsCollide = (hasher : BlockHasher) (index : ℕ) (first second : List ℕ) (values : List ℕ)
     → length hasher.factors ≡ 8 → index < 8 → AreBlocks first second
-    → word_at first (4 * index) ≢ word_at second (4 * index)
+    → block_word_at first (4 * index) ≢ block_word_at second (4 * index)
     → AllPairs (λ m n. m < n) values
     → All (λ n. (n < 2 ^ 64)
     × (hash_with hasher index first n ≡ hash_with hasher index second n)) values

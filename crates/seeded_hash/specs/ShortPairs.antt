@@ -3,8 +3,8 @@ use Rattle.std.specs.Prelude.{ℕ, ◌+◌, ◌-◌, Bool, Option, Some, None, L
 use Rattle.seeded_hash.specs.declared.short_pairs.ShortPair.{ShortPair}
 
 -- the texts have at most 30 bytes together
-abbrev pub is_short : List ℕ → List ℕ → Bool
-is_short first second = nat_le (length first + length second) 30
+abbrev pub fit_short_block : List ℕ → List ℕ → Bool
+fit_short_block first second = nat_le (length first + length second) 30
 
 -- a block with a text written over its bytes from a place on
 abbrev pub put_at : List ℕ → ℕ → List ℕ → List ℕ
@@ -22,9 +22,11 @@ short_block first second =
 -- the pair of two texts, where they are short
 abbrev pub short_pair_of : List ℕ → List ℕ → Option ShortPair
 short_pair_of first second =
-    if is_short first second then Some (record { block = short_block first second }) else None
+    if fit_short_block first second then Some (record { block = short_block first second })
+    else None
 
--- the texts of a block that is one of two texts: so many bytes as its first two say, and no more than it has
+-- the texts of a block that is one of two texts: as many bytes as its first two
+-- say, and no more than it has
 abbrev pub first_text : List ℕ → List ℕ
 first_text block = take (min (slice_index block 0) 30) (drop 2 block)
 
@@ -39,8 +41,9 @@ second_text block =
 abbrev pub same_block : ShortPair → ShortPair → Bool
 same_block a b = bytes_eq a.block b.block
 
--- what is held of two texts in two tables, one of short pairs, the other of what is not short: by the
--- pair that they are given as
-abbrev pub held_by : {A : Type 0} → (ShortPair → Option A) → Option A → Option ShortPair → Option A
-held_by short long (Some pair) = short pair
-held_by short long None = long
+-- what is held of two texts in two tables, one of short pairs, the other of what is not short:
+-- by the pair that they are given as
+abbrev pub value_by_pair : {A : Type 0} → (ShortPair → Option A) → Option A → Option ShortPair
+    → Option A
+value_by_pair short long (Some pair) = short pair
+value_by_pair short long None = long

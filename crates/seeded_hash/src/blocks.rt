@@ -1,10 +1,11 @@
 //! The hash of a block of 32 bytes, by eight secret factors.
 //!
-//! A block is eight words of 32 bits. Its hash is the upper half, modulo 2^64, of a secret number and the
-//! eight words, each times a secret factor of its own: the multiply-shift scheme for vectors (Dietzfelbinger
-//! 1996; Thorup, "High speed hashing for integers and strings", 2015, section 3). Over the secrets, all drawn
-//! at random, the hashes of two different blocks are as two numbers of 32 bits that are drawn at random: so
-//! they are the same for one choice of the secrets in 2^32. It costs a fifth of SipHash-1-3.
+//! A block is eight words of 32 bits. Its hash is the upper half, modulo 2^64,
+//! of a secret number and the eight words, each times a secret factor of its own:
+//! the multiply-shift scheme for vectors (Dietzfelbinger 1996; Thorup, "High speed hashing
+//! for integers and strings", 2015, section 3). Over the secrets, all drawn at random,
+//! the hashes of two different blocks are as two numbers of 32 bits that are drawn at random:
+//! so they are the same for one choice of the secrets in 2^32. It costs a fifth of SipHash-1-3.
 ghost use Rattle.std.specs.Prelude.{◌≡◌, ◌+◌, ◌≤◌, ◌<◌, ◌^◌, ◌%◌};
 ghost use Rattle.seeded_hash.specs.Blocks as spec;
 
@@ -13,8 +14,8 @@ use std::fmt;
 use std::fmt::{Debug, Formatter};
 use std::hash::{BuildHasher, DefaultHasher, Hasher};
 
-/// The secret numbers, and the sum so far. Only the first 32 bytes of a text are hashed; a shorter one is
-/// filled up with zeros.
+/// The secret numbers, and the sum so far. Only the first 32 bytes of a text are hashed;
+/// a shorter one is filled up with zeros.
 #[derive(Clone, Copy)]
 pub struct BlockHasher {
     factors: [u64; 8],
@@ -54,10 +55,10 @@ impl BlockHasher {
 }
 
 /// The four bytes of a block from a place on as a number, the lowest first.
-#[tactic(auto, unfolding(crate::specs::Blocks::word_at))]
+#[tactic(auto, unfolding(crate::specs::Blocks::block_word_at))]
 fn word_at(block: &[u8; 32], at: usize) -> u64
     requires { at + 4 ≤ 32 }
-    ensures { result ≡ spec.word_at block.now at }
+    ensures { result ≡ spec.block_word_at block.now at }
 {
     let word = u32::from_le_bytes([block[at], block[at + 1], block[at + 2], block[at + 3]]);
     u64::from(word)
@@ -117,8 +118,8 @@ impl Hasher for BlockHasher {
     }
 }
 
-/// What the hashes of a map begin with whose keys are blocks: the secret numbers. No answer of a map depends
-/// on them.
+/// What the hashes of a map begin with whose keys are blocks: the secret numbers.
+/// No answer of a map depends on them.
 #[derive(Clone, Copy)]
 pub struct BlockSeed {
     start: BlockHasher,

@@ -7,8 +7,8 @@ use std::hash::{BuildHasher, DefaultHasher, Hasher};
 use std::random::RandomSource;
 use std::{fmt, io};
 
-/// What the hashes of a map begin with: SipHash-1-3, with the seed in front of each key. No answer of a map
-/// depends on it.
+/// What the hashes of a map begin with: SipHash-1-3, with the seed in front of each key.
+/// No answer of a map depends on it.
 #[derive(Clone, Copy)]
 pub struct HashSeed {
     start: DefaultHasher,
@@ -39,8 +39,8 @@ impl HashSeed {
         &self.start
     }
 
-    /// A seed that nobody knows beforehand: 16 bytes of the source. An error comes exactly where the source
-    /// gives one.
+    /// A seed that nobody knows beforehand: 16 bytes of the source.
+    /// An error comes exactly where the source gives one.
     pub fn random(source: &impl RandomSource) -> io::Result<HashSeed>
         ensures { IfOk result IsOfTwoNumbers }
     {

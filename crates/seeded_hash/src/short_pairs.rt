@@ -1,15 +1,16 @@
 //! Pairs of short texts as keys of a map, each in one block of 32 bytes.
 //!
-//! A name has room for 64 bytes, and most names are far shorter. So a map by names does best to keep a pair
-//! of texts of at most 30 bytes together as a block, which is hashed as four words, and only a longer pair
-//! as it is. The blocks of many pairs fit near the processor, where their names do not.
+//! A name has room for 64 bytes, and most names are far shorter. So a map by names does best
+//! to keep a pair of texts of at most 30 bytes together as a block, which is hashed as four words,
+//! and only a longer pair as it is. The blocks of many pairs fit near the processor,
+//! where their names do not.
 ghost use Rattle.std.specs.Prelude.{◌≡◌, ◌+◌, ◌≤◌, length};
 ghost use Rattle.seeded_hash.specs.ShortPairs.{put_at, short_block, short_pair_of, first_text, second_text};
 
 use std::hash::{Hash, Hasher};
 
-/// Two texts of at most 30 bytes together: the sizes of both, their bytes, and zeros. No other two texts
-/// have the same block.
+/// Two texts of at most 30 bytes together: the sizes of both, their bytes, and zeros.
+/// No other two texts have the same block.
 #[derive(Clone, Copy, PartialEq, Eq)]
 pub struct ShortPair {
     block: [u8; 32],

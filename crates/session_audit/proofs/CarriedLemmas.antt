@@ -8,8 +8,8 @@ use Rattle.audit_base.specs.declared.terms.Side.TheVariants.{Buy, Sell}
 use Rattle.audit_base.specs.declared.terms.VolumeRule.TheVariants as of_volume
 use Rattle.audit_base.specs.declared.orders.Order.{Order}
 use Rattle.audit_base.specs.declared.orders.Deal.{Deal}
-use Rattle.audit_base.specs.Orders.{order_at, quantity_at, limit_at, side_at, stands_on, missing_order, IsOrderList, IsOrder, AreOrders}
-use Rattle.audit_base.specs.Deals.{traded, IsDeal, AreDeals}
+use Rattle.audit_base.specs.Orders.{order_at, quantity_at, limit_at, side_at, is_uncancelled_on, order_past_end, IsOrderList, OrderInRange, OrdersInRange}
+use Rattle.audit_base.specs.Deals.{traded, DealInRange, DealsInRange}
 use Rattle.audit_base.specs.CallOffences.{is_cancelled, is_short}
 use Rattle.audit_base.specs.Continuous.{cause}
 use Rattle.audit_base.proofs.OrderLemmas.{is-same_side}
@@ -39,9 +39,9 @@ module _ (phases : List Phase) (orders : List Order) (list : IsOrderList orders)
   inside : (k i : ℕ) → i < length (here k) → i < length orders
   inside k i lt = phase-inside orders (end_place phases k) (first_place phases k) (rest_after phases orders deals k) (chain_before_phase phases orders deals k) i lt
 
-  module _ (numbers : AreOrders orders) where
-    written : (i : ℕ) → i < length orders → IsOrder (order_at orders i)
-    written i lt = numbers i missing_order lt
+  module _ (numbers : OrdersInRange orders) where
+    written : (i : ℕ) → i < length orders → OrderInRange (order_at orders i)
+    written i lt = numbers i order_past_end lt
 
     -- no more is left of an order than its written quantity
     rest-le : (k i : ℕ) → rest_after phases orders deals k i ≤ quantity_at orders i
@@ -57,7 +57,7 @@ module _ (phases : List Phase) (orders : List Order) (list : IsOrderList orders)
       | inr past ↦ let z = left-past (phase_kind phases k) (here k) (phase_deals phases orders deals k) (end_place phases k) i past in omega arith
     ]
 
-    in-range : (k i : ℕ) → i < length (here k) → IsOrder (order_at (here k) i)
+    in-range : (k i : ℕ) → i < length (here k) → OrderInRange (order_at (here k) i)
     in-range k i lt =
         let in_orders = inside k i lt in
         let is = written i in_orders in
@@ -67,16 +67,16 @@ module _ (phases : List Phase) (orders : List Order) (list : IsOrderList orders)
         let limit : (phase_order (end_place phases k) (order_at orders i) (what k i)).limit ≡ (order_at orders i).limit = keeps (λ o. o.limit) (λ o q c t. refl) (end_place phases k) (order_at orders i) (what k i) in
         let w = is.most in
         let p = is.priced in
-        let ordered : IsOrder (phase_order (end_place phases k) (order_at orders i) (what k i)) = record { some = some; most = omega arith; priced = omega arith } in
-        subst IsOrder (sym (at k i lt)) ordered
+        let ordered : OrderInRange (phase_order (end_place phases k) (order_at orders i) (what k i)) = record { some = some; most = omega arith; priced = omega arith } in
+        subst OrderInRange (sym (at k i lt)) ordered
 
     -- the order lists of phases have numbers in range
-    pub phase-numbers : (k : ℕ) → AreOrders (here k)
-    phase-numbers k i d lt = subst IsOrder (sym (get_or-default (here k) i d missing_order lt)) (in-range k i lt)
+    pub phase-numbers : (k : ℕ) → OrdersInRange (here k)
+    phase-numbers k i d lt = subst OrderInRange (sym (get_or-default (here k) i d order_past_end lt)) (in-range k i lt)
 
-deals-numbers : (phases : List Phase) (orders : List Order) (deals : List Deal) (k : ℕ) → AreDeals deals → AreDeals (phase_deals phases orders deals k)
+deals-numbers : (phases : List Phase) (orders : List Order) (deals : List Deal) (k : ℕ) → DealsInRange deals → DealsInRange (phase_deals phases orders deals k)
 unfolding phase_deals
-deals-numbers phases orders deals k ranges = All-filter (λ d. is_in_phase phases k (cause orders d)) IsDeal deals ranges
+deals-numbers phases orders deals k ranges = All-filter (λ d. is_in_phase phases k (cause orders d)) DealInRange deals ranges
 
 none-of : (o : Option ℕ) → is_some o ≡ false → is_none o ≡ true
 none-of None e = refl
@@ -91,7 +91,7 @@ short-of : (orders : List Order) (deals : List Deal) (side : Side) (i : ℕ) →
 short-of orders deals side i is some =
     let parts = left-parts (is_cancelled orders i) (quantity_at orders i - traded deals i) some in
     let less = parts.1 in
-    and_from (stands_on side (order_at orders i)) (nat_lt (traded deals i) (quantity_at orders i))
+    and_from (is_uncancelled_on side (order_at orders i)) (nat_lt (traded deals i) (quantity_at orders i))
     (and_from _ _ (none-of (order_at orders i).cancelled parts.0) (is-same_side side (side_at orders i) (sym is))) (lt-ltb _ _ (omega arith))
 
 call-left : (k : PhaseKind) (orders : List Order) (deals : List Deal) (last i : ℕ) → is_call k ≡ true → left_after_phase k orders deals last i ≡ left_after_call orders deals i
@@ -100,7 +100,7 @@ call-left kind.Maximum orders deals last i e = refl
 call-left kind.Continuous orders deals last i e = absurd (cc)
 
 -- what a call leaves short doesn't meet, whichever rule of a call it has
-call-apart : ShortOrdersDoNotMeet → (k : PhaseKind) (orders : List Order) (deals : List Deal) → is_call k ≡ true → AreOrders orders → AreDeals deals → Conforms (rule_of k) orders deals
+call-apart : ShortOrdersDoNotMeet → (k : PhaseKind) (orders : List Order) (deals : List Deal) → is_call k ≡ true → OrdersInRange orders → DealsInRange deals → Conforms (rule_of k) orders deals
     → (bid ask : ℕ) → is_short orders deals Buy bid ≡ true → is_short orders deals Sell ask ≡ true → limit_at orders bid < limit_at orders ask
 call-apart law kind.Uniform orders deals call numbers ranges conforms = law of_volume.Uniform orders deals numbers ranges conforms
 call-apart law kind.Maximum orders deals call numbers ranges conforms = law of_volume.Maximum orders deals numbers ranges conforms

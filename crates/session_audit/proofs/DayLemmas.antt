@@ -6,12 +6,12 @@ use Rattle.std.proofs.lemmas.List.{get_or_past, get_or-replicate, length-replica
 use Rattle.std.proofs.lemmas.Grind.{same_number_lists}
 use Rattle.audit_base.specs.declared.orders.Order.{Order}
 use Rattle.audit_base.specs.declared.orders.Deal.{Deal}
-use Rattle.audit_base.specs.Orders.{order_at, quantity_at, missing_order, IsOrderList}
-use Rattle.audit_base.specs.Deals.{traded, NamesOrders, IsDealList, AreDeals}
+use Rattle.audit_base.specs.Orders.{order_at, quantity_at, order_past_end, IsOrderList}
+use Rattle.audit_base.specs.Deals.{traded, NamesOrders, IsDealList, DealsInRange}
 use Rattle.audit_base.specs.Histories.{Regular}
 use Rattle.audit_base.specs.Rules.{Conforms}
 use Rattle.audit_base.specs.CallOffences.{is_cancelled}
-use Rattle.audit_base.specs.Continuous.{size, entered, before, traded_before, rests_after, left_after, size_of}
+use Rattle.audit_base.specs.Continuous.{size_by_past, entered_by_past, before_quantity_by_past, traded_before, rests_after, left_after, size_of_order}
 use Rattle.audit_base.proofs.OrderLemmas.{place-rises}
 use Rattle.session_audit.specs.declared.phases.Phase.{Phase}
 use Rattle.session_audit.specs.declared.phases.PhaseKind.{PhaseKind}
@@ -42,9 +42,9 @@ left-rest : (b : Bool) (m q : ℕ) → m ≤ q → cond b 0 m ≤ q
 left-rest true m q le = omega arith
 left-rest false m q le = le
 
-pub size-most : (orders : List Order) (deals : List Deal) (i : ℕ) → size_of orders deals i ≤ quantity_at orders i
-unfolding size
-size-most orders deals i = size-le (entered orders (traded_before orders deals) i) (quantity_at orders i) (before orders (traded_before orders deals) i)
+pub size-most : (orders : List Order) (deals : List Deal) (i : ℕ) → size_of_order orders deals i ≤ quantity_at orders i
+unfolding size_by_past
+size-most orders deals i = size-le (entered_by_past orders (traded_before orders deals) i) (quantity_at orders i) (before_quantity_by_past orders (traded_before orders deals) i)
 
 left-after-most : (orders : List Order) (deals : List Deal) (last i : ℕ) → left_after orders deals last i ≤ quantity_at orders i
 left-after-most orders deals last i = let m = size-most orders deals i in omega arith
@@ -55,7 +55,7 @@ left-le kind.Maximum orders deals last i = left-rest (is_cancelled orders i) (qu
 left-le kind.Continuous orders deals last i = left-most (rests_after orders deals last i) (left_after orders deals last i) (quantity_at orders i) (left-after-most orders deals last i)
 
 past-quantity : (orders : List Order) (i : ℕ) → length orders ≤ i → quantity_at orders i ≡ 0
-past-quantity orders i le = ap (λ (o : Order). o.quantity) (get_or_past orders i missing_order le)
+past-quantity orders i le = ap (λ (o : Order). o.quantity) (get_or_past orders i order_past_end le)
 
 pub left-past : (k : PhaseKind) (orders : List Order) (deals : List Deal) (last i : ℕ) → length orders ≤ i → left_after_phase k orders deals last i ≡ 0
 left-past k orders deals last i le = let m = left-le k orders deals last i in let q = past-quantity orders i le in omega arith
@@ -84,7 +84,7 @@ module _ (phases : List Phase) (are : ArePhases phases) (orders : List Order) (l
 
   module _ (traded_list rest : List ℕ) (so_far : IsDaySoFar phases orders deals k traded_list rest) where
     -- the numbers of a phase are small
-    pub small-so_far : AreDeals deals → length deals < 2 ^ 32 → AreBoundedTotals traded_list
+    pub small-so_far : DealsInRange deals → length deals < 2 ^ 32 → AreBoundedTotals traded_list
     small-so_far ranges few i = elim (cases_lt i (length orders)) [
       | inl lt ↦
           let e : number_at traded_list i ≡ traded_before_phase phases orders deals k i = ap (λ (ns : List ℕ). number_at ns i) so_far.traded_is ∙ list_below-at (traded_before_phase phases orders deals k) (length orders) i 0 lt in
@@ -159,7 +159,7 @@ pub record IsReady (orders here : List Order) (dealt : List Deal) (last : ℕ) :
   pub more : (i : ℕ) → traded dealt i ≤ 2 ^ 72
   pub few : length here ≤ length orders
 
-pub ready : (phases : List Phase) (are : ArePhases phases) (orders : List Order) (list : IsOrderList orders) (regular : Regular orders) (deals : List Deal) → IsDealList orders deals → AreDeals deals → (k : ℕ) → k < length phases
+pub ready : (phases : List Phase) (are : ArePhases phases) (orders : List Order) (list : IsOrderList orders) (regular : Regular orders) (deals : List Deal) → IsDealList orders deals → DealsInRange deals → (k : ℕ) → k < length phases
     → (here : List Order) (dealt : List Deal) (last : ℕ) → here ≡ phase_orders phases orders deals k → dealt ≡ phase_deals phases orders deals k → last ≡ end_place phases k → IsReady orders here dealt last
 ready phases are orders list regular deals dl ranges k inside here dealt last here_is dealt_is last_is =
     let at : IsReady orders (phase_orders phases orders deals k) (phase_deals phases orders deals k) (end_place phases k) = record {

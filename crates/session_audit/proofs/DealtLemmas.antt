@@ -5,7 +5,7 @@ use Rattle.std.proofs.lemmas.List.{take_all, take_more}
 use Rattle.std.proofs.lemmas.List.Elements.{filter-append}
 use Rattle.audit_base.specs.declared.orders.Order.{Order}
 use Rattle.audit_base.specs.declared.orders.Deal.{Deal}
-use Rattle.audit_base.specs.Deals.{deal_at, missing_deal}
+use Rattle.audit_base.specs.Deals.{deal_at, deal_past_end}
 use Rattle.audit_base.specs.Continuous.{cause}
 use Rattle.session_audit.specs.declared.phases.Phase.{Phase}
 use Rattle.session_audit.specs.Phases.{first_place, end_place, phase_deals}
@@ -27,7 +27,7 @@ module _ (first last : ℕ) (orders : List Order) (deals : List Deal) (causes : 
       let front : deals_between deals causes first last n ≡ filter test (take n deals) = picked n (omega arith) in
       let at : number_at causes n ≡ cause orders (deal_at deals n) = ap (λ (ns : List ℕ). number_at ns n) are ∙ list_below-at (λ j. cause orders (deal_at deals j)) (length deals) n 0 (omega arith) in
       let step : filter test (take (n + 1) deals) ≡ filter test (take n deals) ++ filter test (deal_at deals n ∷ []) =
-      ap (filter test) (take_more deals n missing_deal (omega arith)) ∙ filter-append test (take n deals) (deal_at deals n ∷ []) in
+      ap (filter test) (take_more deals n deal_past_end (omega arith)) ∙ filter-append test (take n deals) (deal_at deals n ∷ []) in
       (λ j. front j ++ deals_if (is_between first last (at j)) (deal_at deals n))
       ∙ ap (λ (ds : List Deal). filter test (take n deals) ++ ds) (sym (one (test (deal_at deals n)) (deal_at deals n)))
       ∙ sym step ∙ ap (λ (m : ℕ). filter test (take m deals)) (add-one n)

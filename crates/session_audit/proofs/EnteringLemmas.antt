@@ -5,9 +5,9 @@ use Rattle.std.proofs.lemmas.List.{get_or_past}
 use Rattle.std.proofs.lemmas.Bool.{cases_lt, cond-true, cond-false, lt-ltb, le-ltb}
 use Rattle.audit_base.specs.declared.orders.Order.{Order}
 use Rattle.audit_base.specs.declared.orders.Deal.{Deal}
-use Rattle.audit_base.specs.Orders.{order_at, place_at, quantity_at, missing_order, IsOrderList}
+use Rattle.audit_base.specs.Orders.{order_at, place_at, quantity_at, order_past_end, IsOrderList}
 use Rattle.audit_base.specs.Histories.{Regular}
-use Rattle.audit_base.specs.Continuous.{chain, chain_within, was_placed}
+use Rattle.audit_base.specs.Continuous.{chain, chain_within, is_placed_order}
 use Rattle.audit_base.proofs.ContinuousLemmas.{target-below}
 use Rattle.audit_base.proofs.SumLemmas.{sum_by-same}
 use Rattle.session_audit.specs.declared.phases.Phase.{Phase}
@@ -52,8 +52,8 @@ module _ (orders : List Order) (list : IsOrderList orders) (first : ℕ) (rest s
         | inl before ↦ cond-true (nat_lt (place_at orders i) first) (number_at rest i) own (lt-ltb _ _ before)
             ∙ sym (ap amount_in_phase (is-carried orders first (number_at rest) (number_at spent) i before) ∙ carried-amount (number_at rest i))
         | inr from ↦ cond-false (nat_lt (place_at orders i) first) (number_at rest i) own (le-ltb _ _ from)
-            ∙ ap (λ (b : Bool). cond (was_placed orders i && b) (quantity_at orders i - number_at spent i) 0) (target-has i target so_far lt refl are)
-            ∙ own-amount (was_placed orders i) (target_takes_part (earlier i) target) (quantity_at orders i - number_at spent i)
+            ∙ ap (λ (b : Bool). cond (is_placed_order orders i && b) (quantity_at orders i - number_at spent i) 0) (target-has i target so_far lt refl are)
+            ∙ own-amount (is_placed_order orders i) (target_takes_part (earlier i) target) (quantity_at orders i - number_at spent i)
             ∙ sym (ap amount_in_phase (is-own orders first (number_at rest) (number_at spent) i from))
       ]
 
@@ -75,7 +75,7 @@ module _ (orders : List Order) (list : IsOrderList orders) (first : ℕ) (rest s
 -- the chain of an index past the end is empty
 chain-past : (orders : List Order) (f : ℕ → ℕ) (i : ℕ) → length orders ≤ i → sum_by f (chain orders i) ≡ 0
 unfolding chain
-chain-past orders f i le = ap (λ (o : Order). sum_by f (chain_within (suc i) orders o.target)) (get_or_past orders i missing_order le)
+chain-past orders f i le = ap (λ (o : Order). sum_by f (chain_within (suc i) orders o.target)) (get_or_past orders i order_past_end le)
 
 module _ (phases : List Phase) (orders : List Order) (list : IsOrderList orders) (regular : Regular orders) (deals : List Deal) (k : ℕ) (traded rest : List ℕ) (so_far : IsDaySoFar phases orders deals k traded rest) where
   chain-earlier : (i : ℕ) → i < length orders → total_of_chain orders traded i ≡ chain_before_phase phases orders deals k i

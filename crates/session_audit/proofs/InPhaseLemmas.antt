@@ -4,7 +4,7 @@ use Rattle.std.specs.Prelude.{nat_lt, ◌&&◌}
 use Rattle.std.proofs.lemmas.Bool.{cases_lt, cond-true, cond-false, lt-ltb, le-ltb, ltb-true, and_parts, both_ways}
 use Rattle.audit_base.specs.declared.orders.Order.{Order}
 use Rattle.audit_base.specs.Orders.{order_at, place_at, quantity_at}
-use Rattle.audit_base.specs.Continuous.{was_placed}
+use Rattle.audit_base.specs.Continuous.{is_placed_order}
 use Rattle.session_audit.specs.PhaseOrders.{OrderInPhase, Carried, Own, Gone, takes_part, carried_or_gone, target_takes_part, own_or_gone, orders_in_phase, order_in_phase, list_below}
 use Rattle.session_audit.specs.Entering.{amount_in_phase, order_by_amount}
 use Rattle.session_audit.proofs.ListBelowLemmas.{list_below-at}
@@ -98,10 +98,10 @@ module _ (orders : List Order) (first : ℕ) (rest spent : ℕ → ℕ) where
   quantity i = quantity_at orders i - spent i
 
   abbrev tests : ℕ → Bool
-  tests i = was_placed orders i && (target_takes_part (earlier i) (order_at orders i).target && nat_lt 0 (quantity i))
+  tests i = is_placed_order orders i && (target_takes_part (earlier i) (order_at orders i).target && nat_lt 0 (quantity i))
 
   both-tests : (i : ℕ) → tests i ≡ true → (target_takes_part (earlier i) (order_at orders i).target ≡ true) × (nat_lt 0 (quantity i) ≡ true)
-  both-tests i e = and_parts _ _ (and_parts (was_placed orders i) (target_takes_part (earlier i) (order_at orders i).target && nat_lt 0 (quantity i)) e).1
+  both-tests i e = and_parts _ _ (and_parts (is_placed_order orders i) (target_takes_part (earlier i) (order_at orders i).target && nat_lt 0 (quantity i)) e).1
 
   tests-some : (i : ℕ) → tests i ≡ true → 0 < quantity i
   tests-some i e = ltb-true 0 (quantity i) (both-tests i e).1

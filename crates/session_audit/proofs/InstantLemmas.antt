@@ -9,10 +9,10 @@ use Rattle.audit_base.specs.declared.terms.Life.TheVariants.{Rests}
 use Rattle.audit_base.specs.declared.orders.Order.{Order}
 use Rattle.audit_base.specs.declared.orders.Deal.{Deal}
 use Rattle.audit_base.specs.declared.findings.Property.TheVariants as property
-use Rattle.audit_base.specs.Shows.{found}
+use Rattle.audit_base.specs.Shows.{finding_at_record}
 use Rattle.audit_base.specs.Least.{any_below, least_with}
-use Rattle.audit_base.specs.Orders.{order_at, place_at, quantity_at, missing_order, is_rests, IsOrderList, AreOrders}
-use Rattle.audit_base.specs.Continuous.{was_placed}
+use Rattle.audit_base.specs.Orders.{order_at, place_at, quantity_at, order_past_end, may_rest, IsOrderList, OrdersInRange}
+use Rattle.audit_base.specs.Continuous.{is_placed_order}
 use Rattle.audit_base.proofs.ContinuousLemmas.{chain-none}
 use Rattle.audit_base.proofs.LeastLemmas.{with-at, none-with, cases_Option}
 use Rattle.session_audit.specs.declared.phases.Phase.{Phase}
@@ -24,12 +24,12 @@ use Rattle.session_audit.proofs.InPhaseLemmas.{is-own}
 
 -- the least finding, in the words of the code
 pub first-at : (phases : List Phase) (orders : List Order) (i : ℕ) (o : Order) → o ≡ order_at orders i → i < length orders → least_with (λ k. is_instant_order phases (order_at orders k)) i ≡ None → is_instant_order phases (order_at orders i) ≡ true
-    → Some (found property.InstantOrder which.Orders o.place None None) ≡ first_instant_of_day phases orders
+    → Some (finding_at_record property.InstantOrder which.Orders o.place None None) ≡ first_instant_of_day phases orders
 first-at phases orders i o same lt before here =
     let test : ℕ → Bool = λ k. is_instant_order phases (order_at orders k) in
     let first : least_with test (length orders) ≡ Some i = with-at test (length orders) i lt here (none-with test i before) in
-    ap (λ (x : Order). Some (found property.InstantOrder which.Orders x.place None None)) same
-    ∙ ap (option_map (λ (k : ℕ). found property.InstantOrder which.Orders (place_at orders k) None None)) (sym first)
+    ap (λ (x : Order). Some (finding_at_record property.InstantOrder which.Orders x.place None None)) same
+    ∙ ap (option_map (λ (k : ℕ). finding_at_record property.InstantOrder which.Orders (place_at orders k) None None)) (sym first)
 
 with-same : (f g : ℕ → Bool) (n : ℕ) → ((k : ℕ) → k < n → f k ≡ g k) → least_with f n ≡ least_with g n
 with-same f g zero h = refl
@@ -66,49 +66,49 @@ module _ (phases : List Phase) (orders : List Order) (list : IsOrderList orders)
   unfolding chain_before_phase
   spent-none k = ap (sum_by (traded_before_phase phases orders deals k)) (chain-none orders list i none)
 
-  takes-placed : (k : ℕ) → first_place phases k ≤ place_at orders i → takes_part (order_in_phase_at phases orders deals k i) ≡ was_placed orders i
+  takes-placed : (k : ℕ) → first_place phases k ≤ place_at orders i → takes_part (order_in_phase_at phases orders deals k i) ≡ is_placed_order orders i
   takes-placed k le =
       let earlier = orders_in_phase orders (first_place phases k) (rest_after phases orders deals k) (chain_before_phase phases orders deals k) i in
       let left : quantity_at orders i - chain_before_phase phases orders deals k i ≡ quantity_at orders i = let e = spent-none k in omega arith in
       let tests : (target_takes_part earlier (order_at orders i).target && nat_lt 0 (quantity_at orders i - chain_before_phase phases orders deals k i)) ≡ true
       = and_from _ _ (ap (target_takes_part earlier) none) (lt-ltb 0 (quantity_at orders i - chain_before_phase phases orders deals k i) (omega arith)) in
       ap takes_part (is-own orders (first_place phases k) (rest_after phases orders deals k) (chain_before_phase phases orders deals k) i le)
-      ∙ takes-if (was_placed orders i && (target_takes_part earlier (order_at orders i).target && nat_lt 0 (quantity_at orders i - chain_before_phase phases orders deals k i))) (quantity_at orders i - chain_before_phase phases orders deals k i)
-      ∙ ap (λ (b : Bool). was_placed orders i && b) tests ∙ and-true (was_placed orders i)
+      ∙ takes-if (is_placed_order orders i && (target_takes_part earlier (order_at orders i).target && nat_lt 0 (quantity_at orders i - chain_before_phase phases orders deals k i))) (quantity_at orders i - chain_before_phase phases orders deals k i)
+      ∙ ap (λ (b : Bool). is_placed_order orders i && b) tests ∙ and-true (is_placed_order orders i)
 
-  own-is : (k : ℕ) → is_own phases orders deals k i ≡ (is_in_phase phases k (place_at orders i) && was_placed orders i)
+  own-is : (k : ℕ) → is_own phases orders deals k i ≡ (is_in_phase phases k (place_at orders i) && is_placed_order orders i)
   own-is k = elim (cases_Bool (is_in_phase phases k (place_at orders i))) [
-    | inr out ↦ ap (λ (b : Bool). b && takes_part (order_in_phase_at phases orders deals k i)) out ∙ sym (ap (λ (b : Bool). b && was_placed orders i) out)
+    | inr out ↦ ap (λ (b : Bool). b && takes_part (order_in_phase_at phases orders deals k i)) out ∙ sym (ap (λ (b : Bool). b && is_placed_order orders i) out)
     | inl in_phase ↦
         let from = leb-true _ _ (and_parts (nat_le (first_place phases k) (place_at orders i)) (nat_le (place_at orders i) (end_place phases k)) in_phase).0 in
         ap (λ (b : Bool). is_in_phase phases k (place_at orders i) && b) (takes-placed k from)
   ]
 
-  any-own : any_below (λ k. is_call (phase_kind phases k) && is_own phases orders deals k i) (length phases) ≡ (was_placed orders i && is_in_any_call phases (place_at orders i))
-  any-own = elim (cases_Bool (was_placed orders i)) [
+  any-own : any_below (λ k. is_call (phase_kind phases k) && is_own phases orders deals k i) (length phases) ≡ (is_placed_order orders i && is_in_any_call phases (place_at orders i))
+  any-own = elim (cases_Bool (is_placed_order orders i)) [
     | inl t ↦ any-same _ _ (length phases) (λ k lt. ap (λ (b : Bool). is_call (phase_kind phases k) && b) (own-is k ∙ ap (λ (b : Bool). is_in_phase phases k (place_at orders i) && b) t ∙ and-true (is_in_phase phases k (place_at orders i))))
         ∙ sym (ap (λ (b : Bool). b && is_in_any_call phases (place_at orders i)) t)
     | inr f ↦ any-same _ (λ k. false) (length phases) (λ k lt. ap (λ (b : Bool). is_call (phase_kind phases k) && b) (own-is k ∙ ap (λ (b : Bool). is_in_phase phases k (place_at orders i) && b) f ∙ and-false (is_in_phase phases k (place_at orders i))) ∙ and-false (is_call (phase_kind phases k)))
         ∙ any-nothing (length phases) ∙ sym (ap (λ (b : Bool). b && is_in_any_call phases (place_at orders i)) f)
   ]
 
-module _ (phases : List Phase) (orders : List Order) (list : IsOrderList orders) (numbers : AreOrders orders) (deals : List Deal) where
-  rests-true : (l : Life) → l ≡ Rests → is_rests l ≡ true
-  rests-true l e = ap is_rests e
+module _ (phases : List Phase) (orders : List Order) (list : IsOrderList orders) (numbers : OrdersInRange orders) (deals : List Deal) where
+  rests-true : (l : Life) → l ≡ Rests → may_rest l ≡ true
+  rests-true l e = ap may_rest e
 
   instant-same : (i : ℕ) → i < length orders → is_instant_order phases (order_at orders i) ≡ is_instant_in_call phases orders deals i
-  instant-same i lt = elim (cases_Bool (is_rests (order_at orders i).life)) [
-    | inl t ↦ ap (λ (b : Bool). not b && (was_placed orders i && is_in_any_call phases (place_at orders i))) t ∙ sym (ap (λ (b : Bool). not b && any_below (λ k. is_call (phase_kind phases k) && is_own phases orders deals k i) (length phases)) t)
+  instant-same i lt = elim (cases_Bool (may_rest (order_at orders i).life)) [
+    | inl t ↦ ap (λ (b : Bool). not b && (is_placed_order orders i && is_in_any_call phases (place_at orders i))) t ∙ sym (ap (λ (b : Bool). not b && any_below (λ k. is_call (phase_kind phases k) && is_own phases orders deals k i) (length phases)) t)
     | inr f ↦
         let none : (order_at orders i).target ≡ None = elim (cases_Option (order_at orders i).target) [
           | inl e ↦ e
           | inr some ↦ absurd (both_ways _ f (rests-true _ (list.resting i some.0 lt some.1)))
         ] in
-        let is = numbers i missing_order lt in
-        ap (λ (b : Bool). not (is_rests (order_at orders i).life) && b) (sym (any-own phases orders list deals i lt is.some none))
+        let is = numbers i order_past_end lt in
+        ap (λ (b : Bool). not (may_rest (order_at orders i).life) && b) (sym (any-own phases orders list deals i lt is.some none))
   ]
 
   pub instant-is : first_instant_of_day phases orders ≡ instant_finding phases orders deals
   unfolding instant_finding
-  instant-is = ap (option_map (λ (i : ℕ). found property.InstantOrder which.Orders (place_at orders i) None None))
+  instant-is = ap (option_map (λ (i : ℕ). finding_at_record property.InstantOrder which.Orders (place_at orders i) None None))
       (with-same (λ i. is_instant_order phases (order_at orders i)) (is_instant_in_call phases orders deals) (length orders) instant-same)

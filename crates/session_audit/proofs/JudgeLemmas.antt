@@ -5,7 +5,7 @@ use Rattle.std.proofs.lemmas.Bool.{cases_lt, cases_Bool, or_cases, eqb-true}
 use Rattle.std.specs.Prelude.{◌==◌}
 use Rattle.audit_base.specs.declared.orders.Order.{Order}
 use Rattle.audit_base.specs.declared.orders.Deal.{Deal}
-use Rattle.audit_base.specs.Deals.{names, part_of, traded, NamesOrders}
+use Rattle.audit_base.specs.Deals.{names_order, quantity_traded_by, traded, NamesOrders}
 use Rattle.audit_base.proofs.SumLemmas.{sum_by-none}
 use Rattle.audit_base.proofs.OffenceLemmas.{part-away}
 use Rattle.matching_core.specs.declared.outcomes.Reached.{Reached}
@@ -18,10 +18,10 @@ use Rattle.session_audit.specs.Progress.{HasPhaseTotals, AddsNumbers, AddsPhase,
 
 -- no deal names an order past the end of the list
 pub traded-past : (orders : List Order) (deals : List Deal) → All (NamesOrders orders) deals → (i : ℕ) → length orders ≤ i → traded deals i ≡ 0
-traded-past orders deals named i le = sum_by-none (part_of i) deals (λ n x lt.
+traded-past orders deals named i le = sum_by-none (quantity_traded_by i) deals (λ n x lt.
     let d = get_or deals n x in
     let is = named n x lt in
-    part-away i d (elim (cases_Bool (names i d)) [
+    part-away i d (elim (cases_Bool (names_order i d)) [
       | inr away ↦ away
       | inl here ↦ elim (or_cases (d.bid == i) (d.ask == i) here) [
         | inl b ↦ let e : d.bid ≡ i = eqb-true _ _ b in let inside = is.bid_inside in absurd (omega arith)

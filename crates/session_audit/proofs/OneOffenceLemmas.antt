@@ -5,8 +5,8 @@ use Rattle.std.proofs.lemmas.Bool.{cases_order}
 use Rattle.audit_base.specs.declared.findings.Finding.{Finding}
 use Rattle.audit_base.specs.declared.orders.Deal.{Deal}
 use Rattle.audit_base.specs.declared.orders.Order.{Order}
-use Rattle.audit_base.specs.Deals.{AreDeals, NamesOrders}
-use Rattle.audit_base.specs.Orders.{missing_order}
+use Rattle.audit_base.specs.Deals.{DealsInRange, NamesOrders}
+use Rattle.audit_base.specs.Orders.{order_past_end}
 use Rattle.audit_base.specs.Verdicts.{IsFirstOffence}
 use Rattle.audit_base.proofs.VerdictLemmas.{one-offence}
 use Rattle.session_audit.specs.declared.phases.Phase.{Phase}
@@ -18,13 +18,13 @@ use Rattle.session_audit.proofs.PhaseDealLemmas.{deals-named}
 use Rattle.session_audit.proofs.UniqueLemmas.{in-range}
 
 module _ (phases : List Phase) (orders : List Order) (deals : List Deal) (count : ℕ) (one other : Finding)
-    (rises : AllPairs (λ (o p : Order). o.place < p.place) orders) (named : All (NamesOrders orders) deals) (ranges : AreDeals deals) where
+    (rises : AllPairs (λ (o p : Order). o.place < p.place) orders) (named : All (NamesOrders orders) deals) (ranges : DealsInRange deals) where
   -- the first offences of a phase are one
   same-phase : (j k : ℕ) → j ≡ k → IsFirstOffence (rule_of (phase_kind phases j)) (phase_orders phases orders deals j) (phase_deals phases orders deals j) count one
       → IsFirstOffence (rule_of (phase_kind phases k)) (phase_orders phases orders deals k) (phase_deals phases orders deals k) count other → one ≡ other
   same-phase j k same x y =
       one-offence (rule_of (phase_kind phases k)) (phase_orders phases orders deals k) (phase_deals phases orders deals k) count one other
-      (deals-named phases orders (λ i m lt below. rises i m missing_order lt below) deals k named) (in-range phases orders deals k ranges)
+      (deals-named phases orders (λ i m lt below. rises i m order_past_end lt below) deals k named) (in-range phases orders deals k ranges)
       (subst (λ (i : ℕ). IsFirstOffence (rule_of (phase_kind phases i)) (phase_orders phases orders deals i) (phase_deals phases orders deals i) count one) same x) y
 
   -- the least phase that fails is one

@@ -8,7 +8,7 @@ use Rattle.audit_base.specs.declared.orders.Order.{Order}
 use Rattle.audit_base.specs.declared.orders.Deal.{Deal}
 use Rattle.audit_base.specs.Sums.{sum_below}
 use Rattle.audit_base.specs.Orders.{side_at, IsOrderList}
-use Rattle.audit_base.specs.Deals.{names, part_of, traded, NamesOrders, IsDeal, AreDeals}
+use Rattle.audit_base.specs.Deals.{names_order, quantity_traded_by, traded, NamesOrders, DealInRange, DealsInRange}
 use Rattle.audit_base.specs.Continuous.{cause}
 use Rattle.audit_base.proofs.OrderLemmas.{same_place, not_both_sides}
 use Rattle.audit_base.proofs.SumLemmas.{sum_by-below, sum_by-same, sum_by-le-All, below-same, below-none, below-single, All-each}
@@ -103,15 +103,15 @@ module _ (phases : List Phase) (are : ArePhases phases) where
     abbrev in_test : Deal → ℕ → Bool
     in_test d j = is_in_phase phases j (cause orders d)
 
-    earlier-parts : (k i : ℕ) → traded_before_phase phases orders deals k i ≡ sum_by (λ d. sum_below (λ j. cond (in_test d j) (part_of i d) 0) k) deals
+    earlier-parts : (k i : ℕ) → traded_before_phase phases orders deals k i ≡ sum_by (λ d. sum_below (λ j. cond (in_test d j) (quantity_traded_by i d) 0) k) deals
     unfolding traded_before_phase phase_deals
-    earlier-parts k i = below-same (λ j. traded_in_phase phases orders deals j i) (λ j. sum_by (λ d. cond (in_test d j) (part_of i d) 0) deals) k (λ j lt. filter-sum (part_of i) (λ d. in_test d j) deals)
-        ∙ sym (sum_by-below (λ d j. cond (in_test d j) (part_of i d) 0) deals k)
+    earlier-parts k i = below-same (λ j. traded_in_phase phases orders deals j i) (λ j. sum_by (λ d. cond (in_test d j) (quantity_traded_by i d) 0) deals) k (λ j lt. filter-sum (quantity_traded_by i) (λ d. in_test d j) deals)
+        ∙ sym (sum_by-below (λ d j. cond (in_test d j) (quantity_traded_by i d) 0) deals k)
 
     pub earlier-le : (k i : ℕ) → k ≤ length phases → traded_before_phase phases orders deals k i ≤ traded deals i
     earlier-le k i le =
         let e = earlier-parts k i in
-        let m = sum_by-le-All (λ d. sum_below (λ j. cond (in_test d j) (part_of i d) 0) k) (part_of i) deals (All-each (λ d. sum_below (λ j. cond (in_test d j) (part_of i d) 0) k ≤ part_of i d) deals (λ d. at-most (in_test d) (part_of i d) k (λ a b less lt x y. lies-once (cause orders d) a b less (omega arith) x y))) in
+        let m = sum_by-le-All (λ d. sum_below (λ j. cond (in_test d j) (quantity_traded_by i d) 0) k) (quantity_traded_by i) deals (All-each (λ d. sum_below (λ j. cond (in_test d j) (quantity_traded_by i d) 0) k ≤ quantity_traded_by i d) deals (λ d. at-most (in_test d) (quantity_traded_by i d) k (λ a b less lt x y. lies-once (cause orders d) a b less (omega arith) x y))) in
         omega arith
 
     pub earlier-more : (k i : ℕ) → traded_before_phase phases orders deals (suc k) i ≡ traded_before_phase phases orders deals k i + traded_in_phase phases orders deals k i
@@ -131,11 +131,11 @@ module _ (phases : List Phase) (are : ArePhases phases) where
     ]
 
     pub earlier-whole : IsOrderList orders → All (NamesOrders orders) deals → HaveCausesInRange orders deals → (i : ℕ) → traded_before_phase phases orders deals (length phases) i ≡ traded deals i
-    earlier-whole list named most i = earlier-parts (length phases) i ∙ sum_by-same (λ d. sum_below (λ j. cond (in_test d j) (part_of i d) 0) (length phases)) (part_of i) deals (λ n x lt.
+    earlier-whole list named most i = earlier-parts (length phases) i ∙ sum_by-same (λ d. sum_below (λ j. cond (in_test d j) (quantity_traded_by i d) 0) (length phases)) (quantity_traded_by i) deals (λ n x lt.
         let d = get_or deals n x in
         let at = lies-somewhere (cause orders d) (cause-some list d (named n x lt)) (most n x lt) in
-        below-single (λ j. cond (in_test d j) (part_of i d) 0) (length phases) at.0 at.1 (λ j below ne. elim (cases_Bool (in_test d j)) [
-          | inr f ↦ cond-false (in_test d j) (part_of i d) 0 f
+        below-single (λ j. cond (in_test d j) (quantity_traded_by i d) 0) (length phases) at.0 at.1 (λ j below ne. elim (cases_Bool (in_test d j)) [
+          | inr f ↦ cond-false (in_test d j) (quantity_traded_by i d) 0 f
           | inl t ↦ elim (cases_order j at.0) [
             | inl e ↦ absurd (ne e)
             | inr differ ↦ elim differ [
@@ -144,7 +144,7 @@ module _ (phases : List Phase) (are : ArePhases phases) where
             ]
           ]
         ])
-        ∙ cond-true (in_test d at.0) (part_of i d) 0 at.2)
+        ∙ cond-true (in_test d at.0) (quantity_traded_by i d) 0 at.2)
 
 -- what an order trades in fewer than 2^32 deals is at most 2^72
 pub sum-most : {X : Type 0} (f : X → ℕ) (xs : List X) → All (λ x. f x ≤ 10 ^ 12) xs → sum_by f xs ≤ length xs * 10 ^ 12
@@ -155,13 +155,13 @@ sum-most f (x ∷ xs) h =
     let s = sum_by-cons f x xs in
     omega arith
 
-part-most : (i : ℕ) (d : Deal) → IsDeal d → part_of i d ≤ 10 ^ 12
-part-most i d is = let most = is.most in elim (cases_Bool (names i d)) [
-  | inl t ↦ let e = cond-true (names i d) d.quantity 0 t in omega arith
-  | inr f ↦ let e = cond-false (names i d) d.quantity 0 f in omega arith
+part-most : (i : ℕ) (d : Deal) → DealInRange d → quantity_traded_by i d ≤ 10 ^ 12
+part-most i d is = let most = is.most in elim (cases_Bool (names_order i d)) [
+  | inl t ↦ let e = cond-true (names_order i d) d.quantity 0 t in omega arith
+  | inr f ↦ let e = cond-false (names_order i d) d.quantity 0 f in omega arith
 ]
 
-pub traded-small : (deals : List Deal) → AreDeals deals → length deals < 2 ^ 32 → (i : ℕ) → traded deals i ≤ 2 ^ 72
+pub traded-small : (deals : List Deal) → DealsInRange deals → length deals < 2 ^ 32 → (i : ℕ) → traded deals i ≤ 2 ^ 72
 traded-small deals are few i =
-    let m = sum-most (part_of i) deals (λ n x lt. part-most i (get_or deals n x) (are n x lt)) in
+    let m = sum-most (quantity_traded_by i) deals (λ n x lt. part-most i (get_or deals n x) (are n x lt)) in
     omega arith

@@ -4,7 +4,7 @@ use Rattle.std.specs.Prelude.{nat_le}
 use Rattle.std.proofs.lemmas.Bool.{cases_lt, cases_Bool, cases_order, cond-true, cond-false, le-leb, leb-true, both_ways}
 use Rattle.std.proofs.lemmas.List.Sums.{prefix_len-le-length, prefix_len_passes, prefix_len_stops}
 use Rattle.audit_base.specs.declared.orders.Order.{Order}
-use Rattle.audit_base.specs.Orders.{order_at, place_at, side_at, missing_order, IsOrderList}
+use Rattle.audit_base.specs.Orders.{order_at, place_at, side_at, order_past_end, IsOrderList}
 use Rattle.audit_base.specs.Histories.{Regular}
 use Rattle.audit_base.proofs.OrderLemmas.{place-rises, same_place}
 use Rattle.audit_base.proofs.OffenceLemmas.{get_or-default}
@@ -75,14 +75,14 @@ module _ (orders : List Order) (last : ℕ) where
   upto-inside = prefix_len-le-length (λ (o : Order). nat_le o.place last) orders
 
   pub upto-below : (i : ℕ) → i < order_count_upto orders last → place_at orders i ≤ last
-  upto-below i lt = leb-true _ _ (prefix_len_passes (λ (o : Order). nat_le o.place last) orders i missing_order lt)
+  upto-below i lt = leb-true _ _ (prefix_len_passes (λ (o : Order). nat_le o.place last) orders i order_past_end lt)
 
   pub below-upto : Rises orders → (i : ℕ) → i < length orders → place_at orders i ≤ last → i < order_count_upto orders last
   below-upto rises i lt le = elim (cases_lt i (order_count_upto orders last)) [
     | inl below ↦ below
     | inr above ↦
         let n : ℕ = order_count_upto orders last in
-        let stops : nat_le (place_at orders n) last ≡ false = prefix_len_stops (λ (o : Order). nat_le o.place last) orders missing_order (omega arith) in
+        let stops : nat_le (place_at orders n) last ≡ false = prefix_len_stops (λ (o : Order). nat_le o.place last) orders order_past_end (omega arith) in
         let rises : place_at orders n ≤ place_at orders i = elim (cases_order n i) [
           | inl e ↦ let s : place_at orders n ≡ place_at orders i = ap (place_at orders) e in omega arith
           | inr ne ↦ elim ne [ inl less ↦ let r = rises n i less lt in omega arith | inr more ↦ absurd (omega arith) ]
@@ -109,7 +109,7 @@ module _ (orders : List Order) (last : ℕ) where
     phase-get i d lt = list_below-at entry (order_count_upto orders last) i d lt
 
     pub phase-at : (i : ℕ) → i < length phase → order_at phase i ≡ entry i
-    phase-at i lt = phase-get i missing_order (let e = phase-length in omega arith)
+    phase-at i lt = phase-get i order_past_end (let e = phase-length in omega arith)
 
     pub phase-inside : (i : ℕ) → i < length phase → i < length orders
     phase-inside i lt = let e = phase-length in let m = upto-inside in omega arith
@@ -141,8 +141,8 @@ module _ (orders : List Order) (last : ℕ) where
         rising = λ i j d less lt.
             let inside = phase-inside j lt in
             let r = place-rises orders list i j less inside in
-            let a : (get_or phase i d).place ≡ place_at phase i = ap (λ (o : Order). o.place) (get_or-default phase i d missing_order (omega arith)) in
-            let b : (get_or phase j d).place ≡ place_at phase j = ap (λ (o : Order). o.place) (get_or-default phase j d missing_order lt) in
+            let a : (get_or phase i d).place ≡ place_at phase i = ap (λ (o : Order). o.place) (get_or-default phase i d order_past_end (omega arith)) in
+            let b : (get_or phase j d).place ≡ place_at phase j = ap (λ (o : Order). o.place) (get_or-default phase j d order_past_end lt) in
             let x = phase-place i (omega arith) in
             let y = phase-place j lt in
             omega arith;

@@ -7,16 +7,16 @@ use Rattle.audit_base.specs.declared.orders.Order.{Order}
 use Rattle.audit_base.specs.declared.orders.Deal.{Deal}
 use Rattle.audit_base.specs.Sums.{sum_below}
 use Rattle.audit_base.specs.Orders.{place_at, quantity_at, IsOrderList}
-use Rattle.audit_base.specs.Deals.{traded, pair, volume, NamesOrders, AreDeals, IsDeal}
+use Rattle.audit_base.specs.Deals.{traded, pair, volume, NamesOrders, DealsInRange, DealInRange}
 use Rattle.audit_base.specs.Calls.{Matching, Fair}
 use Rattle.audit_base.specs.CallOffences.{is_cancelled}
-use Rattle.audit_base.specs.Continuous.{cause, chain, traded_before, rests, left}
+use Rattle.audit_base.specs.Continuous.{cause, chain, traded_before, rests_before_by_past, left_before_by_past}
 use Rattle.audit_base.specs.ContinuousRules.{ConformsContinuous}
 use Rattle.audit_base.specs.Histories.{Regular}
 use Rattle.audit_base.specs.Rules.{Conforms}
 use Rattle.audit_base.proofs.DealLemmas.{keeps-names}
 use Rattle.audit_base.proofs.SumLemmas.{sum_by-below, sum_by-same, sum_by-none, below-same, below-single, below-none}
-use Rattle.call_laws.specs.Laws.{FairVolumeFixes}
+use Rattle.call_laws.specs.Laws.{FairVolumeFixesQuantities}
 use Rattle.continuous_laws.specs.Laws.{ContinuousUniqueness}
 use Rattle.session_audit.specs.declared.phases.Phase.{Phase}
 use Rattle.session_audit.specs.declared.phases.PhaseKind.{PhaseKind}
@@ -28,9 +28,9 @@ use Rattle.session_audit.specs.Laws.{DayUniqueness, DayPairs}
 use Rattle.session_audit.proofs.PhaseListLemmas.{phase-is_list, phase-is_regular}
 
 -- the deals of a phase have numbers in range where all deals have
-pub in-range : (phases : List Phase) (orders : List Order) (deals : List Deal) (k : ℕ) → AreDeals deals → AreDeals (phase_deals phases orders deals k)
+pub in-range : (phases : List Phase) (orders : List Order) (deals : List Deal) (k : ℕ) → DealsInRange deals → DealsInRange (phase_deals phases orders deals k)
 unfolding phase_deals
-in-range phases orders deals k ranges = All-filter (λ d. is_in_phase phases k (cause orders d)) IsDeal deals ranges
+in-range phases orders deals k ranges = All-filter (λ d. is_in_phase phases k (cause orders d)) DealInRange deals ranges
 
 -- What an order trades with a sum over its pairs. A weight of a deal that its bid and its ask
 -- determine gives equal sums where the pairs are equal.
@@ -101,11 +101,11 @@ pub record Fixed (k : PhaseKind) (orders : List Order) (ds es : List Deal) : Typ
 equal : (a b : ℕ) → a ≤ b → b ≤ a → a ≡ b
 equal a b le ge = omega arith
 
-module _ (fixes : FairVolumeFixes) (unique : ContinuousUniqueness) where
+module _ (fixes : FairVolumeFixesQuantities) (unique : ContinuousUniqueness) where
   call-fixed : (orders : List Order) (ds es : List Deal) → IsOrderList orders → Matching orders ds → Fair orders ds → Matching orders es → Fair orders es → volume ds ≡ volume es → traded ds ≡ traded es
   call-fixed orders ds es list md fd me fe same = λ j i. fixes orders ds es list md fd me fe same i j
 
-  phase-fixed : (k : PhaseKind) (orders : List Order) (ds es : List Deal) → IsOrderList orders → Regular orders → AreDeals ds → AreDeals es → Conforms (rule_of k) orders ds → Conforms (rule_of k) orders es → Fixed k orders ds es
+  phase-fixed : (k : PhaseKind) (orders : List Order) (ds es : List Deal) → IsOrderList orders → Regular orders → DealsInRange ds → DealsInRange es → Conforms (rule_of k) orders ds → Conforms (rule_of k) orders es → Fixed k orders ds es
   phase-fixed kind.Uniform orders ds es list regular rd re c d =
       let same = equal (volume ds) (volume es) (d.greatest ds rd c.matching c.one_price) (c.greatest es re d.matching d.one_price) in
       let t : traded ds ≡ traded es = call-fixed orders ds es list c.matching c.fair d.matching d.fair same in
@@ -117,9 +117,9 @@ module _ (fixes : FairVolumeFixes) (unique : ContinuousUniqueness) where
   phase-fixed kind.Continuous orders ds es list regular rd re c d =
       let f = pairs-fix orders ds es c.named d.named (λ b a. unique orders ds es list regular c d b a) in
       let p : traded_before orders ds ≡ traded_before orders es = f.past in
-      record { totals = f.totals; left = λ last j i. cond (rests orders (p j) (suc last) i) (left orders (p j) (suc last) i) 0 }
+      record { totals = f.totals; left = λ last j i. cond (rests_before_by_past orders (p j) (suc last) i) (left_before_by_past orders (p j) (suc last) i) 0 }
 
-  module _ (phases : List Phase) (orders : List Order) (ds es : List Deal) (list : IsOrderList orders) (regular : Regular orders) (rd : AreDeals ds) (re : AreDeals es) (c : ConformsDay phases orders ds) (d : ConformsDay phases orders es) where
+  module _ (phases : List Phase) (orders : List Order) (ds es : List Deal) (list : IsOrderList orders) (regular : Regular orders) (rd : DealsInRange ds) (re : DealsInRange es) (c : ConformsDay phases orders ds) (d : ConformsDay phases orders es) where
     record Agree (k : ℕ) : Type 0 where
       rest : rest_after phases orders ds k ≡ rest_after phases orders es k
       earlier : traded_before_phase phases orders ds k ≡ traded_before_phase phases orders es k

@@ -6,9 +6,9 @@ use Rattle.audit_base.specs.declared.orders.Deal.{Deal}
 use Rattle.audit_base.specs.declared.findings.Property.TheVariants as property
 use Rattle.audit_base.specs.declared.findings.Finding.{Finding}
 use Rattle.audit_base.specs.Least.{least_with, any_below}
-use Rattle.audit_base.specs.Orders.{order_at, place_at, is_rests}
+use Rattle.audit_base.specs.Orders.{order_at, place_at, may_rest}
 use Rattle.audit_base.specs.Rules.{Conforms}
-use Rattle.audit_base.specs.Shows.{found}
+use Rattle.audit_base.specs.Shows.{finding_at_record}
 use Rattle.audit_base.specs.Verdicts.{IsFirstOffence}
 use Rattle.session_audit.specs.declared.phases.Phase.{Phase}
 use Rattle.session_audit.specs.Phases.{rule_of, is_call, phase_kind, is_in_phase, phase_deals}
@@ -22,14 +22,15 @@ is_own phases orders deals k i = is_in_phase phases k (place_at orders i)
 
 -- it is an own order of a call phase, and its life isn't Rests
 abbrev pub is_instant_in_call : List Phase → List Order → List Deal → ℕ → Bool
-is_instant_in_call phases orders deals i = not (is_rests (order_at orders i).life)
+is_instant_in_call phases orders deals i = not (may_rest (order_at orders i).life)
     && any_below (λ k. is_call (phase_kind phases k) && is_own phases orders deals k i)
     (length phases)
 
 -- finding 16: the least such order
 unfoldable pub instant_finding : List Phase → List Order → List Deal → Option Finding
 instant_finding phases orders deals =
-    option_map (λ i. found property.InstantOrder which.Orders (place_at orders i) None None)
+    option_map
+    (λ i. finding_at_record property.InstantOrder which.Orders (place_at orders i) None None)
     (least_with (is_instant_in_call phases orders deals) (length orders))
 
 -- the deals of the phase at index k are as its rule asks, over its order list

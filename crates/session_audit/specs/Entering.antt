@@ -3,7 +3,7 @@
 use Rattle.std.specs.Prelude.{ℕ, ◌-◌, Bool, true, not, ◌&&◌, nat_lt, List, Option, None, Some, if◌then◌else◌}
 use Rattle.audit_base.specs.declared.orders.Order.{Order}
 use Rattle.audit_base.specs.Orders.{order_at}
-use Rattle.audit_base.specs.Continuous.{is_own_place}
+use Rattle.audit_base.specs.Continuous.{is_cancelled_at_place}
 use Rattle.session_audit.specs.Numbers.{number_at}
 use Rattle.session_audit.specs.PhaseOrders.{OrderInPhase, Carried, Own, Gone, order_in_phase, phase_order, list_below}
 
@@ -22,7 +22,7 @@ order_by_amount first amount o = if nat_lt 0 amount
 -- the number of an order of the phase, where it is known whether its target isn't gone
 abbrev pub own_amount : Order → Bool → ℕ → ℕ
 own_amount o there spent =
-    if not (is_own_place o.cancelled o.place) && there then o.quantity - spent else 0
+    if not (is_cancelled_at_place o.cancelled o.place) && there then o.quantity - spent else 0
 
 -- the order has no target, or one whose number isn't 0
 abbrev pub target_has_amount : Option ℕ → List ℕ → Bool

@@ -3,8 +3,8 @@ use Rattle.std.specs.Prelude.{◌≡◌, ◌<◌, ℕ, suc, List, length, IsTrue
 use Rattle.audit_base.specs.declared.orders.Order.{Order}
 use Rattle.audit_base.specs.declared.orders.Deal.{Deal}
 use Rattle.audit_base.specs.declared.terms.Side.TheVariants.{Buy, Sell}
-use Rattle.audit_base.specs.Orders.{side_at, limit_at, IsOrderList, AreOrders}
-use Rattle.audit_base.specs.Deals.{pair, AreDeals}
+use Rattle.audit_base.specs.Orders.{side_at, limit_at, IsOrderList, OrdersInRange}
+use Rattle.audit_base.specs.Deals.{pair, DealsInRange}
 use Rattle.audit_base.specs.Histories.{Regular}
 use Rattle.session_audit.specs.declared.phases.Phase.{Phase}
 use Rattle.session_audit.specs.declared.phases.PhaseKind.TheVariants as kind
@@ -15,7 +15,7 @@ use Rattle.session_audit.specs.Days.{PhaseConforms, ConformsDay}
 -- 'day uniqueness': two lists of deals that conform trade the same with each order in each phase
 abbrev pub DayUniqueness : Type 0
 DayUniqueness = (phases : List Phase) (orders : List Order) (ds es : List Deal)
-    → IsOrderList orders → Regular orders → AreDeals ds → AreDeals es
+    → IsOrderList orders → Regular orders → DealsInRange ds → DealsInRange es
     → ConformsDay phases orders ds → ConformsDay phases orders es
     → (k : ℕ) → k < length phases → (i : ℕ)
     → traded_in_phase phases orders ds k i ≡ traded_in_phase phases orders es k i
@@ -23,7 +23,7 @@ DayUniqueness = (phases : List Phase) (orders : List Order) (ds es : List Deal)
 -- two such lists give each pair the same quantity in each continuous phase
 abbrev pub DayPairs : Type 0
 DayPairs = (phases : List Phase) (orders : List Order) (ds es : List Deal)
-    → IsOrderList orders → Regular orders → AreDeals ds → AreDeals es
+    → IsOrderList orders → Regular orders → DealsInRange ds → DealsInRange es
     → ConformsDay phases orders ds → ConformsDay phases orders es
     → (k : ℕ) → k < length phases → phase_kind phases k ≡ kind.Continuous → (bid ask : ℕ)
     → pair (phase_deals phases orders ds k) bid ask ≡ pair (phase_deals phases orders es k) bid ask
@@ -42,7 +42,7 @@ PhaseOrdersAreRegular = (phases : List Phase) (orders : List Order) (deals : Lis
 -- orders which are carried out of it give by themselves no spread finding.
 abbrev pub CarriedOrdersDoNotMeet : Type 0
 CarriedOrdersDoNotMeet = (phases : List Phase) (orders : List Order) (deals : List Deal) (k : ℕ)
-    → IsOrderList orders → AreOrders orders → AreDeals deals
+    → IsOrderList orders → OrdersInRange orders → DealsInRange deals
     → IsTrue (is_call (phase_kind phases k)) → PhaseConforms phases orders deals k
     → (bid ask : ℕ) → side_at orders bid ≡ Buy → side_at orders ask ≡ Sell
     → 0 < rest_after phases orders deals (suc k) bid

@@ -2,8 +2,8 @@
 use Rattle.std.specs.Prelude.{◌≤◌, ℕ, ◌+◌, ◌-◌, Bool, true, ◌&&◌, not, nat_lt, List, Option, None, Some, All, is_some, if◌then◌else◌}
 use Rattle.audit_base.specs.declared.orders.Order.{Order}
 use Rattle.audit_base.specs.declared.orders.Deal.{Deal}
-use Rattle.audit_base.specs.Orders.{order_at, place_at, is_rests}
-use Rattle.audit_base.specs.Continuous.{cause, is_own_place, uncancelled_before, size_of}
+use Rattle.audit_base.specs.Orders.{order_at, place_at, may_rest}
+use Rattle.audit_base.specs.Continuous.{cause, is_cancelled_at_place, uncancelled_before, size_of_order}
 use Rattle.audit_base.specs.ContinuousRules.{ConformsContinuous}
 use Rattle.audit_base.specs.Deals.{AreTotals}
 use Rattle.session_audit.specs.Numbers.{number_at}
@@ -30,7 +30,7 @@ EndsBy orders deals last = All (λ d. cause orders d ≤ last) deals
 
 -- the order was there before the place, and its life is Rests
 abbrev pub waits_before : Order → ℕ → Bool
-waits_before o p = is_rests o.life && nat_lt o.place p
+waits_before o p = may_rest o.life && nat_lt o.place p
 
 -- the order rests before the place, if it has this size and has traded this much
 abbrev pub rests_before_with : Order → ℕ → ℕ → ℕ → Bool
@@ -51,11 +51,11 @@ has_resting_target orders traded sizes i =
 -- the size of an order, where it is known whether its target rests
 abbrev pub size_by : Order → Bool → ℕ → ℕ
 size_by o there before =
-    if not (is_own_place o.cancelled o.place) && there then o.quantity - before else 0
+    if not (is_cancelled_at_place o.cancelled o.place) && there then o.quantity - before else 0
 
 -- the sizes of the first n orders
 abbrev pub sizes_below : List Order → List Deal → ℕ → List ℕ
-sizes_below orders deals n = list_below (size_of orders deals) n
+sizes_below orders deals n = list_below (size_of_order orders deals) n
 
 -- what a continuous phase that ends at `last` leaves of an order, if it has this size and has
 -- traded this much

@@ -12,7 +12,7 @@ use Rattle.audit_base.specs.Sums.{sum_below}
 use Rattle.audit_base.specs.Orders.{order_at, place_at, quantity_at}
 use Rattle.audit_base.specs.Deals.{traded}
 use Rattle.audit_base.specs.CallOffences.{is_cancelled}
-use Rattle.audit_base.specs.Continuous.{chain, was_placed, left_after, rests_after}
+use Rattle.audit_base.specs.Continuous.{chain, is_placed_order, left_after, rests_after}
 use Rattle.session_audit.specs.declared.phases.Phase.{Phase}
 use Rattle.session_audit.specs.declared.phases.PhaseKind.{PhaseKind}
 use Rattle.session_audit.specs.declared.phases.PhaseKind.TheVariants as kind
@@ -48,7 +48,7 @@ abbrev pub own_or_gone : List Order → (ℕ → ℕ) → List OrderInPhase → 
 own_or_gone orders spent earlier i =
     let target_stays = target_takes_part earlier (order_at orders i).target in
     let quantity = quantity_at orders i - spent i in
-    if was_placed orders i && (target_stays && nat_lt 0 quantity) then Own quantity else Gone
+    if is_placed_order orders i && (target_stays && nat_lt 0 quantity) then Own quantity else Gone
 
 -- what the order at i is in the phase; `earlier` has what the orders before it are
 abbrev pub order_by_earlier : List Order → ℕ → (ℕ → ℕ) → (ℕ → ℕ) → List OrderInPhase → ℕ

@@ -1,7 +1,7 @@
 //! The order list of a phase: how much of each order comes into it, and the order as the list
 //! has it. An order that is gone is kept as the number 0.
 ghost use Rattle.std.specs.Prelude.{◌≡◌, ◌<◌, ◌≤◌, ◌-◌, ◌&&◌, not, nat_lt, if◌then◌else◌, IfOk, IfSome, length};
-ghost use Rattle.audit_base.specs.Continuous.{is_own_place};
+ghost use Rattle.audit_base.specs.Continuous.{is_cancelled_at_place};
 ghost use Rattle.audit_base.specs.Orders.{IsOrderList, order_at};
 ghost use Rattle.order_list.specs.Changed.{with_terms};
 ghost use Rattle.session_audit.specs.Entering as entering;
@@ -14,12 +14,12 @@ use matching_core::totals::left_of;
 use order_list::changed::ChangedOrders;
 use order_list::listed::ListedOrder;
 use order_list::lists::OrderList;
-use order_list::stored::Terms;
+use order_list::stored::ChangedTerms;
 use std::alloc::Global;
 
 /// Whether the order was placed: it isn't cancelled at its own place.
 pub fn was_placed(order: &ListedOrder<'_>) -> bool
-    ensures { result ≡ not (is_own_place order.now.cancelled order.now.place) }
+    ensures { result ≡ not (is_cancelled_at_place order.now.cancelled order.now.place) }
 {
     match order.cancelled() {
         Some(end) => end != order.place(),
@@ -143,7 +143,7 @@ fn own_target(order: &ListedOrder<'_>, first: u32) -> Option<usize>
 }
 
 /// The terms of an order in the list of a phase, by how much of it comes into the phase.
-fn phase_terms(order: &ListedOrder<'_>, first: u32, last: u32, amount: u64) -> Terms
+fn phase_terms(order: &ListedOrder<'_>, first: u32, last: u32, amount: u64) -> ChangedTerms
     requires { amount ≤ order.now.quantity }
     ensures order { with_terms result.quantity result.cancelled result.target order.now
         ≡ spec.phase_order last order.now (entering.order_by_amount first amount order.now) }
@@ -151,12 +151,12 @@ fn phase_terms(order: &ListedOrder<'_>, first: u32, last: u32, amount: u64) -> T
 {
     order.in_range();
     match Quantity::of(amount) {
-        Some(quantity) => Terms {
+        Some(quantity) => ChangedTerms {
             quantity,
             cancelled: end_upto(order.cancelled(), last),
             target: own_target(order, first),
         },
-        None => Terms {
+        None => ChangedTerms {
             quantity: order.quantity(),
             cancelled: Some(order.place()),
             target: None,

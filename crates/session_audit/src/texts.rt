@@ -1,6 +1,6 @@
 //! The text of a day that conforms, line by line. After `NoMemory` nothing is known of `out`.
 ghost use Rattle.std.specs.Prelude.{◌≡◌, ◌++◌, ◌∷◌, IfOk, OnOk, length, map};
-ghost use Rattle.audit_report.specs.LineParts.{rest_text};
+ghost use Rattle.audit_report.specs.LineParts.{later_parts_text};
 ghost use Rattle.session_audit.specs.Texts as text;
 ghost use Rattle.session_audit.specs.Texts.{day_text};
 
@@ -36,7 +36,7 @@ fn append_after_comma(alloc: Global, phase: &Phase, out: &mut Vec<u8>) -> Result
 /// Appends the phases, each with a comma before it.
 fn append_rest(alloc: Global, phases: &[Phase], out: &mut Vec<u8>) -> Result<(), NoMemory>
     ensures { OnOk result
-        (out.new.items ≡ out.old.items ++ rest_text (map text.phase_text phases.now)) }
+        (out.new.items ≡ out.old.items ++ later_parts_text (map text.phase_text phases.now)) }
 {
     for phase in phases {
         append_after_comma(alloc, phase, out)?;

@@ -1,12 +1,13 @@
--- The best of the orders so far is kept from one to the next, and at their end it is the best short order.
+-- The best of the orders so far is kept from one to the next, and at their end it is
+-- the best short order.
 use Rattle.std.proofs.Common.{◌≡◌, ◌<◌, ◌≤◌, ℕ, suc, List, length, Bool, true, false, Option, None, Some, sym, ap, ◌∙◌, subst, arith, inl, inr}
 use Rattle.std.specs.Prelude.{◌&&◌, nat_lt, slice_index, IfSome}
 use Rattle.std.proofs.lemmas.Bool.{cases_Bool, cases_eq, and_parts, both_ways}
 use Rattle.audit_base.specs.declared.terms.Side.{Side}
 use Rattle.audit_base.specs.declared.orders.Order.{Order}
 use Rattle.audit_base.specs.declared.orders.Deal.{Deal}
-use Rattle.audit_base.specs.Orders.{order_at, quantity_at, stands_on, Stands, IsOrderList}
-use Rattle.audit_base.specs.Priority.{better, Better, best}
+use Rattle.audit_base.specs.Orders.{order_at, quantity_at, is_uncancelled_on, IsUncancelledOn, IsOrderList}
+use Rattle.audit_base.specs.Priority.{better, Better, best_order}
 use Rattle.audit_base.specs.Deals.{AreTotals}
 use Rattle.audit_base.specs.CallOffences.{is_short, best_short}
 use Rattle.audit_base.proofs.LeastLemmas.{cases_Option}
@@ -68,12 +69,12 @@ module _ (orders : List Order) (test : ℕ → Bool) where
     | inr f ↦ rw f (same-held n i is (λ u b. both_ways _ f u))
   ]
 
--- what is short on a side stands there
-pub short-stands : (orders : List Order) (traded : List ℕ) (side : Side) (i : ℕ) → i < length orders → is_short_on orders traded side i ≡ true → Stands orders side i
+-- what is short on a side is of it, and no record cancels it
+pub short-stands : (orders : List Order) (traded : List ℕ) (side : Side) (i : ℕ) → i < length orders → is_short_on orders traded side i ≡ true → IsUncancelledOn orders side i
 short-stands orders traded side i lt t =
-    test-stands orders side i lt ((and_parts (stands_on side (order_at orders i)) (nat_lt (slice_index traded i) (quantity_at orders i)) t).0)
+    test-stands orders side i lt ((and_parts (is_uncancelled_on side (order_at orders i)) (nat_lt (slice_index traded i) (quantity_at orders i)) t).0)
 
-pub held-stands : (orders : List Order) (traded : List ℕ) (side : Side) (n : ℕ) (held : Option ℕ) → n ≤ length orders → IsFoundBelow orders (is_short_on orders traded side) n held → IfSome held (Stands orders side)
+pub held-stands : (orders : List Order) (traded : List ℕ) (side : Side) (n : ℕ) (held : Option ℕ) → n ≤ length orders → IsFoundBelow orders (is_short_on orders traded side) n held → IfSome held (IsUncancelledOn orders side)
 held-stands orders traded side n None le is = tt
 held-stands orders traded side n (Some i) le is = let lt = is.below in short-stands orders traded side i (omega arith) is.passes
 
@@ -82,19 +83,19 @@ held-inside orders test None is = tt
 held-inside orders test (Some i) is = is.below
 
 -- a test that only orders of one side pass: what is found at the end is the best
-pub found-best : (orders : List Order) → IsOrderList orders → (side : Side) (test : ℕ → Bool) → ((i : ℕ) → i < length orders → test i ≡ true → Stands orders side i)
-    → (held : Option ℕ) → IsFoundBelow orders test (length orders) held → held ≡ best orders test
-found-best orders list side test stands None none = elim (cases_Option (best orders test)) [
+pub found-best : (orders : List Order) → IsOrderList orders → (side : Side) (test : ℕ → Bool) → ((i : ℕ) → i < length orders → test i ≡ true → IsUncancelledOn orders side i)
+    → (held : Option ℕ) → IsFoundBelow orders test (length orders) held → held ≡ best_order orders test
+found-best orders list side test stands None none = elim (cases_Option (best_order orders test)) [
   | inl nothing ↦ sym nothing
   | inr (j, e) ↦ let b = best-is orders test j e in absurd (both_ways _ (none j b.inside) b.passes)
 ]
 found-best orders list side test stands (Some i) is =
     sym (is-best orders list test side (λ k lt t. (stands k lt t).of_side) i (record { inside = is.below; passes = is.passes; none_better = is.none_better }))
 
--- where the numbers are what deals come to, the same orders are short
+-- where the numbers are the totals of deals, the same orders are short
 module _ (orders : List Order) (numbers : List ℕ) (deals : List Deal) (totals : AreTotals orders deals numbers) (side : Side) where
   short-same : (i : ℕ) → i < length orders → is_short_on orders numbers side i ≡ is_short orders deals side i
-  short-same i lt = ap (λ (n : ℕ). stands_on side (order_at orders i) && nat_lt n (quantity_at orders i)) (totals.each i lt)
+  short-same i lt = ap (λ (n : ℕ). is_uncancelled_on side (order_at orders i) && nat_lt n (quantity_at orders i)) (totals.each i lt)
 
   found-same : (held : Option ℕ) → IsFoundBelow orders (is_short_on orders numbers side) (length orders) held → IsFoundBelow orders (is_short orders deals side) (length orders) held
   found-same None none = λ j lt. sym (short-same j lt) ∙ none j lt

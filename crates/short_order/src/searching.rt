@@ -1,7 +1,8 @@
-//! The best order of a side that is short, where the side has no rank at hand: one pass over the orders.
+//! The best order of a side that is short, where the side has no rank at hand: one
+//! pass over the orders.
 ghost use Rattle.std.specs.Prelude.{◌≡◌, ◌<◌, IfSome, length};
-ghost use Rattle.audit_base.specs.Orders.{side_at, IsOrderList, Stands};
-ghost use Rattle.audit_base.specs.Priority.{best};
+ghost use Rattle.audit_base.specs.Orders.{side_at, IsOrderList, IsUncancelledOn};
+ghost use Rattle.audit_base.specs.Priority.{best_order};
 ghost use Rattle.short_order.specs.ShortOrders.{IsBestShortOn, is_short_on};
 ghost use Rattle.short_order.specs.Searching as spec;
 
@@ -9,8 +10,8 @@ use audit_base::terms::Side;
 use order_list::lists::OrderList;
 use rank_order::comparing::better;
 
-/// Whether the order at this index is of the side, no record cancels it, and it has traded less than its
-/// quantity.
+/// Whether the order at this index is of the side, no record cancels it, and it has traded less
+/// than its quantity.
 fn is_short_on(orders: &OrderList<'_>, traded: &[u128], side: Side, index: usize) -> bool
     requires inside { index < length orders.now }
     requires count { length traded.now ≡ length orders.now }
@@ -49,7 +50,7 @@ fn next_best(
 ) -> Option<usize>
     requires inside { index < length orders.now }
     requires count { length traded.now ≡ length orders.now }
-    requires held { IfSome held (Stands orders.now side) }
+    requires held { IfSome held (IsUncancelledOn orders.now side) }
     ensures { result
         ≡ spec.next_best orders.now (is_short_on orders.now traded.now side) held index }
 {
@@ -60,13 +61,13 @@ fn next_best(
     }
 }
 
-/// The best order of a side (price-time priority) that is short: no record cancels it, and what it has
-/// traded is below its quantity. None exactly where none is short. `traded` is what each order has traded,
-/// by its index. One pass over the orders. Takes no memory.
+/// The best order of a side (price-time priority) that is short: no record cancels it, and what it
+/// has traded is below its quantity. None exactly where none is short. `traded` is what each order
+/// has traded, by its index. One pass over the orders. Takes no memory.
 pub fn best_short_on(orders: &OrderList<'_>, traded: &[u128], side: Side) -> Option<usize>
     requires order_list { IsOrderList orders.now }
     requires count { length traded.now ≡ length orders.now }
-    ensures best { result ≡ best orders.now (is_short_on orders.now traded.now side) }
+    ensures best { result ≡ best_order orders.now (is_short_on orders.now traded.now side) }
     ensures of_deals { IsBestShortOn orders.now traded.now side result }
     ensures inside { IfSome result (λ i. i < length orders.now) }
 {

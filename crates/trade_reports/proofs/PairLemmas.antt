@@ -17,9 +17,9 @@ use Rattle.trade_reports.specs.declared.reports.LoneReport.{LoneReport}
 use Rattle.trade_reports.specs.declared.reports.PlacedReport.{PlacedReport}
 use Rattle.trade_reports.specs.declared.first_reports.FirstReports.{FirstReports}
 use Rattle.trade_reports.specs.declared.earlier_reports.EarlierReports.{EarlierReports}
-use Rattle.trade_reports.specs.Drafts.{IsKnown, IsLeast, IsPairingDraft, TakesPair, earlier, first_in, held_in}
-use Rattle.trade_reports.specs.Pairings.{HasTrades, Pair, agree, disagreement_of, disagrees, first_disagreement, first_lone, first_unless, is_at, least_waiting, lone_finding, pair_with, pairing, pairs, placed, trade_of, trades_of, trades_unless, waiting, without_second}
-use Rattle.log_source.specs.Handing.{Adds}
+use Rattle.trade_reports.specs.Drafts.{IsKnownOfReports, IsEarliestHeld, IsPairingDraft, TakesPair, earlier_report, first_report_in, report_held_in}
+use Rattle.trade_reports.specs.Pairings.{HasTrades, ReportPair, reports_agree, disagreement_of, pair_disagrees, disagreement_in_reversed, lone_report_in_reversed, first_unless_waiting, is_report_at, least_waiting_in_reversed, lone_finding, pair_with, pairing, pairs_in_reversed, placed_in_reversed, trade_of_reports, trades_of_pairs, trades_unless_lone, waiting_in_reversed, lone_without_second}
+use Rattle.log_source.specs.Handing.{HandsOnMore}
 use Rattle.trade_reports.proofs.FirstLemmas.{same_name-is, same_name-itself}
 
 -- a name is the same the other way round
@@ -38,26 +38,26 @@ same_name-turned a b = elim (cases_Bool (same_name a b)) [
 abbrev placed_report : Report → List Report → PlacedReport
 placed_report report before = record { place = length before + 1; report = report }
 
-waits-first : (id : List ℕ) (report : Report) (before : List Report) (then_in in_old : Option PlacedReport) → waiting report.trade before ≡ None → in_old ≡ waiting id before
-    → then_in ≡ cond (same_name report.trade id) (Some (placed_report report before)) (cond {A = Option PlacedReport} (same_name report.trade id) None in_old) → then_in ≡ waiting id (report ∷ before)
+waits-first : (id : List ℕ) (report : Report) (before : List Report) (then_in in_old : Option PlacedReport) → waiting_in_reversed report.trade before ≡ None → in_old ≡ waiting_in_reversed id before
+    → then_in ≡ cond (same_name report.trade id) (Some (placed_report report before)) (cond {A = Option PlacedReport} (same_name report.trade id) None in_old) → then_in ≡ waiting_in_reversed id (report ∷ before)
 waits-first id report before then_in in_old none old new = elim (cases_Bool (same_name report.trade id)) [
   | inl same ↦
       let is : report.trade ≡ id = same_name-is report.trade id same in
       let turned : same_name id report.trade ≡ true = sym (same_name-turned report.trade id) ∙ same in
-      let nothing : waiting id before ≡ None = ap (λ (x : List ℕ). waiting x before) (sym is) ∙ none in
+      let nothing : waiting_in_reversed id before ≡ None = ap (λ (x : List ℕ). waiting_in_reversed x before) (sym is) ∙ none in
       rw (turned, nothing) (rw same at new)
   | inr other ↦
       let turned : same_name id report.trade ≡ false = sym (same_name-turned report.trade id) ∙ other in
       rw turned ((rw other at new) ∙ old)
 ]
 
-waits-second : (id : List ℕ) (report : Report) (before : List Report) (first : PlacedReport) (then_in in_old : Option PlacedReport) → waiting report.trade before ≡ Some first → in_old ≡ waiting id before
-    → then_in ≡ cond {A = Option PlacedReport} (same_name report.trade id) None in_old → then_in ≡ waiting id (report ∷ before)
+waits-second : (id : List ℕ) (report : Report) (before : List Report) (first : PlacedReport) (then_in in_old : Option PlacedReport) → waiting_in_reversed report.trade before ≡ Some first → in_old ≡ waiting_in_reversed id before
+    → then_in ≡ cond {A = Option PlacedReport} (same_name report.trade id) None in_old → then_in ≡ waiting_in_reversed id (report ∷ before)
 waits-second id report before first then_in in_old some old new = elim (cases_Bool (same_name report.trade id)) [
   | inl same ↦
       let is : report.trade ≡ id = same_name-is report.trade id same in
       let turned : same_name id report.trade ≡ true = sym (same_name-turned report.trade id) ∙ same in
-      let there : waiting id before ≡ Some first = ap (λ (x : List ℕ). waiting x before) (sym is) ∙ some in
+      let there : waiting_in_reversed id before ≡ Some first = ap (λ (x : List ℕ). waiting_in_reversed x before) (sym is) ∙ some in
       rw (turned, there) (rw same at new)
   | inr other ↦
       let turned : same_name id report.trade ≡ false = sym (same_name-turned report.trade id) ∙ other in
@@ -65,29 +65,29 @@ waits-second id report before first then_in in_old some old new = elim (cases_Bo
 ]
 
 -- the pairs with the latest report
-pairs-first : (report : Report) (before : List Report) → waiting report.trade before ≡ None → pairs (report ∷ before) ≡ pairs before
-pairs-first report before none = ap (λ (o : Option PlacedReport). pairs before ++ pair_with (placed_report report before) o) none ∙ append-nil (pairs before)
+pairs-first : (report : Report) (before : List Report) → waiting_in_reversed report.trade before ≡ None → pairs_in_reversed (report ∷ before) ≡ pairs_in_reversed before
+pairs-first report before none = ap (λ (o : Option PlacedReport). pairs_in_reversed before ++ pair_with (placed_report report before) o) none ∙ append-nil (pairs_in_reversed before)
 
-pairs-second : (report : Report) (before : List Report) (first : PlacedReport) → waiting report.trade before ≡ Some first
-    → pairs (report ∷ before) ≡ pairs before ++ record { first = first; second = placed_report report before } ∷ []
-pairs-second report before first some = ap (λ (o : Option PlacedReport). pairs before ++ pair_with (placed_report report before) o) some
+pairs-second : (report : Report) (before : List Report) (first : PlacedReport) → waiting_in_reversed report.trade before ≡ Some first
+    → pairs_in_reversed (report ∷ before) ≡ pairs_in_reversed before ++ record { first = first; second = placed_report report before } ∷ []
+pairs-second report before first some = ap (λ (o : Option PlacedReport). pairs_in_reversed before ++ pair_with (placed_report report before) o) some
 
--- what a pair that disagrees comes to, if there is one
-abbrev disagreement : Option Pair → Option LoneReport
+-- what a pair that disagrees gives, if there is one
+abbrev disagreement : Option ReportPair → Option LoneReport
 disagreement pair = option_map disagreement_of pair
 
 -- a disagreement stays, and else it is that of the latest pair
-found-stays : (xs : List Pair) (pair : Pair) (lone : LoneReport) → disagreement (find disagrees xs) ≡ Some lone → disagreement (find disagrees (xs ++ pair ∷ [])) ≡ Some lone
-found-stays xs pair lone h = ap disagreement (find-append disagrees xs (pair ∷ [])) ∙ by (find disagrees xs) h
+found-stays : (xs : List ReportPair) (pair : ReportPair) (lone : LoneReport) → disagreement (find pair_disagrees xs) ≡ Some lone → disagreement (find pair_disagrees (xs ++ pair ∷ [])) ≡ Some lone
+found-stays xs pair lone h = ap disagreement (find-append pair_disagrees xs (pair ∷ [])) ∙ by (find pair_disagrees xs) h
   where
-    by : (o : Option Pair) → disagreement o ≡ Some lone → disagreement (option_or o (find disagrees (pair ∷ []))) ≡ Some lone
+    by : (o : Option ReportPair) → disagreement o ≡ Some lone → disagreement (option_or o (find pair_disagrees (pair ∷ []))) ≡ Some lone
     by None h = absurd (cc h)
     by (Some found) h = h
 
-found-last : (xs : List Pair) (pair : Pair) → None ≡ disagreement (find disagrees xs) → disagreement (find disagrees (xs ++ pair ∷ [])) ≡ cond (disagrees pair) (Some (disagreement_of pair)) None
-found-last xs pair h = ap disagreement (find-append disagrees xs (pair ∷ [])) ∙ by (find disagrees xs) h ∙ last (disagrees pair)
+found-last : (xs : List ReportPair) (pair : ReportPair) → None ≡ disagreement (find pair_disagrees xs) → disagreement (find pair_disagrees (xs ++ pair ∷ [])) ≡ cond (pair_disagrees pair) (Some (disagreement_of pair)) None
+found-last xs pair h = ap disagreement (find-append pair_disagrees xs (pair ∷ [])) ∙ by (find pair_disagrees xs) h ∙ last (pair_disagrees pair)
   where
-    by : (o : Option Pair) → None ≡ disagreement o → disagreement (option_or o (find disagrees (pair ∷ []))) ≡ disagreement (find disagrees (pair ∷ []))
+    by : (o : Option ReportPair) → None ≡ disagreement o → disagreement (option_or o (find pair_disagrees (pair ∷ []))) ≡ disagreement (find pair_disagrees (pair ∷ []))
     by None h = refl
     by (Some found) h = absurd (cc h)
 
@@ -97,76 +97,76 @@ found-last xs pair h = ap disagreement (find-append disagrees xs (pair ∷ [])) 
 
 module _ {K : Type 0} (has_taken : K → List TradeRecord → Type 0) where
   pub known-first : (firsts after : FirstReports) (lone : Option LoneReport) (trades : K) (report : Report) (all : List Report)
-      → waiting report.trade all ≡ None → IsKnown has_taken firsts lone trades all
-      → ((q : List ℕ) → first_in after q ≡ cond (same_name report.trade q) (Some (placed_report report all)) (cond {A = Option PlacedReport} (same_name report.trade q) None (first_in firsts q)))
-      → IsKnown has_taken after lone trades (report ∷ all)
+      → waiting_in_reversed report.trade all ≡ None → IsKnownOfReports has_taken firsts lone trades all
+      → ((q : List ℕ) → first_report_in after q ≡ cond (same_name report.trade q) (Some (placed_report report all)) (cond {A = Option PlacedReport} (same_name report.trade q) None (first_report_in firsts q)))
+      → IsKnownOfReports has_taken after lone trades (report ∷ all)
   known-first firsts after lone trades report all none known new =
       let same = pairs-first report all none in
       record {
-        waits = λ id. waits-first id report all (first_in after id) (first_in firsts id) none (known.waits id) (new id);
-        disagreement = known.disagreement ∙ ap (λ (l : List Pair). disagreement (find disagrees l)) (sym same);
-        handed = λ good. subst (λ (l : List Pair). has_taken trades (trades_of l)) (sym same) (known.handed good);
+        waits = λ id. waits-first id report all (first_report_in after id) (first_report_in firsts id) none (known.waits id) (new id);
+        disagreement = known.disagreement ∙ ap (λ (l : List ReportPair). disagreement (find pair_disagrees l)) (sym same);
+        handed = λ good. subst (λ (l : List ReportPair). has_taken trades (trades_of_pairs l)) (sym same) (known.handed good);
       }
 
-  second-lone : (lone found : Option LoneReport) (first : PlacedReport) (report : Report) (all : List Report) (trades after : K) → waiting report.trade all ≡ Some first → lone ≡ first_disagreement all
-      → TakesPair has_taken lone first (placed_report report all) trades after found → found ≡ first_disagreement (report ∷ all)
+  second-lone : (lone found : Option LoneReport) (first : PlacedReport) (report : Report) (all : List Report) (trades after : K) → waiting_in_reversed report.trade all ≡ Some first → lone ≡ disagreement_in_reversed all
+      → TakesPair has_taken lone first (placed_report report all) trades after found → found ≡ disagreement_in_reversed (report ∷ all)
   second-lone (Some old) found first report all trades after some is takes =
-      takes ∙ sym (ap (λ (l : List Pair). disagreement (find disagrees l)) (pairs-second report all first some) ∙ found-stays (pairs all) (record { first = first; second = placed_report report all }) old (sym is))
+      takes ∙ sym (ap (λ (l : List ReportPair). disagreement (find pair_disagrees l)) (pairs-second report all first some) ∙ found-stays (pairs_in_reversed all) (record { first = first; second = placed_report report all }) old (sym is))
   second-lone None found first report all trades after some is takes =
-      let pair : Pair = record { first = first; second = placed_report report all } in
-      by (agree first.report report) takes ∙ sym (ap (λ (l : List Pair). disagreement (find disagrees l)) (pairs-second report all first some) ∙ found-last (pairs all) pair is)
+      let pair : ReportPair = record { first = first; second = placed_report report all } in
+      by (reports_agree first.report report) takes ∙ sym (ap (λ (l : List ReportPair). disagreement (find pair_disagrees l)) (pairs-second report all first some) ∙ found-last (pairs_in_reversed all) pair is)
     where
-      by : (b : Bool) → MatchBool b ((found ≡ None) × Adds (has_taken trades) (has_taken after) (trade_of first.report report ∷ [])) (found ≡ Some (disagreement_of (record { first = first; second = placed_report report all })))
+      by : (b : Bool) → MatchBool b ((found ≡ None) × HandsOnMore (has_taken trades) (has_taken after) (trade_of_reports first.report report ∷ [])) (found ≡ Some (disagreement_of (record { first = first; second = placed_report report all })))
           → found ≡ cond (not b) (Some (disagreement_of (record { first = first; second = placed_report report all }))) None
       by true t = t.0
       by false t = t
 
-  second-handed : (lone found : Option LoneReport) (first : PlacedReport) (report : Report) (all : List Report) (trades after : K) → waiting report.trade all ≡ Some first
-      → (lone ≡ None → has_taken trades (trades_of (pairs all))) → TakesPair has_taken lone first (placed_report report all) trades after found → found ≡ None → has_taken after (trades_of (pairs (report ∷ all)))
+  second-handed : (lone found : Option LoneReport) (first : PlacedReport) (report : Report) (all : List Report) (trades after : K) → waiting_in_reversed report.trade all ≡ Some first
+      → (lone ≡ None → has_taken trades (trades_of_pairs (pairs_in_reversed all))) → TakesPair has_taken lone first (placed_report report all) trades after found → found ≡ None → has_taken after (trades_of_pairs (pairs_in_reversed (report ∷ all)))
   second-handed (Some old) found first report all trades after some handed takes good = absurd (cc (takes, good))
   second-handed None found first report all trades after some handed takes good =
-      let pair : Pair = record { first = first; second = placed_report report all } in
-      let shown : trades_of (pairs (report ∷ all)) ≡ trades_of (pairs all) ++ trade_of first.report report ∷ [] =
-      ap trades_of (pairs-second report all first some) ∙ map-append (λ (p : Pair). trade_of p.first.report p.second.report) (pairs all) (pair ∷ []) in
-      subst (has_taken after) (sym shown) (by (agree first.report report) takes)
+      let pair : ReportPair = record { first = first; second = placed_report report all } in
+      let shown : trades_of_pairs (pairs_in_reversed (report ∷ all)) ≡ trades_of_pairs (pairs_in_reversed all) ++ trade_of_reports first.report report ∷ [] =
+      ap trades_of_pairs (pairs-second report all first some) ∙ map-append (λ (p : ReportPair). trade_of_reports p.first.report p.second.report) (pairs_in_reversed all) (pair ∷ []) in
+      subst (has_taken after) (sym shown) (by (reports_agree first.report report) takes)
     where
-      by : (b : Bool) → MatchBool b ((found ≡ None) × Adds (has_taken trades) (has_taken after) (trade_of first.report report ∷ [])) (found ≡ Some (disagreement_of (record { first = first; second = placed_report report all })))
-          → has_taken after (trades_of (pairs all) ++ trade_of first.report report ∷ [])
-      by true t = t.1 (trades_of (pairs all)) (handed refl)
+      by : (b : Bool) → MatchBool b ((found ≡ None) × HandsOnMore (has_taken trades) (has_taken after) (trade_of_reports first.report report ∷ [])) (found ≡ Some (disagreement_of (record { first = first; second = placed_report report all })))
+          → has_taken after (trades_of_pairs (pairs_in_reversed all) ++ trade_of_reports first.report report ∷ [])
+      by true t = t.1 (trades_of_pairs (pairs_in_reversed all)) (handed refl)
       by false t = absurd (cc (t, good))
 
   pub known-second : (firsts after : FirstReports) (lone found : Option LoneReport) (trades then_trades : K) (first : PlacedReport) (report : Report) (all : List Report)
-      → waiting report.trade all ≡ Some first → IsKnown has_taken firsts lone trades all
-      → ((q : List ℕ) → first_in after q ≡ cond {A = Option PlacedReport} (same_name report.trade q) None (first_in firsts q))
-      → TakesPair has_taken lone first (placed_report report all) trades then_trades found → IsKnown has_taken after found then_trades (report ∷ all)
+      → waiting_in_reversed report.trade all ≡ Some first → IsKnownOfReports has_taken firsts lone trades all
+      → ((q : List ℕ) → first_report_in after q ≡ cond {A = Option PlacedReport} (same_name report.trade q) None (first_report_in firsts q))
+      → TakesPair has_taken lone first (placed_report report all) trades then_trades found → IsKnownOfReports has_taken after found then_trades (report ∷ all)
   known-second firsts after lone found trades then_trades first report all some known new takes = record {
-    waits = λ id. waits-second id report all first (first_in after id) (first_in firsts id) some (known.waits id) (new id);
+    waits = λ id. waits-second id report all first (first_report_in after id) (first_report_in firsts id) some (known.waits id) (new id);
     disagreement = second-lone lone found first report all trades then_trades some known.disagreement takes;
     handed = second-handed lone found first report all trades then_trades some known.handed takes;
   }
 
 -- no more trades than reports
-pairs-count : (all : List Report) → length (pairs all) ≤ length all
+pairs-count : (all : List Report) → length (pairs_in_reversed all) ≤ length all
 pairs-count [] = omega arith
 pairs-count (report ∷ all) =
     let rest = pairs-count all in
-    let both = length-append (pairs all) (pair_with (placed_report report all) (waiting report.trade all)) in
-    let one = few (placed_report report all) (waiting report.trade all) in omega (arith, rest, both, one)
+    let both = length-append (pairs_in_reversed all) (pair_with (placed_report report all) (waiting_in_reversed report.trade all)) in
+    let one = few (placed_report report all) (waiting_in_reversed report.trade all) in omega (arith, rest, both, one)
   where
     few : (second : PlacedReport) (o : Option PlacedReport) → length (pair_with second o) ≤ 1
     few second None = omega arith
     few second (Some first) = omega arith
 
-trades-count : (all : List Report) → length (trades_of (pairs all)) ≤ length all
+trades-count : (all : List Report) → length (trades_of_pairs (pairs_in_reversed all)) ≤ length all
 trades-count all =
-    let shown = length-map (pairs all) (λ (p : Pair). trade_of p.first.report p.second.report) in omega (arith, shown, pairs-count all)
+    let shown = length-map (pairs_in_reversed all) (λ (p : ReportPair). trade_of_reports p.first.report p.second.report) in omega (arith, shown, pairs-count all)
 
 -- reports that pair have the trades of their pairs
-pairing-trades : (reports : List Report) (entries : List TradeRecord) → pairing reports ≡ Ok entries → trades_of (pairs (reverse reports)) ≡ entries
+pairing-trades : (reports : List Report) (entries : List TradeRecord) → pairing reports ≡ Ok entries → trades_of_pairs (pairs_in_reversed (reverse reports)) ≡ entries
 unfolding pairing
-pairing-trades reports entries is = by (first_lone (reverse reports)) is
+pairing-trades reports entries is = by (lone_report_in_reversed (reverse reports)) is
   where
-    by : (lone : Option LoneReport) → trades_unless lone (trades_of (pairs (reverse reports))) ≡ Ok entries → trades_of (pairs (reverse reports)) ≡ entries
+    by : (lone : Option LoneReport) → trades_unless_lone lone (trades_of_pairs (pairs_in_reversed (reverse reports))) ≡ Ok entries → trades_of_pairs (pairs_in_reversed (reverse reports)) ≡ entries
     by None e = cc e
     by (Some lone) e = absurd (cc e)
 
@@ -176,7 +176,7 @@ module _ {K : Type 0} (has_taken : K → List TradeRecord → Type 0) where
   trades-place draft place good =
       let known = place.has.known in
       let few = trades-count (reverse place.entries) in
-      record { entries = trades_of (pairs (reverse place.entries)); has = known.handed good; few = omega (arith, few, length-reverse place.entries, place.few) }
+      record { entries = trades_of_pairs (pairs_in_reversed (reverse place.entries)); has = known.handed good; few = omega (arith, few, length-reverse place.entries, place.few) }
 
   -- and where all reports pair, one for another trade
   pub trades-few : (trades : K) (reports : List Report) → length reports < 2 ^ 32 - 1 → HasTrades (has_taken trades) (pairing reports) → HasPlace has_taken trades
@@ -185,21 +185,21 @@ module _ {K : Type 0} (has_taken : K → List TradeRecord → Type 0) where
       record { entries = is.entries; has = is.has; few = omega (arith, few, sizes, trades-count (reverse reports), length-reverse reports) }
 
   pub takes-report : (draft : PairingDraft K) (firsts : FirstReports) (trades : K) (found : Option LoneReport) (report : Report) (place : ℕ) → place ≡ draft.count + 1
-      → ((all : List Report) → place ≡ length all + 1 → IsKnown has_taken draft.firsts draft.lone draft.trades all → IsKnown has_taken firsts found trades (report ∷ all))
-      → (reports : List Report) → IsPairingDraft has_taken draft reports → (place ≡ length (reports ++ report ∷ [])) × IsKnown has_taken firsts found trades (reverse (reports ++ report ∷ []))
+      → ((all : List Report) → place ≡ length all + 1 → IsKnownOfReports has_taken draft.firsts draft.lone draft.trades all → IsKnownOfReports has_taken firsts found trades (report ∷ all))
+      → (reports : List Report) → IsPairingDraft has_taken draft reports → (place ≡ length (reports ++ report ∷ [])) × IsKnownOfReports has_taken firsts found trades (reverse (reports ++ report ∷ []))
   takes-report draft firsts trades found report place at takes reports is =
       let turned : reverse (reports ++ report ∷ []) ≡ report ∷ reverse reports = reverse-append reports (report ∷ []) in
       let sizes = length-reverse reports in
       let count = is.count in
       let next = takes (reverse reports) (omega (arith, at, count, sizes)) is.known in
-      (omega (arith, at, count, length-append reports (report ∷ [])), subst (IsKnown has_taken firsts found trades) (sym turned) next)
+      (omega (arith, at, count, length-append reports (report ∷ [])), subst (IsKnownOfReports has_taken firsts found trades) (sym turned) next)
 
 -- what a call that succeeds says, weaker
 pub ok-map : {T E : Type 0} (result : Result T E) (P Q : T → Type 0) → ((value : T) → P value → Q value) → IfOk result P → IfOk result Q
 ok-map (Ok value) P Q weaker holds = weaker value holds
 ok-map (Err why) P Q weaker holds = tt
 
--- what stands at a place of a list
+-- what is at a place of a list
 get-left : {X : Type 0} (xs ys : List X) (k : ℕ) (x : X) → slice_get xs k ≡ Some x → slice_get (xs ++ ys) k ≡ Some x
 get-left [] ys k x h = absurd (cc h)
 get-left (y ∷ xs) ys zero x h = h
@@ -233,69 +233,69 @@ find-none : {X : Type 0} (p : X → Bool) (xs : List X) → ((x : X) → p x ≡
 find-none p [] fails = refl
 find-none p (x ∷ xs) fails = rw (fails x) (find-none p xs fails)
 
-length-placed : (all : List Report) → length (placed all) ≡ length all
+length-placed : (all : List Report) → length (placed_in_reversed all) ≡ length all
 length-placed [] = refl
 length-placed (report ∷ before) =
     let rest = length-placed before in
-    let both = length-append (placed before) (placed_report report before ∷ []) in omega (arith, rest, both)
+    let both = length-append (placed_in_reversed before) (placed_report report before ∷ []) in omega (arith, rest, both)
 
 -- the report at an index has the place after it
-placed-at : (all : List Report) (k : ℕ) (found : PlacedReport) → slice_get (placed all) k ≡ Some found → found.place ≡ k + 1
+placed-at : (all : List Report) (k : ℕ) (found : PlacedReport) → slice_get (placed_in_reversed all) k ≡ Some found → found.place ≡ k + 1
 placed-at [] k found h = absurd (cc h)
-placed-at (report ∷ before) k found h = by (placed-at before k found) (get-split (placed before) (placed_report report before) k found h)
+placed-at (report ∷ before) k found h = by (placed-at before k found) (get-split (placed_in_reversed before) (placed_report report before) k found h)
   where
-    by : (slice_get (placed before) k ≡ Some found → found.place ≡ k + 1) → (slice_get (placed before) k ≡ Some found) ⊎ ((k ≡ length (placed before)) × (found ≡ placed_report report before)) → found.place ≡ k + 1
+    by : (slice_get (placed_in_reversed before) k ≡ Some found → found.place ≡ k + 1) → (slice_get (placed_in_reversed before) k ≡ Some found) ⊎ ((k ≡ length (placed_in_reversed before)) × (found ≡ placed_report report before)) → found.place ≡ k + 1
     by rest (inl there) = rest there
     by rest (inr last) =
         let place : found.place ≡ length before + 1 = ap (λ (p : PlacedReport). p.place) last.1 in
         omega (arith, place, last.0, length-placed before)
 
--- a report that waits stands at its place, under its id
+-- a report that waits is at its place, under its id
 record Stands (id : List ℕ) (all : List Report) (first : PlacedReport) : Type 0 where
   index : ℕ
   place : first.place ≡ index + 1
-  there : slice_get (placed all) index ≡ Some first
+  there : slice_get (placed_in_reversed all) index ≡ Some first
   named : id ≡ first.report.trade
 
-waiting-stands : (id : List ℕ) (all : List Report) (first : PlacedReport) → waiting id all ≡ Some first → Stands id all first
+waiting-stands : (id : List ℕ) (all : List Report) (first : PlacedReport) → waiting_in_reversed id all ≡ Some first → Stands id all first
 waiting-stands id [] first h = absurd (cc h)
 waiting-stands id (report ∷ before) first h = elim (cases_Bool (same_name id report.trade)) [
-  | inl same ↦ latest (waiting id before) (rw same at h) same
+  | inl same ↦ latest (waiting_in_reversed id before) (rw same at h) same
   | inr other ↦ earlier_one (waiting-stands id before first (rw other at h))
 ]
   where
-    latest : (o : Option PlacedReport) → first_unless (placed_report report before) o ≡ Some first → same_name id report.trade ≡ true → Stands id (report ∷ before) first
+    latest : (o : Option PlacedReport) → first_unless_waiting (placed_report report before) o ≡ Some first → same_name id report.trade ≡ true → Stands id (report ∷ before) first
     latest None e same =
         let is : placed_report report before ≡ first = cc e in
         subst (Stands id (report ∷ before)) is (record {
           index = length before;
           place = refl;
-          there = ap (λ (k : ℕ). slice_get (placed before ++ placed_report report before ∷ []) k) (sym (length-placed before)) ∙ get-end (placed before) (placed_report report before);
+          there = ap (λ (k : ℕ). slice_get (placed_in_reversed before ++ placed_report report before ∷ []) k) (sym (length-placed before)) ∙ get-end (placed_in_reversed before) (placed_report report before);
           named = same_name-is id report.trade same;
         })
     latest (Some other) e same = absurd (cc e)
 
     earlier_one : Stands id before first → Stands id (report ∷ before) first
-    earlier_one s = record { index = s.index; place = s.place; there = get-left (placed before) (placed_report report before ∷ []) s.index first s.there; named = s.named }
+    earlier_one s = record { index = s.index; place = s.place; there = get-left (placed_in_reversed before) (placed_report report before ∷ []) s.index first s.there; named = s.named }
 
 -- no report waits: none is the least
-none-waits : (all : List Report) → ((id : List ℕ) → waiting id all ≡ None) → least_waiting all ≡ None
-none-waits all none = find-none (λ report. is_at report.place (waiting report.report.trade all)) (placed all) (λ report. ap (is_at report.place) (none report.report.trade))
+none-waits : (all : List Report) → ((id : List ℕ) → waiting_in_reversed id all ≡ None) → least_waiting_in_reversed all ≡ None
+none-waits all none = find-none (λ report. is_report_at report.place (waiting_in_reversed report.report.trade all)) (placed_in_reversed all) (λ report. ap (is_report_at report.place) (none report.report.trade))
 
-at-place : (place : ℕ) (o : Option PlacedReport) → is_at place o ≡ true → (first : PlacedReport) × (o ≡ Some first) × (first.place ≡ place)
+at-place : (place : ℕ) (o : Option PlacedReport) → is_report_at place o ≡ true → (first : PlacedReport) × (o ≡ Some first) × (first.place ≡ place)
 at-place place None h = absurd (cc h)
 at-place place (Some first) h = (first, refl, eqb-true first.place place h)
 
 -- the report that waits with the least place is the one that is found
-least-waits : (all : List Report) (id : List ℕ) (first : PlacedReport) → waiting id all ≡ Some first → ((id : List ℕ) (other : PlacedReport) → waiting id all ≡ Some other → first.place ≤ other.place)
-    → least_waiting all ≡ Some first
+least-waits : (all : List Report) (id : List ℕ) (first : PlacedReport) → waiting_in_reversed id all ≡ Some first → ((id : List ℕ) (other : PlacedReport) → waiting_in_reversed id all ≡ Some other → first.place ≤ other.place)
+    → least_waiting_in_reversed all ≡ Some first
 least-waits all id first some least =
     let s = waiting-stands id all first some in
-    let own : waiting first.report.trade all ≡ Some first = ap (λ (x : List ℕ). waiting x all) (sym s.named) ∙ some in
-    find-at (λ report. is_at report.place (waiting report.report.trade all)) (placed all) s.index first s.there (ap (is_at first.place) own ∙ eq-eqb first.place first.place refl)
-    (λ k other less there. elim (cases_Bool (is_at other.place (waiting other.report.trade all))) [
+    let own : waiting_in_reversed first.report.trade all ≡ Some first = ap (λ (x : List ℕ). waiting_in_reversed x all) (sym s.named) ∙ some in
+    find-at (λ report. is_report_at report.place (waiting_in_reversed report.report.trade all)) (placed_in_reversed all) s.index first s.there (ap (is_report_at first.place) own ∙ eq-eqb first.place first.place refl)
+    (λ k other less there. elim (cases_Bool (is_report_at other.place (waiting_in_reversed other.report.trade all))) [
       | inl waits ↦
-          let found = at-place other.place (waiting other.report.trade all) waits in
+          let found = at-place other.place (waiting_in_reversed other.report.trade all) waits in
           let place = placed-at all k other there in
           let low = least other.report.trade found.0 found.1 in absurd (omega (arith, less, place, low, found.2, s.place))
       | inr other_place ↦ other_place
@@ -305,30 +305,30 @@ module _ {K : Type 0} (has_taken : K → List TradeRecord → Type 0) (draft : P
   pub ends-disagreement : (lone : LoneReport) → draft.lone ≡ Some lone → pairing reports ≡ Err (lone_finding lone)
   unfolding pairing
   ends-disagreement lone some =
-      ap (λ (o : Option LoneReport). trades_unless (option_or o (option_map without_second (least_waiting (reverse reports)))) (trades_of (pairs (reverse reports)))) (sym is.known.disagreement ∙ some)
+      ap (λ (o : Option LoneReport). trades_unless_lone (option_or o (option_map lone_without_second (least_waiting_in_reversed (reverse reports)))) (trades_of_pairs (pairs_in_reversed (reverse reports)))) (sym is.known.disagreement ∙ some)
 
-  pub ends-lone : (id : List ℕ) (first : PlacedReport) → draft.lone ≡ None → first_in draft.firsts id ≡ Some first
-      → ((id : List ℕ) (other : PlacedReport) → first_in draft.firsts id ≡ Some other → first.place ≤ other.place) → pairing reports ≡ Err (lone_finding (without_second first))
+  pub ends-lone : (id : List ℕ) (first : PlacedReport) → draft.lone ≡ None → first_report_in draft.firsts id ≡ Some first
+      → ((id : List ℕ) (other : PlacedReport) → first_report_in draft.firsts id ≡ Some other → first.place ≤ other.place) → pairing reports ≡ Err (lone_finding (lone_without_second first))
   unfolding pairing
   ends-lone id first none some least =
       let waits = is.known.waits in
       let found = least-waits (reverse reports) id first (sym (waits id) ∙ some) (λ other_id other there. least other_id other (waits other_id ∙ there)) in
-      ap (λ (o : Option LoneReport). trades_unless (option_or o (option_map without_second (least_waiting (reverse reports)))) (trades_of (pairs (reverse reports)))) (sym is.known.disagreement ∙ none)
-      ∙ ap (λ (o : Option PlacedReport). trades_unless (option_map without_second o) (trades_of (pairs (reverse reports)))) found
+      ap (λ (o : Option LoneReport). trades_unless_lone (option_or o (option_map lone_without_second (least_waiting_in_reversed (reverse reports)))) (trades_of_pairs (pairs_in_reversed (reverse reports)))) (sym is.known.disagreement ∙ none)
+      ∙ ap (λ (o : Option PlacedReport). trades_unless_lone (option_map lone_without_second o) (trades_of_pairs (pairs_in_reversed (reverse reports)))) found
 
-  pub ends-paired : draft.lone ≡ None → ((id : List ℕ) → first_in draft.firsts id ≡ None) → HasTrades (has_taken draft.trades) (pairing reports)
+  pub ends-paired : draft.lone ≡ None → ((id : List ℕ) → first_report_in draft.firsts id ≡ None) → HasTrades (has_taken draft.trades) (pairing reports)
   unfolding pairing
   ends-paired none alone =
       let found = none-waits (reverse reports) (λ id. sym (is.known.waits id) ∙ alone id) in
       record {
-        entries = trades_of (pairs (reverse reports));
+        entries = trades_of_pairs (pairs_in_reversed (reverse reports));
         has = is.known.handed none;
         paired =
-            ap (λ (o : Option LoneReport). trades_unless (option_or o (option_map without_second (least_waiting (reverse reports)))) (trades_of (pairs (reverse reports)))) (sym is.known.disagreement ∙ none)
-            ∙ ap (λ (o : Option PlacedReport). trades_unless (option_map without_second o) (trades_of (pairs (reverse reports)))) found;
+            ap (λ (o : Option LoneReport). trades_unless_lone (option_or o (option_map lone_without_second (least_waiting_in_reversed (reverse reports)))) (trades_of_pairs (pairs_in_reversed (reverse reports)))) (sym is.known.disagreement ∙ none)
+            ∙ ap (λ (o : Option PlacedReport). trades_unless_lone (option_map lone_without_second o) (trades_of_pairs (pairs_in_reversed (reverse reports)))) found;
       }
 
--- an entry that is looked up stands somewhere
+-- an entry that is looked up is somewhere
 lookup-place : (test : List ℕ → Bool) (es : List (List ℕ × PlacedReport)) (value : PlacedReport) → lookup test es ≡ Some value
     → (k : ℕ) × (key : List ℕ) × (k < length es) × (slice_get es k ≡ Some (key, value))
 lookup-place test [] value h = absurd (cc h)
@@ -344,8 +344,8 @@ lookup-place test (e ∷ es) value h = elim (cases_Bool (test e.0)) [
 
 -- one entry more
 module _ (held : EarlierReports) where
-  pub least-more : (i : ℕ) (least : Option PlacedReport) (id : List ℕ) (first : PlacedReport) → IsLeast held i least → held_in held id ≡ Some first
-      → Some (id, first) ≡ slice_get held.map.entries i → IsLeast held (i + 1) (Some (earlier least first))
+  pub least-more : (i : ℕ) (least : Option PlacedReport) (id : List ℕ) (first : PlacedReport) → IsEarliestHeld held i least → report_held_in held id ≡ Some first
+      → Some (id, first) ≡ slice_get held.map.entries i → IsEarliestHeld held (i + 1) (Some (earlier_report least first))
   least-more i None id first is known at = record {
     among = (id, known);
     below = λ k entry less there. elim (cases_lt k i) [
@@ -383,18 +383,18 @@ module _ (held : EarlierReports) where
         })
   ]
 
-  pub least-none : (i : ℕ) (least : Option PlacedReport) → IsLeast held i least → length held.map.entries ≤ i → IfNone least ((id : List ℕ) → held_in held id ≡ None)
-  least-none i None is all = λ id. by id (held_in held id) refl
+  pub least-none : (i : ℕ) (least : Option PlacedReport) → IsEarliestHeld held i least → length held.map.entries ≤ i → IfNone least ((id : List ℕ) → report_held_in held id ≡ None)
+  least-none i None is all = λ id. by id (report_held_in held id) refl
     where
-      by : (id : List ℕ) (o : Option PlacedReport) → held_in held id ≡ o → o ≡ None
+      by : (id : List ℕ) (o : Option PlacedReport) → report_held_in held id ≡ o → o ≡ None
       by id None e = refl
       by id (Some found) e =
           let place = lookup-place (same_name id) held.map.entries found e in
           absurd (is.below place.0 (place.1, found) (omega (arith, place.2, all)) place.3)
   least-none i (Some found) is all = tt
 
-  pub least-some : (i : ℕ) (least : Option PlacedReport) → IsLeast held i least → length held.map.entries ≤ i
-      → IfSome least (λ first. (id : List ℕ) (other : PlacedReport) → held_in held id ≡ Some other → first.place ≤ other.place)
+  pub least-some : (i : ℕ) (least : Option PlacedReport) → IsEarliestHeld held i least → length held.map.entries ≤ i
+      → IfSome least (λ first. (id : List ℕ) (other : PlacedReport) → report_held_in held id ≡ Some other → first.place ≤ other.place)
   least-some i None is all = tt
   least-some i (Some found) is all = λ id other there.
       let place = lookup-place (same_name id) held.map.entries other there in

@@ -6,11 +6,11 @@ use Rattle.std.proofs.lemmas.Grind.{reverse_onto}
 use Rattle.std.proofs.lemmas.List.Elements.{All-append, All-cons, All-head, All-nil, All-tail}
 use Rattle.audit_base.specs.declared.records.TradeRecord.{TradeRecord}
 use Rattle.audit_base.specs.RecordRanges.{AreInRange}
-use Rattle.audit_base.specs.Trades.{AreTrades, IsTrade}
+use Rattle.audit_base.specs.Trades.{TradesInRange, TradeInRange}
 use Rattle.trade_reports.specs.declared.reports.LoneReport.{LoneReport}
 use Rattle.trade_reports.specs.declared.reports.PlacedReport.{PlacedReport}
 use Rattle.trade_reports.specs.declared.reports.Report.{Report}
-use Rattle.trade_reports.specs.Pairings.{Pair, first_lone, pair_with, pairing, pairs, trade_of, trades_of, trades_unless, waiting}
+use Rattle.trade_reports.specs.Pairings.{ReportPair, lone_report_in_reversed, pair_with, pairing, pairs_in_reversed, trade_of_reports, trades_of_pairs, trades_unless_lone, waiting_in_reversed}
 use Rattle.trade_reports.specs.Ranges.{PairedTradesAreInRange}
 
 abbrev IsReport : Report → Type 0
@@ -23,29 +23,29 @@ reversed (report ∷ reports) are =
     (All-append IsReport (reverse reports) (report ∷ []) (reversed reports (All-tail IsReport report reports are)) (All-cons IsReport report [] (All-head IsReport report reports are) (All-nil IsReport)))
 
 -- a trade has the numbers of its second report
-abbrev IsPair : Pair → Type 0
+abbrev IsPair : ReportPair → Type 0
 IsPair pair = IsReport pair.second.report
 
 paired-with : (second : PlacedReport) (first : Option PlacedReport) → IsReport second.report → All IsPair (pair_with second first)
 paired-with second None is = All-nil IsPair
 paired-with second (Some first) is = All-cons IsPair (record { first = first; second = second }) [] is (All-nil IsPair)
 
-all-pairs : (all : List Report) → All IsReport all → All IsPair (pairs all)
+all-pairs : (all : List Report) → All IsReport all → All IsPair (pairs_in_reversed all)
 all-pairs [] are = All-nil IsPair
 all-pairs (report ∷ before) are =
-    All-append IsPair (pairs before) (pair_with (record { place = length before + 1; report = report }) (waiting report.trade before)) (all-pairs before (All-tail IsReport report before are))
-    (paired-with (record { place = length before + 1; report = report }) (waiting report.trade before) (All-head IsReport report before are))
+    All-append IsPair (pairs_in_reversed before) (pair_with (record { place = length before + 1; report = report }) (waiting_in_reversed report.trade before)) (all-pairs before (All-tail IsReport report before are))
+    (paired-with (record { place = length before + 1; report = report }) (waiting_in_reversed report.trade before) (All-head IsReport report before are))
 
-all-trades : (listed : List Pair) → All IsPair listed → AreTrades (trades_of listed)
-all-trades [] are = All-nil IsTrade
+all-trades : (listed : List ReportPair) → All IsPair listed → TradesInRange (trades_of_pairs listed)
+all-trades [] are = All-nil TradeInRange
 all-trades (pair ∷ listed) are =
     let is = All-head IsPair pair listed are in
-    All-cons IsTrade (trade_of pair.first.report pair.second.report) (trades_of listed) (record { some = is.some; most = is.most; priced = is.priced }) (all-trades listed (All-tail IsPair pair listed are))
+    All-cons TradeInRange (trade_of_reports pair.first.report pair.second.report) (trades_of_pairs listed) (record { some = is.some; most = is.most; priced = is.priced }) (all-trades listed (All-tail IsPair pair listed are))
 
-unless-lone : (lone : Option LoneReport) (trades : List TradeRecord) → AreTrades trades → IfOk (trades_unless lone trades) AreTrades
+unless-lone : (lone : Option LoneReport) (trades : List TradeRecord) → TradesInRange trades → IfOk (trades_unless_lone lone trades) TradesInRange
 unless-lone None trades are = are
 unless-lone (Some lone) trades are = tt
 
 pub paired-range : PairedTradesAreInRange
 unfolding pairing
-paired-range reports are = let all = reverse reports in unless-lone (first_lone all) (trades_of (pairs all)) (all-trades (pairs all) (all-pairs all (reversed reports are)))
+paired-range reports are = let all = reverse reports in unless-lone (lone_report_in_reversed all) (trades_of_pairs (pairs_in_reversed all)) (all-trades (pairs_in_reversed all) (all-pairs all (reversed reports are)))

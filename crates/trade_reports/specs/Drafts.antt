@@ -9,66 +9,74 @@ use Rattle.trade_reports.specs.declared.reports.PlacedReport.{PlacedReport}
 use Rattle.trade_reports.specs.declared.first_reports.FirstReports.{FirstReports}
 use Rattle.trade_reports.specs.declared.earlier_reports.EarlierReports.{EarlierReports}
 use Rattle.trade_reports.specs.declared.pairing_draft.PairingDraft.{PairingDraft}
-use Rattle.trade_reports.specs.Pairings.{agree, disagreement_of, first_disagreement, pairs, trade_of, trades_of, waiting}
-use Rattle.log_source.specs.Handing.{Adds}
+use Rattle.trade_reports.specs.Pairings.{reports_agree, disagreement_of, disagreement_in_reversed, pairs_in_reversed, trade_of_reports, trades_of_pairs, waiting_in_reversed}
+use Rattle.log_source.specs.Handing.{HandsOnMore}
 
 -- a report at a place
 abbrev pub report_at : ℕ → Report → PlacedReport
 report_at place report = record { place = place; report = report }
 
 -- the report with an id, as a map holds it
-abbrev pub held_in : EarlierReports → List ℕ → Option PlacedReport
-held_in reports id = get same_name reports.map id
+abbrev pub report_held_in : EarlierReports → List ℕ → Option PlacedReport
+report_held_in reports id = get same_name reports.map id
 
 -- whether there is a report, and it has the id
-abbrev pub is_latest : Option PlacedReport → List ℕ → Bool
-is_latest None id = false
-is_latest (Some latest) id = same_name latest.report.trade id
+abbrev pub latest_has_id : Option PlacedReport → List ℕ → Bool
+latest_has_id None id = false
+latest_has_id (Some latest) id = same_name latest.report.trade id
 
 -- the report that came last, where it still waits
-abbrev pub latest_of : FirstReports → Option PlacedReport
-latest_of reports = if reports.waits then reports.latest else None
+abbrev pub latest_waiting : FirstReports → Option PlacedReport
+latest_waiting reports = if reports.waits then reports.latest else None
 
 -- the latest report where it has the id, else what is found among the earlier ones
-abbrev pub latest_or : Option PlacedReport → List ℕ → Option PlacedReport → Option PlacedReport
-latest_or latest id found = if is_latest latest id then latest else found
+abbrev pub latest_or_earlier : Option PlacedReport → List ℕ → Option PlacedReport
+    → Option PlacedReport
+latest_or_earlier latest id found = if latest_has_id latest id then latest else found
 
 -- the first report with an id
-abbrev pub first_in : FirstReports → List ℕ → Option PlacedReport
-first_in reports id = latest_or (latest_of reports) id (held_in reports.earlier id)
+abbrev pub first_report_in : FirstReports → List ℕ → Option PlacedReport
+first_report_in reports id =
+    latest_or_earlier (latest_waiting reports) id (report_held_in reports.earlier id)
 
--- Of some reports, the latest first: which wait for a second one, the least disagreement, and where there is none
--- that their trades were handed on.
-pub record IsKnown {K : Type 0} (has_taken : K → List TradeRecord → Type 0) (firsts : FirstReports)
+-- Of some reports, the latest first: which wait for a second one, the least disagreement,
+-- and where there is none that their trades were handed on.
+pub record IsKnownOfReports {K : Type 0} (has_taken : K → List TradeRecord → Type 0)
+    (firsts : FirstReports)
     (lone : Option LoneReport) (trades : K) (all : List Report)
     : Type 0 where
-  pub waits : (id : List ℕ) → first_in firsts id ≡ waiting id all
-  pub disagreement : lone ≡ first_disagreement all
-  pub handed : lone ≡ None → has_taken trades (trades_of (pairs all))
+  pub waits : (id : List ℕ) → first_report_in firsts id ≡ waiting_in_reversed id all
+  pub disagreement : lone ≡ disagreement_in_reversed all
+  pub handed : lone ≡ None → has_taken trades (trades_of_pairs (pairs_in_reversed all))
 
 -- the draft has been handed exactly these reports
-pub record IsPairingDraft {K : Type 0} (has_taken : K → List TradeRecord → Type 0) (draft : PairingDraft K)
+pub record IsPairingDraft {K : Type 0} (has_taken : K → List TradeRecord → Type 0)
+    (draft : PairingDraft K)
     (reports : List Report)
     : Type 0 where
   pub count : draft.count ≡ length reports
-  pub known : IsKnown has_taken draft.firsts draft.lone draft.trades (reverse reports)
+  pub known : IsKnownOfReports has_taken draft.firsts draft.lone draft.trades (reverse reports)
 
 -- the earlier of two reports
-abbrev pub earlier : Option PlacedReport → PlacedReport → PlacedReport
-earlier None first = first
-earlier (Some found) first = if nat_le found.place first.place then found else first
+abbrev pub earlier_report : Option PlacedReport → PlacedReport → PlacedReport
+earlier_report None first = first
+earlier_report (Some found) first = if nat_le found.place first.place then found else first
 
 -- A pair was taken: its trade was handed on, unless it or a pair before it disagrees.
-abbrev pub TakesPair : {K : Type 0} → (K → List TradeRecord → Type 0) → Option LoneReport → PlacedReport → PlacedReport
+abbrev pub TakesPair : {K : Type 0} → (K → List TradeRecord → Type 0) → Option LoneReport
+    → PlacedReport → PlacedReport
     → K → K → Option LoneReport → Type 0
 TakesPair has_taken (Some found) first second old new lone = lone ≡ Some found
 TakesPair has_taken None first second old new lone =
-    MatchBool (agree first.report second.report)
-    ((lone ≡ None) × Adds (has_taken old) (has_taken new) (trade_of first.report second.report ∷ []))
+    MatchBool (reports_agree first.report second.report)
+    ((lone ≡ None) × HandsOnMore (has_taken old) (has_taken new)
+    (trade_of_reports first.report second.report ∷ []))
     (lone ≡ Some (disagreement_of (record { first = first; second = second })))
 
 -- the first of the entries up to an index that came first, if there are any
-pub record IsLeast (held : EarlierReports) (count : ℕ) (least : Option PlacedReport) : Type 0 where
-  pub among : IfSome least (λ first. (id : List ℕ) × (held_in held id ≡ Some first))
-  pub below : (k : ℕ) (entry : List ℕ × PlacedReport) → k < count → slice_get held.map.entries k ≡ Some entry
+pub record IsEarliestHeld (held : EarlierReports) (count : ℕ) (least : Option PlacedReport)
+    : Type 0 where
+  pub among : IfSome least (λ first. (id : List ℕ) × (report_held_in held id ≡ Some first))
+  pub below : (k : ℕ) (entry : List ℕ × PlacedReport) → k < count
+      → slice_get held.map.entries k ≡ Some entry
       → IsSomeAnd least (λ first. first.place ≤ entry.1.place)

@@ -1,6 +1,6 @@
--- How the reports of a trade log are paired into trades, and finding 4. The reports of one trade id (tag 527), in log
--- order, are taken two by two. Lists of reports named `all` and `before` stand the latest first, so that the place of a report is one more
--- than the number of those before it.
+-- How the reports of a trade log are paired into trades, and finding 4. The reports of one trade
+-- id (tag 527), in log order, are taken two by two. Lists of reports named `all` and `before` have
+-- the latest first, so that the place of a report is one more than the number of those before it.
 use Rattle.std.specs.Prelude.{◌≡◌, ℕ, Bool, false, not, ◌&&◌, ◌+◌, ◌==◌, Option, Some, None, Result, Ok, Err, MatchResult, List, [], ◌∷◌, ◌++◌, length, map, option_map, reverse, if◌then◌else◌}
 use Rattle.std.specs.List.{find}
 use Rattle.std.specs.Option.{option_or}
@@ -19,41 +19,47 @@ use Rattle.trade_reports.specs.declared.pairing.Paired.{Paired}
 use Rattle.trade_reports.specs.declared.pairing.Paired.TheVariants.{Trades, Alone}
 
 -- a report, unless it is the second of the pair that this one is the first of
-abbrev pub first_unless : PlacedReport → Option PlacedReport → Option PlacedReport
-first_unless report None = Some report
-first_unless report (Some first) = None
+abbrev pub first_unless_waiting : PlacedReport → Option PlacedReport → Option PlacedReport
+first_unless_waiting report None = Some report
+first_unless_waiting report (Some first) = None
 
--- the report that waits for a second one with this id: the latest report with the id, unless one was waiting for that
-abbrev pub waiting : List ℕ → List Report → Option PlacedReport
-waiting id [] = None
-waiting id (report ∷ before) =
+-- the report that waits for a second one with this id: the latest report with the id,
+-- unless one was waiting for that
+abbrev pub waiting_in_reversed : List ℕ → List Report → Option PlacedReport
+waiting_in_reversed id [] = None
+waiting_in_reversed id (report ∷ before) =
     if same_name id report.trade
-    then first_unless (record { place = length before + 1; report = report }) (waiting id before)
-    else waiting id before
+    then first_unless_waiting (record { place = length before + 1; report = report })
+    (waiting_in_reversed id before)
+    else waiting_in_reversed id before
 
 -- the first and the second report of a pair
-pub record Pair : Type 0 where
+pub record ReportPair : Type 0 where
   pub first : PlacedReport
   pub second : PlacedReport
 
-abbrev pub pair_with : PlacedReport → Option PlacedReport → List Pair
+abbrev pub pair_with : PlacedReport → Option PlacedReport → List ReportPair
 pair_with second None = []
 pair_with second (Some first) = record { first = first; second = second } ∷ []
 
 -- the pairs, in the order of their second reports
-abbrev pub pairs : List Report → List Pair
-pairs [] = []
-pairs (report ∷ before) =
-    pairs before ++ pair_with (record { place = length before + 1; report = report }) (waiting report.trade before)
+abbrev pub pairs_in_reversed : List Report → List ReportPair
+pairs_in_reversed [] = []
+pairs_in_reversed (report ∷ before) =
+    pairs_in_reversed before
+    ++ pair_with (record { place = length before + 1; report = report })
+    (waiting_in_reversed report.trade before)
 
--- two reports agree: one is of the buy side and the other of the sell side, and quantity, price and symbol are equal
-abbrev pub agree : Report → Report → Bool
-agree first second =
-    not (same_side first.side second.side) && first.quantity == second.quantity && first.price == second.price
+-- two reports agree: one is of the buy side and the other of the sell side, and quantity,
+-- price and symbol are equal
+abbrev pub reports_agree : Report → Report → Bool
+reports_agree first second =
+    not (same_side first.side second.side) && first.quantity == second.quantity
+    && first.price == second.price
     && same_name first.symbol second.symbol
 
-abbrev pub disagrees : Pair → Bool
-disagrees pair = not (agree pair.first.report pair.second.report)
+abbrev pub pair_disagrees : ReportPair → Bool
+pair_disagrees pair = not (reports_agree pair.first.report pair.second.report)
 
 -- the key of the buyer, and of the seller
 abbrev pub buy_key : Side → Key → Key → Key
@@ -65,8 +71,8 @@ sell_key side.Buy first second = second
 sell_key side.Sell first second = first
 
 -- the trade of a pair: its id, the keys of the two reports, and the time of the second one
-abbrev pub trade_of : Report → Report → TradeRecord
-trade_of first second = record {
+abbrev pub trade_of_reports : Report → Report → TradeRecord
+trade_of_reports first second = record {
   trade = second.trade;
   time = second.time;
   symbol = second.symbol;
@@ -76,68 +82,79 @@ trade_of first second = record {
   price = second.price;
 }
 
-abbrev pub trades_of : List Pair → List TradeRecord
-trades_of listed = map (λ pair. trade_of pair.first.report pair.second.report) listed
+abbrev pub trades_of_pairs : List ReportPair → List TradeRecord
+trades_of_pairs listed = map (λ pair. trade_of_reports pair.first.report pair.second.report) listed
 
 -- the reports with their places, in log order
-abbrev pub placed : List Report → List PlacedReport
-placed [] = []
-placed (report ∷ before) = placed before ++ record { place = length before + 1; report = report } ∷ []
+abbrev pub placed_in_reversed : List Report → List PlacedReport
+placed_in_reversed [] = []
+placed_in_reversed (report ∷ before) =
+    placed_in_reversed before ++ record { place = length before + 1; report = report } ∷ []
 
-abbrev pub is_at : ℕ → Option PlacedReport → Bool
-is_at place None = false
-is_at place (Some first) = first.place == place
+abbrev pub is_report_at : ℕ → Option PlacedReport → Bool
+is_report_at place None = false
+is_report_at place (Some first) = first.place == place
 
 -- the least report that is first and has no second
-abbrev pub least_waiting : List Report → Option PlacedReport
-least_waiting all = find (λ report. is_at report.place (waiting report.report.trade all)) (placed all)
+abbrev pub least_waiting_in_reversed : List Report → Option PlacedReport
+least_waiting_in_reversed all =
+    find (λ report. is_report_at report.place (waiting_in_reversed report.report.trade all))
+    (placed_in_reversed all)
 
 -- a pair that disagrees: the second report, with the first one shown
-abbrev pub disagreement_of : Pair → LoneReport
+abbrev pub disagreement_of : ReportPair → LoneReport
 disagreement_of pair = record { place = pair.second.place; first = Some pair.first.place }
 
 -- the least disagreement
-abbrev pub first_disagreement : List Report → Option LoneReport
-first_disagreement all = option_map disagreement_of (find disagrees (pairs all))
+abbrev pub disagreement_in_reversed : List Report → Option LoneReport
+disagreement_in_reversed all =
+    option_map disagreement_of (find pair_disagrees (pairs_in_reversed all))
 
 -- a report that is first and has no second
-abbrev pub without_second : PlacedReport → LoneReport
-without_second report = record { place = report.place; first = None }
+abbrev pub lone_without_second : PlacedReport → LoneReport
+lone_without_second report = record { place = report.place; first = None }
 
--- the first report that no other agrees with: the least second report that disagrees with its first, and where there
--- is none the least first report that has no second
-abbrev pub first_lone : List Report → Option LoneReport
-first_lone all = option_or (first_disagreement all) (option_map without_second (least_waiting all))
+-- the first report that no other agrees with: the least second report that disagrees
+-- with its first, and where there is none the least first report that has no second
+abbrev pub lone_report_in_reversed : List Report → Option LoneReport
+lone_report_in_reversed all =
+    option_or (disagreement_in_reversed all)
+    (option_map lone_without_second (least_waiting_in_reversed all))
 
 -- finding 4 at a report
 abbrev pub lone_finding : LoneReport → Finding
 lone_finding lone = finding_of [] (record { place = lone.place; evidence = Unpaired lone.first })
 
 -- the trades, or finding 4 in their place
-abbrev pub trades_unless : Option LoneReport → List TradeRecord → Result (List TradeRecord) Finding
-trades_unless None trades = Ok trades
-trades_unless (Some lone) trades = Err (lone_finding lone)
+abbrev pub trades_unless_lone : Option LoneReport → List TradeRecord
+    → Result (List TradeRecord) Finding
+trades_unless_lone None trades = Ok trades
+trades_unless_lone (Some lone) trades = Err (lone_finding lone)
 
-abbrev pub pairing_of_all : List Report → Result (List TradeRecord) Finding
-pairing_of_all all = trades_unless (first_lone all) (trades_of (pairs all))
+abbrev pub pairing_in_reversed : List Report → Result (List TradeRecord) Finding
+pairing_in_reversed all =
+    trades_unless_lone (lone_report_in_reversed all) (trades_of_pairs (pairs_in_reversed all))
 
 -- The trades of these reports, in the order of their second reports, or finding 4 in their place.
 unfoldable pub pairing : List Report → Result (List TradeRecord) Finding
-pairing reports = pairing_of_all (reverse reports)
+pairing reports = pairing_in_reversed (reverse reports)
 
--- what a trade log that has been read comes to: its trades, or the finding that its reports don't pair
-abbrev pub pairing_of : Paired → Result (List TradeRecord) Finding
-pairing_of (Trades trades) = Ok trades
-pairing_of (Alone finding) = Err finding
+-- what a trade log that has been read gives: its trades, or the finding that its reports don't pair
+abbrev pub result_of_paired : Paired → Result (List TradeRecord) Finding
+result_of_paired (Trades trades) = Ok trades
+result_of_paired (Alone finding) = Err finding
 
 -- some trades were handed on, and they are all that the reports pair into
-pub record HasTrades (has_taken : List TradeRecord → Type 0) (trades : Result (List TradeRecord) Finding) : Type 0 where
+pub record HasTrades (has_taken : List TradeRecord → Type 0)
+    (trades : Result (List TradeRecord) Finding) : Type 0 where
   pub entries : List TradeRecord
   pub has : has_taken entries
   pub paired : trades ≡ Ok entries
 
 -- what reports pair into is answered: a collector that was handed their trades, or finding 4
-abbrev pub IsPairedAs : {K : Type 0} → (K → List TradeRecord → Type 0) → Result (List TradeRecord) Finding
+abbrev pub IsPairedAs : {K : Type 0} → (K → List TradeRecord → Type 0)
+    → Result (List TradeRecord) Finding
     → Result K Finding → Type 0
 IsPairedAs has_taken paired result =
-    MatchResult result (λ trades. HasTrades (has_taken trades) paired) (λ finding. paired ≡ Err finding)
+    MatchResult result (λ trades. HasTrades (has_taken trades) paired)
+    (λ finding. paired ≡ Err finding)

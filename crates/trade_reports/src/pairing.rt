@@ -1,10 +1,11 @@
-//! The trades of a trade log. In a FIX log a trade is two execution reports with one SecondaryExecID
-//! (tag 527), so a log may have a finding in the place of trades; a CSV log always has trades.
+//! The trades of a trade log. In a FIX log a trade is two execution reports with one
+//! SecondaryExecID (tag 527), so a log may have a finding in the place of trades;
+//! a CSV log always has trades.
 ghost use Rattle.std.specs.Prelude.{◌≡◌, ◌<◌, ◌-◌, ◌^◌, [], IfOk, length};
 ghost use Rattle.audit_base.specs.Verdicts.{paired_trades};
 ghost use Rattle.log_source.specs.Collectors.{HasPlace};
 ghost use Rattle.trade_reports.specs.Drafts.{IsPairingDraft};
-ghost use Rattle.trade_reports.specs.Pairings.{IsPairedAs, pairing, pairing_of};
+ghost use Rattle.trade_reports.specs.Pairings.{IsPairedAs, pairing, result_of_paired};
 
 use crate::pairing_draft::PairingDraft;
 use crate::reports::Report;
@@ -47,7 +48,7 @@ impl TradeList {
     }
 }
 
-/// What a trade log that has been read comes to.
+/// What a trade log that has been read gives.
 #[derive(Debug, Drop)]
 pub enum Paired {
     /// Each report has its partner, as each record of a CSV log is a trade.
@@ -56,8 +57,8 @@ pub enum Paired {
     Alone(Finding),
 }
 
-/// Hands reports to a draft that has been handed none, and ends it. Nothing is known of the collector here,
-/// so what the loop is proved with is small.
+/// Hands reports to a draft that has been handed none, and ends it.
+/// Nothing is known of the collector here, so what the loop is proved with is small.
 fn pair_by<K: Collector<Entry = TradeRecord>>(
     mut draft: PairingDraft<K>,
     reports: &[Report],
@@ -73,15 +74,16 @@ fn pair_by<K: Collector<Entry = TradeRecord>>(
     Ok(draft.end())
 }
 
-/// The trades of fewer than 2^32 - 1 reports, in the order of their second reports. The reports of one
-/// trade id, in log order, are taken two by two, over all symbols. `Alone` comes exactly where finding 4
-/// stands: at the least second report that does not agree with its first, which is shown; where there is
-/// none, at the least first report that has no second. There are no more trades than reports.
+/// The trades of fewer than 2^32 - 1 reports, in the order of their second reports.
+/// The reports of one trade id, in log order, are taken two by two, over all symbols. `Alone` comes
+/// exactly where there is finding 4: at the least second report that does not agree with its first,
+/// which is shown; where there is none, at the least first report that has no second.
+/// There are no more trades than reports.
 pub fn pair_reports(alloc: Global, reports: &[Report]) -> Result<Paired, NoMemory>
     requires { length reports.now < 2 ^ 32 - 1 }
-    ensures pairs { IfOk result (λ paired. pairing_of paired ≡ pairing reports.now) }
+    ensures pairs { IfOk result (λ paired. result_of_paired paired ≡ pairing reports.now) }
     ensures few { IfOk result
-        (λ paired. length (paired_trades (pairing_of paired)) < 2 ^ 32 - 1) }
+        (λ paired. length (paired_trades (result_of_paired paired)) < 2 ^ 32 - 1) }
 {
     let draft = PairingDraft::over(alloc, HashSeed::fixed(), Vec::new(alloc));
     match pair_by(draft, reports)? {

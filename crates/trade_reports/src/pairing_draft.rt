@@ -1,9 +1,9 @@
 //! Pairing the trade reports of a log as they come.
 ghost use Rattle.std.specs.Prelude.{◌≡◌, ◌∷◌, ◌+◌, [], List, IfOk, OnOk, None, false, length};
 ghost use Rattle.log_source.specs.Collectors.{HasPlace};
-ghost use Rattle.log_source.specs.Handing.{Adds};
-ghost use Rattle.trade_reports.specs.Drafts.{IsKnown, IsPairingDraft, TakesPair, is_latest, latest_of, report_at};
-ghost use Rattle.trade_reports.specs.Pairings.{IsPairedAs, pairing, trade_of};
+ghost use Rattle.log_source.specs.Handing.{HandsOnMore};
+ghost use Rattle.trade_reports.specs.Drafts.{IsKnownOfReports, IsPairingDraft, TakesPair, latest_has_id, latest_waiting, report_at};
+ghost use Rattle.trade_reports.specs.Pairings.{IsPairedAs, pairing, trade_of_reports};
 ghost use Rattle.trade_reports.specs.declared.reports.Report.{Report};
 
 use crate::first_reports::FirstReports;
@@ -16,8 +16,9 @@ use log_source::collector::Collector;
 use seeded_hash::seed::HashSeed;
 use std::alloc::Global;
 
-/// What is known of the reports of a trade log after some of them: which wait for a second one, and
-/// whether a pair disagrees. The trades of the pairs are handed on in the order of their second reports.
+/// What is known of the reports of a trade log after some of them:
+/// which wait for a second one, and whether a pair disagrees.
+/// The trades of the pairs are handed on in the order of their second reports.
 #[derive(Drop)]
 pub struct PairingDraft<K> {
     count: u32,
@@ -26,15 +27,16 @@ pub struct PairingDraft<K> {
     trades: K,
 }
 
-// Hands on the trade of a pair. Where the collector does not look at trades of its symbol, none is made.
+// Hands on the trade of a pair. Where the collector does not look at trades
+// of its symbol, none is made.
 fn hand_on_pair<K: Collector<Entry = TradeRecord>>(
     trades: &mut K,
     first: &Report,
     second: &Report,
 ) -> Result<(), NoMemory>
     requires { HasPlace K.has_taken trades.old }
-    ensures { let trade = trade_of first.now second.now in
-        OnOk result (Adds (K.has_taken trades.old) (K.has_taken trades.new) (trade ∷ [])) }
+    ensures { let trade = trade_of_reports first.now second.now in
+        OnOk result (HandsOnMore (K.has_taken trades.old) (K.has_taken trades.new) (trade ∷ [])) }
 {
     if trades.wants(second.symbol.bytes()) {
         trades.take(trade_of(first, second))
@@ -67,8 +69,8 @@ fn take_pair<K: Collector<Entry = TradeRecord>>(
     hand_on_pair(trades, &first.report, second)
 }
 
-// Takes a report whose id is not that of the report that came last, where earlier ones may wait. Room for an
-// earlier one is made ready where this is called, so it stands apart.
+// Takes a report whose id is not that of the report that came last, where earlier ones may wait.
+// Room for an earlier one is made ready where this is called, so it is a function of its own.
 fn take_with_earlier<K: Collector<Entry = TradeRecord>>(
     firsts: &mut FirstReports,
     trades: &mut K,
@@ -76,11 +78,11 @@ fn take_with_earlier<K: Collector<Entry = TradeRecord>>(
     place: u32,
     report: &Report,
 ) -> Result<(), NoMemory>
-    requires other { is_latest (latest_of firsts.old) report.now.trade ≡ false }
+    requires other { latest_has_id (latest_waiting firsts.old) report.now.trade ≡ false }
     requires place { lone.old ≡ None → HasPlace K.has_taken trades.old }
     ensures { OnOk result ((all : List Report) → place ≡ length all + 1
-        → IsKnown K.has_taken firsts.old lone.old trades.old all
-        → IsKnown K.has_taken firsts.new lone.new trades.new (report.now ∷ all)) }
+        → IsKnownOfReports K.has_taken firsts.old lone.old trades.old all
+        → IsKnownOfReports K.has_taken firsts.new lone.new trades.new (report.now ∷ all)) }
 {
     match firsts.take_earlier(&report.trade) {
         None => firsts.add(place, report),
@@ -88,8 +90,8 @@ fn take_with_earlier<K: Collector<Entry = TradeRecord>>(
     }
 }
 
-// Takes a report whose id is not that of the report that came last. Mostly no earlier one waits, and then its
-// id need not be hashed.
+// Takes a report whose id is not that of the report that came last. Mostly no earlier one waits,
+// and then its id need not be hashed.
 fn take_other<K: Collector<Entry = TradeRecord>>(
     firsts: &mut FirstReports,
     trades: &mut K,
@@ -97,11 +99,11 @@ fn take_other<K: Collector<Entry = TradeRecord>>(
     place: u32,
     report: &Report,
 ) -> Result<(), NoMemory>
-    requires other { is_latest (latest_of firsts.old) report.now.trade ≡ false }
+    requires other { latest_has_id (latest_waiting firsts.old) report.now.trade ≡ false }
     requires place { lone.old ≡ None → HasPlace K.has_taken trades.old }
     ensures { OnOk result ((all : List Report) → place ≡ length all + 1
-        → IsKnown K.has_taken firsts.old lone.old trades.old all
-        → IsKnown K.has_taken firsts.new lone.new trades.new (report.now ∷ all)) }
+        → IsKnownOfReports K.has_taken firsts.old lone.old trades.old all
+        → IsKnownOfReports K.has_taken firsts.new lone.new trades.new (report.now ∷ all)) }
 {
     if firsts.has_no_earlier() {
         firsts.add(place, report)
@@ -110,8 +112,8 @@ fn take_other<K: Collector<Entry = TradeRecord>>(
     }
 }
 
-// Takes one more report. Mostly the report that came last is the first one of its trade, and is looked at
-// where it stands.
+// Takes one more report. Mostly the report that came last is the first one of its trade,
+// and is looked at where it is kept.
 fn take_report<K: Collector<Entry = TradeRecord>>(
     firsts: &mut FirstReports,
     trades: &mut K,
@@ -121,8 +123,8 @@ fn take_report<K: Collector<Entry = TradeRecord>>(
 ) -> Result<(), NoMemory>
     requires { lone.old ≡ None → HasPlace K.has_taken trades.old }
     ensures { OnOk result ((all : List Report) → place ≡ length all + 1
-        → IsKnown K.has_taken firsts.old lone.old trades.old all
-        → IsKnown K.has_taken firsts.new lone.new trades.new (report.now ∷ all)) }
+        → IsKnownOfReports K.has_taken firsts.old lone.old trades.old all
+        → IsKnownOfReports K.has_taken firsts.new lone.new trades.new (report.now ∷ all)) }
 {
     let Some(first) = firsts.latest_with(&report.trade) else {
         return take_other(firsts, trades, lone, place, report);
@@ -133,8 +135,8 @@ fn take_report<K: Collector<Entry = TradeRecord>>(
 }
 
 impl<K: Collector<Entry = TradeRecord>> PairingDraft<K> {
-    /// No reports, over a collector of trades that has been handed nothing. Ids are found by hashes of
-    /// this seed.
+    /// No reports, over a collector of trades that has been handed nothing.
+    /// Ids are found by hashes of this seed.
     pub fn over(alloc: Global, seed: HashSeed, trades: K) -> Self
         requires { K.has_taken trades [] }
         ensures { IsPairingDraft K.has_taken result [] }
@@ -147,9 +149,9 @@ impl<K: Collector<Entry = TradeRecord>> PairingDraft<K> {
         }
     }
 
-    /// The collector, which has been handed exactly the trades of the reports, or finding 4 in their
-    /// place: what the pairing of all reports gives, for every list that the draft has been handed. There
-    /// are no more trades than reports.
+    /// The collector, which has been handed exactly the trades of the reports,
+    /// or finding 4 in their place: what the pairing of all reports gives,
+    /// for every list that the draft has been handed. There are no more trades than reports.
     pub fn end(self) -> Result<K, Finding>
         ensures pairs { (reports : List Report) → IsPairingDraft K.has_taken self reports
             → IsPairedAs K.has_taken (pairing reports) result }

@@ -1,6 +1,6 @@
-//! What a pair of reports comes to.
+//! What a pair of reports gives.
 ghost use Rattle.std.specs.Prelude.{◌≡◌};
-ghost use Rattle.trade_reports.specs.Pairings.{agree, trade_of};
+ghost use Rattle.trade_reports.specs.Pairings.{reports_agree, trade_of_reports};
 
 use crate::reports::Report;
 use audit_base::records::TradeRecord;
@@ -9,7 +9,7 @@ use audit_base::terms::Side;
 /// Whether two reports agree: one is of the buy side and the other of the sell side, and quantity,
 /// price and symbol are equal.
 pub(crate) fn agree(first: &Report, second: &Report) -> bool
-    ensures { result ≡ agree first.now second.now }
+    ensures { result ≡ reports_agree first.now second.now }
 {
     first.side != second.side
         && first.quantity == second.quantity
@@ -19,7 +19,7 @@ pub(crate) fn agree(first: &Report, second: &Report) -> bool
 
 /// The trade of a pair: the keys of its two reports, and the time of the second one.
 pub(crate) fn trade_of(first: &Report, second: &Report) -> TradeRecord
-    ensures { result ≡ trade_of first.now second.now }
+    ensures { result ≡ trade_of_reports first.now second.now }
 {
     let (buyer, seller) = match first.side {
         Side::Buy => (first, second),

@@ -2,13 +2,13 @@
 ghost use Rattle.std.specs.Prelude.{◌≡◌, Some};
 ghost use Rattle.trade_reports.specs.Drafts.{report_at};
 ghost use Rattle.trade_reports.specs.Reports.{report_to};
-ghost use Rattle.trade_reports.specs.Pairings.{lone_finding, without_second};
+ghost use Rattle.trade_reports.specs.Pairings.{lone_finding, lone_without_second};
 
 use audit_base::findings::Finding;
 use audit_base::flaws::{Evidence, Flaw};
 use audit_base::names::{Key, Name};
 use audit_base::numbers::{Price, Quantity};
-use audit_base::records::{TradeRecord, Traded};
+use audit_base::records::{LogRecord, TradeRecord};
 use audit_base::stamps::Stamp;
 use audit_base::terms::Side;
 
@@ -25,7 +25,7 @@ pub struct Report {
     pub price: Price,
 }
 
-impl Traded for Report {
+impl LogRecord for Report {
     ghost symbol_of = { λ report. report.symbol };
 
     fn symbol(&self) -> Name {
@@ -59,8 +59,8 @@ pub struct PlacedReport {
     pub report: Report,
 }
 
-/// A report that no other agrees with, by its place, and the place of the first report of its pair where it
-/// is the second.
+/// A report that no other agrees with, by its place, and the place of the first report
+/// of its pair where it is the second.
 #[derive(Clone, Copy)]
 pub struct LoneReport {
     pub place: u32,
@@ -81,7 +81,7 @@ impl LoneReport {
 impl PlacedReport {
     /// What it is where it has no second report.
     pub(crate) fn without_second(&self) -> LoneReport
-        ensures { result ≡ without_second self.now }
+        ensures { result ≡ lone_without_second self.now }
     {
         LoneReport {
             place: self.place,
@@ -90,8 +90,8 @@ impl PlacedReport {
     }
 }
 
-// Keeps a report. Room for a report is made ready where this is called, so it stands apart from the writing
-// over one that is kept.
+// Keeps a report. Room for a report is made ready where this is called,
+// so it is a function apart from the writing over one that is kept.
 fn keep(kept: &mut Option<PlacedReport>, place: u32, report: &Report)
     ensures { kept.new ≡ Some (report_at place report.now) }
 {
@@ -101,8 +101,8 @@ fn keep(kept: &mut Option<PlacedReport>, place: u32, report: &Report)
     });
 }
 
-/// Keeps a report in place of the one that is kept, if there is one: there it is copied only once, since it
-/// is large.
+/// Keeps a report in place of the one that is kept, if there is one:
+/// there it is copied only once, since it is large.
 pub(crate) fn write_over(kept: &mut Option<PlacedReport>, place: u32, report: &Report)
     ensures { kept.new ≡ Some (report_at place report.now) }
 {

@@ -3,7 +3,7 @@ ghost use Rattle.std.specs.Prelude.{◌<◌, ◌-◌, ◌^◌, IfOk};
 ghost use Rattle.audit_base.specs.declared.terms.VolumeRule.TheVariants.{Uniform};
 ghost use Rattle.audit_base.specs.Orders.{IsOrderList};
 ghost use Rattle.audit_base.specs.Deals.{IsDealList};
-ghost use Rattle.call_auction.specs.Audits.{IsGreatestOf, IsAudited};
+ghost use Rattle.call_auction.specs.Audits.{IsGreatestOf, IsAuditedCall};
 
 use audit_base::faults::NoMemory;
 use audit_base::orders::{Cut, Deal};
@@ -15,8 +15,8 @@ use order_list::lists::OrderList;
 use std::alloc::Global;
 use volume_bound::extremes::best_uniform;
 
-/// The greatest volume of a matching of one price, and the least price at which the executable volume,
-/// the lesser of demand and supply, is this volume.
+/// The greatest volume of a matching of one price, and the least price at which the executable
+/// volume, the smaller of demand and supply, is this volume.
 fn greatest_of(alloc: Global, orders: &OrderList<'_>) -> Result<Cut, NoMemory>
     requires { IsOrderList orders.now }
     ensures { IfOk result (IsGreatestOf Uniform orders.now) }
@@ -26,11 +26,11 @@ fn greatest_of(alloc: Global, orders: &OrderList<'_>) -> Result<Cut, NoMemory>
     best_uniform(alloc, orders)
 }
 
-/// The audit of the rule `uniform` over the deals of a log of `count` trades. Conforms exactly where
-/// they are a fair matching of one price and no matching of one price has a greater volume, out of
-/// memory aside: with what each order traded, the only quantities that conform, the volume, and the
-/// least price at which the executable volume is the volume. Else Broken has the first offence, of the
-/// properties 7 to 14.
+/// The audit of the rule `uniform` over the deals of a log of `count` trades. Conforms exactly
+/// where they are a fair matching of one price and no matching of one price has a greater volume,
+/// out of memory aside: with what each order traded, the only quantities that conform, the volume,
+/// and the least price at which the executable volume is the volume. Else Broken has the first
+/// offence, of the properties 7 to 14.
 pub fn audit_uniform(
     alloc: Global,
     orders: &OrderList<'_>,
@@ -40,7 +40,7 @@ pub fn audit_uniform(
     requires order_list { IsOrderList orders.now }
     requires deal_list { IsDealList orders.now deals.now }
     requires few { count < 2 ^ 32 - 1 }
-    ensures { IfOk result (IsAudited Uniform orders.now deals.now count) }
+    ensures { IfOk result (IsAuditedCall Uniform orders.now deals.now count) }
 {
     let most = greatest_of(alloc, orders)?;
     audit_call(alloc, VolumeRule::Uniform, orders, deals, count, most)

@@ -1,7 +1,7 @@
 //! The Expected trades of the rule `uniform`.
 ghost use Rattle.std.specs.Prelude.{◌≡◌, IfOk};
-ghost use Rattle.audit_base.specs.Orders.{IsOrderList, AreOrders};
-ghost use Rattle.audit_base.specs.Bounds.{IsBestUniform};
+ghost use Rattle.audit_base.specs.Orders.{IsOrderList, OrdersInRange};
+ghost use Rattle.audit_base.specs.Bounds.{IsGreatestExecutableVolume};
 ghost use Rattle.audit_base.specs.Deals.{IsDealList};
 ghost use Rattle.audit_base.specs.Calls.{ConformsUniform};
 ghost use Rattle.audit_base.specs.Expected.{IsExpectedUniform};
@@ -18,8 +18,8 @@ use volume_bound::extremes::best_uniform;
 
 /// The price of a bound. It is below 10^18 units, since at that price nobody bids.
 fn price_of(orders: &OrderList<'_>, most: Cut) -> Price
-    requires numbers { AreOrders orders.now }
-    requires best { IsBestUniform orders.now most }
+    requires numbers { OrdersInRange orders.now }
+    requires best { IsGreatestExecutableVolume orders.now most }
     ensures { result ≡ most.price }
 {
     units_suffice();
@@ -29,9 +29,9 @@ fn price_of(orders: &OrderList<'_>, most: Cut) -> Price
     }
 }
 
-/// The Expected trades of `uniform`: unit j of the bids meets unit j of the asks, both in rank order, up
-/// to the greatest volume of a matching of one price, at the rule's bound. They conform to the rule. In
-/// n log n steps for n orders. Err only out of memory.
+/// The Expected trades of `uniform`: unit j of the bids meets unit j of the asks, both in rank
+/// order, up to the greatest volume of a matching of one price, at the rule's bound. They conform
+/// to the rule. In n log n steps for n orders. Err only out of memory.
 pub fn expected_uniform(alloc: Global, orders: &OrderList<'_>) -> Result<Vec<Deal>, NoMemory>
     requires { IsOrderList orders.now }
     ensures expected { IfOk result (λ deals. IsExpectedUniform orders.now deals.items) }

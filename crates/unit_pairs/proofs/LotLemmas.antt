@@ -8,7 +8,7 @@ use Rattle.std.proofs.lemmas.List.Sums.{sum_by_more}
 use Rattle.audit_base.specs.declared.orders.Order.{Order}
 use Rattle.audit_base.specs.Orders.{order_at, quantity_at}
 use Rattle.unit_pairs.specs.declared.lots.Lot.{Lot}
-use Rattle.unit_pairs.specs.Lots.{any_lot, lot_at, lots_before, lots_total, ranks_before, lot_of, IsLot, AreLotsOf}
+use Rattle.unit_pairs.specs.Lots.{lot_past_end, lot_at, lots_before, lots_total, rank_quantity_before, lot_of, IsLot, AreLotsOf}
 
 abbrev pub lot : ℕ → ℕ → Lot
 lot order quantity = record { order = order; quantity = quantity }
@@ -17,7 +17,7 @@ lot order quantity = record { order = order; quantity = quantity }
 pub record AreFilled (orders : List Order) (ranks : List ℕ) (volume : ℕ) (lots : List Lot) (left n : ℕ) : Type 0 where
   pub count : length lots ≡ n
   pub are : AreLotsOf orders ranks volume lots
-  pub rest : left ≡ volume - ranks_before orders ranks n
+  pub rest : left ≡ volume - rank_quantity_before orders ranks n
 
 module _ (orders : List Order) (ranks : List ℕ) (volume : ℕ) where
   pub none-filled : AreFilled orders ranks volume [] volume 0
@@ -36,7 +36,7 @@ module _ (orders : List Order) (ranks : List ℕ) (volume : ℕ) where
       let old = f.are in
       let count : length lots ≡ n = f.count in
       let l : Lot = record { order = rank; quantity = quantity } in
-      let more : ranks_before orders ranks (n + 1) ≡ ranks_before orders ranks n + quantity_at orders (get_or ranks n 0) = sum_by_more (quantity_at orders) ranks n 0 lt in
+      let more : rank_quantity_before orders ranks (n + 1) ≡ rank_quantity_before orders ranks n + quantity_at orders (get_or ranks n 0) = sum_by_more (quantity_at orders) ranks n 0 lt in
       let here : o.quantity ≡ quantity_at orders rank = ap (λ (p : Order). p.quantity) at in
       let rest = f.rest in
       record {
@@ -47,30 +47,30 @@ module _ (orders : List Order) (ranks : List ℕ) (volume : ℕ) where
           first = λ k below. elim (cases_eq k (length lots)) [
             | inl e ↦
                 let same : k ≡ n = e ∙ count in
-                let full : quantity ≡ min (quantity_at orders rank) (volume - ranks_before orders ranks n) = omega arith in
-                get_or_push lots l any_lot k (sym e) ∙ ap (lot rank) full ∙ ap (lot_of orders ranks volume) (sym same)
+                let full : quantity ≡ min (quantity_at orders rank) (volume - rank_quantity_before orders ranks n) = omega arith in
+                get_or_push lots l lot_past_end k (sym e) ∙ ap (lot rank) full ∙ ap (lot_of orders ranks volume) (sym same)
             | inr ne ↦
                 let inside : k < length lots = omega (arith, ne, length_push lots l) in
-                get_or_append_left lots (l ∷ []) any_lot k inside ∙ old.first k inside
+                get_or_append_left lots (l ∷ []) lot_past_end k inside ∙ old.first k inside
           ];
         };
         rest = omega arith;
       }
 
   -- the first lots fill the volume as far as the first ranks do
-  pub filled-before : (lots : List Lot) → AreLotsOf orders ranks volume lots → (k : ℕ) → k ≤ length lots → lots_before lots k ≡ min volume (ranks_before orders ranks k)
+  pub filled-before : (lots : List Lot) → AreLotsOf orders ranks volume lots → (k : ℕ) → k ≤ length lots → lots_before lots k ≡ min volume (rank_quantity_before orders ranks k)
   filled-before lots h zero le = omega arith
   filled-before lots h (suc k) le =
-      let rest : lots_before lots k ≡ min volume (ranks_before orders ranks k) = filled-before lots h k (omega arith) in
+      let rest : lots_before lots k ≡ min volume (rank_quantity_before orders ranks k) = filled-before lots h k (omega arith) in
       let few = h.few in
-      let lot : (lot_at lots k).quantity ≡ min (quantity_at orders (get_or ranks k 0)) (volume - ranks_before orders ranks k) = ap (λ (l : Lot). l.quantity) (h.first k (omega arith)) in
-      let a : lots_before lots (k + 1) ≡ lots_before lots k + (lot_at lots k).quantity = sum_by_more (λ (l : Lot). l.quantity) lots k any_lot (omega arith) in
-      let b : ranks_before orders ranks (k + 1) ≡ ranks_before orders ranks k + quantity_at orders (get_or ranks k 0) = sum_by_more (quantity_at orders) ranks k 0 (omega arith) in
+      let lot : (lot_at lots k).quantity ≡ min (quantity_at orders (get_or ranks k 0)) (volume - rank_quantity_before orders ranks k) = ap (λ (l : Lot). l.quantity) (h.first k (omega arith)) in
+      let a : lots_before lots (k + 1) ≡ lots_before lots k + (lot_at lots k).quantity = sum_by_more (λ (l : Lot). l.quantity) lots k lot_past_end (omega arith) in
+      let b : rank_quantity_before orders ranks (k + 1) ≡ rank_quantity_before orders ranks k + quantity_at orders (get_or ranks k 0) = sum_by_more (quantity_at orders) ranks k 0 (omega arith) in
       rw (← add-one k) (omega arith)
 
   -- so they are the volume where the ranks have that much
-  pub filled-total : (lots : List Lot) → AreLotsOf orders ranks volume lots → volume ≤ ranks_before orders ranks (length lots) → lots_total lots ≡ volume
+  pub filled-total : (lots : List Lot) → AreLotsOf orders ranks volume lots → volume ≤ rank_quantity_before orders ranks (length lots) → lots_total lots ≡ volume
   filled-total lots h enough =
       let whole : lots_before lots (length lots) ≡ lots_total lots = ap (sum_by (λ (l : Lot). l.quantity)) (take_all (length lots) lots (omega arith)) in
-      let is : lots_before lots (length lots) ≡ min volume (ranks_before orders ranks (length lots)) = filled-before lots h (length lots) (omega arith) in
+      let is : lots_before lots (length lots) ≡ min volume (rank_quantity_before orders ranks (length lots)) = filled-before lots h (length lots) (omega arith) in
       omega arith

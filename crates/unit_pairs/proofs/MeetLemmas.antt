@@ -7,15 +7,15 @@ use Rattle.std.proofs.lemmas.List.Elements.{All-nil, All-push, All-weaker, Conta
 use Rattle.std.proofs.lemmas.List.Quantifiers.{all_pairs_push}
 use Rattle.std.proofs.lemmas.List.Sums.{sum_by_more}
 use Rattle.unit_pairs.specs.declared.lots.Lot.{Lot}
-use Rattle.unit_pairs.specs.declared.meeting.Pair.{Pair}
+use Rattle.unit_pairs.specs.declared.meeting.UnitPair.{UnitPair}
 use Rattle.unit_pairs.specs.declared.meeting.Progress.{Progress}
-use Rattle.unit_pairs.specs.Lots.{any_lot, lot_at, lots_before, lots_total, AreLots}
-use Rattle.unit_pairs.specs.Meeting.{overlap_from, overlap, pair_ends, IsPair, ArePairs, PairsDiffer, units_met, IsProgress}
+use Rattle.unit_pairs.specs.Lots.{lot_past_end, lot_at, lots_before, lots_total, AreLots}
+use Rattle.unit_pairs.specs.Meeting.{overlap_from, overlap, unit_pair_orders, IsUnitPair, AreUnitPairs, UnitPairsDiffer, units_met, IsProgress}
 
--- Lots and what stands before them.
+-- Lots and the quantity before them.
 
 pub before-more : (lots : List Lot) (k : ℕ) → k < length lots → lots_before lots (k + 1) ≡ lots_before lots k + (lot_at lots k).quantity
-before-more lots k lt = sum_by_more (λ (l : Lot). l.quantity) lots k any_lot lt
+before-more lots k lt = sum_by_more (λ (l : Lot). l.quantity) lots k lot_past_end lt
 
 pub before-rises : (lots : List Lot) (k n : ℕ) → k ≤ n → n ≤ length lots → lots_before lots k ≤ lots_before lots n
 before-rises lots k zero le top = let e : k ≡ 0 = omega arith in rw e (omega arith)
@@ -38,19 +38,19 @@ one-lot lots i k n hi hk a b c d = elim (cases_order i k) [
 -- The walk.
 
 -- a pair that is found, of units that begin below n
-pub record IsEarly (bids asks : List Lot) (n : ℕ) (p : Pair) : Type 0 where
-  pub pair : IsPair bids asks p
+pub record IsEarly (bids asks : List Lot) (n : ℕ) (p : UnitPair) : Type 0 where
+  pub pair : IsUnitPair bids asks p
   pub early : overlap_from bids asks pair.bid_lot pair.ask_lot < n
 
 -- what is found where n units of each side have met
-pub record ArePairsBelow (bids asks : List Lot) (n : ℕ) (pairs : List Pair) : Type 0 where
+pub record ArePairsBelow (bids asks : List Lot) (n : ℕ) (pairs : List UnitPair) : Type 0 where
   pub each : All (IsEarly bids asks n) pairs
-  pub differ : AllPairs PairsDiffer pairs
+  pub differ : AllPairs UnitPairsDiffer pairs
   pub complete : (k l : ℕ) → k < length bids → l < length asks → 0 < overlap bids asks k l → overlap_from bids asks k l < n
-      → Contains (map pair_ends pairs) ((lot_at bids k).order, (lot_at asks l).order)
+      → Contains (map unit_pair_orders pairs) ((lot_at bids k).order, (lot_at asks l).order)
 
 -- the walk so far: both sides have met as far, at least one of them up to the end of a lot
-pub record HaveMet (bids asks : List Lot) (bid ask : Progress) (pairs : List Pair) : Type 0 where
+pub record HaveMet (bids asks : List Lot) (bid ask : Progress) (pairs : List UnitPair) : Type 0 where
   pub bid_progress : IsProgress bids bid
   pub ask_progress : IsProgress asks ask
   pub same : units_met bids bid ≡ units_met asks ask
@@ -73,7 +73,7 @@ progress-order lots p q a b le = elim (cases_lt q.lot p.lot) [
 progress-past : (lots : List Lot) → AreLots lots → (p q : Progress) → p.lot < length lots → IsProgress lots q → units_met lots q ≡ lots_before lots (p.lot + 1) → (p.lot < q.lot) × (q.met ≡ 0)
 progress-past lots are p q lt b met =
     let next : Progress = record { lot = p.lot + 1; met = 0 } in
-    let some : p.lot + 1 < length lots → 0 < (lot_at lots (p.lot + 1)).quantity = λ h. (are.each (p.lot + 1) any_lot h).some in
+    let some : p.lot + 1 < length lots → 0 < (lot_at lots (p.lot + 1)).quantity = λ h. (are.each (p.lot + 1) lot_past_end h).some in
     let le : p.lot + 1 ≤ q.lot = progress-order lots next q (record { inside = omega arith; within = some }) b (omega arith) in
     (omega arith, omega (arith, before-rises lots (p.lot + 1) q.lot le b.inside))
 
@@ -81,15 +81,15 @@ progress-past lots are p q lt b met =
 same-lot : (lots : List Lot) → AreLots lots → (i k : ℕ) → i < length lots → k < length lots → (lot_at lots i).order ≡ (lot_at lots k).order → i ≡ k
 same-lot lots are i k hi hk e = elim (cases_order i k) [
   | inl e' ↦ e'
-  | inr (inl lt) ↦ absurd (are.apart i k any_lot lt hk e)
-  | inr (inr gt) ↦ absurd (are.apart k i any_lot gt hi (sym e))
+  | inr (inl lt) ↦ absurd (are.apart i k lot_past_end lt hk e)
+  | inr (inr gt) ↦ absurd (are.apart k i lot_past_end gt hi (sym e))
 ]
 
 module _ (bids asks : List Lot) where
   pub none-met : AreLots bids → AreLots asks → HaveMet bids asks (record { lot = 0; met = 0 }) (record { lot = 0; met = 0 }) []
   none-met b a = record {
-    bid_progress = record { inside = omega arith; within = λ lt. (b.each 0 any_lot lt).some };
-    ask_progress = record { inside = omega arith; within = λ lt. (a.each 0 any_lot lt).some };
+    bid_progress = record { inside = omega arith; within = λ lt. (b.each 0 lot_past_end lt).some };
+    ask_progress = record { inside = omega arith; within = λ lt. (a.each 0 lot_past_end lt).some };
     same = refl;
     one_fresh = inl refl;
     few = omega arith;
@@ -97,15 +97,15 @@ module _ (bids asks : List Lot) where
   }
 
   -- the pair of the next lots of both sides
-  abbrev pub pair_of : Progress → Progress → ℕ → Pair
+  abbrev pub pair_of : Progress → Progress → ℕ → UnitPair
   pair_of bid ask quantity = record { bid = (lot_at bids bid.lot).order; ask = (lot_at asks ask.lot).order; quantity = quantity }
 
-  found-more : (n quantity i j : ℕ) (pairs : List Pair) → AreLots bids → AreLots asks → i < length bids → j < length asks
+  found-more : (n quantity i j : ℕ) (pairs : List UnitPair) → AreLots bids → AreLots asks → i < length bids → j < length asks
       → 0 < quantity → quantity ≤ 10 ^ 12 → overlap_from bids asks i j ≡ n → n + quantity ≡ min (lots_before bids (i + 1)) (lots_before asks (j + 1))
       → ArePairsBelow bids asks n pairs → ArePairsBelow bids asks (n + quantity) (pairs ++ record { bid = (lot_at bids i).order; ask = (lot_at asks j).order; quantity = quantity } ∷ [])
   found-more n quantity i j pairs b a hi hj some most from to f =
-      let p : Pair = record { bid = (lot_at bids i).order; ask = (lot_at asks j).order; quantity = quantity } in
-      let push : map pair_ends (pairs ++ p ∷ []) ≡ map pair_ends pairs ++ pair_ends p ∷ [] = map_push pair_ends pairs p in
+      let p : UnitPair = record { bid = (lot_at bids i).order; ask = (lot_at asks j).order; quantity = quantity } in
+      let push : map unit_pair_orders (pairs ++ p ∷ []) ≡ map unit_pair_orders pairs ++ unit_pair_orders p ∷ [] = map_push unit_pair_orders pairs p in
       record {
         each = All-push (IsEarly bids asks (n + quantity)) pairs p
             (All-weaker (IsEarly bids asks n) (IsEarly bids asks (n + quantity)) (λ q e. let early = e.early in record { pair = e.pair; early = omega arith }) pairs f.each)
@@ -113,7 +113,7 @@ module _ (bids asks : List Lot) where
               pair = record { bid_lot = i; ask_lot = j; bid_inside = hi; ask_inside = hj; bid_is = refl; ask_is = refl; some = some; most = most; is = omega arith };
               early = omega arith;
             });
-        differ = all_pairs_push PairsDiffer pairs p f.differ (λ k d lt bid_same ask_same.
+        differ = all_pairs_push UnitPairsDiffer pairs p f.differ (λ k d lt bid_same ask_same.
             let e = f.each k d lt in
             let q = e.pair in
             let early = e.early in
@@ -123,20 +123,20 @@ module _ (bids asks : List Lot) where
             omega arith);
         complete = λ k l hk hl some early. elim (cases_lt (overlap_from bids asks k l) n) [
           | inl lt ↦ subst (λ xs. Contains xs ((lot_at bids k).order, (lot_at asks l).order)) (sym push)
-              (Contains-append_left (map pair_ends pairs) (pair_ends p ∷ []) ((lot_at bids k).order, (lot_at asks l).order) (f.complete k l hk hl some lt))
+              (Contains-append_left (map unit_pair_orders pairs) (unit_pair_orders p ∷ []) ((lot_at bids k).order, (lot_at asks l).order) (f.complete k l hk hl some lt))
           | inr le ↦
               let m = overlap_from bids asks k l in
               let one : i ≡ k = one-lot bids i k m hi hk (omega arith) (omega arith) (omega arith) (omega arith) in
               let two : j ≡ l = one-lot asks j l m hj hl (omega arith) (omega arith) (omega arith) (omega arith) in
               subst (λ xs. Contains xs ((lot_at bids k).order, (lot_at asks l).order)) (sym push)
-              (subst (λ k. Contains (map pair_ends pairs ++ pair_ends p ∷ []) ((lot_at bids k).order, (lot_at asks l).order)) one
-              (subst (λ l. Contains (map pair_ends pairs ++ pair_ends p ∷ []) ((lot_at bids i).order, (lot_at asks l).order)) two
-              (Contains-push (map pair_ends pairs) (pair_ends p))))
+              (subst (λ k. Contains (map unit_pair_orders pairs ++ unit_pair_orders p ∷ []) ((lot_at bids k).order, (lot_at asks l).order)) one
+              (subst (λ l. Contains (map unit_pair_orders pairs ++ unit_pair_orders p ∷ []) ((lot_at bids i).order, (lot_at asks l).order)) two
+              (Contains-push (map unit_pair_orders pairs) (unit_pair_orders p))))
         ];
       }
 
   -- one step of the walk
-  pub one-met : (bid ask bid' ask' : Progress) (quantity : ℕ) (pairs : List Pair) → AreLots bids → AreLots asks → bid.lot < length bids → ask.lot < length asks
+  pub one-met : (bid ask bid' ask' : Progress) (quantity : ℕ) (pairs : List UnitPair) → AreLots bids → AreLots asks → bid.lot < length bids → ask.lot < length asks
       → HaveMet bids asks bid ask pairs → quantity ≡ min ((lot_at bids bid.lot).quantity - bid.met) ((lot_at asks ask.lot).quantity - ask.met)
       → IsProgress bids bid' → units_met bids bid' ≡ units_met bids bid + quantity → IsProgress asks ask' → units_met asks ask' ≡ units_met asks ask + quantity
       → HaveMet bids asks bid' ask' (pairs ++ pair_of bid ask quantity ∷ [])
@@ -146,7 +146,7 @@ module _ (bids asks : List Lot) where
       let few = h.few in
       let bid_in : bid.met < (lot_at bids bid.lot).quantity = h.bid_progress.within hi in
       let ask_in : ask.met < (lot_at asks ask.lot).quantity = h.ask_progress.within hj in
-      let most : (lot_at bids bid.lot).quantity ≤ 10 ^ 12 = (b.each bid.lot any_lot hi).most in
+      let most : (lot_at bids bid.lot).quantity ≤ 10 ^ 12 = (b.each bid.lot lot_past_end hi).most in
       let bid_end = before-more bids bid.lot hi in
       let ask_end = before-more asks ask.lot hj in
       let from : overlap_from bids asks bid.lot ask.lot ≡ n = elim h.one_fresh [ inl z ↦ omega arith | inr z ↦ omega arith ] in
@@ -167,7 +167,7 @@ module _ (bids asks : List Lot) where
       }
 
   -- at the end of the walk all pairs are found
-  pub all-met : (bid ask : Progress) (pairs : List Pair) → lots_total bids ≡ lots_total asks → HaveMet bids asks bid ask pairs → (length bids ≤ bid.lot) ⊎ (length asks ≤ ask.lot) → ArePairs bids asks pairs
+  pub all-met : (bid ask : Progress) (pairs : List UnitPair) → lots_total bids ≡ lots_total asks → HaveMet bids asks bid ask pairs → (length bids ≤ bid.lot) ⊎ (length asks ≤ ask.lot) → AreUnitPairs bids asks pairs
   all-met bid ask pairs totals h over =
       let n = units_met bids bid in
       let same = h.same in
@@ -176,12 +176,12 @@ module _ (bids asks : List Lot) where
         | inr le ↦ omega (arith, before-rises asks (length asks) ask.lot le h.ask_progress.inside, before-all asks)
       ] in
       record {
-        each = All-weaker (IsEarly bids asks n) (IsPair bids asks) (λ p e. e.pair) pairs h.found.each;
+        each = All-weaker (IsEarly bids asks n) (IsUnitPair bids asks) (λ p e. e.pair) pairs h.found.each;
         complete = λ k l hk hl some. h.found.complete k l hk hl some (omega (arith, before-rises bids (k + 1) (length bids) (omega arith) (omega arith), before-all bids));
       }
 
   -- each step brings the walk nearer to its end
-  pub nearer : (bid ask bid' : Progress) (quantity : ℕ) (pairs : List Pair) → bid.lot < length bids → ask.lot < length asks → HaveMet bids asks bid ask pairs
+  pub nearer : (bid ask bid' : Progress) (quantity : ℕ) (pairs : List UnitPair) → bid.lot < length bids → ask.lot < length asks → HaveMet bids asks bid ask pairs
       → quantity ≡ min ((lot_at bids bid.lot).quantity - bid.met) ((lot_at asks ask.lot).quantity - ask.met) → units_met bids bid' ≡ units_met bids bid + quantity
       → lots_total bids - units_met bids bid' < lots_total bids - units_met bids bid
   nearer bid ask bid' quantity pairs hi hj h is mb =

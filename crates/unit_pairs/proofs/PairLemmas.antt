@@ -2,12 +2,12 @@
 use Rattle.std.proofs.Common.{List, map, IsPermutation}
 use Rattle.std.proofs.lemmas.List.Sorted.{All-permutation, Contains-permutation, IsPermutation-map}
 use Rattle.unit_pairs.specs.declared.lots.Lot.{Lot}
-use Rattle.unit_pairs.specs.declared.meeting.Pair.{Pair}
-use Rattle.unit_pairs.specs.Meeting.{pair_ends, IsPair, ArePairs}
+use Rattle.unit_pairs.specs.declared.meeting.UnitPair.{UnitPair}
+use Rattle.unit_pairs.specs.Meeting.{unit_pair_orders, IsUnitPair, AreUnitPairs}
 
 -- the same pairs in another order
-pub pairs-moved : (bids asks : List Lot) (xs ys : List Pair) → IsPermutation xs ys → ArePairs bids asks xs → ArePairs bids asks ys
+pub pairs-moved : (bids asks : List Lot) (xs ys : List UnitPair) → IsPermutation xs ys → AreUnitPairs bids asks xs → AreUnitPairs bids asks ys
 pairs-moved bids asks xs ys moved h = record {
-  each = All-permutation (IsPair bids asks) xs ys moved h.each;
-  complete = λ k l hk hl some. Contains-permutation (map pair_ends xs) (map pair_ends ys) _ (IsPermutation-map pair_ends xs ys moved) (h.complete k l hk hl some);
+  each = All-permutation (IsUnitPair bids asks) xs ys moved h.each;
+  complete = λ k l hk hl some. Contains-permutation (map unit_pair_orders xs) (map unit_pair_orders ys) _ (IsPermutation-map unit_pair_orders xs ys moved) (h.complete k l hk hl some);
 }

@@ -7,15 +7,15 @@ use Rattle.audit_base.specs.declared.orders.Order.{Order}
 use Rattle.audit_base.specs.declared.orders.Deal.{Deal}
 use Rattle.audit_base.specs.Orders.{quantity_at}
 use Rattle.audit_base.specs.Deals.{IsDealList}
-use Rattle.audit_base.specs.Units.{ahead, uniform_units, maximum_units}
+use Rattle.audit_base.specs.Units.{total_quantity_ahead, uniform_units, maximum_units}
 use Rattle.audit_base.specs.Expected.{uniform_deals, maximum_deals}
 use Rattle.call_laws.proofs.UnitLemmas.{uniform-overlap, maximum-overlap}
 use Rattle.rank_order.specs.declared.ranking.RankedSides.{RankedSides}
 use Rattle.unit_pairs.specs.declared.lots.Lot.{Lot}
 use Rattle.unit_pairs.specs.declared.lots.SideLots.{SideLots}
 use Rattle.unit_pairs.specs.declared.numbering.DealPrice.TheVariants.{Same, AskLimit}
-use Rattle.unit_pairs.specs.Lots.{any_lot}
-use Rattle.unit_pairs.specs.Meeting.{AreSides}
+use Rattle.unit_pairs.specs.Lots.{lot_past_end}
+use Rattle.unit_pairs.specs.Meeting.{AreLotSides}
 use Rattle.unit_pairs.specs.Numbering.{AreLotDeals}
 use Rattle.unit_pairs.specs.Sides.{AreSideLots}
 use Rattle.unit_pairs.proofs.UnitLemmas.{Follow, lots-apart, lots-follow, total-reversed, lots-reversed, follow-reversed, ranks-fit}
@@ -43,18 +43,18 @@ module _ (orders : List Order) (sides : RankedSides) (volume : ℕ) (lots : Side
   abbrev ask_lots : List Lot
   ask_lots = lots.asks.items
 
-  bids-follow : Follow orders Buy (ahead orders Buy) (λ i. min volume (ahead orders Buy i + quantity_at orders i)) bid_lots
+  bids-follow : Follow orders Buy (total_quantity_ahead orders Buy) (λ i. min volume (total_quantity_ahead orders Buy i + quantity_at orders i)) bid_lots
   bids-follow = lots-follow orders h.order_list Buy bids h.ranked.bids volume bid_lots h.of_bids h.bids_whole
 
-  asks-follow : Follow orders Sell (ahead orders Sell) (λ i. min volume (ahead orders Sell i + quantity_at orders i)) ask_lots
+  asks-follow : Follow orders Sell (total_quantity_ahead orders Sell) (λ i. min volume (total_quantity_ahead orders Sell i + quantity_at orders i)) ask_lots
   asks-follow = lots-follow orders h.order_list Sell asks h.ranked.asks volume ask_lots h.of_asks h.asks_whole
 
   -- the asks are orders
   pub asks-inside : All (λ l. l.order < length orders) ask_lots
-  asks-inside k d lt = subst (λ (l : Lot). l.order < length orders) (sym (get_or_default ask_lots k d any_lot lt)) (asks-follow.stands k lt).inside
+  asks-inside k d lt = subst (λ (l : Lot). l.order < length orders) (sym (get_or_default ask_lots k d lot_past_end lt)) (asks-follow.stands k lt).inside
 
   -- there are at most as many lots as orders
-  pub both-sides : AreSides bid_lots ask_lots
+  pub both-sides : AreLotSides bid_lots ask_lots
   both-sides = record {
     bids_are = lots-apart orders h.order_list Buy bids h.ranked.bids volume bid_lots h.of_bids;
     asks_are = lots-apart orders h.order_list Sell asks h.ranked.asks volume ask_lots h.of_asks;
@@ -64,48 +64,48 @@ module _ (orders : List Order) (sides : RankedSides) (volume : ℕ) (lots : Side
 
   module _ (price : ℕ) (deals : List Deal) (made : AreLotDeals orders (Same price) bid_lots ask_lots deals) where
     uniform-is : (bid ask : ℕ) → uniform_units orders volume bid ask
-        ≡ min (min volume (ahead orders Buy bid + quantity_at orders bid)) (min volume (ahead orders Sell ask + quantity_at orders ask)) - max (ahead orders Buy bid) (ahead orders Sell ask)
+        ≡ min (min volume (total_quantity_ahead orders Buy bid + quantity_at orders bid)) (min volume (total_quantity_ahead orders Sell ask + quantity_at orders ask)) - max (total_quantity_ahead orders Buy bid) (total_quantity_ahead orders Sell ask)
     uniform-is bid ask = omega (arith, uniform-overlap orders volume bid ask)
 
     pub uniform-expected : deals ≡ uniform_deals orders volume price
     uniform-expected = deals-expected orders (uniform_units orders volume) (Same price) bid_lots ask_lots
-        (ahead orders Buy) (λ i. min volume (ahead orders Buy i + quantity_at orders i)) (ahead orders Sell) (λ i. min volume (ahead orders Sell i + quantity_at orders i))
+        (total_quantity_ahead orders Buy) (λ i. min volume (total_quantity_ahead orders Buy i + quantity_at orders i)) (total_quantity_ahead orders Sell) (λ i. min volume (total_quantity_ahead orders Sell i + quantity_at orders i))
         uniform-is bids-follow asks-follow made.pairs made.are made.in_order deals made.numbered
 
     pub uniform-listed : IsDealList orders deals
     uniform-listed =
         let count : length deals ≡ length made.pairs = made.numbered.count in
         deals-listed orders (uniform_units orders volume) (Same price) bid_lots ask_lots
-        (ahead orders Buy) (λ i. min volume (ahead orders Buy i + quantity_at orders i)) (ahead orders Sell) (λ i. min volume (ahead orders Sell i + quantity_at orders i))
+        (total_quantity_ahead orders Buy) (λ i. min volume (total_quantity_ahead orders Buy i + quantity_at orders i)) (total_quantity_ahead orders Sell) (λ i. min volume (total_quantity_ahead orders Sell i + quantity_at orders i))
         uniform-is bids-follow asks-follow made.pairs made.are made.in_order deals made.numbered (omega (arith, made.few, both-sides.few))
 
   -- The same with the lots of the bids from the last to the first.
   module _ (turned : List Lot) (is : turned ≡ reverse bid_lots) where
-    pub turned-sides : AreSides turned ask_lots
-    turned-sides = subst (λ (lots : List Lot). AreSides lots ask_lots) (sym is) (record {
+    pub turned-sides : AreLotSides turned ask_lots
+    turned-sides = subst (λ (lots : List Lot). AreLotSides lots ask_lots) (sym is) (record {
       bids_are = lots-reversed bid_lots both-sides.bids_are;
       asks_are = both-sides.asks_are;
       same_volume = total-reversed bid_lots ∙ both-sides.same_volume;
       few = omega (arith, both-sides.few, length-reverse bid_lots);
     })
 
-    turned-follow : Follow orders Buy (λ i. volume - min volume (ahead orders Buy i + quantity_at orders i)) (λ i. volume - ahead orders Buy i) turned
-    turned-follow = subst (Follow orders Buy (λ i. volume - min volume (ahead orders Buy i + quantity_at orders i)) (λ i. volume - ahead orders Buy i)) (sym is)
-        (follow-reversed orders Buy (ahead orders Buy) (λ i. min volume (ahead orders Buy i + quantity_at orders i)) volume bid_lots h.bids_whole bids-follow)
+    turned-follow : Follow orders Buy (λ i. volume - min volume (total_quantity_ahead orders Buy i + quantity_at orders i)) (λ i. volume - total_quantity_ahead orders Buy i) turned
+    turned-follow = subst (Follow orders Buy (λ i. volume - min volume (total_quantity_ahead orders Buy i + quantity_at orders i)) (λ i. volume - total_quantity_ahead orders Buy i)) (sym is)
+        (follow-reversed orders Buy (total_quantity_ahead orders Buy) (λ i. min volume (total_quantity_ahead orders Buy i + quantity_at orders i)) volume bid_lots h.bids_whole bids-follow)
 
     module _ (deals : List Deal) (made : AreLotDeals orders AskLimit turned ask_lots deals) where
       maximum-is : (bid ask : ℕ) → maximum_units orders volume bid ask
-          ≡ min (volume - ahead orders Buy bid) (min volume (ahead orders Sell ask + quantity_at orders ask)) - max (volume - min volume (ahead orders Buy bid + quantity_at orders bid)) (ahead orders Sell ask)
-      maximum-is bid ask = maximum-overlap orders volume bid ask ∙ mirrored volume (ahead orders Buy bid) (quantity_at orders bid) (ahead orders Sell ask) (quantity_at orders ask)
+          ≡ min (volume - total_quantity_ahead orders Buy bid) (min volume (total_quantity_ahead orders Sell ask + quantity_at orders ask)) - max (volume - min volume (total_quantity_ahead orders Buy bid + quantity_at orders bid)) (total_quantity_ahead orders Sell ask)
+      maximum-is bid ask = maximum-overlap orders volume bid ask ∙ mirrored volume (total_quantity_ahead orders Buy bid) (quantity_at orders bid) (total_quantity_ahead orders Sell ask) (quantity_at orders ask)
 
       pub maximum-expected : deals ≡ maximum_deals orders volume
       maximum-expected = deals-expected orders (maximum_units orders volume) AskLimit turned ask_lots
-          (λ i. volume - min volume (ahead orders Buy i + quantity_at orders i)) (λ i. volume - ahead orders Buy i) (ahead orders Sell) (λ i. min volume (ahead orders Sell i + quantity_at orders i))
+          (λ i. volume - min volume (total_quantity_ahead orders Buy i + quantity_at orders i)) (λ i. volume - total_quantity_ahead orders Buy i) (total_quantity_ahead orders Sell) (λ i. min volume (total_quantity_ahead orders Sell i + quantity_at orders i))
           maximum-is turned-follow asks-follow made.pairs made.are made.in_order deals made.numbered
 
       pub maximum-listed : IsDealList orders deals
       maximum-listed =
           let count : length deals ≡ length made.pairs = made.numbered.count in
           deals-listed orders (maximum_units orders volume) AskLimit turned ask_lots
-          (λ i. volume - min volume (ahead orders Buy i + quantity_at orders i)) (λ i. volume - ahead orders Buy i) (ahead orders Sell) (λ i. min volume (ahead orders Sell i + quantity_at orders i))
+          (λ i. volume - min volume (total_quantity_ahead orders Buy i + quantity_at orders i)) (λ i. volume - total_quantity_ahead orders Buy i) (total_quantity_ahead orders Sell) (λ i. min volume (total_quantity_ahead orders Sell i + quantity_at orders i))
           maximum-is turned-follow asks-follow made.pairs made.are made.in_order deals made.numbered (omega (arith, made.few, turned-sides.few))

@@ -1,4 +1,4 @@
--- Which units the orders of a side have, and that lots stand in the order of these.
+-- Which units the orders of a side have, and that lots are in the order of these.
 use Rattle.std.proofs.Common.{◌≡◌, ◌≤◌, ◌<◌, ◌+◌, ◌-◌, ℕ, zero, suc, List, [], ◌∷◌, length, get_or, reverse, refl, sym, ap, ◌∙◌, arith, inl, inr, cond, sum_by, subst, add-one, Bool, true, false}
 use Rattle.std.specs.Prelude.{min, ◌&&◌, is_none}
 use Rattle.std.proofs.lemmas.Bool.{cases_lt}
@@ -7,29 +7,30 @@ use Rattle.std.proofs.lemmas.List.Sums.{sum_by-cons, sum_by_more, sum_by-le-sum_
 use Rattle.audit_base.specs.declared.terms.Side.{Side}
 use Rattle.audit_base.specs.declared.terms.Side.TheVariants.{Buy, Sell}
 use Rattle.audit_base.specs.declared.orders.Order.{Order}
-use Rattle.audit_base.specs.Orders.{order_at, side_at, quantity_at, same_side, stands_on, Stands, IsOrderList}
+use Rattle.audit_base.specs.Orders.{order_at, side_at, quantity_at, same_side, is_uncancelled_on, IsUncancelledOn, IsOrderList}
 use Rattle.audit_base.specs.Priority.{IsRanked}
-use Rattle.audit_base.specs.Bounds.{wanted, offered, demand, supply}
-use Rattle.audit_base.specs.Units.{ahead}
+use Rattle.audit_base.specs.Bounds.{demand_of_order, supply_of_order, demand, supply}
+use Rattle.audit_base.specs.Units.{total_quantity_ahead}
 use Rattle.audit_base.specs.Sums.{sum_below}
 use Rattle.audit_base.proofs.SumLemmas.{below-add, below-le}
 use Rattle.call_laws.proofs.RankedLemmas.{ranked, ranked-is, ranked-one, ranks-apart, ranked-sum, ranked-sum_indices}
 use Rattle.call_laws.proofs.AheadLemmas.{ahead-at}
 use Rattle.unit_pairs.specs.declared.lots.Lot.{Lot}
-use Rattle.unit_pairs.specs.Lots.{any_lot, lot_at, lots_before, lots_total, ranks_before, IsLot, AreLots, AreLotsOf}
+use Rattle.unit_pairs.specs.Lots.{lot_past_end, lot_at, lots_before, lots_total, rank_quantity_before, IsLot, AreLots, AreLotsOf}
 use Rattle.unit_pairs.proofs.LotLemmas.{filled-before}
 use Rattle.unit_pairs.proofs.MeetLemmas.{before-more, before-all}
 
--- the lot of the order at i has the units of its side after `from i`, up to `to i`; each order that has any is there
+-- the lot of the order at i has the units of its side after `from i`, up to `to i`; each order
+-- that has any is there
 pub record Follow (orders : List Order) (side : Side) (from to : ℕ → ℕ) (lots : List Lot) : Type 0 where
-  pub stands : (k : ℕ) → k < length lots → Stands orders side (lot_at lots k).order
+  pub stands : (k : ℕ) → k < length lots → IsUncancelledOn orders side (lot_at lots k).order
   pub starts : (k : ℕ) → k < length lots → lots_before lots k ≡ from (lot_at lots k).order
   pub ends : (k : ℕ) → k < length lots → lots_before lots (k + 1) ≡ to (lot_at lots k).order
-  pub each : (i : ℕ) → Stands orders side i → from i < to i → (k : ℕ) × (k < length lots) × ((lot_at lots k).order ≡ i)
+  pub each : (i : ℕ) → IsUncancelledOn orders side i → from i < to i → (k : ℕ) × (k < length lots) × ((lot_at lots k).order ≡ i)
 
 -- Lots along ranks.
 
-ranks-rise : (orders : List Order) (ranks : List ℕ) (k n : ℕ) → k ≤ n → n ≤ length ranks → ranks_before orders ranks k ≤ ranks_before orders ranks n
+ranks-rise : (orders : List Order) (ranks : List ℕ) (k n : ℕ) → k ≤ n → n ≤ length ranks → rank_quantity_before orders ranks k ≤ rank_quantity_before orders ranks n
 ranks-rise orders ranks k zero le top = let e : k ≡ 0 = omega arith in rw e (omega arith)
 ranks-rise orders ranks k (suc n) le top = elim (cases_lt n k) [
   | inl lt ↦ let e : k ≡ suc n = omega arith in rw e (omega arith)
@@ -40,8 +41,8 @@ module _ (orders : List Order) (list : IsOrderList orders) (side : Side) (ranks 
   same-ranks : ranked orders side ≡ ranks
   same-ranks = ranked-one orders side (ranked orders side) ranks (ranked-is orders side list) ranked'
 
-  ahead-rank : (k : ℕ) → k < length ranks → ahead orders side (get_or ranks k 0) ≡ ranks_before orders ranks k
-  ahead-rank k lt = subst (λ (xs : List ℕ). k < length xs → ahead orders side (get_or xs k 0) ≡ ranks_before orders xs k) same-ranks (ahead-at orders side list k 0) lt
+  ahead-rank : (k : ℕ) → k < length ranks → total_quantity_ahead orders side (get_or ranks k 0) ≡ rank_quantity_before orders ranks k
+  ahead-rank k lt = subst (λ (xs : List ℕ). k < length xs → total_quantity_ahead orders side (get_or xs k 0) ≡ rank_quantity_before orders xs k) same-ranks (ahead-at orders side list k 0) lt
 
   module _ (volume : ℕ) (lots : List Lot) (are : AreLotsOf orders ranks volume lots) where
     order-is : (k : ℕ) → k < length lots → (lot_at lots k).order ≡ get_or ranks k 0
@@ -53,29 +54,29 @@ module _ (orders : List Order) (list : IsOrderList orders) (side : Side) (ranks 
       each = are.each;
       apart = λ i j d lt below e.
           let few = are.few in
-          let one : (get_or lots i d).order ≡ get_or ranks i 0 = ap (λ (l : Lot). l.order) (get_or_default lots i d any_lot (omega arith)) ∙ order-is i (omega arith) in
-          let two : (get_or lots j d).order ≡ get_or ranks j 0 = ap (λ (l : Lot). l.order) (get_or_default lots j d any_lot below) ∙ order-is j below in
+          let one : (get_or lots i d).order ≡ get_or ranks i 0 = ap (λ (l : Lot). l.order) (get_or_default lots i d lot_past_end (omega arith)) ∙ order-is i (omega arith) in
+          let two : (get_or lots j d).order ≡ get_or ranks j 0 = ap (λ (l : Lot). l.order) (get_or_default lots j d lot_past_end below) ∙ order-is j below in
           ranks-apart orders side ranks ranked' i j 0 lt (omega arith) (sym one ∙ e ∙ two);
     }
 
-    rank-within : (k : ℕ) → k < length lots → ranks_before orders ranks k < volume
+    rank-within : (k : ℕ) → k < length lots → rank_quantity_before orders ranks k < volume
     rank-within k lt =
-        let some : 0 < (lot_at lots k).quantity = (are.each k any_lot lt).some in
-        let is : (lot_at lots k).quantity ≡ min (quantity_at orders (get_or ranks k 0)) (volume - ranks_before orders ranks k) = ap (λ (l : Lot). l.quantity) (are.first k lt) in
+        let some : 0 < (lot_at lots k).quantity = (are.each k lot_past_end lt).some in
+        let is : (lot_at lots k).quantity ≡ min (quantity_at orders (get_or ranks k 0)) (volume - rank_quantity_before orders ranks k) = ap (λ (l : Lot). l.quantity) (are.first k lt) in
         omega arith
 
     -- the units of an order are those after all better ones, as far as the volume goes
-    pub lots-follow : lots_total lots ≡ volume → Follow orders side (ahead orders side) (λ i. min volume (ahead orders side i + quantity_at orders i)) lots
+    pub lots-follow : lots_total lots ≡ volume → Follow orders side (total_quantity_ahead orders side) (λ i. min volume (total_quantity_ahead orders side i + quantity_at orders i)) lots
     lots-follow whole =
         let few = are.few in
         record {
-          stands = λ k lt. subst (Stands orders side) (sym (order-is k lt)) (ranked'.only k 0 (omega arith));
+          stands = λ k lt. subst (IsUncancelledOn orders side) (sym (order-is k lt)) (ranked'.only k 0 (omega arith));
           starts = λ k lt.
-              let at : ahead orders side (lot_at lots k).order ≡ ranks_before orders ranks k = ap (ahead orders side) (order-is k lt) ∙ ahead-rank k (omega arith) in
+              let at : total_quantity_ahead orders side (lot_at lots k).order ≡ rank_quantity_before orders ranks k = ap (total_quantity_ahead orders side) (order-is k lt) ∙ ahead-rank k (omega arith) in
               omega (arith, filled-before orders ranks volume lots are k (omega arith), rank-within k lt);
           ends = λ k lt.
-              let at : ahead orders side (lot_at lots k).order ≡ ranks_before orders ranks k = ap (ahead orders side) (order-is k lt) ∙ ahead-rank k (omega arith) in
-              let more : ranks_before orders ranks (k + 1) ≡ ranks_before orders ranks k + quantity_at orders (get_or ranks k 0) = sum_by_more (quantity_at orders) ranks k 0 (omega arith) in
+              let at : total_quantity_ahead orders side (lot_at lots k).order ≡ rank_quantity_before orders ranks k = ap (total_quantity_ahead orders side) (order-is k lt) ∙ ahead-rank k (omega arith) in
+              let more : rank_quantity_before orders ranks (k + 1) ≡ rank_quantity_before orders ranks k + quantity_at orders (get_or ranks k 0) = sum_by_more (quantity_at orders) ranks k 0 (omega arith) in
               let same : quantity_at orders (lot_at lots k).order ≡ quantity_at orders (get_or ranks k 0) = ap (quantity_at orders) (order-is k lt) in
               omega (arith, filled-before orders ranks volume lots are (k + 1) (omega arith));
           each = λ i s lt.
@@ -83,7 +84,7 @@ module _ (orders : List Order) (list : IsOrderList orders) (side : Side) (ranks 
               let n = c.0 in
               let inside : n < length ranks = c.1 in
               let at : get_or ranks n 0 ≡ i = get_or_default ranks n 0 i inside ∙ c.2 in
-              let before : ahead orders side i ≡ ranks_before orders ranks n = ap (ahead orders side) (sym at) ∙ ahead-rank n inside in
+              let before : total_quantity_ahead orders side i ≡ rank_quantity_before orders ranks n = ap (total_quantity_ahead orders side) (sym at) ∙ ahead-rank n inside in
               elim (cases_lt n (length lots)) [
                 | inl below ↦ (n, below, order-is n below ∙ at)
                 | inr past ↦ absurd (omega (arith, ranks-rise orders ranks (length lots) n past (omega arith), filled-before orders ranks volume lots are (length lots) (omega arith), before-all lots))
@@ -100,13 +101,13 @@ before-reversed lots (suc k) le =
     let n = length lots - (k + 1) in
     let long : length (reverse lots) ≡ length lots = length-reverse lots in
     let mirrored : length lots - 1 - k ≡ n = omega arith in
-    let at : (lot_at (reverse lots) k).quantity ≡ (lot_at lots n).quantity = ap (λ (l : Lot). l.quantity) (get_or-reverse lots k any_lot (omega arith) ∙ ap (lot_at lots) mirrored) in
+    let at : (lot_at (reverse lots) k).quantity ≡ (lot_at lots n).quantity = ap (λ (l : Lot). l.quantity) (get_or-reverse lots k lot_past_end (omega arith) ∙ ap (lot_at lots) mirrored) in
     let next : length lots - k ≡ n + 1 = omega arith in
     let same : lots_before lots (length lots - k) ≡ lots_before lots (n + 1) = ap (lots_before lots) next in
     rw (← add-one k) (omega (arith, before-reversed lots k (omega arith), before-more (reverse lots) k (omega arith), before-more lots n (omega arith)))
 
 order-reversed : (lots : List Lot) (k : ℕ) → k < length lots → lot_at (reverse lots) k ≡ lot_at lots (length lots - 1 - k)
-order-reversed lots k lt = get_or-reverse lots k any_lot lt
+order-reversed lots k lt = get_or-reverse lots k lot_past_end lt
 
 pub total-reversed : (lots : List Lot) → lots_total (reverse lots) ≡ lots_total lots
 total-reversed lots =
@@ -132,7 +133,7 @@ pub follow-reversed : (orders : List Order) (side : Side) (from to : ℕ → ℕ
 follow-reversed orders side from to volume lots whole f =
     let long : length (reverse lots) ≡ length lots = length-reverse lots in
     record {
-      stands = λ k lt. subst (λ (l : Lot). Stands orders side l.order) (sym (order-reversed lots k (omega arith))) (f.stands (length lots - 1 - k) (omega arith));
+      stands = λ k lt. subst (λ (l : Lot). IsUncancelledOn orders side l.order) (sym (order-reversed lots k (omega arith))) (f.stands (length lots - 1 - k) (omega arith));
       starts = λ k lt.
           let n = length lots - 1 - k in
           let at : to (lot_at (reverse lots) k).order ≡ to (lot_at lots n).order = ap (λ (l : Lot). to l.order) (order-reversed lots k (omega arith)) in
@@ -161,21 +162,21 @@ part-le true false x = omega arith
 part-le false b x = omega arith
 
 ranks-total : (orders : List Order) → IsOrderList orders → (side : Side) (ranks : List ℕ) → IsRanked orders side ranks
-    → sum_by (quantity_at orders) ranks ≡ sum_by (λ o. cond (stands_on side o) o.quantity 0) orders
+    → sum_by (quantity_at orders) ranks ≡ sum_by (λ o. cond (is_uncancelled_on side o) o.quantity 0) orders
 ranks-total orders list side ranks r = ap (sum_by (quantity_at orders)) (sym (same-ranks orders list side ranks r)) ∙ ranked-sum orders side (λ o. o.quantity)
 
 pub demand-ranks : (orders : List Order) → IsOrderList orders → (ranks : List ℕ) → IsRanked orders Buy ranks → (p : ℕ) → demand orders p ≤ sum_by (quantity_at orders) ranks
 demand-ranks orders list ranks r p = omega (
   arith,
   ranks-total orders list Buy ranks r,
-  sum_by-le-sum_by (wanted p) (λ o. cond (stands_on Buy o) o.quantity 0) orders (λ o. part-le (stands_on Buy o) _ o.quantity),
+  sum_by-le-sum_by (demand_of_order p) (λ o. cond (is_uncancelled_on Buy o) o.quantity 0) orders (λ o. part-le (is_uncancelled_on Buy o) _ o.quantity),
 )
 
 pub supply-ranks : (orders : List Order) → IsOrderList orders → (ranks : List ℕ) → IsRanked orders Sell ranks → (p : ℕ) → supply orders p ≤ sum_by (quantity_at orders) ranks
 supply-ranks orders list ranks r p = omega (
   arith,
   ranks-total orders list Sell ranks r,
-  sum_by-le-sum_by (offered p) (λ o. cond (stands_on Sell o) o.quantity 0) orders (λ o. part-le (stands_on Sell o) _ o.quantity),
+  sum_by-le-sum_by (supply_of_order p) (λ o. cond (is_uncancelled_on Sell o) o.quantity 0) orders (λ o. part-le (is_uncancelled_on Sell o) _ o.quantity),
 )
 
 -- How many ranks both sides have.
@@ -188,9 +189,9 @@ ones-below : (n : ℕ) → sum_below (λ i. 1) n ≡ n
 ones-below zero = refl
 ones-below (suc n) = omega (arith, ones-below n)
 
--- 1 for an order that stands on the side
+-- 1 for an order of the side that no record cancels
 abbrev on_side : List Order → Side → ℕ → ℕ
-on_side orders side i = cond (stands_on side (order_at orders i)) 1 0
+on_side orders side i = cond (is_uncancelled_on side (order_at orders i)) 1 0
 
 ranks-count : (orders : List Order) → IsOrderList orders → (side : Side) (ranks : List ℕ) → IsRanked orders side ranks
     → sum_below (on_side orders side) (length orders) ≡ length ranks

@@ -4,30 +4,31 @@ use Rattle.audit_base.specs.declared.orders.Order.{Order}
 use Rattle.audit_base.specs.Orders.{quantity_at}
 use Rattle.unit_pairs.specs.declared.lots.Lot.{Lot}
 
--- what stands for a lot past the end of a list, and the lot at an index
-abbrev pub any_lot : Lot
-any_lot = record { order = 0; quantity = 0 }
+-- what is given past the end of a list of lots, and the lot at an index
+abbrev pub lot_past_end : Lot
+lot_past_end = record { order = 0; quantity = 0 }
 
 abbrev pub lot_at : List Lot → ℕ → Lot
-lot_at lots k = slice_index_or lots k any_lot
+lot_at lots k = slice_index_or lots k lot_past_end
 
 -- the quantity of the first n lots
 abbrev pub lots_before : List Lot → ℕ → ℕ
 lots_before lots n = sum_by (λ l. l.quantity) (take n lots)
 
--- the quantity of all of them
+-- the quantity of all lots
 abbrev pub lots_total : List Lot → ℕ
 lots_total lots = sum_by (λ l. l.quantity) lots
 
 -- the quantity of the first n of these orders
-abbrev pub ranks_before : List Order → List ℕ → ℕ → ℕ
-ranks_before orders ranks n = sum_by (quantity_at orders) (take n ranks)
+abbrev pub rank_quantity_before : List Order → List ℕ → ℕ → ℕ
+rank_quantity_before orders ranks n = sum_by (quantity_at orders) (take n ranks)
 
 -- what the order at a rank trades of a volume: what the better ones leave of it, up to its quantity
 abbrev pub lot_of : List Order → List ℕ → ℕ → ℕ → Lot
 lot_of orders ranks volume k = record {
   order = slice_index ranks k;
-  quantity = min (quantity_at orders (slice_index ranks k)) (volume - ranks_before orders ranks k);
+  quantity = min (quantity_at orders (slice_index ranks k))
+      (volume - rank_quantity_before orders ranks k);
 }
 
 -- what the quantity of a lot may be: 1 to 10^12
@@ -35,7 +36,7 @@ pub record IsLot (l : Lot) : Type 0 where
   pub some : 0 < l.quantity
   pub most : l.quantity ≤ 10 ^ 12
 
--- each lot is of such a quantity, and no two are of one order
+-- each lot has a quantity that a lot may have, and no two are of one order
 pub record AreLots (lots : List Lot) : Type 0 where
   pub each : All IsLot lots
   pub apart : AllPairs (λ l m. l.order ≢ m.order) lots

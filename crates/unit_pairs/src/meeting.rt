@@ -1,8 +1,9 @@
-//! Unit by unit, the lots of the bids meet those of the asks: one pass along both lists, in which the
-//! trade is the lesser of what is left of both lots, and each lot that is used up gives way to the next.
+//! Unit by unit, the lots of the bids meet those of the asks: one pass along both lists, in
+//! which the trade is the smaller of what is left of both lots, and each lot that is used up
+//! gives way to the next.
 ghost use Rattle.std.specs.Prelude.{◌≡◌, ◌<◌, ◌≤◌, ◌+◌, ◌-◌, ◌^◌, OnOk, IfOk, AllPairs, length};
 ghost use Rattle.unit_pairs.specs.Lots.{AreLots, lot_at};
-ghost use Rattle.unit_pairs.specs.Meeting.{ArePairs, AreSides, IsProgress, PairBefore, PairsDiffer, units_met};
+ghost use Rattle.unit_pairs.specs.Meeting.{AreUnitPairs, AreLotSides, IsProgress, UnitPairBefore, UnitPairsDiffer, units_met};
 
 use super::lots::Lot;
 use audit_base::faults::NoMemory;
@@ -10,7 +11,7 @@ use std::alloc::Global;
 
 /// A bid and an ask, and how many of their units meet.
 #[derive(Clone, Copy, Debug, PartialEq, Eq, PartialOrd, Ord)]
-pub struct Pair {
+pub struct UnitPair {
     /// The index of the bid.
     pub bid: usize,
     /// The index of the ask.
@@ -57,11 +58,12 @@ fn progress_after(lots: &[Lot], progress: Progress, quantity: u64) -> Progress
     }
 }
 
-/// The pairs of two lots that have units in common, where unit n of the bids meets unit n of the asks.
-fn meet(alloc: Global, bids: &[Lot], asks: &[Lot]) -> Result<Vec<Pair>, NoMemory>
-    requires { AreSides bids.now asks.now }
-    ensures pairs { IfOk result (λ pairs. ArePairs bids.now asks.now pairs.items) }
-    ensures differ { IfOk result (λ pairs. AllPairs PairsDiffer pairs.items) }
+/// The pairs of two lots that have units in common, where unit n of the bids meets
+/// unit n of the asks.
+fn meet(alloc: Global, bids: &[Lot], asks: &[Lot]) -> Result<Vec<UnitPair>, NoMemory>
+    requires { AreLotSides bids.now asks.now }
+    ensures pairs { IfOk result (λ pairs. AreUnitPairs bids.now asks.now pairs.items) }
+    ensures differ { IfOk result (λ pairs. AllPairs UnitPairsDiffer pairs.items) }
     ensures few { IfOk result (λ pairs. length pairs.items ≤ length bids.now + length asks.now) }
 {
     let mut pairs = Vec::with_capacity(alloc, bids.len() + asks.len())?;
@@ -69,7 +71,7 @@ fn meet(alloc: Global, bids: &[Lot], asks: &[Lot]) -> Result<Vec<Pair>, NoMemory
     let mut ask_progress = Progress { lot: 0, met: 0 };
     while bid_progress.lot < bids.len() && ask_progress.lot < asks.len() {
         let quantity = left_at(bids, bid_progress).min(left_at(asks, ask_progress));
-        let pair = Pair {
+        let pair = UnitPair {
             bid: bids[bid_progress.lot].order,
             ask: asks[ask_progress.lot].order,
             quantity,
@@ -81,12 +83,12 @@ fn meet(alloc: Global, bids: &[Lot], asks: &[Lot]) -> Result<Vec<Pair>, NoMemory
     Ok(pairs)
 }
 
-/// The pairs of two lots that have units in common, where unit n of the bids meets unit n of the asks, in
-/// order of the bid's index and then of the ask's. Err only out of memory.
-pub fn pairs_in_order(alloc: Global, bids: &[Lot], asks: &[Lot]) -> Result<Vec<Pair>, NoMemory>
-    requires { AreSides bids.now asks.now }
-    ensures pairs { IfOk result (λ pairs. ArePairs bids.now asks.now pairs.items) }
-    ensures in_order { IfOk result (λ pairs. AllPairs PairBefore pairs.items) }
+/// The pairs of two lots that have units in common, where unit n of the bids meets unit n of the
+/// asks, in order of the bid's index and then of the ask's. Err only out of memory.
+pub fn pairs_in_order(alloc: Global, bids: &[Lot], asks: &[Lot]) -> Result<Vec<UnitPair>, NoMemory>
+    requires { AreLotSides bids.now asks.now }
+    ensures pairs { IfOk result (λ pairs. AreUnitPairs bids.now asks.now pairs.items) }
+    ensures in_order { IfOk result (λ pairs. AllPairs UnitPairBefore pairs.items) }
     ensures few { IfOk result (λ pairs. length pairs.items ≤ length bids.now + length asks.now) }
 {
     let mut pairs = meet(alloc, bids, asks)?;

@@ -1,15 +1,15 @@
 //! The deals of pairs, numbered in their order.
 ghost use Rattle.std.specs.Prelude.{◌≡◌, ◌<◌, ◌≤◌, ◌^◌, IfOk, All, length};
-ghost use Rattle.unit_pairs.specs.Numbering.{AreNumbered, IsDealt, price_of};
+ghost use Rattle.unit_pairs.specs.Numbering.{AreUnitPairDeals, IsUnitPairDealt, unit_pair_price};
 
-use super::meeting::Pair;
+use super::meeting::UnitPair;
 use audit_base::faults::NoMemory;
 use audit_base::numbers::{Price, Quantity};
 use audit_base::orders::Deal;
 use order_list::lists::OrderList;
 use std::alloc::Global;
 
-/// What the deals of a call are made at.
+/// At which price the deals of a call are made.
 #[derive(Clone, Copy, Debug, PartialEq, Eq)]
 pub enum DealPrice {
     /// All at this price.
@@ -21,7 +21,7 @@ pub enum DealPrice {
 /// What an ask trades at.
 fn price_at(orders: &OrderList<'_>, price: &DealPrice, ask: usize) -> Price
     requires { ask < length orders.now }
-    ensures { result ≡ price_of orders.now price.now ask }
+    ensures { result ≡ unit_pair_price orders.now price.now ask }
 {
     match price {
         DealPrice::Same(price) => *price,
@@ -30,7 +30,7 @@ fn price_at(orders: &OrderList<'_>, price: &DealPrice, ask: usize) -> Price
 }
 
 /// The quantity of a pair.
-fn quantity_of(pair: &Pair) -> Quantity
+fn quantity_of(pair: &UnitPair) -> Quantity
     requires some { 0 < pair.now.quantity }
     requires most { pair.now.quantity ≤ 10 ^ 12 }
     ensures { result ≡ pair.now.quantity }
@@ -45,12 +45,12 @@ fn quantity_of(pair: &Pair) -> Quantity
 pub fn number_pairs(
     alloc: Global,
     orders: &OrderList<'_>,
-    pairs: &[Pair],
+    pairs: &[UnitPair],
     price: &DealPrice,
 ) -> Result<Vec<Deal>, NoMemory>
     requires few { length pairs.now < 2 ^ 32 }
-    requires pairs { All (IsDealt orders.now) pairs.now }
-    ensures { IfOk result (λ deals. AreNumbered orders.now price.now pairs.now deals.items) }
+    requires pairs { All (IsUnitPairDealt orders.now) pairs.now }
+    ensures { IfOk result (λ deals. AreUnitPairDeals orders.now price.now pairs.now deals.items) }
 {
     let mut deals = Vec::with_capacity(alloc, pairs.len())?;
     for (i, pair) in pairs.iter().enumerate() {

@@ -5,7 +5,7 @@ ghost use Rattle.audit_base.specs.Orders.{IsOrderList};
 ghost use Rattle.audit_base.specs.Deals.{IsDealList};
 ghost use Rattle.audit_base.specs.Expected.{uniform_deals, maximum_deals};
 ghost use Rattle.rank_order.specs.Sides.{AreRanked};
-ghost use Rattle.unit_pairs.specs.Meeting.{AreSides};
+ghost use Rattle.unit_pairs.specs.Meeting.{AreLotSides};
 ghost use Rattle.unit_pairs.specs.Numbering.{AreLotDeals};
 ghost use Rattle.unit_pairs.specs.Volumes.{HaveUnits};
 
@@ -27,7 +27,7 @@ fn deals_of(
     price: &DealPrice,
 ) -> Result<Vec<Deal>, NoMemory>
     requires inside { All (λ l. l.order < length orders.now) lots.asks.items }
-    requires sides { AreSides lots.bids.items lots.asks.items }
+    requires sides { AreLotSides lots.bids.items lots.asks.items }
     ensures { let are_deals = AreLotDeals orders.now price.now lots.bids.items lots.asks.items in
         IfOk result (λ deals. are_deals deals.items) }
 {
@@ -35,10 +35,10 @@ fn deals_of(
     number_pairs(alloc, orders, &pairs, price)
 }
 
-/// The Expected trades under `uniform` where this volume trades at this price: unit j of the bids meets
-/// unit j of the asks, for each j from 1 to the volume. `sides` are the orders that no record cancels,
-/// best first. One deal for each bid and ask that have such units, in order of the bid's index and then
-/// of the ask's, numbered from 1. Err only out of memory.
+/// The Expected trades under `uniform` where this volume trades at this price: unit j of the bids
+/// meets unit j of the asks, for each j from 1 to the volume. `sides` are the orders that no record
+/// cancels, best first. One deal for each bid and ask that have such units, in order of the bid's
+/// index and then of the ask's, numbered from 1. Err only out of memory.
 pub fn uniform_pairs(
     alloc: Global,
     orders: &OrderList<'_>,
@@ -57,10 +57,10 @@ pub fn uniform_pairs(
     deals_of(alloc, orders, lots, &DealPrice::Same(price))
 }
 
-/// The Expected trades under `maximum` where this volume trades: unit volume + 1 - j of the bids meets
-/// unit j of the asks at the ask's limit, for each j from 1 to the volume. `sides` are the orders that
-/// no record cancels, best first. One deal for each bid and ask that have such units, in order of the
-/// bid's index and then of the ask's, numbered from 1. Err only out of memory.
+/// The Expected trades under `maximum` where this volume trades: unit volume + 1 - j of the bids
+/// meets unit j of the asks at the ask's limit, for each j from 1 to the volume. `sides` are the
+/// orders that no record cancels, best first. One deal for each bid and ask that have such units,
+/// in order of the bid's index and then of the ask's, numbered from 1. Err only out of memory.
 pub fn maximum_pairs(
     alloc: Global,
     orders: &OrderList<'_>,

@@ -14,10 +14,10 @@ use Rattle.audit_base.specs.declared.terms.VolumeRule.TheVariants as of_volume
 use Rattle.audit_base.specs.ContinuousOffences.{finding_at_place}
 use Rattle.audit_base.specs.Deals.{NamesOrders}
 use Rattle.audit_base.specs.Histories.{history_finding, order_list}
-use Rattle.audit_base.specs.Least.{first_of, least_answer}
-use Rattle.audit_base.specs.Orders.{missing_order}
-use Rattle.audit_base.specs.Trades.{unsound_trade, deals_of}
-use Rattle.audit_base.specs.Verdicts.{IsRuleVerdict, call_finding, pairing_finding, paired_trades, log_finding}
+use Rattle.audit_base.specs.Least.{first_answer, least_answer}
+use Rattle.audit_base.specs.Orders.{order_past_end}
+use Rattle.audit_base.specs.Trades.{unsound_trade, deals_of_symbol}
+use Rattle.audit_base.specs.Verdicts.{IsRuleVerdict, instant_order_finding, pairing_finding, paired_trades, log_finding}
 use Rattle.audit_base.proofs.ContinuousOffenceLemmas.{no_faults-conform, no_faults-conforms}
 use Rattle.audit_base.proofs.HistoryLemmas.{order_list-is}
 use Rattle.audit_base.proofs.LeastLemmas.{cases_Option, least-found, option_or-parts}
@@ -31,13 +31,13 @@ continuous-verdict : (orders : List Order) (deals : List Deal) (count : ℕ) →
 continuous-verdict orders deals count named =
     let last = sum_by (λ (o : Order). o.place) orders in
     elim (cases_Option (least_answer (finding_at_place orders deals) (suc last))) [
-      | inl none ↦ (None, no_faults-conforms orders deals last named (λ x lt. get_or-le-sum_by (λ (o : Order). o.place) orders x missing_order lt) none)
+      | inl none ↦ (None, no_faults-conforms orders deals last named (λ x lt. get_or-le-sum_by (λ (o : Order). o.place) orders x order_past_end lt) none)
       | inr (f, some) ↦
           let at = least-found (finding_at_place orders deals) (suc last) f some in
           (Some f, record { place = at.0; before = no_faults-conform orders deals at.0 at.3; here = at.2 })
     ]
 
-pub rule-verdict : of_call.RuleVerdictExists → RuleVerdictExists
+pub rule-verdict : of_call.CallVerdictExists → RuleVerdictExists
 rule-verdict calls rule.Matching orders deals count list ranges named range = calls call.Matching orders deals count list ranges named range
 rule-verdict calls rule.Fair orders deals count list ranges named range = calls call.Fair orders deals count list ranges named range
 rule-verdict calls rule.Uniform orders deals count list ranges named range = calls (call.Greatest of_volume.Uniform) orders deals count list ranges named range
@@ -49,18 +49,18 @@ module _ (symbol : List ℕ) (entries : List OrderRecord) (trades : Result (List
   orders = order_list symbol entries
 
   abbrev deals : List Deal
-  deals = deals_of orders symbol (paired_trades trades)
+  deals = deals_of_symbol orders symbol (paired_trades trades)
 
-  -- what the verdict is where the phases before the rule have this finding
+  -- what the verdict is where the stages before the rule have this finding
   abbrev by_rule : Rule → Option Finding → Option Finding → Type 0
   by_rule the_rule v found = MatchOption found (IsRuleVerdict the_rule orders deals (length (paired_trades trades)) v) (λ f. v ≡ Some f)
 
   is-sound : (the_rule : Rule) → log_finding the_rule symbol entries trades ≡ None → unsound_trade orders symbol (paired_trades trades) ≡ None
   is-sound the_rule none =
       let last = unsound_trade orders symbol (paired_trades trades) in
-      let formed = option_or-parts (history_finding symbol entries) (first_of (call_finding the_rule orders ∷ pairing_finding trades ∷ last ∷ [])) none in
-      let later = option_or-parts (call_finding the_rule orders) (first_of (pairing_finding trades ∷ last ∷ [])) formed.1 in
-      let latest = option_or-parts (pairing_finding trades) (first_of (last ∷ [])) later.1 in
+      let formed = option_or-parts (history_finding symbol entries) (first_answer (instant_order_finding the_rule orders ∷ pairing_finding trades ∷ last ∷ [])) none in
+      let later = option_or-parts (instant_order_finding the_rule orders) (first_answer (pairing_finding trades ∷ last ∷ [])) formed.1 in
+      let latest = option_or-parts (pairing_finding trades) (first_answer (last ∷ [])) later.1 in
       (option_or-parts last None latest.1).0
 
 -- two logs that have been read have the first finding before the rule, or the verdict of the rule
@@ -69,7 +69,7 @@ logs-verdict exists the_rule symbol entries trades few ranges range = elim (case
   | inr (f, some) ↦ (Some f, subst (by_rule symbol entries trades the_rule (Some f)) (sym some) refl)
   | inl none ↦
       let sound = is-sound symbol entries trades the_rule none in
-      let v = exists the_rule (order_list symbol entries) (deals_of (order_list symbol entries) symbol (paired_trades trades)) (length (paired_trades trades)) (order_list-is symbol entries few) ranges
+      let v = exists the_rule (order_list symbol entries) (deals_of_symbol (order_list symbol entries) symbol (paired_trades trades)) (length (paired_trades trades)) (order_list-is symbol entries few) ranges
       (sound-names (order_list symbol entries) symbol (paired_trades trades) sound) (deals-ranges (order_list symbol entries) symbol (paired_trades trades) range) in
       (v.0, subst (by_rule symbol entries trades the_rule v.0) (sym none) v.1)
 ]

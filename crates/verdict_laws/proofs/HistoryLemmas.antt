@@ -5,26 +5,26 @@ use Rattle.audit_base.specs.declared.orders.Order.{Order}
 use Rattle.audit_base.specs.declared.records.OrderRecord.{OrderRecord}
 use Rattle.audit_base.specs.declared.terms.Rule.TheVariants as rule
 use Rattle.audit_base.specs.declared.terms.VolumeRule.TheVariants as of_volume
-use Rattle.audit_base.specs.Bounds.{IsBound}
+use Rattle.audit_base.specs.Bounds.{IsBoundPrice}
 use Rattle.audit_base.specs.Expected.{IsExpectedUniform, IsExpectedMaximum, uniform_deals, maximum_deals}
 use Rattle.audit_base.specs.Histories.{order_list}
-use Rattle.audit_base.specs.Orders.{missing_order}
+use Rattle.audit_base.specs.Orders.{order_past_end}
 use Rattle.audit_base.proofs.HistoryLemmas.{order_list-rising, order_list-targets}
 use Rattle.audit_base.proofs.VerdictLemmas.{one-bound, one-greatest}
-use Rattle.continuous_laws.specs.Accounts.{IsPlaced}
+use Rattle.continuous_laws.specs.Accounts.{IsInLogOrder}
 use Rattle.continuous_laws.proofs.OneExpectedLemmas.{one-expected}
 use Rattle.verdict_laws.specs.Histories.{ExpectedTradesAreOne}
 
-is-placed : (symbol : List ℕ) (entries : List OrderRecord) → IsPlaced (order_list symbol entries)
+is-placed : (symbol : List ℕ) (entries : List OrderRecord) → IsInLogOrder (order_list symbol entries)
 is-placed symbol entries = record {
-  rising = λ i j lt below. order_list-rising symbol entries i j missing_order lt below;
+  rising = λ i j lt below. order_list-rising symbol entries i j order_past_end lt below;
   targets = λ k t lt e. (order_list-targets symbol entries k t lt e).0;
 }
 
 one-uniform : (orders : List Order) (ds es : List Deal) → IsExpectedUniform orders ds → IsExpectedUniform orders es → ds ≡ es
 one-uniform orders ds es d e =
     let most = one-greatest of_volume.Uniform orders d.most e.most d.greatest e.greatest in
-    let bound = one-bound of_volume.Uniform orders e.most d.bound e.bound (subst (λ (v : ℕ). IsBound of_volume.Uniform orders v d.bound) most d.is_bound) e.is_bound in
+    let bound = one-bound of_volume.Uniform orders e.most d.bound e.bound (subst (λ (v : ℕ). IsBoundPrice of_volume.Uniform orders v d.bound) most d.is_bound) e.is_bound in
     d.pairs ∙ (λ i. uniform_deals orders (most i) (bound i)) ∙ sym e.pairs
 
 one-maximum : (orders : List Order) (ds es : List Deal) → IsExpectedMaximum orders ds → IsExpectedMaximum orders es → ds ≡ es

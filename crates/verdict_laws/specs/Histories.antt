@@ -8,8 +8,8 @@ use Rattle.audit_base.specs.Histories.{WellFormed, order_list, Regular}
 use Rattle.audit_base.specs.Orders.{HaveOwnKeys, IsOrderList}
 
 -- the new orders and replacements of a history are an order list, well-formed or not
-abbrev pub OrderListsAreListed : Type 0
-OrderListsAreListed = (symbol : List ℕ) (entries : List OrderRecord)
+abbrev pub HistoriesHaveOrderLists : Type 0
+HistoriesHaveOrderLists = (symbol : List ℕ) (entries : List OrderRecord)
     → length entries < 2 ^ 32 → IsOrderList (order_list symbol entries)
 
 -- the order list of every well-formed history is regular

@@ -1,4 +1,5 @@
--- The extremes over all prices are reached among the candidates: 0, and a price for each limit of one side.
+-- The extremes over all prices are reached among the candidates: 0, and a price for each
+-- limit of one side.
 use Rattle.std.proofs.Common.{◌≡◌, ◌≤◌, ◌<◌, ◌+◌, ◌^◌, ◌∙◌, ◌⊎◌, sym, subst, ℕ, Bool, true, false, cond, List, [], ◌∷◌, length, take, get_or, refl, inl, inr, eq-eqb, arith, All}
 use Rattle.std.specs.Prelude.{◌&&◌, ◌||◌, ◌==◌, nat_lt, nat_le}
 use Rattle.std.proofs.lemmas.Bool.{cases_lt, cases_eq, le-ltb, ne_eqb, leb-true, lt-ltb, ltb-true, le-leb}
@@ -6,11 +7,11 @@ use Rattle.std.proofs.lemmas.List.Elements.{All-cons, All-nil, All-head, All-tai
 use Rattle.std.proofs.lemmas.List.Sums.{sum_by-le-sum_by}
 use Rattle.audit_base.specs.declared.orders.Order.{Order}
 use Rattle.audit_base.specs.declared.orders.Cut.{Cut}
-use Rattle.audit_base.specs.Bounds.{cut, executable_volume, IsLeastCut, IsBestUniform}
+use Rattle.audit_base.specs.Bounds.{cut, executable_volume, IsLeastCut, IsGreatestExecutableVolume}
 use Rattle.audit_base.proofs.SumLemmas.{sum_by-le-All}
 use Rattle.volume_bound.specs.declared.limits.LimitQuantity.{LimitQuantity}
 use Rattle.volume_bound.specs.Limits.{quantity_below, quantity_upto, quantity_from}
-use Rattle.volume_bound.specs.Sides.{Sides, HaveSumsOf, cut_of, executable_of}
+use Rattle.volume_bound.specs.Sides.{SideLimits, HaveSumsOf, cut_of, executable_of}
 
 -- Which of two cuts is taken. `Good a b` says that the volume a is as good as b.
 
@@ -148,7 +149,7 @@ part-le : (a b : Bool) (x : ℕ) → (a ≡ true → b ≡ true) → cond a x 0 
 part-le false b x h = omega arith
 part-le true b x h = rw (h refl) (omega arith)
 
-module _ (sides : Sides) (best : Cut) where
+module _ (sides : SideLimits) (best : Cut) where
   -- the cut falls only one above the limit of a bid
   least-everywhere : IsBest Less (cut_of sides) (λ l. l.limit + 1) sides.bids best → (q : ℕ) → IsAsGood Less best (at_price (cut_of sides) q)
   least-everywhere is q =
@@ -176,7 +177,7 @@ module _ (sides : Sides) (best : Cut) where
       part-le (nat_le q l.limit) (nat_le c l.limit) l.quantity (λ t. let low = leb-true q l.limit t in le-leb c l.limit (omega arith))) in
       more-joins best (at_price (executable_of sides) c) (at_price (executable_of sides) q) f.has (record { volumes = omega arith; prices = λ e. within })
 
-module _ (orders : List Order) (sides : Sides) (stands : HaveSumsOf orders sides) (best : Cut) where
+module _ (orders : List Order) (sides : SideLimits) (stands : HaveSumsOf orders sides) (best : Cut) where
   pub least-found : IsBest Less (cut_of sides) (λ l. l.limit + 1) sides.bids best → IsLeastCut orders best
   least-found is =
       let same : (q : ℕ) → cut_of sides q ≡ cut orders q = (λ q. let d = stands.demands q in let s = stands.supplies_below q in omega arith) in
@@ -186,7 +187,7 @@ module _ (orders : List Order) (sides : Sides) (stands : HaveSumsOf orders sides
         least = λ q le. omega (arith, same q, (all q).volumes);
       }
 
-  pub greatest-found : IsBest More (executable_of sides) (λ l. l.limit) sides.asks best → IsBestUniform orders best
+  pub greatest-found : IsBest More (executable_of sides) (λ l. l.limit) sides.asks best → IsGreatestExecutableVolume orders best
   greatest-found is =
       let same : (q : ℕ) → executable_of sides q ≡ executable_volume orders q = (λ q. let d = stands.demands q in let s = stands.supplies q in rw (d, s) refl) in
       let all = greatest-everywhere sides best is in

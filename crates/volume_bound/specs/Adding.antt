@@ -4,23 +4,24 @@ use Rattle.std.specs.List.{AllWithin}
 use Rattle.volume_bound.specs.declared.limits.LimitQuantity.{LimitQuantity}
 use Rattle.volume_bound.specs.declared.adding.Edge.{Edge}
 use Rattle.volume_bound.specs.declared.adding.Edge.TheVariants.{Below, Upto}
-use Rattle.volume_bound.specs.declared.adding.Added.{Added}
-use Rattle.volume_bound.specs.Limits.{quantity_of}
+use Rattle.volume_bound.specs.declared.adding.AddedLimits.{AddedLimits}
+use Rattle.volume_bound.specs.Limits.{quantity_of_limits}
 
 -- a limit counts: it is below the price, or at most the price
-abbrev pub counts : Edge → ℕ → Bool
-counts (Below p) limit = nat_lt limit p
-counts (Upto p) limit = nat_le limit p
+abbrev pub limit_counts : Edge → ℕ → Bool
+limit_counts (Below p) limit = nat_lt limit p
+limit_counts (Upto p) limit = nat_le limit p
 
 -- the quantities of the limits that count, added
-abbrev pub quantity_by : Edge → List LimitQuantity → ℕ
-quantity_by edge limits = sum_by (λ l. if counts edge l.limit then l.quantity else 0) limits
+abbrev pub counted_quantity : Edge → List LimitQuantity → ℕ
+counted_quantity edge limits =
+    sum_by (λ l. if limit_counts edge l.limit then l.quantity else 0) limits
 
--- so many of the first limits, with their quantities added
-pub record IsAdded (limits : List LimitQuantity) (added : Added) : Type 0 where
+-- as many of the first limits as are counted, with their quantities added
+pub record AreAddedLimits (limits : List LimitQuantity) (added : AddedLimits) : Type 0 where
   pub inside : added.count ≤ length limits
-  pub whole : added.sum ≡ quantity_of (take added.count limits)
+  pub whole : added.sum ≡ quantity_of_limits (take added.count limits)
 
 -- the first n limits count
 abbrev pub AllCount : Edge → List LimitQuantity → ℕ → Type 0
-AllCount edge limits n = AllWithin (λ l. counts edge l.limit ≡ true) limits 0 n
+AllCount edge limits n = AllWithin (λ l. limit_counts edge l.limit ≡ true) limits 0 n

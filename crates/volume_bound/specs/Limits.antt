@@ -4,20 +4,21 @@ use Rattle.std.specs.List.{filter}
 use Rattle.std.specs.List.Sorted.{IsNonDecreasingBy}
 use Rattle.audit_base.specs.declared.terms.Side.{Side}
 use Rattle.audit_base.specs.declared.orders.Order.{Order}
-use Rattle.audit_base.specs.Orders.{stands_on}
+use Rattle.audit_base.specs.Orders.{is_uncancelled_on}
 use Rattle.volume_bound.specs.declared.limits.LimitQuantity.{LimitQuantity}
 
 -- the limit and the quantity of an order
 abbrev pub limit_quantity_of : Order → LimitQuantity
 limit_quantity_of o = record { limit = o.limit; quantity = o.quantity }
 
--- those of the orders of a side that no record cancels, in the order of the list
+-- the limits and the quantities of the orders of a side that no record cancels, in
+-- the order of the list
 abbrev pub limits_on : Side → List Order → List LimitQuantity
-limits_on side orders = map limit_quantity_of (filter (stands_on side) orders)
+limits_on side orders = map limit_quantity_of (filter (is_uncancelled_on side) orders)
 
--- the quantities, added
-abbrev pub quantity_of : List LimitQuantity → ℕ
-quantity_of limits = sum_by (λ l. l.quantity) limits
+-- the quantities of the limits, added
+abbrev pub quantity_of_limits : List LimitQuantity → ℕ
+quantity_of_limits limits = sum_by (λ l. l.quantity) limits
 
 -- the quantities whose limit is below p, added
 abbrev pub quantity_below : List LimitQuantity → ℕ → ℕ
@@ -31,8 +32,8 @@ quantity_upto limits p = sum_by (λ l. if nat_le l.limit p then l.quantity else 
 abbrev pub quantity_from : List LimitQuantity → ℕ → ℕ
 quantity_from limits p = sum_by (λ l. if nat_le p l.limit then l.quantity else 0) limits
 
--- rising limits, whose quantities come to this together, at most 2^32 times 10^12
-pub record AreSummed (limits : List LimitQuantity) (quantity : ℕ) : Type 0 where
+-- rising limits, whose quantities are this added, at most 2^32 times 10^12
+pub record AreLimitsSummed (limits : List LimitQuantity) (quantity : ℕ) : Type 0 where
   pub rising : IsNonDecreasingBy (λ l. l.limit) limits
-  pub whole : quantity ≡ quantity_of limits
+  pub whole : quantity ≡ quantity_of_limits limits
   pub small : quantity ≤ 2 ^ 32 * 10 ^ 12

@@ -6,24 +6,24 @@ use Rattle.volume_bound.specs.declared.limits.LimitQuantity.{LimitQuantity}
 use Rattle.volume_bound.specs.Limits.{quantity_below, quantity_upto, quantity_from}
 
 -- the limits and the quantities of the bids, and those of the asks
-pub record Sides : Type 0 where
+pub record SideLimits : Type 0 where
   pub bids : List LimitQuantity
   pub asks : List LimitQuantity
 
 -- at every price the demand, the supply and the supply below it are those of the orders
-pub record HaveSumsOf (orders : List Order) (sides : Sides) : Type 0 where
+pub record HaveSumsOf (orders : List Order) (sides : SideLimits) : Type 0 where
   pub demands : (p : ℕ) → quantity_from sides.bids p ≡ demand orders p
   pub supplies : (p : ℕ) → quantity_upto sides.asks p ≡ supply orders p
   pub supplies_below : (p : ℕ) → quantity_below sides.asks p ≡ supply_below orders p
 
 -- whichever orders have the sums of these sides, this holds of them
-abbrev pub ForOrdersOf : Sides → (List Order → Type 0) → Type 0
+abbrev pub ForOrdersOf : SideLimits → (List Order → Type 0) → Type 0
 ForOrdersOf sides P = (orders : List Order) → HaveSumsOf orders sides → P orders
 
 -- the cut of these sides at a price
-abbrev pub cut_of : Sides → ℕ → ℕ
+abbrev pub cut_of : SideLimits → ℕ → ℕ
 cut_of sides p = quantity_from sides.bids p + quantity_below sides.asks p
 
 -- the executable volume of these sides at a price
-abbrev pub executable_of : Sides → ℕ → ℕ
+abbrev pub executable_of : SideLimits → ℕ → ℕ
 executable_of sides p = min (quantity_from sides.bids p) (quantity_upto sides.asks p)

@@ -1,6 +1,6 @@
 //! Which orders count: those of each side that no record cancels.
 ghost use Rattle.std.specs.Prelude.{◌≡◌, ◌++◌, ◌∷◌, [], IfOk, OnOk};
-ghost use Rattle.audit_base.specs.Orders.{AreOrders};
+ghost use Rattle.audit_base.specs.Orders.{OrdersInRange};
 ghost use Rattle.audit_base.specs.declared.terms.Side.TheVariants as the_side;
 ghost use Rattle.volume_bound.specs.Limits.{limits_on};
 
@@ -34,13 +34,13 @@ fn add(limits: &mut Vec<LimitQuantity>, order: &ListedOrder<'_>, side: Side) -> 
 }
 
 impl ActiveOrders {
-    /// Those of these orders. Memory is asked for once a side, before the first order.
+    /// Those of these orders. Memory is asked for once for each side, before the first order.
     pub fn of(alloc: Global, orders: &OrderList<'_>) -> Result<ActiveOrders, NoMemory>
         ensures bids { let bids = limits_on the_side.Buy orders.now in
             IfOk result (λ active. active.bids.items ≡ bids) }
         ensures asks { let asks = limits_on the_side.Sell orders.now in
             IfOk result (λ active. active.asks.items ≡ asks) }
-        ensures numbers { OnOk result (AreOrders orders.now) }
+        ensures numbers { OnOk result (OrdersInRange orders.now) }
     {
         orders.in_range();
         let mut bids = Vec::with_capacity(alloc, orders.len())?;

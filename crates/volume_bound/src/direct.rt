@@ -1,6 +1,6 @@
 //! Demand and supply at one price, in one pass over the orders.
 ghost use Rattle.std.specs.Prelude.{◌≡◌, ◌<◌, ◌^◌, length};
-ghost use Rattle.audit_base.specs.Bounds.{wanted, offered, offered_below, demand, supply, supply_below};
+ghost use Rattle.audit_base.specs.Bounds.{demand_of_order, supply_of_order, supply_below_of_order, demand, supply, supply_below};
 
 use audit_base::terms::Side;
 use order_list::listed::ListedOrder;
@@ -8,7 +8,7 @@ use order_list::lists::OrderList;
 
 /// What an order asks for at a price, if it is a bid that no record cancels.
 fn wanted(order: &ListedOrder<'_>, price: u64) -> u64
-    ensures { result ≡ wanted price order.now }
+    ensures { result ≡ demand_of_order price order.now }
 {
     if order.stands_on(Side::Buy) && price <= order.limit().units() {
         order.quantity().value()
@@ -19,7 +19,7 @@ fn wanted(order: &ListedOrder<'_>, price: u64) -> u64
 
 /// What an order offers at a price, if it is an ask that no record cancels.
 fn offered(order: &ListedOrder<'_>, price: u64) -> u64
-    ensures { result ≡ offered price order.now }
+    ensures { result ≡ supply_of_order price order.now }
 {
     if order.stands_on(Side::Sell) && order.limit().units() <= price {
         order.quantity().value()
@@ -30,7 +30,7 @@ fn offered(order: &ListedOrder<'_>, price: u64) -> u64
 
 /// The same below the price.
 fn offered_below(order: &ListedOrder<'_>, price: u64) -> u64
-    ensures { result ≡ offered_below price order.now }
+    ensures { result ≡ supply_below_of_order price order.now }
 {
     if order.stands_on(Side::Sell) && order.limit().units() < price {
         order.quantity().value()

@@ -1,10 +1,10 @@
 //! The limits of one side by rising limit, with the quantities of those up to a price.
 ghost use Rattle.std.specs.Prelude.{◌≡◌, ◌≤◌, ◌<◌, ◌*◌, ◌^◌, length};
 ghost use Rattle.std.specs.List.Sorted.{IsPermutation};
-ghost use Rattle.volume_bound.specs.Adding.{IsAdded, quantity_by};
-ghost use Rattle.volume_bound.specs.Limits.{quantity_of, quantity_below, quantity_upto, quantity_from};
+ghost use Rattle.volume_bound.specs.Adding.{AreAddedLimits, counted_quantity};
+ghost use Rattle.volume_bound.specs.Limits.{quantity_of_limits, quantity_below, quantity_upto, quantity_from};
 
-use super::adding::{Added, Edge, add_from, start_of};
+use super::adding::{AddedLimits, Edge, add_from, start_of};
 use audit_base::numbers::{Price, Quantity};
 use std::marker::Model;
 
@@ -26,19 +26,19 @@ pub struct SortedLimits {
 impl Model for SortedLimits {
     ghost use Rattle.std.specs.Prelude.{List};
     ghost use Rattle.volume_bound.specs.declared.limits.LimitQuantity.{LimitQuantity};
-    ghost use Rattle.volume_bound.specs.Limits.{AreSummed};
+    ghost use Rattle.volume_bound.specs.Limits.{AreLimitsSummed};
 
     ghost Value = { List LimitQuantity };
 
     ghost view = { λ s. s.limits.items };
 
-    ghost invariant = { λ s. AreSummed s.limits.items s.quantity };
+    ghost invariant = { λ s. AreLimitsSummed s.limits.items s.quantity };
 }
 
 /// All quantities, added.
 fn total_of(limits: &[LimitQuantity]) -> u128
     requires few { length limits.now < 2 ^ 32 }
-    ensures same { result ≡ quantity_of limits.now }
+    ensures same { result ≡ quantity_of_limits limits.now }
     ensures small { result ≤ 2 ^ 32 * 10 ^ 12 }
 {
     let mut sum: u128 = 0;
@@ -66,21 +66,21 @@ impl SortedLimits {
         &self.limits
     }
 
-    /// The limits that count, from those that were added last on: few steps where these count too and
-    /// few follow.
-    pub(crate) fn add(&self, edge: Edge, added: Added) -> Added
-        requires { IsAdded self.now added }
-        ensures added { IsAdded self.now result }
-        ensures same { result.sum ≡ quantity_by edge self.now }
-        ensures part { result.sum ≤ quantity_of self.now }
+    /// The limits that count, from those that were added last on: few steps where these count
+    /// too and few follow.
+    pub(crate) fn add(&self, edge: Edge, added: AddedLimits) -> AddedLimits
+        requires { AreAddedLimits self.now added }
+        ensures added { AreAddedLimits self.now result }
+        ensures same { result.sum ≡ counted_quantity edge self.now }
+        ensures part { result.sum ≤ quantity_of_limits self.now }
         ensures small { result.sum ≤ 2 ^ 32 * 10 ^ 12 }
     {
         let start = start_of(&self.limits, edge, added);
         add_from(&self.limits, edge, start)
     }
 
-    /// What the limits from a price on come to, where those below it are added.
-    pub(crate) fn rest_of(&self, price: u64, below: Added) -> u128
+    /// The quantity of the limits from a price on, where those below it are added.
+    pub(crate) fn rest_of(&self, price: u64, below: AddedLimits) -> u128
         requires { below.sum ≡ quantity_below self.now price }
         ensures same { result ≡ quantity_from self.now price }
         ensures small { result ≤ 2 ^ 32 * 10 ^ 12 }
@@ -92,20 +92,20 @@ impl SortedLimits {
     pub fn quantity_below(&self, price: u64) -> u128
         ensures { result ≡ quantity_below self.now price }
     {
-        self.add(Edge::Below(price), Added::NONE).sum
+        self.add(Edge::Below(price), AddedLimits::NONE).sum
     }
 
     /// The quantities whose limit is at most the price, added.
     pub fn quantity_upto(&self, price: u64) -> u128
         ensures { result ≡ quantity_upto self.now price }
     {
-        self.add(Edge::Upto(price), Added::NONE).sum
+        self.add(Edge::Upto(price), AddedLimits::NONE).sum
     }
 
     /// The quantities whose limit is at least the price, added.
     pub fn quantity_from(&self, price: u64) -> u128
         ensures { result ≡ quantity_from self.now price }
     {
-        self.rest_of(price, self.add(Edge::Below(price), Added::NONE))
+        self.rest_of(price, self.add(Edge::Below(price), AddedLimits::NONE))
     }
 }

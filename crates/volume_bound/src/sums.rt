@@ -1,13 +1,14 @@
-//! Both sides by limit: demand and supply at any price, and cuts and executable volumes at rising prices.
+//! Both sides by limit: demand and supply at any price, and cuts and executable
+//! volumes at rising prices.
 ghost use Rattle.std.specs.Prelude.{◌≡◌, ◌<◌, ◌^◌, List, IfOk, OnOk, length};
 ghost use Rattle.audit_base.specs.Bounds.{demand, supply, supply_below};
-ghost use Rattle.audit_base.specs.Orders.{AreOrders};
+ghost use Rattle.audit_base.specs.Orders.{OrdersInRange};
 ghost use Rattle.audit_base.specs.declared.orders.Order.{Order};
-ghost use Rattle.volume_bound.specs.Counting.{IsCounted};
+ghost use Rattle.volume_bound.specs.Counting.{AreCountedSides};
 ghost use Rattle.volume_bound.specs.Sides.{ForOrdersOf, HaveSumsOf, cut_of, executable_of};
 
 use super::active_orders::ActiveOrders;
-use super::adding::{Added, Edge};
+use super::adding::{AddedLimits, Edge};
 use super::limits::{LimitQuantity, SortedLimits};
 use audit_base::faults::NoMemory;
 use audit_base::orders::Cut;
@@ -15,8 +16,8 @@ use order_list::lists::OrderList;
 use std::alloc::Global;
 use std::marker::Model;
 
-/// The bids and the asks that no record cancels, each side by rising limit. Contracts see the limits and the
-/// quantities of both sides.
+/// The bids and the asks that no record cancels, each side by rising limit. Contracts see the
+/// limits and the quantities of both sides.
 #[derive(Debug, Drop)]
 pub struct Sums {
     bids: SortedLimits,
@@ -24,41 +25,41 @@ pub struct Sums {
 }
 
 impl Model for Sums {
-    ghost use Rattle.volume_bound.specs.Sides.{Sides};
+    ghost use Rattle.volume_bound.specs.Sides.{SideLimits};
 
-    ghost Value = { Sides };
+    ghost Value = { SideLimits };
 
     ghost view = { λ s. record { bids = s.bids; asks = s.asks } };
 }
 
-/// A price with the volume that is counted there, and what is added of each side, from which the next price
-/// is counted.
+/// A price with the volume that is counted there, and what is added of each side, from which the
+/// next price is counted.
 #[derive(Clone, Copy, Debug)]
-pub struct Counted {
+pub struct CountedSides {
     pub cut: Cut,
-    pub bids: Added,
-    pub asks: Added,
+    pub bids: AddedLimits,
+    pub asks: AddedLimits,
 }
 
-impl Counted {
+impl CountedSides {
     /// Before the first price: nothing is added.
-    pub const NONE: Counted = Counted {
+    pub const NONE: CountedSides = CountedSides {
         cut: Cut {
             price: 0,
             volume: 0,
         },
-        bids: Added::NONE,
-        asks: Added::NONE,
+        bids: AddedLimits::NONE,
+        asks: AddedLimits::NONE,
     };
 }
 
 impl Sums {
-    /// The sides of these orders: each is sorted once, in n log n steps for n orders. Err only out of
-    /// memory.
+    /// The sides of these orders: each is sorted once, in n log n steps for n orders. Err
+    /// only out of memory.
     pub fn build(alloc: Global, orders: &OrderList<'_>) -> Result<Sums, NoMemory>
         requires few { length orders.now < 2 ^ 32 }
         ensures stands { IfOk result (λ sums. HaveSumsOf orders.now sums) }
-        ensures numbers { OnOk result (AreOrders orders.now) }
+        ensures numbers { OnOk result (OrdersInRange orders.now) }
     {
         let ActiveOrders { bids, asks } = ActiveOrders::of(alloc, orders)?;
         Ok(Sums {
@@ -89,33 +90,33 @@ impl Sums {
     }
 
     /// The cut at the price. Along rising prices each limit is added once.
-    pub(crate) fn cut_after(&self, last: Counted, price: u64) -> Counted
-        requires { IsCounted self.now last }
+    pub(crate) fn cut_after(&self, last: CountedSides, price: u64) -> CountedSides
+        requires { AreCountedSides self.now last }
         ensures same { result.cut ≡ record { price = price; volume = cut_of self.now price } }
-        ensures counted { IsCounted self.now result }
+        ensures counted { AreCountedSides self.now result }
     {
         let bids = self.bids.add(Edge::Below(price), last.bids);
         let asks = self.asks.add(Edge::Below(price), last.asks);
         let volume = self.bids.rest_of(price, bids) + asks.sum;
-        Counted {
+        CountedSides {
             cut: Cut { price, volume },
             bids,
             asks,
         }
     }
 
-    /// The executable volume at the price: the lesser of demand and supply. Along rising prices each limit is
-    /// added once.
-    pub(crate) fn executable_after(&self, last: Counted, price: u64) -> Counted
-        requires { IsCounted self.now last }
+    /// The executable volume at the price: the smaller of demand and supply. Along rising prices
+    /// each limit is added once.
+    pub(crate) fn executable_after(&self, last: CountedSides, price: u64) -> CountedSides
+        requires { AreCountedSides self.now last }
         ensures same { result.cut
             ≡ record { price = price; volume = executable_of self.now price } }
-        ensures counted { IsCounted self.now result }
+        ensures counted { AreCountedSides self.now result }
     {
         let bids = self.bids.add(Edge::Below(price), last.bids);
         let asks = self.asks.add(Edge::Upto(price), last.asks);
         let demand = self.bids.rest_of(price, bids);
-        Counted {
+        CountedSides {
             cut: Cut {
                 price,
                 volume: demand.min(asks.sum),

@@ -1,5 +1,5 @@
 ghost use Rattle.std.specs.Prelude.{ℕ, ◌<◌, ◌≤◌, List, length};
-ghost use Rattle.fix_framing.specs.Framing.{HasRoom};
+ghost use Rattle.fix_framing.specs.Framing.{FramerHasRoom};
 
 use super::*;
 use crate::vectors::{DAY, M2};
@@ -15,7 +15,7 @@ const MESSAGES: [(u64, usize, usize); 4] = [
 
 /// Takes all messages that are whole, each one the next of the day, after `given` of them.
 fn take_messages(rt: &impl Abort, framer: &mut Framer, given: usize) -> usize
-    ensures { (piece : List ℕ) → HasRoom framer.old piece → HasRoom framer.new piece }
+    ensures { (piece : List ℕ) → FramerHasRoom framer.old piece → FramerHasRoom framer.new piece }
 {
     let mut given = given;
     'messages: loop {

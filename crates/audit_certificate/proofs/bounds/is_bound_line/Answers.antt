@@ -6,5 +6,5 @@ returns-then-not-branch c = tells-no_bound c.args.rule c.args.orders.now c.args.
     c.in_ok-is_bound_text.ensures c.if-not-branch.true
 
 pub returns : goal.returns
-returns c = tells-bound c.args.rule c.args.orders.now c.args.volume c.named_price-price.result c.args.line.now c.in_ok-is_bound_text.field-0 c.shows_bound.result c.named_price-price.ensures.same c.named_price-price.ensures.in_range
-    c.in_ok-is_bound_text.ensures c.if-not-branch.false c.shows_bound.ensures
+returns c = tells-bound c.args.rule c.args.orders.now c.args.volume c.named_price-price.result c.args.line.now c.in_ok-is_bound_text.field-0 c.shows_no_greater_volume.result c.named_price-price.ensures.same c.named_price-price.ensures.in_range
+    c.in_ok-is_bound_text.ensures c.if-not-branch.false c.shows_no_greater_volume.ensures

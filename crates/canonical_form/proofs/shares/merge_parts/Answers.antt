@@ -1,17 +1,17 @@
 use Rattle.std.proofs.Common.{◌<◌, arith, length, rules}
-use Rattle.canonical_form.specs.Parts.{missing_part}
+use Rattle.canonical_form.specs.Parts.{part_past_end}
 use Rattle.canonical_form.proofs.PartLemmas.{made-first, made-more, merged}
 use Rattle.canonical_form.proofs.shares.merge_parts.Goals as goal
 
 pub loop-at-init : goal.loop-at-init
 loop-at-init c =
     let some : 0 < length c.args.parts.now = search rules in
-    made-first c.args.parts.now c.requires.each c.new-shares.result.items c.share_of-share.result some c.share_of-share.ensures c.new-shares.ensures.items
+    made-first c.args.parts.now c.requires.each c.new-shares.result.items c.share_of_part-share.result some c.share_of_part-share.ensures c.new-shares.ensures.items
 
 pub merge_part-requires : goal.merge_part-requires
 merge_part-requires c =
     let fits = c.loop-at.invariant.fits in
-    let most = (c.requires.each c.loop-at.at missing_part c.loop-at-test.true).most in
+    let most = (c.requires.each c.loop-at.at part_past_end c.loop-at-test.true).most in
     let few = c.requires.few in
     let inside = c.loop-at-test.true in
     record { fits = omega arith }

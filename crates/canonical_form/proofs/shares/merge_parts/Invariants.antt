@@ -1,5 +1,5 @@
-use Rattle.canonical_form.specs.Parts.{AreMade}
+use Rattle.canonical_form.specs.Parts.{AreSharesSoFar}
 use Rattle.canonical_form.proofs.shares.merge_parts.Given as goal
 
 abbrev pub invariant-loop-at : goal.invariant-loop-at
-invariant-loop-at l = AreMade l.parts l.at l.shares.items l.share
+invariant-loop-at l = AreSharesSoFar l.parts l.at l.shares.items l.share

@@ -8,7 +8,7 @@ use Rattle.sqlite.specs.Values.{bound}
 use Rattle.sqlite.proofs.StateLemmas.{survives_then}
 use Rattle.sqlite.proofs.Callers.{survives_begin}
 use Rattle.sqlite.specs.State.{Survives}
-use Rattle.case_sqlite.specs.Runs.{Makes, RunsCommitted}
+use Rattle.case_sqlite.specs.Runs.{MakesTrees, RunsCommitted}
 use Rattle.case_sqlite.proofs.RunLemmas.{on_ok_then, moved}
 use Rattle.case_sqlite.proofs.table.commit_one.Goals as goal
 
@@ -36,7 +36,7 @@ returns-clause-survives g c =
     let mid = c.execute.new.self.conn.now in
     let end = c.commit.new.self.0 in
     let begun = c.transaction-transaction.ensures.begun in
-    let P = Makes g.S.Store c.args.sql.now (bound c.args.values.now) old in
+    let P = MakesTrees g.S.Store c.args.sql.now (bound c.args.values.now) old in
     let ran = λ (clean : HasCleanDisk (state g.S.Store end)).
     let one = c.in_ok-execute.ensures.runs (omega (arith, c.commit.ensures.survives.clean)) (rw begun) in
     rw begun at one.0 in

@@ -3,7 +3,7 @@ use Rattle.std.proofs.Common.{subst}
 use Rattle.std.specs.Prelude.{OnOk}
 use Rattle.sqlite.specs.Held.{state}
 use Rattle.sqlite.specs.State.{Survives}
-use Rattle.case_sqlite.specs.Runs.{Makes, RunsCommitted}
+use Rattle.case_sqlite.specs.Runs.{MakesTrees, RunsCommitted}
 use Rattle.case_sqlite.specs.Statements.{insert_text}
 use Rattle.case_sqlite.proofs.RunLemmas.{bound_columns}
 use Rattle.case_sqlite.proofs.table.insert.Goals as goal
@@ -15,5 +15,5 @@ returns-then-has_place-clause-added g c clean =
 
 pub returns-then-has_place-clause-survives : goal.returns-then-has_place-clause-survives
 returns-then-has_place-clause-survives g c =
-    subst (λ values. Survives (state g.S.Store c.args.connection.now) (state g.S.Store c.change.new.connection) (Makes g.S.Store insert_text values c.args.connection.now))
+    subst (λ values. Survives (state g.S.Store c.args.connection.now) (state g.S.Store c.change.new.connection) (MakesTrees g.S.Store insert_text values c.args.connection.now))
     (bound_columns c.case_values.result c.args.case.now c.case_values.ensures) c.change.ensures.survives

@@ -1,9 +1,9 @@
 use Rattle.std.proofs.Common.{ℕ, List, length, sym, ap, subst, arith, All}
 use Rattle.std.proofs.lemmas.Result.{IfOk-weaker}
-use Rattle.continuous_audit.specs.declared.pairs.Pair.{Pair}
+use Rattle.continuous_audit.specs.declared.pairs.FillPair.{FillPair}
 use Rattle.continuous_audit.specs.Endings.{AreEndings}
-use Rattle.continuous_audit.specs.Matching.{AreAtFirst}
-use Rattle.continuous_audit.specs.Pairs.{AreNumbered, IsDealt}
+use Rattle.continuous_audit.specs.Matching.{AreTradesAtStart}
+use Rattle.continuous_audit.specs.Pairs.{AreFillPairDeals, IsFillPairDealt}
 use Rattle.continuous_audit.proofs.ExpectingLemmas.{matched-first, sorted-dealt, sorted-length, made-expected, made-conforms, made-listed}
 use Rattle.continuous_audit.proofs.expecting.continuous_matching.Goals as goal
 
@@ -11,7 +11,7 @@ pub match_records-requires-clause-endings : goal.match_records-requires-clause-e
 match_records-requires-clause-endings c = subst (AreEndings c.args.orders.now) (sym c.deref.ensures.value) c.in_ok-endings.ensures
 
 pub match_records-requires-clause-matched : goal.match_records-requires-clause-matched
-match_records-requires-clause-matched c = λ deals is. matched-first c.args.orders.now c.requires.order_list c.in_ok-so_far.so_far (subst (λ (n : ℕ). AreAtFirst n c.in_ok-so_far.so_far) c.len.ensures c.in_ok-so_far.ensures) deals
+match_records-requires-clause-matched c = λ deals is. matched-first c.args.orders.now c.requires.order_list c.in_ok-so_far.so_far (subst (λ (n : ℕ). AreTradesAtStart n c.in_ok-so_far.so_far) c.len.ensures c.in_ok-so_far.ensures) deals
 
 pub number_pairs-requires-clause-few : goal.number_pairs-requires-clause-few
 number_pairs-requires-clause-few c =
@@ -20,14 +20,14 @@ number_pairs-requires-clause-few c =
     let same = sorted-length c.args.orders.now c.requires.order_list c.requires.regular pairs sorted c.in_ok-sort_pairs.ensures.moved c.in_ok-sort_pairs.ensures.sorted (λ deals is. (c.in_ok-match_records.ensures.matched deals is).pairs) c.in_ok-match_records.ensures.counted.dealt in
     let few = c.in_ok-match_records.ensures.counted.few in
     let orders_few = c.requires.order_list.few in
-    let long = ap (λ (ps : List Pair). length ps) c.deref-2.ensures.value in
+    let long = ap (λ (ps : List FillPair). length ps) c.deref-2.ensures.value in
     omega arith
 
 pub number_pairs-requires-clause-dealt : goal.number_pairs-requires-clause-dealt
 number_pairs-requires-clause-dealt c =
     let pairs = c.match_records.new.so_far.pairs.items in
     let sorted = c.sort_pairs.new.pairs.items in
-    subst (All (IsDealt (length c.args.orders.now))) (sym c.deref-2.ensures.value)
+    subst (All (IsFillPairDealt (length c.args.orders.now))) (sym c.deref-2.ensures.value)
     (sorted-dealt c.args.orders.now c.requires.order_list c.requires.regular pairs sorted c.in_ok-sort_pairs.ensures.moved c.in_ok-sort_pairs.ensures.sorted (λ deals is. (c.in_ok-match_records.ensures.matched deals is).pairs) c.in_ok-match_records.ensures.counted.dealt)
 
 pub returns-clause-expected : goal.returns-clause-expected
@@ -35,14 +35,14 @@ returns-clause-expected c =
     let pairs = c.match_records.new.so_far.pairs.items in
     let sorted = c.sort_pairs.new.pairs.items in
     IfOk-weaker c.number_pairs.result _ _ (λ made numbers. made-expected c.args.orders.now c.requires.order_list c.requires.regular pairs sorted c.in_ok-sort_pairs.ensures.moved c.in_ok-sort_pairs.ensures.sorted (λ deals is. (c.in_ok-match_records.ensures.matched deals is).pairs) c.in_ok-match_records.ensures.counted.dealt made.items
-    (subst (λ (ps : List Pair). AreNumbered c.args.orders.now ps made.items) c.deref-2.ensures.value numbers)) c.number_pairs.ensures.numbered
+    (subst (λ (ps : List FillPair). AreFillPairDeals c.args.orders.now ps made.items) c.deref-2.ensures.value numbers)) c.number_pairs.ensures.numbered
 
 pub returns-clause-conforms : goal.returns-clause-conforms
 returns-clause-conforms c =
     let pairs = c.match_records.new.so_far.pairs.items in
     let sorted = c.sort_pairs.new.pairs.items in
     IfOk-weaker c.number_pairs.result _ _ (λ made numbers. made-conforms c.args.orders.now c.requires.order_list c.requires.regular pairs sorted c.in_ok-sort_pairs.ensures.moved c.in_ok-sort_pairs.ensures.sorted (λ deals is. (c.in_ok-match_records.ensures.matched deals is).pairs) c.in_ok-match_records.ensures.counted.dealt made.items
-    (subst (λ (ps : List Pair). AreNumbered c.args.orders.now ps made.items) c.deref-2.ensures.value numbers)) c.number_pairs.ensures.numbered
+    (subst (λ (ps : List FillPair). AreFillPairDeals c.args.orders.now ps made.items) c.deref-2.ensures.value numbers)) c.number_pairs.ensures.numbered
 
 pub returns-clause-deal_list : goal.returns-clause-deal_list
 returns-clause-deal_list c =
@@ -52,4 +52,4 @@ returns-clause-deal_list c =
     let few = c.in_ok-match_records.ensures.counted.few in
     let orders_few = c.requires.order_list.few in
     IfOk-weaker c.number_pairs.result _ _ (λ made numbers. made-listed c.args.orders.now c.requires.order_list c.requires.regular pairs sorted c.in_ok-sort_pairs.ensures.moved c.in_ok-sort_pairs.ensures.sorted (λ deals is. (c.in_ok-match_records.ensures.matched deals is).pairs) c.in_ok-match_records.ensures.counted.dealt made.items
-    (subst (λ (ps : List Pair). AreNumbered c.args.orders.now ps made.items) c.deref-2.ensures.value numbers) (omega arith)) c.number_pairs.ensures.numbered
+    (subst (λ (ps : List FillPair). AreFillPairDeals c.args.orders.now ps made.items) c.deref-2.ensures.value numbers) (omega arith)) c.number_pairs.ensures.numbered

@@ -1,9 +1,9 @@
 use Rattle.std.proofs.Common.{◌≡◌, ◌<◌, ◌-◌, ◌∙◌, ℕ, List, ap, arith, length, sym, subst}
 use Rattle.std.specs.Prelude.{slice_set}
 use Rattle.audit_base.specs.declared.orders.Deal.{Deal}
-use Rattle.audit_base.specs.Deals.{deal_at, missing_deal}
+use Rattle.audit_base.specs.Deals.{deal_at, deal_past_end}
 use Rattle.audit_base.proofs.OffenceLemmas.{get_or-default}
-use Rattle.continuous_audit.specs.Scans.{deal_in, number_in}
+use Rattle.continuous_audit.specs.Scans.{cause_deal_at, number_in}
 use Rattle.continuous_audit.proofs.LeftLemmas.{refreshed-more}
 use Rattle.continuous_audit.proofs.leaving.refresh_left.Goals as goal
 
@@ -14,7 +14,7 @@ loop-at-preserved c =
     let at = c.loop-at.at in
     let inside : at < length causes = let e = c.requires.ends in omega arith in
     let d = c.index-deals-causes.result in
-    let d_is : d ≡ deal_at deals (deal_in causes at) = c.index-deals-causes.is ∙ get_or-default deals (deal_in causes at) d missing_deal (c.requires.deals.deal at inside) in
+    let d_is : d ≡ deal_at deals (cause_deal_at causes at) = c.index-deals-causes.is ∙ get_or-default deals (cause_deal_at causes at) d deal_past_end (c.requires.deals.deal at inside) in
     let long = c.loop-at.invariant.count in
     let bid : d.bid < length c.loop-at.left.items = subst (λ (x : Deal). x.bid < length c.loop-at.left.items) (sym d_is) (let b = c.requires.deals.bid at inside in omega arith) in
     let ask : d.ask < length c.loop-at.left.items = subst (λ (x : Deal). x.ask < length c.loop-at.left.items) (sym d_is) (let b = c.requires.deals.ask at inside in omega arith) in

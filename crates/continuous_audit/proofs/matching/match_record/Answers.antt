@@ -1,7 +1,7 @@
 use Rattle.std.proofs.Common.{◌≡◌, ◌∙◌, ℕ, suc, sym, subst, arith}
 use Rattle.audit_base.specs.Orders.{place_at}
 use Rattle.audit_base.proofs.OffenceLemmas.{get_or-default}
-use Rattle.continuous_audit.specs.Endings.{AreDropped}
+use Rattle.continuous_audit.specs.Endings.{AreEndingsDropped}
 use Rattle.continuous_audit.specs.Scans.{number_in}
 use Rattle.continuous_audit.specs.Spreads.{IsAfterOwn}
 use Rattle.continuous_audit.proofs.BooksLemmas.{hold-below}
@@ -12,7 +12,7 @@ use Rattle.continuous_audit.proofs.RestLemmas.{traded-gap}
 use Rattle.continuous_audit.proofs.matching.match_record.Goals as goal
 
 pub drop_own-requires-clause-dropped : goal.drop_own-requires-clause-dropped
-drop_own-requires-clause-dropped c = subst (λ (m : ℕ). AreDropped c.args.endings.now m (place_at c.args.orders.now c.args.order)) (sym c.in_ok-trade_order.ensures.started) c.requires.dropped
+drop_own-requires-clause-dropped c = subst (λ (m : ℕ). AreEndingsDropped c.args.endings.now m (place_at c.args.orders.now c.args.order)) (sym c.in_ok-trade_order.ensures.started) c.requires.dropped
 
 pub enter_own-requires-clause-earlier : goal.enter_own-requires-clause-earlier
 enter_own-requires-clause-earlier c =

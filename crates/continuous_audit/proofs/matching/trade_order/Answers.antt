@@ -3,8 +3,8 @@ use Rattle.std.specs.Vec.{vec_len}
 use Rattle.std.proofs.lemmas.Result.{on_ok_weaker}
 use Rattle.audit_base.specs.declared.terms.Side.{Side}
 use Rattle.audit_base.specs.Orders.{order_at}
-use Rattle.continuous_audit.specs.Pairs.{pair_of}
-use Rattle.continuous_audit.specs.Matching.{AreApplied}
+use Rattle.continuous_audit.specs.Pairs.{fill_pair}
+use Rattle.continuous_audit.specs.Matching.{AreFillsApplied}
 use Rattle.continuous_audit.proofs.MatchLemmas.{some-expected}
 use Rattle.continuous_audit.proofs.TradedLemmas.{first-inside, first-read, traded-read, traded-matched, traded-counted}
 use Rattle.continuous_audit.proofs.matching.trade_order.Goals as goal
@@ -32,7 +32,7 @@ returns-clause-counted c =
     on_ok_weaker c.push_pairs.result (λ pushed.
     traded-counted c.args.orders.now c.requires.list c.args.order c.requires.order c.open_order-opening.result.size c.in_ok-left.left c.open_order-opening.result.before c.deref-2.result.now c.args.so_far.now _ c.requires.counted
     (traded-read c.args.orders.now c.args.order c.open_order-opening.result.size c.in_ok-left.left c.open_order-opening.result.before c.args.so_far.now _ c.at-own.result own_is c.fill_order.new.fills.items c.deref-2.result.now c.deref-3.result.now c.apply_fills.new.traded.items c.apply_fills.new.left.items
-    c.in_ok-left.ensures.fills c.deref-2.ensures.value c.deref-3.ensures.value c.in_ok-left.ensures.left (subst (λ (xs : List ℕ). AreApplied c.deref-2.result.now c.args.so_far.now.traded.items xs c.apply_fills.new.traded.items c.apply_fills.new.left.items) c.note.ensures.left c.apply_fills.ensures) c.note.ensures.before c.set_total.ensures c.set_amount.ensures c.in_ok-left.ensures.books (pushed ∙ ap (λ (side : Side). c.args.so_far.now.pairs.items ++ map (pair_of side c.args.order) c.deref-3.result.now) c.side.ensures))
+    c.in_ok-left.ensures.fills c.deref-2.ensures.value c.deref-3.ensures.value c.in_ok-left.ensures.left (subst (λ (xs : List ℕ). AreFillsApplied c.deref-2.result.now c.args.so_far.now.traded.items xs c.apply_fills.new.traded.items c.apply_fills.new.left.items) c.note.ensures.left c.apply_fills.ensures) c.note.ensures.before c.set_total.ensures c.set_amount.ensures c.in_ok-left.ensures.books (pushed ∙ ap (λ (side : Side). c.args.so_far.now.pairs.items ++ map (fill_pair side c.args.order) c.deref-3.result.now) c.side.ensures))
     e.0 e.1 is opened.size_is opened.before_is c.open_order-opening.ensures.fits.most c.open_order-opening.ensures.fits.bounded c.open_order-opening.result.closed c.open_order-opening.ensures.fits.closed c.note.ensures.closed c.note.ensures.sizes) c.push_pairs.ensures
 
 pub returns-clause-matched : goal.returns-clause-matched
@@ -43,5 +43,5 @@ returns-clause-matched c =
     let opened = c.open_order-opening.ensures.opened deals (first-read c.args.orders.now c.requires.list c.args.order c.requires.order c.args.so_far.now deals expected is c.deref.result.now c.deref.ensures.value) in
     traded-matched c.args.orders.now c.requires.list c.args.order c.requires.order c.open_order-opening.result.size c.in_ok-left.left c.open_order-opening.result.before c.deref-2.result.now c.args.so_far.now _ c.requires.counted
     (traded-read c.args.orders.now c.args.order c.open_order-opening.result.size c.in_ok-left.left c.open_order-opening.result.before c.args.so_far.now _ c.at-own.result own_is c.fill_order.new.fills.items c.deref-2.result.now c.deref-3.result.now c.apply_fills.new.traded.items c.apply_fills.new.left.items
-    c.in_ok-left.ensures.fills c.deref-2.ensures.value c.deref-3.ensures.value c.in_ok-left.ensures.left (subst (λ (xs : List ℕ). AreApplied c.deref-2.result.now c.args.so_far.now.traded.items xs c.apply_fills.new.traded.items c.apply_fills.new.left.items) c.note.ensures.left c.apply_fills.ensures) c.note.ensures.before c.set_total.ensures c.set_amount.ensures c.in_ok-left.ensures.books (pushed ∙ ap (λ (side : Side). c.args.so_far.now.pairs.items ++ map (pair_of side c.args.order) c.deref-3.result.now) c.side.ensures))
+    c.in_ok-left.ensures.fills c.deref-2.ensures.value c.deref-3.ensures.value c.in_ok-left.ensures.left (subst (λ (xs : List ℕ). AreFillsApplied c.deref-2.result.now c.args.so_far.now.traded.items xs c.apply_fills.new.traded.items c.apply_fills.new.left.items) c.note.ensures.left c.apply_fills.ensures) c.note.ensures.before c.set_total.ensures c.set_amount.ensures c.in_ok-left.ensures.books (pushed ∙ ap (λ (side : Side). c.args.so_far.now.pairs.items ++ map (fill_pair side c.args.order) c.deref-3.result.now) c.side.ensures))
     deals expected is opened.size_is opened.before_is) c.push_pairs.ensures

@@ -1,13 +1,13 @@
 use Rattle.std.proofs.Common.{◌≡◌, ◌∙◌, Option, None, IfSome, inl, inr, sym, ap, subst, arith, option_map, rules}
 use Rattle.std.proofs.lemmas.Bool.{cases_eq}
 use Rattle.audit_base.specs.declared.flaws.Evidence.{Evidence}
-use Rattle.audit_base.specs.Flaws.{IsInside}
+use Rattle.audit_base.specs.Flaws.{IsEvidenceInside}
 use Rattle.audit_base.specs.Orders.{place_at}
 use Rattle.audit_base.specs.ContinuousOffences.{conservation_finding}
 use Rattle.continuous_audit.specs.declared.checking.Accounts.{Accounts}
-use Rattle.continuous_audit.specs.declared.checking.Coming.{Coming}
+use Rattle.continuous_audit.specs.declared.checking.Arrival.{Arrival}
 use Rattle.continuous_audit.specs.DealFindings as by_deal
-use Rattle.continuous_audit.specs.Scans.{deal_in, order_in}
+use Rattle.continuous_audit.specs.Scans.{cause_deal_at, cause_order_at}
 use Rattle.continuous_audit.proofs.ScanLemmas.{all-clean, finding_by, finding-read, first-finding, inside-read, running-read}
 use Rattle.continuous_audit.proofs.scanning.check_deals.Goals as goal
 
@@ -30,7 +30,7 @@ returns-in-Some-clause-found c =
     let orders = c.args.market.now.orders.now in
     let at = c.loop-running.running.at in
     let d = c.index-deals-cause.result in
-    let coming : Coming = record { place = c.place.result; entered = c.args.entered } in
+    let coming : Arrival = record { place = c.place.result; entered = c.args.entered } in
     let accounts : Accounts = record { bid = c.account.result; ask = c.account-in-loop-running.result } in
     let is = finding-read orders c.requires.market.list c.args.market.now.deals.now c.requires.market.deal_list c.args.market.now.causes.now c.requires.market.causes c.args.order c.requires.order at c.loop-running-test.true c.loop-running.running.traded.items c.loop-running.invariant.totals d c.index-deals-cause.is c.value-quantity.result c.value-quantity.ensures.same c.value-quantity.ensures.in_range
     c.if-cause-order.false coming c.args.sheet.now c.requires.known c.at.result c.at-bid.result c.at-ask.result c.at.ensures c.at-bid.ensures c.at-ask.ensures c.place.ensures
@@ -40,7 +40,7 @@ returns-in-Some-clause-found c =
     let h : c.deal_evidence.result ≡ by_deal.deal_evidence d c.at-bid.result c.at-ask.result coming accounts = search rules in
     let made = sym h ∙ c.in-Some.is in
     record {
-      inside = subst (λ (e : Option Evidence). IfSome e (IsInside orders)) made inside;
+      inside = subst (λ (e : Option Evidence). IfSome e (IsEvidenceInside orders)) made inside;
       same = first-finding orders c.requires.market.list c.args.market.now.deals.now c.requires.market.deal_list c.args.market.now.causes.now c.requires.market.causes c.args.order c.requires.order
           c.args.running.now.at at c.requires.traded.split c.loop-running.invariant.clean _ c.loop-running-test.true c.if-cause-order.false
           (is ∙ ap (option_map (finding_by orders c.requires.market.list c.args.market.now.deals.now c.requires.market.deal_list c.args.market.now.causes.now c.requires.market.causes c.args.order c.requires.order d)) made);
@@ -52,7 +52,7 @@ loop-running-preserved c =
     let deals = c.args.market.now.deals.now in
     let at = c.loop-running.running.at in
     let d = c.index-deals-cause.result in
-    let coming : Coming = record { place = c.place.result; entered = c.args.entered } in
+    let coming : Arrival = record { place = c.place.result; entered = c.args.entered } in
     let accounts : Accounts = record { bid = c.account.result; ask = c.account-in-loop-running.result } in
     let is = finding-read orders c.requires.market.list deals c.requires.market.deal_list c.args.market.now.causes.now c.requires.market.causes c.args.order c.requires.order at c.loop-running-test.true c.loop-running.running.traded.items c.loop-running.invariant.totals d c.index-deals-cause.is c.value-quantity.result c.value-quantity.ensures.same c.value-quantity.ensures.in_range
     c.if-cause-order.false coming c.args.sheet.now c.requires.known c.at.result c.at-bid.result c.at-ask.result c.at.ensures c.at-bid.ensures c.at-ask.ensures c.place.ensures
@@ -60,17 +60,17 @@ loop-running-preserved c =
     let run = running-read orders c.requires.market.list deals c.requires.market.deal_list c.args.market.now.causes.now c.requires.market.causes c.args.order c.requires.order at c.loop-running-test.true c.loop-running.running.traded.items c.loop-running.invariant.totals d c.index-deals-cause.is c.value-quantity.result c.value-quantity.ensures.same c.value-quantity.ensures.in_range
     c.add_deal-bid_traded.new.traded.items c.add_deal-bid_traded.ensures.added in
     let h : c.deal_evidence.result ≡ by_deal.deal_evidence d c.at-bid.result c.at-ask.result coming accounts = search rules in
-    let none : conservation_finding orders deals (place_at orders c.args.order) (deal_in c.args.market.now.causes.now at) ≡ None =
+    let none : conservation_finding orders deals (place_at orders c.args.order) (cause_deal_at c.args.market.now.causes.now at) ≡ None =
     is ∙ ap (option_map (finding_by orders c.requires.market.list deals c.requires.market.deal_list c.args.market.now.causes.now c.requires.market.causes c.args.order c.requires.order d)) (sym h ∙ c.in_default.is) in
     record {
       from = let l = c.loop-running.invariant.from in omega arith;
       own = λ i le lt. elim (cases_eq i at) [
-        | inl e ↦ ap (order_in c.args.market.now.causes.now) e ∙ c.if-cause-order.false
+        | inl e ↦ ap (cause_order_at c.args.market.now.causes.now) e ∙ c.if-cause-order.false
         | inr ne ↦ c.loop-running.invariant.own i le (omega (arith, ne))
       ];
       totals = run;
       clean = λ i le lt. elim (cases_eq i at) [
-        | inl e ↦ subst (λ j. conservation_finding orders deals (place_at orders c.args.order) (deal_in c.args.market.now.causes.now j) ≡ None) (sym e) none
+        | inl e ↦ subst (λ j. conservation_finding orders deals (place_at orders c.args.order) (cause_deal_at c.args.market.now.causes.now j) ≡ None) (sym e) none
         | inr ne ↦ c.loop-running.invariant.clean i le (omega (arith, ne))
       ];
     }

@@ -1,15 +1,15 @@
 use Rattle.std.proofs.Common.{◌≡◌, ◌≤◌, ◌<◌, ◌-◌, ℕ, length, None}
 use Rattle.audit_base.specs.Orders.{place_at}
 use Rattle.audit_base.specs.ContinuousOffences.{conservation_finding}
-use Rattle.continuous_audit.specs.Scans.{AreRunningTotals, deal_in, order_in}
+use Rattle.continuous_audit.specs.Scans.{AreRunningTotals, cause_deal_at, cause_order_at}
 use Rattle.continuous_audit.proofs.scanning.check_deals.Given as goal
 
 abbrev pub invariant-loop-running : goal.invariant-loop-running
 invariant-loop-running l = record {
   from : l.initial.running.at ≤ l.running.at;
-  own : (i : ℕ) → l.initial.running.at ≤ i → i < l.running.at → order_in l.causes i ≡ l.order;
+  own : (i : ℕ) → l.initial.running.at ≤ i → i < l.running.at → cause_order_at l.causes i ≡ l.order;
   totals : AreRunningTotals l.orders l.deals l.causes l.running.at l.running.traded.items;
-  clean : (i : ℕ) → l.initial.running.at ≤ i → i < l.running.at → conservation_finding l.orders l.deals (place_at l.orders l.order) (deal_in l.causes i) ≡ None;
+  clean : (i : ℕ) → l.initial.running.at ≤ i → i < l.running.at → conservation_finding l.orders l.deals (place_at l.orders l.order) (cause_deal_at l.causes i) ≡ None;
 }
 
 abbrev pub decreases-loop-running : goal.decreases-loop-running

@@ -6,7 +6,7 @@ use Rattle.csv_logs.proofs.writers.text_of.Goals as goal
 
 pub loop-entry-preserved : goal.loop-entry-preserved
 loop-entry-preserved g c =
-    subst (IsLogText g.R.LogEntry.names g.R.LogEntry.meaning g.R.LogEntry.sound g.R.LogLine.fields c.add.new.self)
+    subst (IsLogText g.R.CsvRecord.names g.R.CsvRecord.meaning g.R.CsvRecord.sound g.R.LogLine.fields c.add.new.self)
     (sym (take_more c.args.entries.now c.loop-entry.entry-index c.entry-item.result c.loop-entry-test.true))
     (rw (← c.entry-item.is) (c.in_ok-add.ensures _ c.loop-entry.invariant))
 

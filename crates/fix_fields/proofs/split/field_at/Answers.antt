@@ -2,7 +2,7 @@ use Rattle.std.proofs.Common.{◌≢◌, ℕ, ◌-◌, List, ◌∷◌, ◌++◌
 use Rattle.std.specs.Option.{option_map}
 use Rattle.std.proofs.lemmas.List.{take_rest, drop-drop}
 use Rattle.fix_fields.specs.Grammar.{HasForm, NoField}
-use Rattle.fix_fields.specs.Ranges.{shown}
+use Rattle.fix_fields.specs.Ranges.{tag_value_of}
 use Rattle.fix_fields.proofs.GrammarLemmas.{no_value}
 use Rattle.fix_fields.proofs.split.field_at.Goals as goal
 
@@ -12,7 +12,7 @@ returns-in_err-size-clause-none c =
     let at = c.args.at in
     let tag = c.in_ok-tag.tag in
     let size = c.in_ok-tag.size in
-    let before = option_map (shown body) c.args.before in
+    let before = option_map (tag_value_of body) c.args.before in
     let bytes = take (length body - at) (drop at body) in
     let value_bytes = sym (drop-drop size at body) ∙ ap (drop size) (sym (take_rest body at)) in
     let none =

@@ -4,13 +4,13 @@ use Rattle.std.specs.Prelude.{IsSome}
 use Rattle.std.specs.Io.KnownBytes.{Consumes}
 use Rattle.audit_base.specs.declared.terms.Which.{Which}
 use Rattle.log_source.specs.Calls.{count_after}
-use Rattle.log_source.specs.Sources.{ChangesOnly}
+use Rattle.log_source.specs.Sources.{ChangesOneSlot}
 use Rattle.log_source.specs.declared.feed.Feed as feed
 use Rattle.log_source.specs.declared.shelf.Shelf as shelf
 use Rattle.log_source.proofs.pump.pump.Given as goal
 
 pub record Pumping {F D : Type 0} (shelves : shelf.Ghosts F) (feeds : feed.Ghosts D) (which : Which) (name : List ℕ) (limit : ℕ) (first now : F) (feed : D) (taken : ℕ) : Type 0 where
-  pub only : ChangesOnly shelves.tells shelves.log_of shelves.slot which first now
+  pub only : ChangesOneSlot shelves.tells shelves.log_of shelves.slot which first now
   pub later : (shelves.slot first which).faults ≤ (shelves.slot now which).faults
   pub once : (shelves.slot now which).starts ≡ count_after (shelves.slot first which).starts
   pub started : (shelves.slot now which).started ≡ true

@@ -1,11 +1,11 @@
 -- What was written is the front of the bytes, and `rest` is what follows it.
 use Rattle.std.proofs.Common.{◌≡◌, ℕ, List, [], ◌++◌, length}
 use Rattle.std.specs.Io.KnownBytes.{Appends}
-use Rattle.log_source.specs.Sinks.{SinkState, Stays}
+use Rattle.log_source.specs.Sinks.{SinkState, SinkStays}
 use Rattle.log_source.proofs.put.put_all.Given as goal
 
 pub record Putting {K : Type 0} (state : K → SinkState) (bytes : List ℕ) (first now : K) (rest : List ℕ) : Type 0 where
-  pub stays : Stays (state first) (state now)
+  pub stays : SinkStays (state first) (state now)
   pub written : List ℕ
   pub cut : bytes ≡ written ++ rest
   pub appended : Appends (state first).wrote (state now).wrote written

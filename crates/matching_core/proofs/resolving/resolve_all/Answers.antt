@@ -1,15 +1,15 @@
 use Rattle.std.proofs.Common.{Some, sym, ap, ◌∙◌}
 use Rattle.audit_base.specs.declared.findings.Finding.{Finding}
-use Rattle.instruction_history.specs.Flaws.{found_by}
+use Rattle.instruction_history.specs.Flaws.{flaw_finding}
 use Rattle.matching_core.proofs.DraftLemmas.{resolved-found, resolved-deals}
 use Rattle.matching_core.proofs.resolving.resolve_all.Goals as goal
 
 pub returns-in-Some : goal.returns-in-Some
 returns-in-Some g c =
     rw (c.requires.orders, c.requires.symbol)
-    (resolved-found g.M.AuditedHistory.orders g.M.AuditedHistory.symbol c.args.trades.now c.in_ok-sound.field-0.sound (found_by c.in_ok-sound.field-0.flaw) c.finding.result (ap found_by c.in-Some.is ∙ ap (λ (f : Finding). Some f) (sym c.finding.ensures)) c.in_ok-sound.ensures.known)
+    (resolved-found g.M.AuditedHistory.orders g.M.AuditedHistory.symbol c.args.trades.now c.in_ok-sound.field-0.sound (flaw_finding c.in_ok-sound.field-0.flaw) c.finding.result (ap flaw_finding c.in-Some.is ∙ ap (λ (f : Finding). Some f) (sym c.finding.ensures)) c.in_ok-sound.ensures.known)
 
 pub returns : goal.returns
 returns g c =
     rw (c.requires.orders, c.requires.symbol)
-    (resolved-deals g.M.AuditedHistory.orders g.M.AuditedHistory.symbol c.args.trades.now c.in_ok-sound.field-0.sound (found_by c.in_ok-sound.field-0.flaw) c.requires.few (ap found_by c.in-None.is) c.in_ok-sound.ensures.known)
+    (resolved-deals g.M.AuditedHistory.orders g.M.AuditedHistory.symbol c.args.trades.now c.in_ok-sound.field-0.sound (flaw_finding c.in_ok-sound.field-0.flaw) c.requires.few (ap flaw_finding c.in-None.is) c.in_ok-sound.ensures.known)

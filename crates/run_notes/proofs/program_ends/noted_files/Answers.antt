@@ -1,4 +1,4 @@
--- What the wrapped shelf tells, has and has started, and so the files.
+-- What is known of the wrapped shelf, what it has and has started, and so the files.
 use Rattle.std.proofs.Common.{◌∙◌}
 use Rattle.run_notes.proofs.program_ends.noted_files.Goals as goal
 

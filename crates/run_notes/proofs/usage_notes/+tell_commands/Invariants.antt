@@ -2,5 +2,5 @@
 use Rattle.std.proofs.Common.{length}
 use Rattle.run_notes.proofs.usage_notes.+tell_commands.Given as goal
 
-abbrev pub decreases-tell_commands : goal.decreases-tell_commands
-decreases-tell_commands l = length l.words.now
+abbrev pub decreases-print_commands : goal.decreases-print_commands
+decreases-print_commands l = length l.words.now

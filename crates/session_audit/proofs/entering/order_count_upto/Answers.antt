@@ -3,7 +3,7 @@ use Rattle.std.specs.Prelude.{nat_le}
 use Rattle.std.proofs.lemmas.Bool.{cases_Bool, leb-true}
 use Rattle.std.proofs.lemmas.List.Sums.{prefix_len_is}
 use Rattle.audit_base.specs.declared.orders.Order.{Order}
-use Rattle.audit_base.specs.Orders.{place_at, missing_order}
+use Rattle.audit_base.specs.Orders.{place_at, order_past_end}
 use Rattle.session_audit.proofs.entering.order_count_upto.Goals as goal
 
 above : (a b : ℕ) → b < a → nat_le a b ≡ false
@@ -15,9 +15,9 @@ returns-else-place-last c =
     let i = c.loop-count.count in
     let same : c.place.result ≡ place_at orders i = c.place.ensures ∙ ap (λ (p : Order). p.place) c.at.ensures in
     let over : c.args.last < c.place.result = c.if-place-last.false in
-    sym (prefix_len_is (λ (o : Order). nat_le o.place c.args.last) orders i missing_order c.loop-count.invariant.inside c.loop-count.invariant.passes (λ inside. above (place_at orders i) c.args.last (omega arith)))
+    sym (prefix_len_is (λ (o : Order). nat_le o.place c.args.last) orders i order_past_end c.loop-count.invariant.inside c.loop-count.invariant.passes (λ inside. above (place_at orders i) c.args.last (omega arith)))
 
 pub returns-after-loop-count : goal.returns-after-loop-count
 returns-after-loop-count c =
     let out = c.loop-count-test.false in
-    sym (prefix_len_is (λ (o : Order). nat_le o.place c.args.last) c.args.orders.now c.loop-count.count missing_order c.loop-count.invariant.inside c.loop-count.invariant.passes (λ inside. absurd (omega arith)))
+    sym (prefix_len_is (λ (o : Order). nat_le o.place c.args.last) c.args.orders.now c.loop-count.count order_past_end c.loop-count.invariant.inside c.loop-count.invariant.passes (λ inside. absurd (omega arith)))

@@ -1,10 +1,10 @@
 use Rattle.std.proofs.Common.{◌-◌, length}
-use Rattle.volume_bound.specs.Adding.{AllCount, IsAdded}
+use Rattle.volume_bound.specs.Adding.{AllCount, AreAddedLimits}
 use Rattle.volume_bound.proofs.adding.add_from.Given as goal
 
 abbrev pub invariant-loop-added : goal.invariant-loop-added
 invariant-loop-added l = record {
-  added : IsAdded l.limits l.added;
+  added : AreAddedLimits l.limits l.added;
   count : AllCount l.edge l.limits l.added.count;
 }
 

@@ -1,6 +1,6 @@
-use Rattle.audit_base.specs.Bounds.{offered}
+use Rattle.audit_base.specs.Bounds.{supply_of_order}
 use Rattle.order_list.specs.Sums.{IsSumUpto}
 use Rattle.volume_bound.proofs.direct.supply_upto.Given as goal
 
 abbrev pub invariant-loop-index : goal.invariant-loop-index
-invariant-loop-index l = IsSumUpto (offered l.price) l.orders l.index l.sum
+invariant-loop-index l = IsSumUpto (supply_of_order l.price) l.orders l.index l.sum

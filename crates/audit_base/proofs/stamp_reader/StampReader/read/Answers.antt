@@ -16,7 +16,7 @@ returns-then-eq c =
     let clock = c.split_at.result.0.now in
     let rest = c.split_at.result.1.now in
     let same : clock ≡ c.args.self.now.clock = (slice_eq-Decides Decides-eqb _ _ _ c.eq.ensures).0 c.if-eq.true ∙ c.as_slice.ensures in
-    c.in_second.ensures
+    c.stamp_in_second.ensures
     ∙ (λ i. with_fraction (sym (ap stamp_form same ∙ c.args.self.now.written) i) (c.read_fraction.ensures.value i))
     ∙ sym (with_clock clock rest c.split_at.ensures.front_len)
     ∙ ap stamp_form (cut c.args.text.now clock rest 17 c.split_at.ensures.front c.split_at.ensures.back)

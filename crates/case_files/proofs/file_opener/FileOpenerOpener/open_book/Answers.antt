@@ -1,4 +1,4 @@
--- The keeper that was opened has counted no fault, and the opener tells nothing.
+-- The keeper that was opened has counted no fault, and of the opener nothing is known.
 use Rattle.std.proofs.Common.{refl}
 use Rattle.case_files.proofs.OpenerLemmas.{opens_untold}
 use Rattle.case_files.proofs.file_opener.FileOpenerOpener.open_book.Goals as goal

@@ -4,8 +4,8 @@ use Rattle.std.specs.Prelude.{Result}
 use Rattle.std.specs.BTreeMap.{Updates}
 use Rattle.std.specs.Cmp.Lexicographic.{slice_cmp}
 use Rattle.std.specs.Ordering.{nat_cmp}
-use Rattle.case_keeper.specs.Cases.{kept}
-use Rattle.case_keeper.specs.IndexedCases.{IsIndex}
+use Rattle.case_keeper.specs.Cases.{kept_case}
+use Rattle.case_keeper.specs.IndexedCases.{IsLabelIndex}
 use Rattle.case_keeper.proofs.PlaceLemmas.{index_more}
 use Rattle.case_keeper.proofs.indexed_cases.IndexedCases.add.Goals as goal
 
@@ -20,6 +20,6 @@ invariant_of-self-else-is_err c =
     let puts = when_ok c.insert.result (Updates (slice_cmp nat_cmp) c.self.inside.index c.insert.new.self label (Some c.len-place.result)) c.if-is_err.ensures.value c.insert.ensures.updates in
     let size : c.len-place.result ≡ length cases = search rules in
     let more = index_more cases c.args.case.now c.self.inside.index c.insert.new.self
-    (subst (λ cs. kept cs label ≡ None) (sym c.self.view_is) c.requires) c.self.invariant
+    (subst (λ cs. kept_case cs label ≡ None) (sym c.self.view_is) c.requires) c.self.invariant
     (subst (λ place. Updates (slice_cmp nat_cmp) c.self.inside.index c.insert.new.self label (Some place)) size puts) in
-    subst (λ items. IsIndex c.insert.new.self items) (sym c.in_ok-push.ensures.items) more
+    subst (λ items. IsLabelIndex c.insert.new.self items) (sym c.in_ok-push.ensures.items) more

@@ -1,6 +1,6 @@
 -- What is found is the kept case, which has the label.
 use Rattle.std.proofs.Common.{rules, ◌≡◌, Some, IfSome, sym, ap, ◌∙◌, subst}
-use Rattle.case_keeper.specs.Cases.{kept}
+use Rattle.case_keeper.specs.Cases.{kept_case}
 use Rattle.case_keeper.proofs.LabelLemmas.{kept_has_label}
 use Rattle.case_keeper.proofs.map_keeper.MapKeeperKeeper.find.Goals as goal
 
@@ -11,5 +11,5 @@ returns-clause-found c =
       accounts = record { later = c.count_call.ensures.accounts.later; cause = search rules; stays = tt };
       stays = ap Some c.count_call.ensures.cases;
       labelled = subst (λ found. IfSome found (λ case. case.label ≡ label)) (sym c.kept.ensures) (kept_has_label c.count_call.new.self.cases label);
-      known = c.kept.ensures ∙ ap (λ cases. kept cases label) c.count_call.ensures.cases;
+      known = c.kept.ensures ∙ ap (λ cases. kept_case cases label) c.count_call.ensures.cases;
     }

@@ -1,4 +1,4 @@
--- The rows with a label tell a case with this label.
+-- The rows with a label give a case with this label.
 use Rattle.std.proofs.Common.{sym, ◌∙◌, subst, arith}
 use Rattle.case_keeper.specs.Cases.{has_label}
 use Rattle.sqlite.specs.Held.{state}

@@ -3,7 +3,7 @@ use Rattle.std.proofs.Common.{[], inl, inr, arith}
 use Rattle.sqlite.specs.Held.{state}
 use Rattle.sqlite.proofs.StateLemmas.{survives_then}
 use Rattle.case_sqlite.specs.CaseRows.{case_columns}
-use Rattle.case_sqlite.specs.Runs.{database, Makes, MayLeave}
+use Rattle.case_sqlite.specs.Runs.{database, MakesTrees, AddingMayLeave}
 use Rattle.case_sqlite.specs.Statements.{make_text, insert_text}
 use Rattle.case_sqlite.proofs.RunLemmas.{on_ok_then, on_err_then}
 use Rattle.case_sqlite.proofs.sql_keeper.SqlKeeper.insert.Goals as goal
@@ -27,7 +27,7 @@ pub returns-clause-survives : goal.returns-clause-survives
 returns-clause-survives g c =
     let table = c.make_table.new.self.connection in
     survives_then (database g.S.Store c.args.self.now) (state g.S.Store table) (state g.S.Store c.insert.new.connection)
-    (Makes g.S.Store make_text [] c.args.self.now.connection) (Makes g.S.Store insert_text (case_columns c.args.case.now) table) (MayLeave g.S.Store c.args.self.now c.args.case.now)
+    (MakesTrees g.S.Store make_text [] c.args.self.now.connection) (MakesTrees g.S.Store insert_text (case_columns c.args.case.now) table) (AddingMayLeave g.S.Store c.args.self.now c.args.case.now)
     (λ _ db made. inl made)
     (λ clean db added. inr (table, c.in_ok-make_table.ensures.made (omega (arith, clean, c.insert.ensures.survives.clean)), added))
     c.make_table.ensures.survives c.insert.ensures.survives

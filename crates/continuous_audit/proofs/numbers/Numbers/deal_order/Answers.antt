@@ -2,14 +2,14 @@ use Rattle.std.proofs.Common.{◌-◌, ◌∙◌, Option, option_map, ap, sym, s
 use Rattle.audit_base.specs.declared.flaws.Flaw.{Flaw}
 use Rattle.audit_base.specs.Flaws.{finding_of}
 use Rattle.audit_base.specs.Orders.{place_at}
-use Rattle.continuous_audit.specs.Flaws.{IsFindingOf}
-use Rattle.continuous_audit.specs.Records.{AreLeft, conservation_at}
-use Rattle.continuous_audit.specs.Scans.{AreSmall, number_in}
+use Rattle.continuous_audit.specs.Flaws.{IsFindingOfFlaw}
+use Rattle.continuous_audit.specs.Records.{AreLeftBefore, conservation_at}
+use Rattle.continuous_audit.specs.Scans.{AreTotalsSmall, number_in}
 use Rattle.continuous_audit.proofs.NumberLemmas.{before-more, closed-more, left-after_deals, open-sheet, opening, running-small, sizes-more, traded-now}
 use Rattle.continuous_audit.proofs.numbers.Numbers.deal_order.Goals as goal
 
 pub open_order-opening-requires-clause-traded : goal.open_order-opening-requires-clause-traded
-open_order-opening-requires-clause-traded c = subst (AreSmall c.args.market.now.orders.now) (sym c.deref.ensures.value)
+open_order-opening-requires-clause-traded c = subst (AreTotalsSmall c.args.market.now.orders.now) (sym c.deref.ensures.value)
     (running-small c.args.market.now.orders.now c.requires.market.list c.args.market.now.deals.now c.requires.market.deal_list c.args.market.now.causes.now c.requires.market.causes c.args.self.now.running.at c.args.self.now.running.traded.items c.requires.known.running.totals)
 
 pub open_order-opening-requires-clause-sheet : goal.open_order-opening-requires-clause-sheet
@@ -24,7 +24,7 @@ check_deals-requires-clause-known c =
       arrived = o.entered_is;
       before = before-more orders deals c.args.order c.requires.order _ c.note.new.self.before.items c.open_order-opening.result.before c.requires.known.before o.before_is c.open_order-opening.ensures.fits.bounded c.requires.market.list.few c.note.ensures.before;
       sizes = sizes-more orders deals c.args.order c.requires.order _ _ c.open_order-opening.result.size c.requires.known.sizes o.size_is c.note.ensures.sizes;
-      left = subst (AreLeft orders deals c.args.order (place_at orders c.args.order)) (sym c.note.ensures.left) c.requires.known.left;
+      left = subst (AreLeftBefore orders deals c.args.order (place_at orders c.args.order)) (sym c.note.ensures.left) c.requires.known.left;
     }
 
 pub returns-clause-dealt : goal.returns-clause-dealt
@@ -44,7 +44,7 @@ returns-clause-dealt c = λ e.
         left = left-after_deals c.args.market.now.orders.now c.requires.market.list c.args.market.now.deals.now c.requires.market.deal_list c.args.market.now.causes.now c.requires.market.causes c.args.order c.requires.order c.args.self.now.running.at c.check_deals.new.running.at c.deref-2.result.now c.check_deals.new.running.traded.items c.note.new.self.left.items c.refresh_left.new.left.items _ c.left_at-left.result
             c.requires.known.running.split traded.split traded.totals
             (sizes-more orders deals c.args.order c.requires.order _ _ c.open_order-opening.result.size c.requires.known.sizes o.size_is (c.deref-2.ensures.value ∙ c.note.ensures.sizes))
-            (subst (AreLeft orders deals c.args.order (place_at orders c.args.order)) (sym c.note.ensures.left) c.requires.known.left) c.refresh_left.ensures.refreshed
+            (subst (AreLeftBefore orders deals c.args.order (place_at orders c.args.order)) (sym c.note.ensures.left) c.requires.known.left) c.refresh_left.ensures.refreshed
             (c.left_at-left.ensures ∙ (λ i. number_in ((c.deref-3.ensures.value ∙ sym c.deref-2.ensures.value) i) c.args.order - number_in (c.deref-4.ensures.value i) c.args.order))
             c.set_amount.ensures;
         running = traded;
@@ -55,4 +55,4 @@ returns-clause-dealt c = λ e.
 pub returns-in-Some-clause-found : goal.returns-in-Some-clause-found
 returns-in-Some-clause-found c =
     let orders = c.args.market.now.orders.now in
-    subst (λ (f : Option Flaw). IsFindingOf orders f (conservation_at orders c.args.market.now.deals.now c.args.order)) c.in-Some.is c.check_deals.ensures.found
+    subst (λ (f : Option Flaw). IsFindingOfFlaw orders f (conservation_at orders c.args.market.now.deals.now c.args.order)) c.in-Some.is c.check_deals.ensures.found

@@ -1,10 +1,10 @@
 use Rattle.std.proofs.Common.{◌≡◌, ◌∙◌, ℕ, Option, Some, None, IfSome, option_map, sym, ap, subst, arith}
 use Rattle.audit_base.specs.declared.flaws.Flaw.{Flaw}
-use Rattle.audit_base.specs.Flaws.{IsInside, finding_of}
+use Rattle.audit_base.specs.Flaws.{IsEvidenceInside, finding_of}
 use Rattle.audit_base.specs.Orders.{place_at, side_at}
 use Rattle.audit_base.specs.ContinuousOffences.{spread_finding}
 use Rattle.audit_base.proofs.OffenceLemmas.{get_or-default}
-use Rattle.continuous_audit.specs.Flaws.{IsFlawAt, shown_in, spread_after, traded_order}
+use Rattle.continuous_audit.specs.Flaws.{IsFlawAt, shown_number, spread_flaw_after, order_with_shown}
 use Rattle.continuous_audit.specs.Scans.{number_in}
 use Rattle.continuous_audit.specs.Spreads.{IsAfterOwn}
 use Rattle.continuous_audit.proofs.BooksLemmas.{hold-below}
@@ -48,10 +48,10 @@ returns-in-Some-spread_of-clause-found c =
     let left_is : c.index-left.result.now ≡ number_in numbers.sheet.left.items n = c.index-left.ensures ∙ get_or-default numbers.sheet.left.items n c.index-left.result.now 0 (let count = left.count in let inside = c.requires.order in omega arith) in
     let own : IsAfterOwn orders deals n c.index-left.result.now c.drop_own.new.self.books = record { named = c.requires.market.deal_list.named; left_is = left_is ∙ left.is n (omega arith); holds = c.drop_own.ensures.holds deals c.requires.market.deal_list.named after_deals.holds } in
     let is = c.spread_of.ensures.finding deals own c.requires.ready.calm.apart in
-    let found = spread-shown orders deals (place_at orders n) _ after_deals.dealt.conserved after_deals.ranked (is ∙ ap (option_map (λ (x : ℕ). finding_of orders (spread_after orders deals n x))) c.in-Some-spread_of.is) in
+    let found = spread-shown orders deals (place_at orders n) _ after_deals.dealt.conserved after_deals.ranked (is ∙ ap (option_map (λ (x : ℕ). finding_of orders (spread_flaw_after orders deals n x))) c.in-Some-spread_of.is) in
     let upto = c.spread_of.ensures.upto other c.in-Some-spread_of.is in
     record {
-      inside = subst (λ (f : Flaw). IsInside orders f.evidence) (sym c.spread_flaw.ensures) (spread-inside orders (side_at orders n) (traded_order (shown_in numbers) n) (traded_order (shown_in numbers) other) c.requires.order (let inside = c.requires.order in omega arith));
+      inside = subst (λ (f : Flaw). IsEvidenceInside orders f.evidence) (sym c.spread_flaw.ensures) (spread-inside orders (side_at orders n) (order_with_shown (shown_number numbers) n) (order_with_shown (shown_number numbers) other) c.requires.order (let inside = c.requires.order in omega arith));
       same = found ∙ ap (λ (f : Flaw). Some (finding_of orders f)) (sym (c.spread_flaw.ensures ∙ spread-after c.args.market.now n c.requires.order numbers after_deals.dealt other upto));
     }
 
@@ -65,7 +65,7 @@ returns-clause-ready c =
     let left_is : c.index-left.result.now ≡ number_in c.trade.new.self.numbers.sheet.left.items n = c.index-left.ensures ∙ get_or-default c.trade.new.self.numbers.sheet.left.items n c.index-left.result.now 0 (let count = left.count in let inside = c.requires.order in omega arith) in
     let own : IsAfterOwn orders deals n c.index-left.result.now c.drop_own.new.self.books = record { named = c.requires.market.deal_list.named; left_is = left_is ∙ left.is n (omega arith); holds = c.drop_own.ensures.holds deals c.requires.market.deal_list.named after_deals.holds } in
     let spread_none : spread_finding orders deals (place_at orders n) ≡ None = c.spread_of.ensures.finding deals own c.requires.ready.calm.apart
-    ∙ ap (option_map (λ (x : ℕ). finding_of orders (spread_after orders deals n x))) c.in_default-spread_of.is in
+    ∙ ap (option_map (λ (x : ℕ). finding_of orders (spread_flaw_after orders deals n x))) c.in_default-spread_of.is in
     λ e. record {
       calm = calm-next c.args.market.now.orders.now c.requires.market.list c.args.market.now.deals.now c.requires.market.deal_list.named c.args.order c.requires.order _ (next-above orders c.requires.market.list n c.requires.order) (next-first orders c.requires.market.list n c.requires.order) c.requires.ready.calm
           (none-shown orders deals (place_at orders n) after_deals.dealt.conserved after_deals.ranked spread_none)

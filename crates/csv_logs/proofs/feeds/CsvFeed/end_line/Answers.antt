@@ -17,6 +17,6 @@ move_on-requires-clause-place g c = outcome-place _ _ _ _ _ (line-place _ _ _ _ 
 pub returns-clause-taken : goal.returns-clause-taken
 returns-clause-taken g c =
     let full = ap not (ap (λ (t : List ℕ). length t == 0) (sym c.line_at-start.ensures.text) ∙ sym c.is_empty.ensures ∙ c.if-is_empty.false) in
-    let says = ap (line_says g.R.LogEntry.names g.R.LogEntry.meaning c.args.self.now.header) c.line_at-start.ensures.text in
-    let said = subst (λ (k : _). TakesFields (line_says g.R.LogEntry.names g.R.LogEntry.meaning c.args.self.now.header c.line_at-start.result.1.now) (g.K.Collector.has_taken c.args.self.now.entries) (g.K.Collector.has_taken k) c.in_ok-outcome.outcome) (sym c.move_on.ensures.entries) c.in_ok-outcome.ensures in
+    let says = ap (line_says g.R.CsvRecord.names g.R.CsvRecord.meaning c.args.self.now.header) c.line_at-start.ensures.text in
+    let said = subst (λ (k : _). TakesFields (line_says g.R.CsvRecord.names g.R.CsvRecord.meaning c.args.self.now.header c.line_at-start.result.1.now) (g.K.Collector.has_taken c.args.self.now.entries) (g.K.Collector.has_taken k) c.in_ok-outcome.outcome) (sym c.move_on.ensures.entries) c.in_ok-outcome.ensures in
     after-taken _ _ _ _ _ _ _ _ _ _ _ (takes-fields _ _ _ _ _ _ _ _ _ _ said c.move_on.ensures.moves) _ _ c.line_at-start.ensures.start refl says full

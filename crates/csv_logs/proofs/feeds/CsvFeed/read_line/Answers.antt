@@ -30,8 +30,8 @@ pub returns-clause-taken : goal.returns-clause-taken
 returns-clause-taken g c =
     let full = ap (λ (t : List ℕ). length t == 0) (sym c.without_cr.ensures) ∙ sym c.is_empty.ensures ∙ c.if-is_empty.false in
     let got = c.in_ok-read_next.ensures c.args.line.now c.requires.reading.later c.requires.closed full c.requires.reading.reads in
-    let says = ap (fields_say g.R.LogEntry.names g.R.LogEntry.meaning c.args.self.now.header) got.0 in
-    let said = subst (λ (k : _). TakesFields (fields_say g.R.LogEntry.names g.R.LogEntry.meaning c.args.self.now.header c.read_next.new.self) (g.K.Collector.has_taken c.args.self.now.entries) (g.K.Collector.has_taken k) c.in_ok-outcome.outcome) (sym c.move_on.ensures.entries) c.in_ok-outcome.ensures in
+    let says = ap (fields_say g.R.CsvRecord.names g.R.CsvRecord.meaning c.args.self.now.header) got.0 in
+    let said = subst (λ (k : _). TakesFields (fields_say g.R.CsvRecord.names g.R.CsvRecord.meaning c.args.self.now.header c.read_next.new.self) (g.K.Collector.has_taken c.args.self.now.entries) (g.K.Collector.has_taken k) c.in_ok-outcome.outcome) (sym c.move_on.ensures.entries) c.in_ok-outcome.ensures in
     after-read _ _ _ _ _ _ _ _ _ _ _ (takes-fields _ _ _ _ _ _ _ _ _ _ said c.move_on.ensures.moves) _ _ c.requires.started refl refl c.requires.closed full says
 
 pub returns-clause-reading : goal.returns-clause-reading

@@ -29,7 +29,7 @@ read_line-requires-clause-closed g c = elim c.else-not-unquoted.branch [
 pub read_line-requires-clause-room : goal.read_line-requires-clause-room
 read_line-requires-clause-room g c =
     let room = goes-room _ _ _ _ _ _ _ _ _ _ _ _ c.lines.invariant.goes (c.is_none.ensures ∙ ap not c.lines-test.true) c.in-Some.ensures.0 c.in-Some.ensures.1 c.requires.room.bytes c.requires.room.stands c.requires.room.room in
-    subst (λ (r : List ℕ). HasLine g.R.LogEntry.names g.R.LogEntry.meaning (g.K.Collector.has_taken c.lines.self.entries) (r ++ c.in-Some.line.now) c.lines.self.offset c.lines.self.header) c.lines.invariant.nothing room
+    subst (λ (r : List ℕ). HasLine g.R.CsvRecord.names g.R.CsvRecord.meaning (g.K.Collector.has_taken c.lines.self.entries) (r ++ c.in-Some.line.now) c.lines.self.offset c.lines.self.header) c.lines.invariant.nothing room
 
 pub lines-preserved : goal.lines-preserved
 lines-preserved g c =
@@ -39,8 +39,8 @@ lines-preserved g c =
     let nothing : now.rest.items ≡ [] = said.rest ∙ c.lines.invariant.nothing in
     record {
       goes = goes-line _ _ _ _ _ _ _ _ _ _ _ _ c.lines.invariant.goes (c.is_none.ensures ∙ ap not c.lines-test.true) c.in-Some.ensures.0 c.in-Some.ensures.1 _ _ _ _ _
-          (subst (λ (r : List ℕ). EndsLine g.R.LogEntry.names g.R.LogEntry.meaning (g.K.Collector.has_taken was.entries) (r ++ c.in-Some.line.now) was.offset was.header (g.K.Collector.has_taken now.entries) now.rest.items now.offset now.header now.bad) (sym c.lines.invariant.nothing)
-          (subst (λ (r : List ℕ). EndsLine g.R.LogEntry.names g.R.LogEntry.meaning (g.K.Collector.has_taken was.entries) c.in-Some.line.now was.offset was.header (g.K.Collector.has_taken now.entries) r now.offset now.header now.bad) (sym nothing) said.taken));
+          (subst (λ (r : List ℕ). EndsLine g.R.CsvRecord.names g.R.CsvRecord.meaning (g.K.Collector.has_taken was.entries) (r ++ c.in-Some.line.now) was.offset was.header (g.K.Collector.has_taken now.entries) now.rest.items now.offset now.header now.bad) (sym c.lines.invariant.nothing)
+          (subst (λ (r : List ℕ). EndsLine g.R.CsvRecord.names g.R.CsvRecord.meaning (g.K.Collector.has_taken was.entries) c.in-Some.line.now was.offset was.header (g.K.Collector.has_taken now.entries) r now.offset now.header now.bad) (sym nothing) said.taken));
       nothing = nothing;
       started = omega (arith, c.lines.invariant.started, said.moved);
       reading = said.reading c.in-Some.later.now (subst (IsReading _ c.lines.reader) c.in-Some.ensures.0 c.lines.invariant.reading);

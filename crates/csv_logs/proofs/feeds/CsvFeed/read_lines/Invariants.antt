@@ -1,14 +1,15 @@
 use Rattle.std.proofs.Common.{◌≡◌, ◌<◌, [], length, true}
 use Rattle.std.specs.List.{list_all}
 use Rattle.csv_logs.specs.Readers.{IsReading, is_plain_byte}
-use Rattle.csv_logs.specs.Feeds.{StandsFor}
-use Rattle.csv_logs.specs.Steps.{Goes}
+use Rattle.csv_logs.specs.Feeds.{IsCsvFeedOf}
+use Rattle.csv_logs.specs.Steps.{TakesPiece}
 use Rattle.csv_logs.proofs.feeds.CsvFeed.read_lines.Given as goal
 
--- what was taken of the text is what the feed has come to stand for, and the reader stands at what is left
+-- what was taken of the text is what the feed has come to stand for, and the reader is at what is
+-- left
 abbrev pub invariant-lines : goal.invariant-lines
 invariant-lines g l = record {
-  goes : Goes (StandsFor g.K.Collector.has_taken g.R.LogEntry.names g.R.LogEntry.meaning l.fn.self) (StandsFor g.K.Collector.has_taken g.R.LogEntry.names g.R.LogEntry.meaning l.self) l.fn.text l.left;
+  goes : TakesPiece (IsCsvFeedOf g.K.Collector.has_taken g.R.CsvRecord.names g.R.CsvRecord.meaning l.fn.self) (IsCsvFeedOf g.K.Collector.has_taken g.R.CsvRecord.names g.R.CsvRecord.meaning l.self) l.fn.text l.left;
   nothing : l.self.rest.items ≡ [];
   started : 0 < l.self.offset;
   reading : IsReading g.I.Read.remaining l.reader l.left;

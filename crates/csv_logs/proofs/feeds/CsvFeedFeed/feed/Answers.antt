@@ -15,4 +15,4 @@ returns g c = goes-shut _ _ _ _ _ _ _ _ _ _ c.lines.invariant (c.is_none.ensures
 
 pub returns-in-None : goal.returns-in-None
 returns-in-None g c =
-    goes-keeps g.R.LogEntry.names g.R.LogEntry.meaning g.K.Collector.has_taken c.keep_rest.result _ c.lines.self c.keep_rest.new.self _ _ c.lines.invariant (c.is_none.ensures ∙ ap not c.lines-test.true) c.in-None.ensures c.keep_rest.ensures.rest c.keep_rest.ensures.others
+    goes-keeps g.R.CsvRecord.names g.R.CsvRecord.meaning g.K.Collector.has_taken c.keep_rest.result _ c.lines.self c.keep_rest.new.self _ _ c.lines.invariant (c.is_none.ensures ∙ ap not c.lines-test.true) c.in-None.ensures c.keep_rest.ensures.rest c.keep_rest.ensures.others

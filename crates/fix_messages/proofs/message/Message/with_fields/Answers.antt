@@ -1,4 +1,4 @@
-use Rattle.fix_fields.specs.Ranges.{all_shown}
+use Rattle.fix_fields.specs.Ranges.{tag_values_of}
 use Rattle.fix_messages.proofs.BodyLemmas.{fields-are}
 use Rattle.fix_messages.proofs.message.Message.with_fields.Goals as goal
 
@@ -6,4 +6,4 @@ pub invariant_of-result : goal.invariant_of-result
 invariant_of-result c = record { fields = c.args.fields.now; are = c.requires; taken = c.note.ensures }
 
 pub returns : goal.returns
-returns c = fields-are c.args.body.now (all_shown c.args.body.now c.args.fields.now) c.requires.read
+returns c = fields-are c.args.body.now (tag_values_of c.args.body.now c.args.fields.now) c.requires.read

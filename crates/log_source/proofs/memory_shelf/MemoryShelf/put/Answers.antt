@@ -1,4 +1,4 @@
--- The log that is put stands after the others, so that they and the slots stay as they are.
+-- The log that is put comes after the others, so that they and the slots stay as they are.
 use Rattle.audit_base.specs.declared.terms.Which.TheVariants.{Orders, Trades}
 use Rattle.log_source.specs.declared.cursors.Log.{Log}
 use Rattle.log_source.proofs.CursorLemmas.{put_given, put_others, put_slots}

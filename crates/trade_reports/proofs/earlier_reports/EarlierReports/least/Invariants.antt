@@ -1,5 +1,5 @@
-use Rattle.trade_reports.specs.Drafts.{IsLeast}
+use Rattle.trade_reports.specs.Drafts.{IsEarliestHeld}
 use Rattle.trade_reports.proofs.earlier_reports.EarlierReports.least.Given as goal
 
 abbrev pub invariant-loop-i : goal.invariant-loop-i
-invariant-loop-i l = IsLeast l.fn.self l.i l.least
+invariant-loop-i l = IsEarliestHeld l.fn.self l.i l.least

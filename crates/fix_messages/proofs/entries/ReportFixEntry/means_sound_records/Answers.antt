@@ -1,6 +1,0 @@
-use Rattle.fix_messages.specs.ReportTable.{report_entry}
-use Rattle.fix_messages.proofs.PricedLemmas.{any-sound}
-use Rattle.fix_messages.proofs.entries.ReportFixEntry.means_sound_records.Goals as goal
-
-pub returns : goal.returns
-returns c = λ fields. any-sound (report_entry fields)

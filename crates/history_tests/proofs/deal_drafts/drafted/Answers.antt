@@ -1,0 +1,22 @@
+use Rattle.std.proofs.Common.{◌∷◌, [], ◌++◌, arith, length-append}
+use Rattle.history_tests.proofs.deal_drafts.drafted.Goals as goal
+
+pub hand-requires : goal.hand-requires
+hand-requires g c =
+    let before = c.loop-line.invariant in
+    record { entries = before.0; has = before.1; few = omega (arith, before.2, c.requires.few, c.loop-line-test.true) }
+
+pub loop-line-preserved : goal.loop-line-preserved
+loop-line-preserved g c =
+    let before = c.loop-line.invariant in
+    (before.0 ++ c.trade.result ∷ [], c.in-Ok.ensures before.0 before.1, omega (arith, before.2, length-append before.0 (c.trade.result ∷ [])))
+
+pub count-requires : goal.count-requires
+count-requires g c =
+    let before = c.loop-line.invariant in
+    record { entries = before.0; has = before.1; few = omega (arith, before.2, c.requires.few) }
+
+pub end-requires : goal.end-requires
+end-requires g c =
+    let before = c.loop-line.invariant in
+    record { entries = before.0; has = before.1; few = omega (arith, before.2, c.requires.few) }

@@ -1,8 +1,0 @@
--- A log has fewer records than there are places.
-use Rattle.std.proofs.Common.{arith}
-use Rattle.log_rows.proofs.csv.count_of.Goals as goal
-
-pub count-requires : goal.count-requires
-count-requires g c =
-    let few = c.in_ok-counter.ensures.few in
-    record { entries = few.entries; has = few.has; few = omega (arith, few.few) }

@@ -1,0 +1,8 @@
+-- A log has fewer records than there are places.
+use Rattle.std.proofs.Common.{arith}
+use Rattle.log_tests.proofs.csv.count_of.Goals as goal
+
+pub count-requires : goal.count-requires
+count-requires g c =
+    let few = c.in_ok-counter.ensures.few in
+    record { entries = few.entries; has = few.has; few = omega (arith, few.few) }
