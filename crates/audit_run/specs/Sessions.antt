@@ -15,7 +15,7 @@ use Rattle.audit_report.specs.declared.verdicts.Verdict.TheVariants.{Rejected, M
 use Rattle.session_audit.specs.declared.phases.Phase.{Phase}
 use Rattle.session_audit.specs.Audits.{IsBrokenDay, IsConformingDay}
 use Rattle.session_audit.specs.Days.{ConformsDay}
-use Rattle.session_audit.specs.PhaseOrders.{traded_in}
+use Rattle.session_audit.specs.PhaseOrders.{traded_in_phase}
 use Rattle.session_audit.specs.Texts.{day_text}
 use Rattle.log_verdict.specs.LogVerdicts.{Log, OfLogs}
 use Rattle.audit_run.specs.OtherTexts.{IsDone, IsRefused}
@@ -26,7 +26,7 @@ abbrev pub AreOnlyOfDay : List Phase → List Order → List Deal → Type 0
 AreOnlyOfDay phases orders deals =
     (others : List Deal) → DealsInRange others → ConformsDay phases orders others
     → (k : ℕ) → k < length phases → (i : ℕ)
-    → traded_in phases orders others k i ≡ traded_in phases orders deals k i
+    → traded_in_phase phases orders others k i ≡ traded_in_phase phases orders deals k i
 
 -- The deals conform phase by phase, and the text is that of their day, with what each order traded over it.
 -- These quantities are the only conforming ones.

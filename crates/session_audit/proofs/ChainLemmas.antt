@@ -6,22 +6,22 @@ use Rattle.audit_base.specs.declared.orders.Order.{Order}
 use Rattle.audit_base.specs.Orders.{order_at, IsOrderList}
 use Rattle.audit_base.specs.Continuous.{chain}
 use Rattle.audit_base.proofs.ContinuousLemmas.{target-below, chain-none, chain-some}
-use Rattle.session_audit.specs.PhaseOrders.{listed}
-use Rattle.session_audit.specs.Numbers.{number_in, AreSmall, IsTargetInside, IsTargetSmall, target_total, chain_total, AreChainTotals}
-use Rattle.session_audit.proofs.ListedLemmas.{length-listed, listed-at, listed-more}
+use Rattle.session_audit.specs.PhaseOrders.{list_below}
+use Rattle.session_audit.specs.Numbers.{number_at, AreBoundedTotals, IsTargetInside, TargetTotalFits, target_total, total_of_chain, AreChainTotals}
+use Rattle.session_audit.proofs.ListBelowLemmas.{length-list_below, list_below-at, list_below-more}
 
 module _ (orders : List Order) (list : IsOrderList orders) (traded : List ℕ) where
-  chain-of : (i : ℕ) (target : Option ℕ) (totals : List ℕ) → i < length orders → (order_at orders i).target ≡ target → totals ≡ listed (chain_total orders traded) i → target_total target traded totals ≡ chain_total orders traded i
-  chain-of i None totals lt e are = sym (ap (sum_by (number_in traded)) (chain-none orders list i e))
+  chain-of : (i : ℕ) (target : Option ℕ) (totals : List ℕ) → i < length orders → (order_at orders i).target ≡ target → totals ≡ list_below (total_of_chain orders traded) i → target_total target traded totals ≡ total_of_chain orders traded i
+  chain-of i None totals lt e are = sym (ap (sum_by (number_at traded)) (chain-none orders list i e))
   chain-of i (Some t) totals lt e are =
       let less = target-below orders list i lt t e in
-      let at : number_in totals t ≡ chain_total orders traded t = ap (λ (ns : List ℕ). number_in ns t) are ∙ listed-at (chain_total orders traded) i t 0 less in
-      let one : chain_total orders traded i ≡ number_in traded t + chain_total orders traded t = ap (sum_by (number_in traded)) (chain-some orders list i t lt e) ∙ sum_by-cons (number_in traded) t (chain orders t) in
+      let at : number_at totals t ≡ total_of_chain orders traded t = ap (λ (ns : List ℕ). number_at ns t) are ∙ list_below-at (total_of_chain orders traded) i t 0 less in
+      let one : total_of_chain orders traded i ≡ number_at traded t + total_of_chain orders traded t = ap (sum_by (number_at traded)) (chain-some orders list i t lt e) ∙ sum_by-cons (number_at traded) t (chain orders t) in
       omega arith
 
   module _ (i : ℕ) (totals : List ℕ) (lt : i < length orders) (o : Order) (o_is : o ≡ order_at orders i) (are : AreChainTotals orders traded i totals) where
     long : length totals ≡ i
-    long = ap length are.are ∙ length-listed (chain_total orders traded) i
+    long = ap length are.are ∙ length-list_below (total_of_chain orders traded) i
 
     target-is : (order_at orders i).target ≡ o.target
     target-is = ap (λ (p : Order). p.target) (sym o_is)
@@ -29,7 +29,7 @@ module _ (orders : List Order) (list : IsOrderList orders) (traded : List ℕ) w
     pub read-inside : length orders ≤ length traded → IsTargetInside o.target (length traded) (length totals)
     read-inside count t e = let less = target-below orders list i lt t (target-is ∙ e) in (omega arith, omega (arith, long))
 
-    pub read-small : AreSmall traded → IsTargetSmall o.target traded totals
+    pub read-small : AreBoundedTotals traded → TargetTotalFits o.target traded totals
     read-small small t e =
         let less = target-below orders list i lt t (target-is ∙ e) in
         let a = small t in
@@ -37,7 +37,7 @@ module _ (orders : List Order) (list : IsOrderList orders) (traded : List ℕ) w
         let few = list.few in
         omega arith
 
-    bounded-of : (target : Option ℕ) → AreSmall traded → o.target ≡ target → target_total target traded totals ≤ i * 2 ^ 72
+    bounded-of : (target : Option ℕ) → AreBoundedTotals traded → o.target ≡ target → target_total target traded totals ≤ i * 2 ^ 72
     bounded-of None small e = omega arith
     bounded-of (Some t) small e =
         let less = target-below orders list i lt t (target-is ∙ e) in
@@ -45,20 +45,20 @@ module _ (orders : List Order) (list : IsOrderList orders) (traded : List ℕ) w
         let b = are.bounded t less in
         omega arith
 
-    pub totals-more : AreSmall traded → AreChainTotals orders traded (i + 1) (totals ++ target_total o.target traded totals ∷ [])
+    pub totals-more : AreBoundedTotals traded → AreChainTotals orders traded (i + 1) (totals ++ target_total o.target traded totals ∷ [])
     totals-more small =
-        let e : totals ++ target_total o.target traded totals ∷ [] ≡ listed (chain_total orders traded) (i + 1) = (λ j. are.are j ++ chain-of i o.target totals lt target-is are.are j ∷ []) ∙ sym (listed-more (chain_total orders traded) i) in
+        let e : totals ++ target_total o.target traded totals ∷ [] ≡ list_below (total_of_chain orders traded) (i + 1) = (λ j. are.are j ++ chain-of i o.target totals lt target-is are.are j ∷ []) ∙ sym (list_below-more (total_of_chain orders traded) i) in
         record {
           are = e;
           bounded = λ j less. elim (cases_eq j i) [
             | inl same ↦
-                let at : number_in (totals ++ target_total o.target traded totals ∷ []) j ≡ chain_total orders traded j = ap (λ (ns : List ℕ). number_in ns j) e ∙ listed-at (chain_total orders traded) (i + 1) j 0 less in
-                let here : chain_total orders traded j ≡ target_total o.target traded totals = ap (chain_total orders traded) same ∙ sym (chain-of i o.target totals lt target-is are.are) in
+                let at : number_at (totals ++ target_total o.target traded totals ∷ []) j ≡ total_of_chain orders traded j = ap (λ (ns : List ℕ). number_at ns j) e ∙ list_below-at (total_of_chain orders traded) (i + 1) j 0 less in
+                let here : total_of_chain orders traded j ≡ target_total o.target traded totals = ap (total_of_chain orders traded) same ∙ sym (chain-of i o.target totals lt target-is are.are) in
                 let b = bounded-of o.target small refl in
                 omega arith
             | inr ne ↦
-                let at : number_in (totals ++ target_total o.target traded totals ∷ []) j ≡ chain_total orders traded j = ap (λ (ns : List ℕ). number_in ns j) e ∙ listed-at (chain_total orders traded) (i + 1) j 0 less in
-                let was : number_in totals j ≡ chain_total orders traded j = ap (λ (ns : List ℕ). number_in ns j) are.are ∙ listed-at (chain_total orders traded) i j 0 (omega (arith, ne)) in
+                let at : number_at (totals ++ target_total o.target traded totals ∷ []) j ≡ total_of_chain orders traded j = ap (λ (ns : List ℕ). number_at ns j) e ∙ list_below-at (total_of_chain orders traded) (i + 1) j 0 less in
+                let was : number_at totals j ≡ total_of_chain orders traded j = ap (λ (ns : List ℕ). number_at ns j) are.are ∙ list_below-at (total_of_chain orders traded) i j 0 (omega (arith, ne)) in
                 let b = are.bounded j (omega (arith, ne)) in
                 omega arith
           ];

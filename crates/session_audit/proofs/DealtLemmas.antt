@@ -9,33 +9,33 @@ use Rattle.audit_base.specs.Deals.{deal_at, deal_past_end}
 use Rattle.audit_base.specs.Continuous.{cause}
 use Rattle.session_audit.specs.declared.phases.Phase.{Phase}
 use Rattle.session_audit.specs.Phases.{first_place, end_place, phase_deals}
-use Rattle.session_audit.specs.Numbers.{number_in}
-use Rattle.session_audit.specs.Dealing.{causes_upto, lies_between, deals_if, deals_between}
-use Rattle.session_audit.proofs.ListedLemmas.{listed-at}
+use Rattle.session_audit.specs.Numbers.{number_at}
+use Rattle.session_audit.specs.Dealing.{causes_below, is_between, deals_if, deals_between}
+use Rattle.session_audit.proofs.ListBelowLemmas.{list_below-at}
 
 one : (b : Bool) (d : Deal) → cond b (d ∷ []) [] ≡ deals_if b d
 one true d = refl
 one false d = refl
 
-module _ (first last : ℕ) (orders : List Order) (deals : List Deal) (causes : List ℕ) (are : causes ≡ causes_upto orders deals (length deals)) where
+module _ (first last : ℕ) (orders : List Order) (deals : List Deal) (causes : List ℕ) (are : causes ≡ causes_below orders deals (length deals)) where
   abbrev test : Deal → Bool
-  test d = lies_between first last (cause orders d)
+  test d = is_between first last (cause orders d)
 
   picked : (n : ℕ) → n ≤ length deals → deals_between deals causes first last n ≡ filter test (take n deals)
   picked zero le = refl
   picked (suc n) le =
       let front : deals_between deals causes first last n ≡ filter test (take n deals) = picked n (omega arith) in
-      let at : number_in causes n ≡ cause orders (deal_at deals n) = ap (λ (ns : List ℕ). number_in ns n) are ∙ listed-at (λ j. cause orders (deal_at deals j)) (length deals) n 0 (omega arith) in
+      let at : number_at causes n ≡ cause orders (deal_at deals n) = ap (λ (ns : List ℕ). number_at ns n) are ∙ list_below-at (λ j. cause orders (deal_at deals j)) (length deals) n 0 (omega arith) in
       let step : filter test (take (n + 1) deals) ≡ filter test (take n deals) ++ filter test (deal_at deals n ∷ []) =
       ap (filter test) (take_more deals n deal_past_end (omega arith)) ∙ filter-append test (take n deals) (deal_at deals n ∷ []) in
-      (λ j. front j ++ deals_if (lies_between first last (at j)) (deal_at deals n))
+      (λ j. front j ++ deals_if (is_between first last (at j)) (deal_at deals n))
       ∙ ap (λ (ds : List Deal). filter test (take n deals) ++ ds) (sym (one (test (deal_at deals n)) (deal_at deals n)))
       ∙ sym step ∙ ap (λ (m : ℕ). filter test (take m deals)) (add-one n)
 
   whole : deals_between deals causes first last (length deals) ≡ filter test deals
   whole = picked (length deals) (omega arith) ∙ ap (filter test) (take_all (length deals) deals (omega arith))
 
-pub dealt : (phases : List Phase) (orders : List Order) (deals : List Deal) (causes : List ℕ) (k first last : ℕ) → causes ≡ causes_upto orders deals (length deals) → first ≡ first_place phases k → last ≡ end_place phases k
+pub dealt : (phases : List Phase) (orders : List Order) (deals : List Deal) (causes : List ℕ) (k first last : ℕ) → causes ≡ causes_below orders deals (length deals) → first ≡ first_place phases k → last ≡ end_place phases k
     → deals_between deals causes first last (length deals) ≡ phase_deals phases orders deals k
 unfolding phase_deals
 dealt phases orders deals causes k first last are first_is last_is =

@@ -1,4 +1,5 @@
--- In a continuous phase that conforms, the orders of a chain trade nothing from the place of its order on.
+-- In a continuous phase that conforms, the orders of a chain trade nothing from the place of its
+-- order on.
 use Rattle.std.proofs.Common.{◌≡◌, ◌<◌, ◌≤◌, ℕ, zero, suc, List, [], ◌∷◌, length, get_or, Bool, true, Option, Some, None, refl, ap, sym, ◌∙◌, arith, inl, inr, subst, All, sum_by, cond}
 use Rattle.std.specs.Prelude.{nat_lt, ◌&&◌, ◌==◌, max}
 use Rattle.std.proofs.lemmas.Bool.{cases_lt, cases_Bool, cond-true, cond-false, lt-ltb, le-ltb, leb-true, or_cases, eqb-true, and_from}
@@ -63,7 +64,8 @@ module _ (orders : List Order) (list : IsOrderList orders) (regular : Regular or
     uncancelled-le : (o : Option ℕ) (e p : ℕ) → o ≡ Some e → uncancelled_before o p ≡ true → p ≤ e
     uncancelled-le o e p is t = leb-true p e (sym (ap (λ (c : Option ℕ). uncancelled_before c p) is) ∙ t)
 
-    -- of two orders of a deal, the one that ended by the place of a later order traded before that place
+    -- of two orders of a deal, the one that ended by the place of a later order traded before
+    -- that place
     ended-before : (i u w : ℕ) → i < length orders → w < length orders → (side_at orders u ≡ side_at orders w → ⊥) → IsEnded orders i u
         → (place_at orders u < place_at orders w → rests_before_by_past orders (traded_before orders deals) (place_at orders w) u ≡ true)
         → max (place_at orders u) (place_at orders w) < place_at orders i
@@ -81,7 +83,8 @@ module _ (orders : List Order) (list : IsOrderList orders) (regular : Regular or
           ]
     ]
 
-    -- a deal that names an order of the chain of the order at i has a cause before the place of that order
+    -- a deal that names an order of the chain of the order at i has a cause before the place of
+    -- that order
     deal-before : (i u : ℕ) → i < length orders → IsEnded orders i u → (n : ℕ) (x : Deal) → n < length deals → names_order u (get_or deals n x) ≡ true → cause orders (get_or deals n x) < place_at orders i
     deal-before i u hi ended n x lt named =
         let d = get_or deals n x in
@@ -106,7 +109,8 @@ module _ (orders : List Order) (list : IsOrderList orders) (regular : Regular or
               omega arith
         ]
 
-    -- where each deal that names an order has a cause below p, the order trades all of what it trades before p
+    -- where each deal that names an order has a cause below p, the order trades all of what it
+    -- trades before p
     pub traded-all : (p u : ℕ) → ((n : ℕ) (x : Deal) → n < length deals → names_order u (get_or deals n x) ≡ true → cause orders (get_or deals n x) < p) → traded_before orders deals p u ≡ traded deals u
     unfolding traded_before
     traded-all p u h = sum_by-same (λ d. cond (names_order u d && nat_lt (cause orders d) p) d.quantity 0) (quantity_traded_by u) deals (λ n x lt. elim (cases_Bool (names_order u (get_or deals n x))) [

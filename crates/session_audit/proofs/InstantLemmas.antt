@@ -2,7 +2,7 @@
 use Rattle.std.proofs.Common.{◌≡◌, ◌<◌, ◌≤◌, ◌-◌, ℕ, zero, suc, List, length, Bool, true, false, Some, None, refl, ap, sym, ◌∙◌, arith, inl, inr, sum_by, cond}
 use Rattle.std.specs.Prelude.{nat_lt, nat_le, ◌&&◌, ◌||◌, not, option_map}
 use Rattle.std.specs.Option.{option_or}
-use Rattle.std.proofs.lemmas.Bool.{cases_Bool, lt-ltb, le-ltb, leb-true, and_parts, both_ways, cond-true, cond-false}
+use Rattle.std.proofs.lemmas.Bool.{cases_Bool, lt-ltb, leb-true, and_from, and_parts, both_ways}
 use Rattle.audit_base.specs.declared.terms.Which.TheVariants as which
 use Rattle.audit_base.specs.declared.terms.Life.{Life}
 use Rattle.audit_base.specs.declared.terms.Life.TheVariants.{Rests}
@@ -16,15 +16,15 @@ use Rattle.audit_base.specs.Continuous.{is_placed_order}
 use Rattle.audit_base.proofs.ContinuousLemmas.{chain-none}
 use Rattle.audit_base.proofs.LeastLemmas.{with-at, none-with, cases_Option}
 use Rattle.session_audit.specs.declared.phases.Phase.{Phase}
-use Rattle.session_audit.specs.Phases.{is_call, kind_at, first_place, end_place, lies_in}
-use Rattle.session_audit.specs.PhaseOrders.{chain_earlier, traded_earlier, rest_before, brought_into}
-use Rattle.session_audit.specs.Days.{is_own, is_instant, instant_finding}
-use Rattle.session_audit.specs.Instants.{in_call, is_instant_order, first_instant}
-use Rattle.session_audit.proofs.BroughtLemmas.{brought-none, if-own}
+use Rattle.session_audit.specs.Phases.{is_call, phase_kind, first_place, end_place, is_in_phase}
+use Rattle.session_audit.specs.PhaseOrders.{Own, Gone, takes_part, target_takes_part, orders_in_phase, order_in_phase_at, chain_before_phase, traded_before_phase, rest_after}
+use Rattle.session_audit.specs.Days.{is_own, is_instant_in_call, instant_finding}
+use Rattle.session_audit.specs.Instants.{is_in_any_call, is_instant_order, first_instant_of_day}
+use Rattle.session_audit.proofs.InPhaseLemmas.{is-own}
 
 -- the least finding, in the words of the code
 pub first-at : (phases : List Phase) (orders : List Order) (i : ℕ) (o : Order) → o ≡ order_at orders i → i < length orders → least_with (λ k. is_instant_order phases (order_at orders k)) i ≡ None → is_instant_order phases (order_at orders i) ≡ true
-    → Some (finding_at_record property.InstantOrder which.Orders o.place None None) ≡ first_instant phases orders
+    → Some (finding_at_record property.InstantOrder which.Orders o.place None None) ≡ first_instant_of_day phases orders
 first-at phases orders i o same lt before here =
     let test : ℕ → Bool = λ k. is_instant_order phases (order_at orders k) in
     let first : least_with test (length orders) ≡ Some i = with-at test (length orders) i lt here (none-with test i before) in
@@ -53,50 +53,52 @@ and-true : (b : Bool) → (b && true) ≡ b
 and-true true = refl
 and-true false = refl
 
+takes-if : (b : Bool) (n : ℕ) → takes_part (cond b (Own n) Gone) ≡ b
+takes-if true n = refl
+takes-if false n = refl
+
 and-false : (b : Bool) → (b && false) ≡ false
 and-false true = refl
 and-false false = refl
 
 module _ (phases : List Phase) (orders : List Order) (list : IsOrderList orders) (deals : List Deal) (i : ℕ) (lt : i < length orders) (some : 0 < quantity_at orders i) (none : (order_at orders i).target ≡ None) where
-  spent-none : (k : ℕ) → chain_earlier phases orders deals k i ≡ 0
-  unfolding chain_earlier
-  spent-none k = ap (sum_by (traded_earlier phases orders deals k)) (chain-none orders list i none)
+  spent-none : (k : ℕ) → chain_before_phase phases orders deals k i ≡ 0
+  unfolding chain_before_phase
+  spent-none k = ap (sum_by (traded_before_phase phases orders deals k)) (chain-none orders list i none)
 
-  brings : (k : ℕ) → first_place phases k ≤ place_at orders i → brought_into phases orders deals k i ≡ cond (is_placed_order orders i) (quantity_at orders i) 0
-  brings k le =
-      brought-none orders list (first_place phases k) (rest_before phases orders deals k) (chain_earlier phases orders deals k) i none
-      ∙ if-own orders list (first_place phases k) (rest_before phases orders deals k) (chain_earlier phases orders deals k) true i le
-      ∙ ap (λ (b : Bool). cond b (quantity_at orders i - chain_earlier phases orders deals k i) 0) (and-true (is_placed_order orders i))
-      ∙ ap (λ (n : ℕ). cond (is_placed_order orders i) n 0) (let e = spent-none k in let same : quantity_at orders i - chain_earlier phases orders deals k i ≡ quantity_at orders i = omega arith in same)
+  takes-placed : (k : ℕ) → first_place phases k ≤ place_at orders i → takes_part (order_in_phase_at phases orders deals k i) ≡ is_placed_order orders i
+  takes-placed k le =
+      let earlier = orders_in_phase orders (first_place phases k) (rest_after phases orders deals k) (chain_before_phase phases orders deals k) i in
+      let left : quantity_at orders i - chain_before_phase phases orders deals k i ≡ quantity_at orders i = let e = spent-none k in omega arith in
+      let tests : (target_takes_part earlier (order_at orders i).target && nat_lt 0 (quantity_at orders i - chain_before_phase phases orders deals k i)) ≡ true
+      = and_from _ _ (ap (target_takes_part earlier) none) (lt-ltb 0 (quantity_at orders i - chain_before_phase phases orders deals k i) (omega arith)) in
+      ap takes_part (is-own orders (first_place phases k) (rest_after phases orders deals k) (chain_before_phase phases orders deals k) i le)
+      ∙ takes-if (is_placed_order orders i && (target_takes_part earlier (order_at orders i).target && nat_lt 0 (quantity_at orders i - chain_before_phase phases orders deals k i))) (quantity_at orders i - chain_before_phase phases orders deals k i)
+      ∙ ap (λ (b : Bool). is_placed_order orders i && b) tests ∙ and-true (is_placed_order orders i)
 
-  own-is : (k : ℕ) → is_own phases orders deals k i ≡ (lies_in phases k (place_at orders i) && is_placed_order orders i)
-  own-is k = elim (cases_Bool (lies_in phases k (place_at orders i))) [
-    | inr out ↦ ap (λ (b : Bool). b && nat_lt 0 (brought_into phases orders deals k i)) out ∙ sym (ap (λ (b : Bool). b && is_placed_order orders i) out)
+  own-is : (k : ℕ) → is_own phases orders deals k i ≡ (is_in_phase phases k (place_at orders i) && is_placed_order orders i)
+  own-is k = elim (cases_Bool (is_in_phase phases k (place_at orders i))) [
+    | inr out ↦ ap (λ (b : Bool). b && takes_part (order_in_phase_at phases orders deals k i)) out ∙ sym (ap (λ (b : Bool). b && is_placed_order orders i) out)
     | inl in_phase ↦
         let from = leb-true _ _ (and_parts (nat_le (first_place phases k) (place_at orders i)) (nat_le (place_at orders i) (end_place phases k)) in_phase).0 in
-        let b = brings k from in
-        let same : nat_lt 0 (brought_into phases orders deals k i) ≡ is_placed_order orders i = elim (cases_Bool (is_placed_order orders i)) [
-          | inl t ↦ lt-ltb 0 (brought_into phases orders deals k i) (let q = b ∙ cond-true (is_placed_order orders i) (quantity_at orders i) 0 t in omega arith) ∙ sym t
-          | inr f ↦ le-ltb 0 (brought_into phases orders deals k i) (let q = b ∙ cond-false (is_placed_order orders i) (quantity_at orders i) 0 f in omega arith) ∙ sym f
-        ] in
-        ap (λ (b : Bool). lies_in phases k (place_at orders i) && b) same
+        ap (λ (b : Bool). is_in_phase phases k (place_at orders i) && b) (takes-placed k from)
   ]
 
-  any-own : any_below (λ k. is_call (kind_at phases k) && is_own phases orders deals k i) (length phases) ≡ (is_placed_order orders i && in_call phases (place_at orders i))
+  any-own : any_below (λ k. is_call (phase_kind phases k) && is_own phases orders deals k i) (length phases) ≡ (is_placed_order orders i && is_in_any_call phases (place_at orders i))
   any-own = elim (cases_Bool (is_placed_order orders i)) [
-    | inl t ↦ any-same _ _ (length phases) (λ k lt. ap (λ (b : Bool). is_call (kind_at phases k) && b) (own-is k ∙ ap (λ (b : Bool). lies_in phases k (place_at orders i) && b) t ∙ and-true (lies_in phases k (place_at orders i))))
-        ∙ sym (ap (λ (b : Bool). b && in_call phases (place_at orders i)) t)
-    | inr f ↦ any-same _ (λ k. false) (length phases) (λ k lt. ap (λ (b : Bool). is_call (kind_at phases k) && b) (own-is k ∙ ap (λ (b : Bool). lies_in phases k (place_at orders i) && b) f ∙ and-false (lies_in phases k (place_at orders i))) ∙ and-false (is_call (kind_at phases k)))
-        ∙ any-nothing (length phases) ∙ sym (ap (λ (b : Bool). b && in_call phases (place_at orders i)) f)
+    | inl t ↦ any-same _ _ (length phases) (λ k lt. ap (λ (b : Bool). is_call (phase_kind phases k) && b) (own-is k ∙ ap (λ (b : Bool). is_in_phase phases k (place_at orders i) && b) t ∙ and-true (is_in_phase phases k (place_at orders i))))
+        ∙ sym (ap (λ (b : Bool). b && is_in_any_call phases (place_at orders i)) t)
+    | inr f ↦ any-same _ (λ k. false) (length phases) (λ k lt. ap (λ (b : Bool). is_call (phase_kind phases k) && b) (own-is k ∙ ap (λ (b : Bool). is_in_phase phases k (place_at orders i) && b) f ∙ and-false (is_in_phase phases k (place_at orders i))) ∙ and-false (is_call (phase_kind phases k)))
+        ∙ any-nothing (length phases) ∙ sym (ap (λ (b : Bool). b && is_in_any_call phases (place_at orders i)) f)
   ]
 
 module _ (phases : List Phase) (orders : List Order) (list : IsOrderList orders) (numbers : OrdersInRange orders) (deals : List Deal) where
   rests-true : (l : Life) → l ≡ Rests → may_rest l ≡ true
   rests-true l e = ap may_rest e
 
-  instant-same : (i : ℕ) → i < length orders → is_instant_order phases (order_at orders i) ≡ is_instant phases orders deals i
+  instant-same : (i : ℕ) → i < length orders → is_instant_order phases (order_at orders i) ≡ is_instant_in_call phases orders deals i
   instant-same i lt = elim (cases_Bool (may_rest (order_at orders i).life)) [
-    | inl t ↦ ap (λ (b : Bool). not b && (is_placed_order orders i && in_call phases (place_at orders i))) t ∙ sym (ap (λ (b : Bool). not b && any_below (λ k. is_call (kind_at phases k) && is_own phases orders deals k i) (length phases)) t)
+    | inl t ↦ ap (λ (b : Bool). not b && (is_placed_order orders i && is_in_any_call phases (place_at orders i))) t ∙ sym (ap (λ (b : Bool). not b && any_below (λ k. is_call (phase_kind phases k) && is_own phases orders deals k i) (length phases)) t)
     | inr f ↦
         let none : (order_at orders i).target ≡ None = elim (cases_Option (order_at orders i).target) [
           | inl e ↦ e
@@ -106,7 +108,7 @@ module _ (phases : List Phase) (orders : List Order) (list : IsOrderList orders)
         ap (λ (b : Bool). not (may_rest (order_at orders i).life) && b) (sym (any-own phases orders list deals i lt is.some none))
   ]
 
-  pub instant-is : first_instant phases orders ≡ instant_finding phases orders deals
+  pub instant-is : first_instant_of_day phases orders ≡ instant_finding phases orders deals
   unfolding instant_finding
   instant-is = ap (option_map (λ (i : ℕ). finding_at_record property.InstantOrder which.Orders (place_at orders i) None None))
-      (with-same (λ i. is_instant_order phases (order_at orders i)) (is_instant phases orders deals) (length orders) instant-same)
+      (with-same (λ i. is_instant_order phases (order_at orders i)) (is_instant_in_call phases orders deals) (length orders) instant-same)

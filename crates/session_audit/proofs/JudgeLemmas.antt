@@ -1,4 +1,4 @@
--- What a phase that conforms comes to, in the words of the code.
+-- What a phase that conforms adds to those before it, in the words of the code.
 use Rattle.std.proofs.Common.{◌≡◌, ◌≤◌, ℕ, List, length, get_or, ap, sym, ◌∙◌, arith, inl, inr, All}
 use Rattle.std.proofs.lemmas.List.{get_or_past}
 use Rattle.std.proofs.lemmas.Bool.{cases_lt, cases_Bool, or_cases, eqb-true}
@@ -13,8 +13,8 @@ use Rattle.session_audit.specs.declared.phases.PhaseKind.{PhaseKind}
 use Rattle.session_audit.specs.Phases.{rule_of}
 use Rattle.session_audit.specs.Judging.{IsConformingPhase}
 use Rattle.session_audit.specs.Leaving.{EndsBy}
-use Rattle.session_audit.specs.Numbers.{number_in}
-use Rattle.session_audit.specs.Progress.{IsPlayed, AreAdded, IsPassed, lefts_of}
+use Rattle.session_audit.specs.Numbers.{number_at}
+use Rattle.session_audit.specs.Progress.{HasPhaseTotals, AddsNumbers, AddsPhase, rest_after_phase}
 
 -- no deal names an order past the end of the list
 pub traded-past : (orders : List Order) (deals : List Deal) → All (NamesOrders orders) deals → (i : ℕ) → length orders ≤ i → traded deals i ≡ 0
@@ -31,15 +31,15 @@ traded-past orders deals named i le = sum_by-none (quantity_traded_by i) deals (
 
 pub passed : (kind : PhaseKind) (orders : List Order) (deals : List Deal) (last : ℕ) (reached : Reached) (numbers before after rest : List ℕ)
     → All (NamesOrders orders) deals → EndsBy orders deals last → IsConformingPhase (rule_of kind) orders deals reached → numbers ≡ reached.traded.0
-    → (IsPlayed kind orders deals last numbers → rest ≡ lefts_of kind orders deals last) → AreAdded before numbers after
-    → IsPassed kind orders deals last before after rest
+    → (HasPhaseTotals kind orders deals last numbers → rest ≡ rest_after_phase kind orders deals last) → AddsNumbers before numbers after
+    → AddsPhase kind orders deals last before after rest
 passed kind orders deals last reached numbers before after rest named ends is same left added = record {
   conforms = is.conforms;
   count = added.count;
   added = λ i lt.
       let e = added.each i lt in
-      let m : number_in numbers i ≡ traded deals i = elim (cases_lt i (length orders)) [
-        | inl inside ↦ ap (λ (ns : List ℕ). number_in ns i) same ∙ is.totals.each i inside
+      let m : number_at numbers i ≡ traded deals i = elim (cases_lt i (length orders)) [
+        | inl inside ↦ ap (λ (ns : List ℕ). number_at ns i) same ∙ is.totals.each i inside
         | inr past ↦
             let long : length numbers ≡ length orders = ap length same ∙ is.totals.count in
             get_or_past numbers i 0 (omega arith) ∙ sym (traded-past orders deals named i past)
@@ -47,7 +47,7 @@ passed kind orders deals last reached numbers before after rest named ends is sa
       omega arith;
   left = left (record {
     conforms = is.conforms;
-    totals = record { count = ap length same ∙ is.totals.count; each = λ i inside. ap (λ (ns : List ℕ). number_in ns i) same ∙ is.totals.each i inside };
+    totals = record { count = ap length same ∙ is.totals.count; each = λ i inside. ap (λ (ns : List ℕ). number_at ns i) same ∙ is.totals.each i inside };
     ends = ends;
   });
 }

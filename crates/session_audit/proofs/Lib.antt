@@ -1,5 +1,5 @@
 pub mod BrokenLemmas
-pub mod BroughtLemmas
+pub mod InPhaseLemmas
 pub mod CarriedLemmas
 pub mod ChainLemmas
 pub mod DayLemmas
@@ -9,7 +9,7 @@ pub mod EnteringLemmas
 pub mod InstantLemmas
 pub mod JudgeLemmas
 pub mod LeavingLemmas
-pub mod ListedLemmas
+pub mod ListBelowLemmas
 pub mod PhaseListLemmas
 pub mod PartLemmas
 pub mod PhaseDealLemmas

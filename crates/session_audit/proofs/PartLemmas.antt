@@ -13,9 +13,9 @@ use Rattle.audit_base.specs.Continuous.{cause}
 use Rattle.audit_base.proofs.OrderLemmas.{same_place, not_both_sides}
 use Rattle.audit_base.proofs.SumLemmas.{sum_by-below, sum_by-same, sum_by-le-All, below-same, below-none, below-single, All-each}
 use Rattle.session_audit.specs.declared.phases.Phase.{Phase}
-use Rattle.session_audit.specs.Dealing.{HaveSmallCauses}
-use Rattle.session_audit.specs.Phases.{last_place, missing_phase, first_place, end_place, ArePhases, lies_in, phase_deals}
-use Rattle.session_audit.specs.PhaseOrders.{traded_in, traded_earlier}
+use Rattle.session_audit.specs.Dealing.{HaveCausesInRange}
+use Rattle.session_audit.specs.Phases.{last_place, missing_phase, first_place, end_place, ArePhases, is_in_phase, phase_deals}
+use Rattle.session_audit.specs.PhaseOrders.{traded_in_phase, traded_before_phase}
 
 -- a sum over the elements that pass is a sum of a conditional
 pub filter-sum : {X : Type 0} (f : X → ℕ) (p : X → Bool) (xs : List X) → sum_by f (filter p xs) ≡ sum_by (λ x. cond (p x) (f x) 0) xs
@@ -49,7 +49,7 @@ module _ (phases : List Phase) (are : ArePhases phases) where
   first-rises i j less lt = are.rising i j missing_phase less lt
 
   -- a place lies in at most one phase
-  pub lies-once : (place i j : ℕ) → i < j → j < length phases → lies_in phases i place ≡ true → lies_in phases j place ≡ true → ⊥
+  pub lies-once : (place i j : ℕ) → i < j → j < length phases → is_in_phase phases i place ≡ true → is_in_phase phases j place ≡ true → ⊥
   lies-once place i j less lt a b =
       let x = and_parts (nat_le (first_place phases i) place) (nat_le place (end_place phases i)) a in
       let y = and_parts (nat_le (first_place phases j) place) (nat_le place (end_place phases j)) b in
@@ -84,7 +84,7 @@ module _ (phases : List Phase) (are : ArePhases phases) where
         )
   ]
 
-  pub lies-somewhere : (place : ℕ) → 1 ≤ place → place ≤ last_place → (m : ℕ) × (m < length phases) × (lies_in phases m place ≡ true)
+  pub lies-somewhere : (place : ℕ) → 1 ≤ place → place ≤ last_place → (m : ℕ) × (m < length phases) × (is_in_phase phases m place ≡ true)
   lies-somewhere place some most =
       let r = begins place (length phases) some are.some (omega arith) in
       let from : nat_le (first_place phases r.0) place ≡ true = le-leb _ _ r.2 in
@@ -101,24 +101,24 @@ module _ (phases : List Phase) (are : ArePhases phases) where
 
   module _ (orders : List Order) (deals : List Deal) where
     abbrev in_test : Deal → ℕ → Bool
-    in_test d j = lies_in phases j (cause orders d)
+    in_test d j = is_in_phase phases j (cause orders d)
 
-    earlier-parts : (k i : ℕ) → traded_earlier phases orders deals k i ≡ sum_by (λ d. sum_below (λ j. cond (in_test d j) (quantity_traded_by i d) 0) k) deals
-    unfolding traded_earlier phase_deals
-    earlier-parts k i = below-same (λ j. traded_in phases orders deals j i) (λ j. sum_by (λ d. cond (in_test d j) (quantity_traded_by i d) 0) deals) k (λ j lt. filter-sum (quantity_traded_by i) (λ d. in_test d j) deals)
+    earlier-parts : (k i : ℕ) → traded_before_phase phases orders deals k i ≡ sum_by (λ d. sum_below (λ j. cond (in_test d j) (quantity_traded_by i d) 0) k) deals
+    unfolding traded_before_phase phase_deals
+    earlier-parts k i = below-same (λ j. traded_in_phase phases orders deals j i) (λ j. sum_by (λ d. cond (in_test d j) (quantity_traded_by i d) 0) deals) k (λ j lt. filter-sum (quantity_traded_by i) (λ d. in_test d j) deals)
         ∙ sym (sum_by-below (λ d j. cond (in_test d j) (quantity_traded_by i d) 0) deals k)
 
-    pub earlier-le : (k i : ℕ) → k ≤ length phases → traded_earlier phases orders deals k i ≤ traded deals i
+    pub earlier-le : (k i : ℕ) → k ≤ length phases → traded_before_phase phases orders deals k i ≤ traded deals i
     earlier-le k i le =
         let e = earlier-parts k i in
         let m = sum_by-le-All (λ d. sum_below (λ j. cond (in_test d j) (quantity_traded_by i d) 0) k) (quantity_traded_by i) deals (All-each (λ d. sum_below (λ j. cond (in_test d j) (quantity_traded_by i d) 0) k ≤ quantity_traded_by i d) deals (λ d. at-most (in_test d) (quantity_traded_by i d) k (λ a b less lt x y. lies-once (cause orders d) a b less (omega arith) x y))) in
         omega arith
 
-    pub earlier-more : (k i : ℕ) → traded_earlier phases orders deals (suc k) i ≡ traded_earlier phases orders deals k i + traded_in phases orders deals k i
-    unfolding traded_earlier
+    pub earlier-more : (k i : ℕ) → traded_before_phase phases orders deals (suc k) i ≡ traded_before_phase phases orders deals k i + traded_in_phase phases orders deals k i
+    unfolding traded_before_phase
     earlier-more k i = refl
 
-    pub in-le : (k i : ℕ) → k < length phases → traded_in phases orders deals k i ≤ traded deals i
+    pub in-le : (k i : ℕ) → k < length phases → traded_in_phase phases orders deals k i ≤ traded deals i
     in-le k i lt = let m = earlier-le (suc k) i (omega arith) in let e = earlier-more k i in omega arith
 
     -- a cause is at least 1, since a bid and an ask have two places
@@ -130,7 +130,7 @@ module _ (phases : List Phase) (are : ArePhases phases) where
           absurd (not_both_sides (sym n.buys ∙ ap (side_at orders) same ∙ n.sells))
     ]
 
-    pub earlier-whole : IsOrderList orders → All (NamesOrders orders) deals → HaveSmallCauses orders deals → (i : ℕ) → traded_earlier phases orders deals (length phases) i ≡ traded deals i
+    pub earlier-whole : IsOrderList orders → All (NamesOrders orders) deals → HaveCausesInRange orders deals → (i : ℕ) → traded_before_phase phases orders deals (length phases) i ≡ traded deals i
     earlier-whole list named most i = earlier-parts (length phases) i ∙ sum_by-same (λ d. sum_below (λ j. cond (in_test d j) (quantity_traded_by i d) 0) (length phases)) (quantity_traded_by i) deals (λ n x lt.
         let d = get_or deals n x in
         let at = lies-somewhere (cause orders d) (cause-some list d (named n x lt)) (most n x lt) in

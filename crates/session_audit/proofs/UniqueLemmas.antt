@@ -21,8 +21,8 @@ use Rattle.continuous_laws.specs.Laws.{ContinuousUniqueness}
 use Rattle.session_audit.specs.declared.phases.Phase.{Phase}
 use Rattle.session_audit.specs.declared.phases.PhaseKind.{PhaseKind}
 use Rattle.session_audit.specs.declared.phases.PhaseKind.TheVariants as kind
-use Rattle.session_audit.specs.Phases.{rule_of, kind_at, first_place, end_place, lies_in, phase_deals}
-use Rattle.session_audit.specs.PhaseOrders.{phase_list, left_of_phase, traded_in, traded_earlier, chain_earlier, rest_before, phase_orders}
+use Rattle.session_audit.specs.Phases.{rule_of, phase_kind, first_place, end_place, is_in_phase, phase_deals}
+use Rattle.session_audit.specs.PhaseOrders.{phase_list, left_after_phase, traded_in_phase, traded_before_phase, chain_before_phase, rest_after, phase_orders}
 use Rattle.session_audit.specs.Days.{ConformsDay}
 use Rattle.session_audit.specs.Laws.{DayUniqueness, DayPairs}
 use Rattle.session_audit.proofs.PhaseListLemmas.{phase-is_list, phase-is_regular}
@@ -30,10 +30,10 @@ use Rattle.session_audit.proofs.PhaseListLemmas.{phase-is_list, phase-is_regular
 -- the deals of a phase have numbers in range where all deals have
 pub in-range : (phases : List Phase) (orders : List Order) (deals : List Deal) (k : ℕ) → DealsInRange deals → DealsInRange (phase_deals phases orders deals k)
 unfolding phase_deals
-in-range phases orders deals k ranges = All-filter (λ d. lies_in phases k (cause orders d)) DealInRange deals ranges
+in-range phases orders deals k ranges = All-filter (λ d. is_in_phase phases k (cause orders d)) DealInRange deals ranges
 
--- What an order trades with a sum over its pairs. A weight of a deal that its bid and its ask determine gives
--- equal sums where the pairs are equal.
+-- What an order trades with a sum over its pairs. A weight of a deal that its bid and its ask
+-- determine gives equal sums where the pairs are equal.
 module _ (n : ℕ) (w : ℕ → ℕ → Bool) where
   abbrev cell : Deal → ℕ → ℕ → ℕ
   cell d b a = cond (w b a) (cond ((d.bid == b) && (d.ask == a)) d.quantity 0) 0
@@ -96,7 +96,7 @@ names-of-matching orders deals m k x lt = keeps-names orders (get_or deals k x) 
 -- what a phase fixes: what each order trades, and what the phase leaves
 pub record Fixed (k : PhaseKind) (orders : List Order) (ds es : List Deal) : Type 0 where
   pub totals : traded ds ≡ traded es
-  pub left : (last : ℕ) → left_of_phase k orders ds last ≡ left_of_phase k orders es last
+  pub left : (last : ℕ) → left_after_phase k orders ds last ≡ left_after_phase k orders es last
 
 equal : (a b : ℕ) → a ≤ b → b ≤ a → a ≡ b
 equal a b le ge = omega arith
@@ -121,38 +121,38 @@ module _ (fixes : FairVolumeFixesQuantities) (unique : ContinuousUniqueness) whe
 
   module _ (phases : List Phase) (orders : List Order) (ds es : List Deal) (list : IsOrderList orders) (regular : Regular orders) (rd : DealsInRange ds) (re : DealsInRange es) (c : ConformsDay phases orders ds) (d : ConformsDay phases orders es) where
     record Agree (k : ℕ) : Type 0 where
-      rest : rest_before phases orders ds k ≡ rest_before phases orders es k
-      earlier : traded_earlier phases orders ds k ≡ traded_earlier phases orders es k
+      rest : rest_after phases orders ds k ≡ rest_after phases orders es k
+      earlier : traded_before_phase phases orders ds k ≡ traded_before_phase phases orders es k
 
     start : Agree 0
-    unfolding rest_before traded_earlier
+    unfolding rest_after traded_before_phase
     start = record { rest = λ j i. 0; earlier = λ j i. 0 }
 
-    chains-same : (k : ℕ) → Agree k → chain_earlier phases orders ds k ≡ chain_earlier phases orders es k
-    unfolding chain_earlier
+    chains-same : (k : ℕ) → Agree k → chain_before_phase phases orders ds k ≡ chain_before_phase phases orders es k
+    unfolding chain_before_phase
     chains-same k a = let e = a.earlier in λ j i. sum_by (e j) (chain orders i)
 
     lists-same : (k : ℕ) → Agree k → phase_orders phases orders ds k ≡ phase_orders phases orders es k
     lists-same k a = let r = a.rest in let s = chains-same k a in λ j. phase_list orders (first_place phases k) (end_place phases k) (r j) (s j)
 
-    fixed-at : (k : ℕ) → k < length phases → Agree k → Fixed (kind_at phases k) (phase_orders phases orders ds k) (phase_deals phases orders ds k) (phase_deals phases orders es k)
+    fixed-at : (k : ℕ) → k < length phases → Agree k → Fixed (phase_kind phases k) (phase_orders phases orders ds k) (phase_deals phases orders ds k) (phase_deals phases orders es k)
     fixed-at k lt a =
         let here : List Order = phase_orders phases orders ds k in
-        phase-fixed (kind_at phases k) here (phase_deals phases orders ds k) (phase_deals phases orders es k)
-        (phase-is_list orders list (end_place phases k) (first_place phases k) (rest_before phases orders ds k) (chain_earlier phases orders ds k))
-        (phase-is_regular orders list (end_place phases k) (first_place phases k) (rest_before phases orders ds k) (chain_earlier phases orders ds k) regular)
+        phase-fixed (phase_kind phases k) here (phase_deals phases orders ds k) (phase_deals phases orders es k)
+        (phase-is_list orders list (end_place phases k) (first_place phases k) (rest_after phases orders ds k) (chain_before_phase phases orders ds k))
+        (phase-is_regular orders list (end_place phases k) (first_place phases k) (rest_after phases orders ds k) (chain_before_phase phases orders ds k) regular)
         (in-range phases orders ds k rd) (in-range phases orders es k re) (c.each k lt)
-        (subst (λ (h : List Order). Conforms (rule_of (kind_at phases k)) h (phase_deals phases orders es k)) (sym (lists-same k a)) (d.each k lt))
+        (subst (λ (h : List Order). Conforms (rule_of (phase_kind phases k)) h (phase_deals phases orders es k)) (sym (lists-same k a)) (d.each k lt))
 
     next : (k : ℕ) → k < length phases → Agree k → Agree (suc k)
-    unfolding rest_before traded_earlier
+    unfolding rest_after traded_before_phase
     next k lt a =
         let f = fixed-at k lt a in
         let h = lists-same k a in
         let e = a.earlier in
         let t = f.totals in
         record {
-          rest = f.left (end_place phases k) ∙ (λ j. left_of_phase (kind_at phases k) (h j) (phase_deals phases orders es k) (end_place phases k));
+          rest = f.left (end_place phases k) ∙ (λ j. left_after_phase (phase_kind phases k) (h j) (phase_deals phases orders es k) (end_place phases k));
           earlier = λ j i. e j i + t j i;
         }
 
@@ -160,19 +160,19 @@ module _ (fixes : FairVolumeFixesQuantities) (unique : ContinuousUniqueness) whe
     agree zero le = start
     agree (suc k) le = next k (omega arith) (agree k (omega arith))
 
-    pub totals-same : (k : ℕ) → k < length phases → (i : ℕ) → traded_in phases orders ds k i ≡ traded_in phases orders es k i
+    pub totals-same : (k : ℕ) → k < length phases → (i : ℕ) → traded_in_phase phases orders ds k i ≡ traded_in_phase phases orders es k i
     totals-same k lt i = let f = fixed-at k lt (agree k (omega arith)) in let t = f.totals in λ j. t j i
 
-    pub pairs-same : (k : ℕ) → k < length phases → kind_at phases k ≡ kind.Continuous → (bid ask : ℕ) → pair (phase_deals phases orders ds k) bid ask ≡ pair (phase_deals phases orders es k) bid ask
+    pub pairs-same : (k : ℕ) → k < length phases → phase_kind phases k ≡ kind.Continuous → (bid ask : ℕ) → pair (phase_deals phases orders ds k) bid ask ≡ pair (phase_deals phases orders es k) bid ask
     pairs-same k lt is bid ask =
         let a = agree k (omega arith) in
         let here : List Order = phase_orders phases orders ds k in
         let first : ConformsContinuous here (phase_deals phases orders ds k) = subst (λ (t : PhaseKind). Conforms (rule_of t) here (phase_deals phases orders ds k)) is (c.each k lt) in
         let second : ConformsContinuous here (phase_deals phases orders es k) = subst (λ (t : PhaseKind). Conforms (rule_of t) here (phase_deals phases orders es k)) is
-        (subst (λ (h : List Order). Conforms (rule_of (kind_at phases k)) h (phase_deals phases orders es k)) (sym (lists-same k a)) (d.each k lt)) in
+        (subst (λ (h : List Order). Conforms (rule_of (phase_kind phases k)) h (phase_deals phases orders es k)) (sym (lists-same k a)) (d.each k lt)) in
         unique here (phase_deals phases orders ds k) (phase_deals phases orders es k)
-        (phase-is_list orders list (end_place phases k) (first_place phases k) (rest_before phases orders ds k) (chain_earlier phases orders ds k))
-        (phase-is_regular orders list (end_place phases k) (first_place phases k) (rest_before phases orders ds k) (chain_earlier phases orders ds k) regular)
+        (phase-is_list orders list (end_place phases k) (first_place phases k) (rest_after phases orders ds k) (chain_before_phase phases orders ds k))
+        (phase-is_regular orders list (end_place phases k) (first_place phases k) (rest_after phases orders ds k) (chain_before_phase phases orders ds k) regular)
         first second bid ask
 
   pub day-unique : DayUniqueness

@@ -22,8 +22,8 @@ pub record IsBrokenDay (phases : List Phase) (orders : List Order) (deals : List
   pub offence : IsDayOffence phases orders deals count finding
   pub fails : ConformsDay phases orders deals → ⊥
 
--- what the audit answers: that the day conforms, or its first offence. `count` is the number of trades of
--- the whole log
+-- what the audit answers: that the day conforms, or its first offence; `count` is the number of
+-- trades of the whole log
 abbrev pub IsAuditedDay : List Phase → List Order → List Deal → ℕ → Day → Type 0
 IsAuditedDay phases orders deals count (day.Conforms totals) =
     IsConformingDay phases orders deals totals

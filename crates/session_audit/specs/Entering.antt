@@ -1,38 +1,48 @@
--- What the orders of a phase bring, by numbers that are kept of them.
-use Rattle.std.specs.Prelude.{◌<◌, ◌≤◌, ℕ, ◌-◌, Bool, true, ◌&&◌, not, nat_lt, List, Option, None, Some, length, if◌then◌else◌}
+-- What each order is in a phase, by one number that is kept of it: its quantity there, or 0
+-- where it is gone.
+use Rattle.std.specs.Prelude.{ℕ, ◌-◌, Bool, true, not, ◌&&◌, nat_lt, List, Option, None, Some, if◌then◌else◌}
 use Rattle.audit_base.specs.declared.orders.Order.{Order}
-use Rattle.audit_base.specs.Orders.{order_at, quantity_at}
+use Rattle.audit_base.specs.Orders.{order_at}
 use Rattle.audit_base.specs.Continuous.{is_cancelled_at_place}
-use Rattle.session_audit.specs.Numbers.{number_in}
-use Rattle.session_audit.specs.PhaseOrders.{listed, brought, phase_order}
+use Rattle.session_audit.specs.Numbers.{number_at}
+use Rattle.session_audit.specs.PhaseOrders.{OrderInPhase, Carried, Own, Gone, order_in_phase, phase_order, list_below}
 
--- what an order of the phase brings, where it is known whether its target isn't gone
+-- the number that is kept of an order
+abbrev pub amount_in_phase : OrderInPhase → ℕ
+amount_in_phase (Carried left) = left
+amount_in_phase (Own quantity) = quantity
+amount_in_phase Gone = 0
+
+-- what an order is in the phase that begins at `first`, by its number
+abbrev pub order_by_amount : ℕ → ℕ → Order → OrderInPhase
+order_by_amount first amount o = if nat_lt 0 amount
+    then (if nat_lt o.place first then Carried amount else Own amount)
+    else Gone
+
+-- the number of an order of the phase, where it is known whether its target isn't gone
 abbrev pub own_amount : Order → Bool → ℕ → ℕ
 own_amount o there spent =
     if not (is_cancelled_at_place o.cancelled o.place) && there then o.quantity - spent else 0
 
--- the order has no target, or one that brings something
-abbrev pub target_brings : Option ℕ → List ℕ → Bool
-target_brings None amounts = true
-target_brings (Some t) amounts = nat_lt 0 (number_in amounts t)
+-- the order has no target, or one whose number isn't 0
+abbrev pub target_has_amount : Option ℕ → List ℕ → Bool
+target_has_amount None amounts = true
+target_has_amount (Some t) amounts = nat_lt 0 (number_at amounts t)
 
--- what the order at an index brings, from what the orders before it bring
-abbrev pub amount_of : List Order → ℕ → List ℕ → List ℕ → List ℕ → ℕ → ℕ
-amount_of orders first rest spent amounts i = let o = order_at orders i in
-    if nat_lt o.place first then number_in rest i
-    else own_amount o (target_brings o.target amounts) (number_in spent i)
+-- the number of the order at an index, from the numbers of the orders before it
+abbrev pub amount_by_earlier : List Order → ℕ → List ℕ → List ℕ → List ℕ → ℕ → ℕ
+amount_by_earlier orders first rest spent amounts i = let o = order_at orders i in
+    if nat_lt o.place first then number_at rest i
+    else own_amount o (target_has_amount o.target amounts) (number_at spent i)
 
--- what the first n orders bring
-abbrev pub amounts : List Order → ℕ → List ℕ → List ℕ → ℕ → List ℕ
-amounts orders first rest spent n =
-    listed (brought orders first (number_in rest) (number_in spent)) n
+-- the numbers of the first n orders
+abbrev pub amounts_below : List Order → ℕ → List ℕ → List ℕ → ℕ → List ℕ
+amounts_below orders first rest spent n =
+    let what = order_in_phase orders first (number_at rest) (number_at spent) in
+    list_below (λ i. amount_in_phase (what i)) n
 
--- no order brings more than its written quantity
-abbrev pub AreAmounts : List Order → List ℕ → Type 0
-AreAmounts orders amounts =
-    (i : ℕ) → i < length amounts → number_in amounts i ≤ quantity_at orders i
-
--- the first n orders as they stand in the list of a phase, by what they bring
-abbrev pub orders_with : List Order → ℕ → ℕ → List ℕ → ℕ → List Order
-orders_with orders first last amounts n =
-    listed (λ i. phase_order first last (number_in amounts i) (order_at orders i)) n
+-- the first n orders as the list of the phase has them, by their numbers
+abbrev pub phase_list_by_amounts : List Order → ℕ → ℕ → List ℕ → ℕ → List Order
+phase_list_by_amounts orders first last amounts n =
+    list_below (λ i. let o = order_at orders i in
+    phase_order last o (order_by_amount first (number_at amounts i) o)) n

@@ -23,6 +23,7 @@ pub record IsBrokenPhase (the_rule : Rule) (orders : List Order) (deals : List D
   pub offence : IsFirstOffence the_rule orders deals count finding
   pub fails : Conforms the_rule orders deals → ⊥
 
+-- what the audit of a phase answers: that its deals conform, or their first offence
 abbrev pub IsAuditedPhase : Rule → List Order → List Deal → ℕ → Outcome → Type 0
 IsAuditedPhase the_rule orders deals count (outcome.Conforms reached) =
     IsConformingPhase the_rule orders deals reached

@@ -8,8 +8,8 @@ use Rattle.audit_base.specs.Deals.{pair, DealsInRange}
 use Rattle.audit_base.specs.Histories.{Regular}
 use Rattle.session_audit.specs.declared.phases.Phase.{Phase}
 use Rattle.session_audit.specs.declared.phases.PhaseKind.TheVariants as kind
-use Rattle.session_audit.specs.Phases.{is_call, kind_at, phase_deals}
-use Rattle.session_audit.specs.PhaseOrders.{traded_in, rest_before, phase_orders}
+use Rattle.session_audit.specs.Phases.{is_call, phase_kind, phase_deals}
+use Rattle.session_audit.specs.PhaseOrders.{traded_in_phase, rest_after, phase_orders}
 use Rattle.session_audit.specs.Days.{PhaseConforms, ConformsDay}
 
 -- 'day uniqueness': two lists of deals that conform trade the same with each order in each phase
@@ -18,33 +18,33 @@ DayUniqueness = (phases : List Phase) (orders : List Order) (ds es : List Deal)
     → IsOrderList orders → Regular orders → DealsInRange ds → DealsInRange es
     → ConformsDay phases orders ds → ConformsDay phases orders es
     → (k : ℕ) → k < length phases → (i : ℕ)
-    → traded_in phases orders ds k i ≡ traded_in phases orders es k i
+    → traded_in_phase phases orders ds k i ≡ traded_in_phase phases orders es k i
 
--- and give each pair the same quantity in each continuous phase
+-- two such lists give each pair the same quantity in each continuous phase
 abbrev pub DayPairs : Type 0
 DayPairs = (phases : List Phase) (orders : List Order) (ds es : List Deal)
     → IsOrderList orders → Regular orders → DealsInRange ds → DealsInRange es
     → ConformsDay phases orders ds → ConformsDay phases orders es
-    → (k : ℕ) → k < length phases → kind_at phases k ≡ kind.Continuous → (bid ask : ℕ)
+    → (k : ℕ) → k < length phases → phase_kind phases k ≡ kind.Continuous → (bid ask : ℕ)
     → pair (phase_deals phases orders ds k) bid ask ≡ pair (phase_deals phases orders es k) bid ask
 
 -- the order list of each phase is an order list, whatever the deals are
-abbrev pub PhaseOrdersAreListed : Type 0
-PhaseOrdersAreListed = (phases : List Phase) (orders : List Order) (deals : List Deal) (k : ℕ)
+abbrev pub PhaseOrdersAreOrderList : Type 0
+PhaseOrdersAreOrderList = (phases : List Phase) (orders : List Order) (deals : List Deal) (k : ℕ)
     → IsOrderList orders → IsOrderList (phase_orders phases orders deals k)
 
--- and it is regular where the order list of the day is
+-- the order list of each phase is regular where that of the day is
 abbrev pub PhaseOrdersAreRegular : Type 0
 PhaseOrdersAreRegular = (phases : List Phase) (orders : List Order) (deals : List Deal) (k : ℕ)
     → IsOrderList orders → Regular orders → Regular (phase_orders phases orders deals k)
 
--- the bids that a call which conforms leaves meet none of the asks that it leaves, so that orders which are
--- carried out of it give by themselves no spread finding
+-- The bids that a call which conforms leaves meet none of the asks that it leaves, so that
+-- orders which are carried out of it give by themselves no spread finding.
 abbrev pub CarriedOrdersDoNotMeet : Type 0
 CarriedOrdersDoNotMeet = (phases : List Phase) (orders : List Order) (deals : List Deal) (k : ℕ)
     → IsOrderList orders → OrdersInRange orders → DealsInRange deals
-    → IsTrue (is_call (kind_at phases k)) → PhaseConforms phases orders deals k
+    → IsTrue (is_call (phase_kind phases k)) → PhaseConforms phases orders deals k
     → (bid ask : ℕ) → side_at orders bid ≡ Buy → side_at orders ask ≡ Sell
-    → 0 < rest_before phases orders deals (suc k) bid
-    → 0 < rest_before phases orders deals (suc k) ask
+    → 0 < rest_after phases orders deals (suc k) bid
+    → 0 < rest_after phases orders deals (suc k) ask
     → limit_at orders bid < limit_at orders ask

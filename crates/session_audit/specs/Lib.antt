@@ -1,5 +1,5 @@
--- What a reader must believe, in the order in which it is best read: the phases of a day, the order list
--- of each, when a day conforms, what the audit answers, the text of a day, and the laws.
+-- What a reader must believe, in the order in which it is best read: the phases of a day, the order
+-- list of each, when a day conforms, what the audit answers, the text of a day, and the laws.
 pub mod Phases
 pub mod PhaseOrders
 pub mod Days

@@ -1,37 +1,43 @@
 -- Numbers that are kept of the orders, by their indices.
 use Rattle.std.specs.Prelude.{◌≡◌, ◌<◌, ◌≤◌, ℕ, ◌+◌, ◌*◌, ◌^◌, List, Option, None, Some, slice_index_or, sum_by}
 use Rattle.audit_base.specs.declared.orders.Order.{Order}
+use Rattle.audit_base.specs.Orders.{quantity_at}
 use Rattle.audit_base.specs.Continuous.{chain}
-use Rattle.session_audit.specs.PhaseOrders.{listed}
+use Rattle.session_audit.specs.PhaseOrders.{list_below}
 
 -- the number at an index, or 0
-abbrev pub number_in : List ℕ → ℕ → ℕ
-number_in numbers i = slice_index_or numbers i 0
+abbrev pub number_at : List ℕ → ℕ → ℕ
+number_at numbers i = slice_index_or numbers i 0
+
+-- no number is above the written quantity of its order
+abbrev pub WithinQuantities : List Order → List ℕ → Type 0
+WithinQuantities orders numbers = (i : ℕ) → number_at numbers i ≤ quantity_at orders i
 
 -- each number is at most 2^72, which 2^32 deals of 10^12 do not reach
-abbrev pub AreSmall : List ℕ → Type 0
-AreSmall numbers = (i : ℕ) → number_in numbers i ≤ 2 ^ 72
+abbrev pub AreBoundedTotals : List ℕ → Type 0
+AreBoundedTotals numbers = (i : ℕ) → number_at numbers i ≤ 2 ^ 72
 
--- the target of an order stands in both lists
+-- the target of an order is an index of both lists
 abbrev pub IsTargetInside : Option ℕ → ℕ → ℕ → Type 0
 IsTargetInside target n m = (t : ℕ) → target ≡ Some t → (t < n) × (t < m)
 
--- and its two numbers fit a number of 128 bits together
-abbrev pub IsTargetSmall : Option ℕ → List ℕ → List ℕ → Type 0
-IsTargetSmall target traded totals =
-    (t : ℕ) → target ≡ Some t → number_in traded t + number_in totals t < 2 ^ 128
+-- the two numbers of the target of an order, added, are below 2^128
+abbrev pub TargetTotalFits : Option ℕ → List ℕ → List ℕ → Type 0
+TargetTotalFits target traded totals =
+    (t : ℕ) → target ≡ Some t → number_at traded t + number_at totals t < 2 ^ 128
 
--- what the target has traded, and its chain
+-- what the target of an order and the chain of the target have traded
 abbrev pub target_total : Option ℕ → List ℕ → List ℕ → ℕ
 target_total None traded totals = 0
-target_total (Some t) traded totals = number_in traded t + number_in totals t
+target_total (Some t) traded totals = number_at traded t + number_at totals t
 
 -- what the orders of the chain of an order have traded
-abbrev pub chain_total : List Order → List ℕ → ℕ → ℕ
-chain_total orders traded i = sum_by (number_in traded) (chain orders i)
+abbrev pub total_of_chain : List Order → List ℕ → ℕ → ℕ
+total_of_chain orders traded i = sum_by (number_at traded) (chain orders i)
 
--- this of the first n orders, with a bound
+-- the numbers are what the chains of the first n orders have traded, each at most 2^72 for each
+-- order before its own
 pub record AreChainTotals (orders : List Order) (traded : List ℕ) (n : ℕ)
     (totals : List ℕ) : Type 0 where
-  pub are : totals ≡ listed (chain_total orders traded) n
-  pub bounded : (i : ℕ) → i < n → number_in totals i ≤ i * 2 ^ 72
+  pub are : totals ≡ list_below (total_of_chain orders traded) n
+  pub bounded : (i : ℕ) → i < n → number_at totals i ≤ i * 2 ^ 72

@@ -11,5 +11,6 @@ use Rattle.session_audit.specs.Days.{IsDayOffence}
 abbrev pub DayOffenceIsOne : Type 0
 DayOffenceIsOne = (phases : List Phase) (orders : List Order) (deals : List Deal) (count : ℕ)
     (one other : Finding) → AllPairs (λ o p. o.place < p.place) orders
-    → All (NamesOrders orders) deals → DealsInRange deals → IsDayOffence phases orders deals count one
-    → IsDayOffence phases orders deals count other → one ≡ other
+    → All (NamesOrders orders) deals → DealsInRange deals
+    → IsDayOffence phases orders deals count one → IsDayOffence phases orders deals count other
+    → one ≡ other

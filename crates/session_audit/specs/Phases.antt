@@ -16,14 +16,15 @@ rule_of kind.Uniform = rule.Uniform
 rule_of kind.Maximum = rule.Maximum
 rule_of kind.Continuous = rule.Continuous
 
--- a phase is a call, in which all orders meet at once
+-- a phase of this kind is a call, in which all orders meet at once
 abbrev pub is_call : PhaseKind → Bool
 is_call the_kind = is_some (call_rule (rule_of the_kind))
 
--- what stands for a phase past the end of a list, and the phase at an index
+-- the phase that is read past the end of a list
 abbrev pub missing_phase : Phase
 missing_phase = record { kind = kind.Continuous; first = 0 }
 
+-- the phase at an index
 abbrev pub phase_at : List Phase → ℕ → Phase
 phase_at phases k = slice_index_or phases k missing_phase
 
@@ -31,31 +32,32 @@ phase_at phases k = slice_index_or phases k missing_phase
 abbrev pub last_place : ℕ
 last_place = 4294967295
 
--- its kind
-abbrev pub kind_at : List Phase → ℕ → PhaseKind
-kind_at phases k = (phase_at phases k).kind
+-- how a phase trades
+abbrev pub phase_kind : List Phase → ℕ → PhaseKind
+phase_kind phases k = (phase_at phases k).kind
 
 -- F: the first place of a phase
 abbrev pub first_place : List Phase → ℕ → ℕ
 first_place phases k = (phase_at phases k).first
 
--- E: the place at which a phase ends, the one before the next phase begins; of the last phase the
--- greatest that a record can have
+-- E: the place at which a phase ends, which is the one before the next phase begins, or the
+-- greatest place that a record can have
 abbrev pub end_place : List Phase → ℕ → ℕ
 end_place phases k =
     if nat_lt (k + 1) (length phases) then first_place phases (k + 1) - 1 else last_place
 
--- the phases of a day: there is one, the first begins at place 1, and the places at which they begin rise
--- strictly
+-- the phases of a day: there is one, the first begins at place 1, and the places at which they
+-- begin rise strictly
 pub record ArePhases (phases : List Phase) : Type 0 where
   pub some : 0 < length phases
   pub from_one : first_place phases 0 ≡ 1
   pub rising : AllPairs (λ p q. p.first < q.first) phases
 
 -- a place lies in a phase
-abbrev pub lies_in : List Phase → ℕ → ℕ → Bool
-lies_in phases k place = nat_le (first_place phases k) place && nat_le place (end_place phases k)
+abbrev pub is_in_phase : List Phase → ℕ → ℕ → Bool
+is_in_phase phases k place =
+    nat_le (first_place phases k) place && nat_le place (end_place phases k)
 
 -- the deals of a phase, in log order: those whose cause lies in it
 unfoldable pub phase_deals : List Phase → List Order → List Deal → ℕ → List Deal
-phase_deals phases orders deals k = filter (λ d. lies_in phases k (cause orders d)) deals
+phase_deals phases orders deals k = filter (λ d. is_in_phase phases k (cause orders d)) deals

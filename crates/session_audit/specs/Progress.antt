@@ -1,53 +1,51 @@
--- What the phases of a day have come to so far.
-use Rattle.std.specs.Prelude.{◌≡◌, ◌<◌, ◌≤◌, ℕ, ◌+◌, List, length}
+-- What is known of a day after its first phases.
+use Rattle.std.specs.Prelude.{◌≡◌, ◌<◌, ℕ, ◌+◌, List, length}
 use Rattle.audit_base.specs.declared.orders.Order.{Order}
 use Rattle.audit_base.specs.declared.orders.Deal.{Deal}
-use Rattle.audit_base.specs.Orders.{quantity_at}
 use Rattle.audit_base.specs.Deals.{AreTotals, traded}
 use Rattle.audit_base.specs.Rules.{Conforms}
 use Rattle.session_audit.specs.declared.phases.Phase.{Phase}
 use Rattle.session_audit.specs.declared.phases.PhaseKind.{PhaseKind}
 use Rattle.session_audit.specs.Phases.{rule_of}
-use Rattle.session_audit.specs.PhaseOrders.{listed, traded_earlier, rest_before, left_of_phase}
+use Rattle.session_audit.specs.PhaseOrders.{list_below, traded_before_phase, rest_after, left_after_phase}
 use Rattle.session_audit.specs.Days.{PhaseConforms}
 use Rattle.session_audit.specs.Leaving.{EndsBy}
-use Rattle.session_audit.specs.Numbers.{number_in}
+use Rattle.session_audit.specs.Numbers.{number_at, WithinQuantities}
 
--- no order has more left than its written quantity
-abbrev pub AreLeft : List Order → List ℕ → Type 0
-AreLeft orders rest = (i : ℕ) → number_in rest i ≤ quantity_at orders i
-
--- the phases before the k-th conform; what each order traded in them, and what they left of it, which is
--- at most its written quantity
-pub record IsSoFar (phases : List Phase) (orders : List Order) (deals : List Deal) (k : ℕ)
+-- the first k phases conform; what each order traded in them, and what they left of it, which is at
+-- most its written quantity
+pub record IsDaySoFar (phases : List Phase) (orders : List Order) (deals : List Deal) (k : ℕ)
     (traded rest : List ℕ) : Type 0 where
   pub conformed : (j : ℕ) → j < k → PhaseConforms phases orders deals j
-  pub traded_is : traded ≡ listed (traded_earlier phases orders deals k) (length orders)
-  pub rest_is : (i : ℕ) → number_in rest i ≡ rest_before phases orders deals k i
-  pub most : AreLeft orders rest
+  pub traded_is : traded ≡ list_below (traded_before_phase phases orders deals k) (length orders)
+  pub rest_is : (i : ℕ) → number_at rest i ≡ rest_after phases orders deals k i
+  pub most : WithinQuantities orders rest
 
 -- a phase that conforms and ends at `last`, with what each order traded in it
-pub record IsPlayed (kind : PhaseKind) (orders : List Order) (deals : List Deal) (last : ℕ)
+pub record HasPhaseTotals (kind : PhaseKind) (orders : List Order) (deals : List Deal) (last : ℕ)
     (traded : List ℕ) : Type 0 where
   pub conforms : Conforms (rule_of kind) orders deals
   pub totals : AreTotals orders deals traded
   pub ends : EndsBy orders deals last
 
--- what it leaves of each of its orders
-abbrev pub lefts_of : PhaseKind → List Order → List Deal → ℕ → List ℕ
-lefts_of kind orders deals last = listed (left_of_phase kind orders deals last) (length orders)
+-- what a phase of a kind that ends at `last` leaves of each of its orders
+abbrev pub rest_after_phase : PhaseKind → List Order → List Deal → ℕ → List ℕ
+rest_after_phase kind orders deals last =
+    list_below (left_after_phase kind orders deals last) (length orders)
 
--- each number is the one before and that of the phase, added
-pub record AreAdded (before phase after : List ℕ) : Type 0 where
+-- each number is the one before, with that of the phase added
+pub record AddsNumbers (before phase after : List ℕ) : Type 0 where
   pub count : length after ≡ length before
-  pub each : (i : ℕ) → i < length before → number_in after i ≡ number_in before i + number_in phase i
+  pub each : (i : ℕ) → i < length before
+      → number_at after i ≡ number_at before i + number_at phase i
 
--- a phase that conforms and ends at `last`, with what the phases up to it come to: what each order traded
--- in it is added, and what it leaves of each order is kept
-pub record IsPassed (kind : PhaseKind) (orders : List Order) (deals : List Deal) (last : ℕ)
+-- a phase that conforms and ends at `last` is added to the phases before it: to what each order
+-- traded before is added what it traded in the phase, and what the phase leaves of each order is
+-- kept
+pub record AddsPhase (kind : PhaseKind) (orders : List Order) (deals : List Deal) (last : ℕ)
     (before after rest : List ℕ) : Type 0 where
   pub conforms : Conforms (rule_of kind) orders deals
   pub count : length after ≡ length before
   pub added : (i : ℕ) → i < length before
-      → number_in after i ≡ number_in before i + traded deals i
-  pub left : rest ≡ lefts_of kind orders deals last
+      → number_at after i ≡ number_at before i + traded deals i
+  pub left : rest ≡ rest_after_phase kind orders deals last

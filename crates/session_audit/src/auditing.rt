@@ -9,9 +9,9 @@ ghost use Rattle.session_audit.specs.Audits.{IsAuditedDay};
 
 use super::days::Day;
 use super::dealing::{causes_of, deals_between};
-use super::instants::first_instant;
+use super::instants::first_instant_of_day;
 use super::phases::Phase;
-use super::progress::{end_place, first_place, judge_phase, kind_at, list_phase, start};
+use super::progress::{end_place, first_place, judge_phase, list_phase, phase_kind, start};
 use audit_base::faults::NoMemory;
 use audit_base::orders::Deal;
 use audit_base::ranges::deals_in_range;
@@ -42,7 +42,7 @@ fn audit_phases(
         let (first, last) = (first_place(phases, index), end_place(phases, index));
         let dealt = deals_between(alloc, deals, &causes, first, last)?;
         let list = list_phase(alloc, orders, phases, index, &so_far)?;
-        let kind = kind_at(phases, index);
+        let kind = phase_kind(phases, index);
         let own = list.list();
         if let Some(finding) = judge_phase(alloc, kind, &own, &dealt, count, last, &mut so_far)? {
             return Ok(Day::Broken(finding));
@@ -51,13 +51,13 @@ fn audit_phases(
     Ok(Day::Conforms(Totals::of(so_far.traded, volume_of(deals))))
 }
 
-/// The audit of a day over the deals of a log of `count` trades. Conforms exactly where no call phase has
-/// an own order whose life isn't Rests and each phase conforms, out of memory aside: with what each order
-/// traded over the day, and the volume. Else Broken has the first offence: the least such order, or the first
-/// offence of the least phase that fails.
+/// The audit of a day over the deals of a log of `count` trades. Conforms exactly where no call
+/// phase has an own order whose life isn't Rests and each phase conforms, out of memory aside:
+/// with what each order traded over the day, and the volume. Else Broken has the first offence:
+/// the least such order, or the first offence of the least phase that fails.
 ///
-/// For p phases, n orders and m deals, beside the audits of the phases: p passes over the orders up to the
-/// phase's end and over the causes of all deals.
+/// For p phases, n orders and m deals, beside the audits of the phases: p passes over the orders
+/// up to the phase's end and over the causes of all deals.
 pub fn audit_session(
     alloc: Global,
     orders: &OrderList<'_>,
@@ -74,7 +74,7 @@ pub fn audit_session(
     ensures { IfOk result (IsAuditedDay phases.now orders.now deals.now count) }
 {
     orders.in_range();
-    if let Some(finding) = first_instant(phases, orders) {
+    if let Some(finding) = first_instant_of_day(phases, orders) {
         return Ok(Day::Broken(finding));
     }
     audit_phases(alloc, orders, phases, deals, count)

@@ -1,9 +1,9 @@
-//! The deals of a phase: those whose cause lies in it.
+//! The deals of a phase: those whose cause is in it.
 ghost use Rattle.std.specs.Prelude.{◌≡◌, ◌≤◌, ◌++◌, All, IfOk, OnOk, length};
 ghost use Rattle.audit_base.specs.Continuous.{cause};
 ghost use Rattle.audit_base.specs.Deals.{NamesOrders};
 ghost use Rattle.session_audit.specs.Phases.{last_place};
-ghost use Rattle.session_audit.specs.Dealing.{HaveSmallCauses, causes_upto, lies_between, deals_if, deals_between};
+ghost use Rattle.session_audit.specs.Dealing.{HaveCausesInRange, causes_below, is_between, deals_if, deals_between};
 
 use audit_base::faults::NoMemory;
 use audit_base::orders::Deal;
@@ -29,8 +29,8 @@ pub fn causes_of(
 ) -> Result<Vec<u32>, NoMemory>
     requires { All (NamesOrders orders.now) deals.now }
     ensures causes { IfOk result (λ causes.
-        causes.items ≡ causes_upto orders.now deals.now (length deals.now)) }
-    ensures fits { OnOk result (HaveSmallCauses orders.now deals.now) }
+        causes.items ≡ causes_below orders.now deals.now (length deals.now)) }
+    ensures fits { OnOk result (HaveCausesInRange orders.now deals.now) }
 {
     let mut causes = Vec::with_capacity(alloc, deals.len())?;
     for index in 0..deals.len() {
@@ -40,13 +40,13 @@ pub fn causes_of(
 }
 
 /// Whether a place is from `first` to `last`.
-fn lies_between(place: u32, first: u32, last: u32) -> bool
-    ensures { result ≡ lies_between first last place }
+fn is_between(place: u32, first: u32, last: u32) -> bool
+    ensures { result ≡ is_between first last place }
 {
     first <= place && place <= last
 }
 
-/// Adds a deal, if its cause lies between these places.
+/// Adds a deal, if its cause is between these places.
 fn add_deal(
     part: &mut Vec<Deal>,
     deal: &Deal,
@@ -55,15 +55,15 @@ fn add_deal(
     last: u32,
 ) -> Result<(), NoMemory>
     ensures { OnOk result (part.new.items
-        ≡ part.old.items ++ deals_if (lies_between first last cause) deal.now) }
+        ≡ part.old.items ++ deals_if (is_between first last cause) deal.now) }
 {
-    if lies_between(cause, first, last) {
+    if is_between(cause, first, last) {
         part.push(*deal)?;
     }
     Ok(())
 }
 
-/// The deals whose cause lies between these places, in log order. Err only out of memory.
+/// The deals whose cause is between these places, in log order. Err only out of memory.
 pub fn deals_between(
     alloc: Global,
     deals: &[Deal],

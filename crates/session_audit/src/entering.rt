@@ -1,10 +1,11 @@
-//! The order list of a phase: what each order brings into it, and how it stands there.
+//! The order list of a phase: how much of each order comes into it, and the order as the list
+//! has it. An order that is gone is kept as the number 0.
 ghost use Rattle.std.specs.Prelude.{◌≡◌, ◌<◌, ◌≤◌, ◌-◌, ◌&&◌, not, nat_lt, if◌then◌else◌, IfOk, IfSome, length};
 ghost use Rattle.audit_base.specs.Continuous.{is_cancelled_at_place};
 ghost use Rattle.audit_base.specs.Orders.{IsOrderList, order_at};
 ghost use Rattle.order_list.specs.Changed.{with_terms};
 ghost use Rattle.session_audit.specs.Entering as entering;
-ghost use Rattle.session_audit.specs.Numbers.{number_in};
+ghost use Rattle.session_audit.specs.Numbers.{WithinQuantities, number_at};
 ghost use Rattle.session_audit.specs.PhaseOrders as spec;
 
 use audit_base::faults::NoMemory;
@@ -27,8 +28,8 @@ pub fn was_placed(order: &ListedOrder<'_>) -> bool
 }
 
 /// How many orders, from the first on, have a place of at most `last`.
-pub fn orders_upto(orders: &OrderList<'_>, last: u32) -> usize
-    ensures { result ≡ spec.orders_upto orders.now last }
+pub fn order_count_upto(orders: &OrderList<'_>, last: u32) -> usize
+    ensures { result ≡ spec.order_count_upto orders.now last }
 {
     let mut count = 0;
     while count < orders.len() && orders.at(count).place() <= last {
@@ -37,8 +38,8 @@ pub fn orders_upto(orders: &OrderList<'_>, last: u32) -> usize
     count
 }
 
-/// What an order of the phase brings, if it was placed and its target isn't gone: its written quantity
-/// less what its chain traded.
+/// How much of an order of the phase comes into it: its written quantity less what its chain
+/// traded, if it was placed and its target isn't gone.
 fn own_amount(order: &ListedOrder<'_>, there: bool, spent: u128) -> u64
     ensures { result ≡ entering.own_amount order.now there spent }
 {
@@ -51,7 +52,7 @@ fn own_amount(order: &ListedOrder<'_>, there: bool, spent: u128) -> u64
 
 /// The number at an index, or 0 past the end.
 fn number_at(numbers: &[u64], index: usize) -> u64
-    ensures { result ≡ number_in numbers.now index }
+    ensures { result ≡ number_at numbers.now index }
 {
     match numbers.get(index) {
         Some(number) => *number,
@@ -59,9 +60,9 @@ fn number_at(numbers: &[u64], index: usize) -> u64
     }
 }
 
-/// Whether an order has no target, or one that brings something into the phase.
-fn target_brings(target: Option<usize>, amounts: &[u64]) -> bool
-    ensures { result ≡ entering.target_brings target amounts.now }
+/// Whether an order has no target, or one that isn't gone.
+fn target_has_amount(target: Option<usize>, amounts: &[u64]) -> bool
+    ensures { result ≡ entering.target_has_amount target amounts.now }
 {
     match target {
         Some(index) => 0 < number_at(amounts, index),
@@ -69,9 +70,9 @@ fn target_brings(target: Option<usize>, amounts: &[u64]) -> bool
     }
 }
 
-/// What the order at an index brings into the phase that begins at `first`, from what the orders before it
-/// bring.
-fn amount_of(
+/// How much of the order at an index comes into the phase that begins at `first`, from how much
+/// comes of the orders before it.
+fn amount_by_earlier(
     orders: &OrderList<'_>,
     first: u32,
     rest: &[u64],
@@ -81,18 +82,23 @@ fn amount_of(
 ) -> u64
     requires inside { index < length orders.now }
     requires counted { index < length spent.now }
-    ensures { result ≡ entering.amount_of orders.now first rest.now spent.now amounts.now index }
+    ensures { result
+        ≡ entering.amount_by_earlier orders.now first rest.now spent.now amounts.now index }
 {
     let order = orders.at(index);
     if order.place() < first {
         number_at(rest, index)
     } else {
-        own_amount(&order, target_brings(order.target(), amounts), spent[index])
+        own_amount(
+            &order,
+            target_has_amount(order.target(), amounts),
+            spent[index],
+        )
     }
 }
 
-/// What each of the first `count` orders brings into the phase that begins at `first`, from what is left of
-/// each (0 past the end) and what its chain has traded.
+/// How much of each of the first `count` orders comes into the phase that begins at `first`,
+/// from what is left of each (0 past the end) and what its chain has traded.
 pub fn amounts_of(
     alloc: Global,
     orders: &OrderList<'_>,
@@ -105,18 +111,18 @@ pub fn amounts_of(
     requires inside { count ≤ length orders.now }
     requires counted { count ≤ length spent.now }
     ensures { IfOk result (λ amounts.
-        amounts.items ≡ entering.amounts orders.now first rest.now spent.now count) }
+        amounts.items ≡ entering.amounts_below orders.now first rest.now spent.now count) }
 {
     let mut amounts = Vec::with_capacity(alloc, count)?;
     for index in 0..count {
-        amounts.push(amount_of(orders, first, rest, spent, &amounts, index))?;
+        amounts.push(amount_by_earlier(orders, first, rest, spent, &amounts, index))?;
     }
     Ok(amounts)
 }
 
 /// The place of the record that ends an order, where it is at most `last`.
-fn ended_upto(cancelled: Option<u32>, last: u32) -> Option<u32>
-    ensures { result ≡ spec.ended_upto last cancelled }
+fn end_upto(cancelled: Option<u32>, last: u32) -> Option<u32>
+    ensures { result ≡ spec.end_upto last cancelled }
 {
     match cancelled {
         Some(end) if end <= last => Some(end),
@@ -136,18 +142,18 @@ fn own_target(order: &ListedOrder<'_>, first: u32) -> Option<usize>
     }
 }
 
-/// The terms of an order in the list of a phase, by what it brings.
+/// The terms of an order in the list of a phase, by how much of it comes into the phase.
 fn phase_terms(order: &ListedOrder<'_>, first: u32, last: u32, amount: u64) -> ChangedTerms
     requires { amount ≤ order.now.quantity }
     ensures order { with_terms result.quantity result.cancelled result.target order.now
-        ≡ spec.phase_order first last amount order.now }
+        ≡ spec.phase_order last order.now (entering.order_by_amount first amount order.now) }
     ensures small { IfSome result.target (λ t. t < 4294967295) }
 {
     order.in_range();
     match Quantity::of(amount) {
         Some(quantity) => ChangedTerms {
             quantity,
-            cancelled: ended_upto(order.cancelled(), last),
+            cancelled: end_upto(order.cancelled(), last),
             target: own_target(order, first),
         },
         None => ChangedTerms {
@@ -158,7 +164,7 @@ fn phase_terms(order: &ListedOrder<'_>, first: u32, last: u32, amount: u64) -> C
     }
 }
 
-/// The order list of a phase from what each of its orders brings.
+/// The order list of a phase, by how much of each order comes into it.
 pub fn list_orders<'a>(
     alloc: Global,
     orders: &OrderList<'a>,
@@ -167,9 +173,9 @@ pub fn list_orders<'a>(
     amounts: &[u64],
 ) -> Result<ChangedOrders<'a>, NoMemory>
     requires inside { length amounts.now ≤ length orders.now }
-    requires most { entering.AreAmounts orders.now amounts.now }
-    ensures { IfOk result (λ list.
-        list.orders ≡ entering.orders_with orders.now first last amounts.now (length amounts.now)) }
+    requires most { WithinQuantities orders.now amounts.now }
+    ensures { IfOk result (λ list. list.orders
+        ≡ entering.phase_list_by_amounts orders.now first last amounts.now (length amounts.now)) }
 {
     let mut list = ChangedOrders::new(alloc, orders, amounts.len())?;
     for index in 0..amounts.len() {

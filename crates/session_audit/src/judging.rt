@@ -15,8 +15,8 @@ use order_list::lists::OrderList;
 use std::alloc::Global;
 use uniform_audit::auditing::audit_uniform;
 
-/// The audit of a phase of this kind, by the rule that it has. The number of trades of the whole log is
-/// `count`.
+/// The audit of a phase of this kind, by the rule that it has. The number of trades of the whole
+/// log is `count`.
 pub fn audit_phase(
     alloc: Global,
     kind: PhaseKind,

@@ -5,8 +5,8 @@ ghost use Rattle.audit_base.specs.Continuous.{uncancelled_before};
 ghost use Rattle.audit_base.specs.Histories.{Regular};
 ghost use Rattle.audit_base.specs.Orders.{IsOrderList};
 ghost use Rattle.session_audit.specs.Leaving as spec;
-ghost use Rattle.session_audit.specs.Numbers.{AreSmall, chain_total};
-ghost use Rattle.session_audit.specs.PhaseOrders.{listed};
+ghost use Rattle.session_audit.specs.Numbers.{AreBoundedTotals, total_of_chain};
+ghost use Rattle.session_audit.specs.PhaseOrders.{list_below};
 
 use super::chains::chain_totals;
 use super::entering::was_placed;
@@ -17,8 +17,8 @@ use order_list::lists::OrderList;
 use std::alloc::Global;
 
 /// What a call leaves of an order that has traded this much: nothing if a record cancels it.
-fn left_by_call(order: &ListedOrder<'_>, traded: u128) -> u64
-    ensures { result ≡ spec.left_by_call order.now traded }
+fn call_leaves(order: &ListedOrder<'_>, traded: u128) -> u64
+    ensures { result ≡ spec.call_leaves order.now traded }
 {
     if order.cancelled().is_some() {
         0
@@ -35,11 +35,11 @@ pub fn leave_call(
 ) -> Result<Vec<u64>, NoMemory>
     requires { length traded.now ≡ length orders.now }
     ensures { IfOk result (λ left.
-        left.items ≡ spec.lefts_by_call orders.now traded.now (length orders.now)) }
+        left.items ≡ spec.rest_after_call orders.now traded.now (length orders.now)) }
 {
     let mut left = Vec::with_capacity(alloc, orders.len())?;
     for index in 0..orders.len() {
-        left.push(left_by_call(&orders.at(index), traded[index]))?;
+        left.push(call_leaves(&orders.at(index), traded[index]))?;
     }
     Ok(left)
 }
@@ -62,27 +62,27 @@ fn waits_before(order: &ListedOrder<'_>, place: u64) -> bool
 }
 
 /// Whether the order rests before the place, if it has this size and has traded this much.
-fn rests_by(order: &ListedOrder<'_>, place: u64, size: u64, traded: u128) -> bool
-    ensures { result ≡ spec.rests_by order.now place size traded }
+fn rests_before_with(order: &ListedOrder<'_>, place: u64, size: u64, traded: u128) -> bool
+    ensures { result ≡ spec.rests_before_with order.now place size traded }
 {
     waits_before(order, place) && (uncancelled_before(order, place) && traded < u128::from(size))
 }
 
-/// Whether an order has no target, or one that rests before the order's own place, by the sizes of the
-/// orders before it.
-fn target_rests(orders: &OrderList<'_>, traded: &[u128], sizes: &[u64], index: usize) -> bool
+/// Whether an order has no target, or one that rests before the order's own place, by the sizes
+/// of the orders before it.
+fn has_resting_target(orders: &OrderList<'_>, traded: &[u128], sizes: &[u64], index: usize) -> bool
     requires order_list { IsOrderList orders.now }
     requires inside { index < length orders.now }
     requires counted { length traded.now ≡ length orders.now }
     requires before { length sizes.now ≡ index }
-    ensures { result ≡ spec.target_rests orders.now traded.now sizes.now index }
+    ensures { result ≡ spec.has_resting_target orders.now traded.now sizes.now index }
 {
     let order = orders.at(index);
     match order.target() {
         Some(target) => {
             let replaced = orders.at(target);
             let place = u64::from(order.place());
-            rests_by(&replaced, place, sizes[target], traded[target])
+            rests_before_with(&replaced, place, sizes[target], traded[target])
         }
         None => true,
     }
@@ -109,32 +109,35 @@ fn sizes_of(
     requires order_list { IsOrderList orders.now }
     requires regular { Regular orders.now }
     requires counted { length traded.now ≡ length orders.now }
-    requires before { before.now ≡ listed (chain_total orders.now traded.now) (length orders.now) }
+    requires before { before.now
+        ≡ list_below (total_of_chain orders.now traded.now) (length orders.now) }
     ensures count { IfOk result (λ sizes. length sizes.items ≡ length orders.now) }
     ensures sizes { IfOk result (λ sizes. (deals : List ADeal)
-        → spec.IsTradedIn orders.now deals traded.now
-        → sizes.items ≡ spec.sizes_upto orders.now deals (length orders.now)) }
+        → spec.HasContinuousTotals orders.now deals traded.now
+        → sizes.items ≡ spec.sizes_below orders.now deals (length orders.now)) }
 {
     let mut sizes = Vec::with_capacity(alloc, orders.len())?;
     for index in 0..orders.len() {
-        let there = target_rests(orders, traded, &sizes, index);
+        let there = has_resting_target(orders, traded, &sizes, index);
         sizes.push(size_of(&orders.at(index), there, before[index]))?;
     }
     Ok(sizes)
 }
 
-/// What is left of an order that rests after the place `last`.
-fn left_by_size(order: &ListedOrder<'_>, last: u32, size: u64, traded: u128) -> u64
-    ensures { result ≡ spec.left_by_size order.now last size traded }
+/// What a continuous phase that ends at `last` leaves of an order, if it has this size and has
+/// traded this much.
+fn continuous_leaves(order: &ListedOrder<'_>, last: u32, size: u64, traded: u128) -> u64
+    ensures { result ≡ spec.continuous_leaves order.now last size traded }
 {
-    if rests_by(order, u64::from(last) + 1, size, traded) {
+    if rests_before_with(order, u64::from(last) + 1, size, traded) {
         left_of(size, traded)
     } else {
         0
     }
 }
 
-/// What a continuous phase that conforms and ends at `last` leaves of each order. Err only out of memory.
+/// What a continuous phase that conforms and ends at `last` leaves of each order. Err only out
+/// of memory.
 pub fn leave_continuous(
     alloc: Global,
     orders: &OrderList<'_>,
@@ -144,17 +147,17 @@ pub fn leave_continuous(
     requires order_list { IsOrderList orders.now }
     requires regular { Regular orders.now }
     requires counted { length traded.now ≡ length orders.now }
-    requires small { AreSmall traded.now }
+    requires small { AreBoundedTotals traded.now }
     ensures { IfOk result (λ left. (deals : List ADeal)
-        → spec.IsTradedIn orders.now deals traded.now
+        → spec.HasContinuousTotals orders.now deals traded.now
         → spec.EndsBy orders.now deals last
-        → left.items ≡ spec.lefts_upto orders.now deals last (length orders.now)) }
+        → left.items ≡ spec.rest_after_continuous orders.now deals last (length orders.now)) }
 {
     let before = chain_totals(alloc, orders, traded)?;
     let sizes = sizes_of(alloc, orders, traded, &before)?;
     let mut left = Vec::with_capacity(alloc, orders.len())?;
     for index in 0..orders.len() {
-        left.push(left_by_size(&orders.at(index), last, sizes[index], traded[index]))?;
+        left.push(continuous_leaves(&orders.at(index), last, sizes[index], traded[index]))?;
     }
     Ok(left)
 }

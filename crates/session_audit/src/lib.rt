@@ -1,14 +1,14 @@
-//! Trading days: calls and continuous phases over one history. Orders that a phase leaves are carried
-//! into the next one.
+//! Trading days: calls and continuous phases over one history. Orders that a phase leaves are
+//! carried into the next one.
 //!
-//! Each phase is judged by the audit of its rule, over its own order list and the deals whose cause
-//! lies in it. `phases` has the phases, `days` what an audit of a day answers, `auditing` the audit,
-//! `texts` the text of a day that conforms, and `laws` what holds of every day.
+//! Each phase is judged by the audit of its rule, over its own order list and the deals whose
+//! cause lies in it. `phases` has the phases, `days` what an audit of a day answers, `auditing`
+//! the audit, `texts` the text of a day that conforms, and `laws` what holds of every day.
 //!
 //! The audit goes over the phases once. `instants` looks for orders that a call does not admit,
-//! `entering` makes the order list of a phase, `dealing` picks its deals, `judging` calls the audit of
-//! its rule, `leaving` says what is left of each order, and `progress` joins these; `chains` adds up
-//! what the chain of each order has traded.
+//! `entering` makes the order list of a phase, `dealing` picks its deals, `judging` calls the
+//! audit of its rule, `leaving` says what is left of each order, and `progress` joins these;
+//! `chains` adds up what the chain of each order has traded.
 #![tactic(auto)]
 
 pub mod auditing;

@@ -29,8 +29,8 @@ impl PhaseKind {
     }
 }
 
-/// A phase, which lasts until the next one begins. A list of these are the phases of a day where there
-/// is one, the first begins at place 1, and the places at which they begin rise strictly.
+/// A phase, which lasts until the next one begins. A list of these are the phases of a day where
+/// there is one, the first begins at place 1, and the places at which they begin rise strictly.
 #[derive(Clone, Copy, Debug, PartialEq, Eq)]
 pub struct Phase {
     pub kind: PhaseKind,

@@ -1,5 +1,5 @@
-//! From one phase to the next: the order list of a phase from what the earlier ones came to, and what it
-//! leaves and adds.
+//! From one phase to the next: the order list of a phase from what the earlier ones leave and
+//! what was traded in them, and what the phase adds to that.
 ghost use Rattle.std.specs.Prelude.{◌≡◌, ◌<◌, ◌≤◌, ◌+◌, ◌-◌, ◌^◌, [], ℕ, IfOk, List, None, Ok, Some, length, replicate, vec_len};
 ghost use Rattle.audit_base.specs.declared.findings.Finding.{Finding as AFinding};
 ghost use Rattle.audit_base.specs.declared.orders.Deal.{Deal as ADeal};
@@ -8,13 +8,13 @@ ghost use Rattle.audit_base.specs.Histories.{Regular};
 ghost use Rattle.audit_base.specs.Orders.{IsOrderList};
 ghost use Rattle.session_audit.specs.Judging.{IsBrokenPhase};
 ghost use Rattle.session_audit.specs.Leaving.{EndsBy};
-ghost use Rattle.session_audit.specs.Numbers.{AreSmall};
+ghost use Rattle.session_audit.specs.Numbers.{AreBoundedTotals, WithinQuantities};
 ghost use Rattle.session_audit.specs.PhaseOrders.{phase_orders};
 ghost use Rattle.session_audit.specs.Phases as spec;
-ghost use Rattle.session_audit.specs.Progress.{AreAdded, AreLeft, IsPassed, IsPlayed, IsSoFar, lefts_of};
+ghost use Rattle.session_audit.specs.Progress.{AddsNumbers, AddsPhase, HasPhaseTotals, IsDaySoFar, rest_after_phase};
 
 use super::chains::chain_totals;
-use super::entering::{amounts_of, list_orders, orders_upto};
+use super::entering::{amounts_of, list_orders, order_count_upto};
 use super::judging::audit_phase;
 use super::leaving::{leave_call, leave_continuous};
 use super::phases::{Phase, PhaseKind};
@@ -27,7 +27,7 @@ use order_list::changed::ChangedOrders;
 use order_list::lists::OrderList;
 use std::alloc::Global;
 
-/// What the phases so far have come to.
+/// What is known of the orders after the phases so far.
 #[derive(Debug, Drop)]
 pub struct SoFar {
     /// What each order has traded, by its index.
@@ -57,14 +57,15 @@ pub fn first_place(phases: &[Phase], index: usize) -> u32
 }
 
 /// How a phase trades.
-pub fn kind_at(phases: &[Phase], index: usize) -> PhaseKind
+pub fn phase_kind(phases: &[Phase], index: usize) -> PhaseKind
     requires { index < length phases.now }
-    ensures { result ≡ spec.kind_at phases.now index }
+    ensures { result ≡ spec.phase_kind phases.now index }
 {
     phases[index].kind
 }
 
-/// The place at which a phase ends: the one before the next phase begins, or the greatest place there is.
+/// The place at which a phase ends: the one before the next phase begins, or the greatest place
+/// there is.
 pub fn end_place(phases: &[Phase], index: usize) -> u32
     requires phases { spec.ArePhases phases.now }
     requires inside { index < length phases.now }
@@ -90,16 +91,16 @@ pub fn list_phase<'a>(
     requires phases { spec.ArePhases phases.now }
     requires inside { index < length phases.now }
     requires counted { length so_far.now.traded.items ≡ length orders.now }
-    requires small { AreSmall so_far.now.traded.items }
-    requires most { AreLeft orders.now so_far.now.rest.items }
+    requires small { AreBoundedTotals so_far.now.traded.items }
+    requires most { WithinQuantities orders.now so_far.now.rest.items }
     ensures { IfOk result (λ list. (deals : List ADeal)
-        → IsSoFar phases.now orders.now deals index so_far.now.traded.items so_far.now.rest.items
+        → IsDaySoFar phases.now orders.now deals index so_far.now.traded.items so_far.now.rest.items
         → list.orders ≡ phase_orders phases.now orders.now deals index) }
 {
     let first = first_place(phases, index);
     let last = end_place(phases, index);
     let spent = chain_totals(alloc, orders, &so_far.traded)?;
-    let count = orders_upto(orders, last);
+    let count = order_count_upto(orders, last);
     let amounts = amounts_of(alloc, orders, count, first, &so_far.rest, &spent)?;
     list_orders(alloc, orders, first, last, &amounts)
 }
@@ -115,10 +116,10 @@ pub fn leave_phase(
     requires order_list { IsOrderList orders.now }
     requires regular { Regular orders.now }
     requires counted { length traded.now ≡ length orders.now }
-    requires small { AreSmall traded.now }
+    requires small { AreBoundedTotals traded.now }
     ensures { IfOk result (λ left. (deals : List ADeal)
-        → IsPlayed kind orders.now deals last traded.now
-        → left.items ≡ lefts_of kind orders.now deals last) }
+        → HasPhaseTotals kind orders.now deals last traded.now
+        → left.items ≡ rest_after_phase kind orders.now deals last) }
 {
     match kind {
         PhaseKind::Uniform | PhaseKind::Maximum => leave_call(alloc, orders, traded),
@@ -129,17 +130,18 @@ pub fn leave_phase(
 /// Adds what each order traded in a phase to what it traded before.
 pub fn add_totals(totals: &mut Vec<u128>, traded: &[u128])
     requires counted { length traded.now ≤ vec_len totals.old }
-    requires small { AreSmall totals.old.items }
-    requires more { AreSmall traded.now }
-    ensures { AreAdded totals.old.items traded.now totals.new.items }
+    requires small { AreBoundedTotals totals.old.items }
+    requires more { AreBoundedTotals traded.now }
+    ensures { AddsNumbers totals.old.items traded.now totals.new.items }
 {
     for index in 0..traded.len() {
         totals[index] += traded[index];
     }
 }
 
-/// The audit of one phase, over its order list and its deals. It conforms where nothing is found, and
-/// then what it comes to is added to what the phases so far have come to. Err only out of memory.
+/// The audit of one phase, over its order list and its deals. It conforms where nothing is
+/// found; then what was traded in it is added, and what it leaves is kept. Err only out of
+/// memory.
 pub fn judge_phase(
     alloc: Global,
     kind: PhaseKind,
@@ -155,11 +157,11 @@ pub fn judge_phase(
     requires few { count < 2 ^ 32 - 1 }
     requires ends { EndsBy orders.now deals.now last }
     requires more { (i : ℕ) → traded deals.now i ≤ 2 ^ 72 }
-    requires small { AreSmall so_far.old.traded.items }
+    requires small { AreBoundedTotals so_far.old.traded.items }
     requires counted { length orders.now ≤ length so_far.old.traded.items }
     ensures found { (finding : AFinding) → result ≡ Ok (Some finding)
         → IsBrokenPhase (spec.rule_of kind) orders.now deals.now count finding }
-    ensures passed { result ≡ Ok None → IsPassed kind orders.now deals.now last
+    ensures passed { result ≡ Ok None → AddsPhase kind orders.now deals.now last
         so_far.old.traded.items so_far.new.traded.items so_far.new.rest.items }
 {
     match audit_phase(alloc, kind, orders, deals, count)? {

@@ -121,8 +121,8 @@ fn append_table(
     }
 }
 
-/// The accepted text of a day: `session,SYMBOL,PHASES`; `totals,ORDERS,TRADES,VOLUME`; and with the option
-/// `order,PLACE,TRADED` for each order. Err only out of memory.
+/// The accepted text of a day: `session,SYMBOL,PHASES`; `totals,ORDERS,TRADES,VOLUME`; and with
+/// the option `order,PLACE,TRADED` for each order. Err only out of memory.
 #[tactic(auto, using(std::proofs::Common::append_assoc))]
 pub fn session_text(
     alloc: Global,

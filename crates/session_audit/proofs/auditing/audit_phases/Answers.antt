@@ -4,7 +4,7 @@ use Rattle.audit_base.specs.Deals.{deal_at}
 use Rattle.audit_base.specs.Continuous.{cause}
 use Rattle.session_audit.specs.Phases.{phase_deals}
 use Rattle.session_audit.specs.PhaseOrders.{phase_orders}
-use Rattle.session_audit.proofs.ListedLemmas.{length-listed}
+use Rattle.session_audit.proofs.ListBelowLemmas.{length-list_below}
 use Rattle.session_audit.proofs.BrokenLemmas.{broken-phase}
 use Rattle.session_audit.proofs.DayLemmas.{IsReady, no-phases, small-so_far, long-so_far, ready, phase-passed}
 use Rattle.session_audit.proofs.DealtLemmas.{dealt}
@@ -15,7 +15,7 @@ pub loop-index-init : goal.loop-index-init
 loop-index-init c = no-phases c.args.phases.now c.args.orders.now c.args.deals.now c.in_ok-so_far.so_far.traded.items c.in_ok-so_far.so_far.rest.items (c.in_ok-so_far.ensures.traded ∙ ap (λ (n : ℕ). replicate n 0) c.len.ensures) c.in_ok-so_far.ensures.rest
 
 pub deals_between-requires : goal.deals_between-requires
-deals_between-requires c = ap length (c.deref.ensures.value ∙ c.in_ok-causes.ensures.causes) ∙ length-listed (λ j. cause c.args.orders.now (deal_at c.args.deals.now j)) (length c.args.deals.now)
+deals_between-requires c = ap length (c.deref.ensures.value ∙ c.in_ok-causes.ensures.causes) ∙ length-list_below (λ j. cause c.args.orders.now (deal_at c.args.deals.now j)) (length c.args.deals.now)
 
 pub list_phase-requires-clause-counted : goal.list_phase-requires-clause-counted
 list_phase-requires-clause-counted c =
@@ -60,7 +60,7 @@ returns-in-Some c =
     let picked : c.deref-in-loop-index.result.now ≡ phase_deals phases orders deals k = c.deref-in-loop-index.ensures.value ∙ c.in_ok-dealt.ensures
     ∙ dealt phases orders deals c.deref.result.now k c.first_place-first.result c.end_place-last.result (c.deref.ensures.value ∙ c.in_ok-causes.ensures.causes) c.first_place-first.ensures c.end_place-last.ensures in
     broken-phase phases orders deals c.args.count k c.in-Some.finding c.requires.admitted c.loop-index-test.true c.loop-index.so_far.traded.items c.loop-index.so_far.rest.items c.loop-index.invariant
-    c.list-own.result c.deref-in-loop-index.result.now c.kind_at-kind.result here picked c.kind_at-kind.ensures (c.judge_phase.ensures.found c.in-Some.finding (c.in_ok-finding.was ∙ ap Ok c.in-Some.is))
+    c.list-own.result c.deref-in-loop-index.result.now c.phase_kind-kind.result here picked c.phase_kind-kind.ensures (c.judge_phase.ensures.found c.in-Some.finding (c.in_ok-finding.was ∙ ap Ok c.in-Some.is))
 
 pub loop-index-preserved : goal.loop-index-preserved
 loop-index-preserved c =
@@ -73,8 +73,8 @@ loop-index-preserved c =
     ∙ dealt phases orders deals c.deref.result.now k c.first_place-first.result c.end_place-last.result (c.deref.ensures.value ∙ c.in_ok-causes.ensures.causes) c.first_place-first.ensures c.end_place-last.ensures in
     let none : c.in_ok-finding.field-0 ≡ None = c.in_default.is in
     phase-passed phases c.requires.phases orders c.requires.order_list deals c.requires.deal_list.named k c.loop-index-test.true c.loop-index.so_far.traded.items c.loop-index.so_far.rest.items c.loop-index.invariant
-    c.list-own.result c.deref-in-loop-index.result.now c.kind_at-kind.result c.end_place-last.result c.judge_phase.new.so_far.traded.items c.judge_phase.new.so_far.rest.items
-    here picked c.kind_at-kind.ensures c.end_place-last.ensures (c.judge_phase.ensures.passed (c.in_ok-finding.was ∙ ap Ok none))
+    c.list-own.result c.deref-in-loop-index.result.now c.phase_kind-kind.result c.end_place-last.result c.judge_phase.new.so_far.traded.items c.judge_phase.new.so_far.rest.items
+    here picked c.phase_kind-kind.ensures c.end_place-last.ensures (c.judge_phase.ensures.passed (c.in_ok-finding.was ∙ ap Ok none))
 
 pub returns : goal.returns
 returns c =

@@ -1,5 +1,5 @@
 use Rattle.std.proofs.Common.{◌≡◌, ◌<◌, ◌++◌, ◌∷◌, [], ◌∙◌, List, ℕ, Option, length, subst, sym, ap}
-use Rattle.session_audit.specs.Numbers.{IsTargetInside, IsTargetSmall, target_total, AreChainTotals}
+use Rattle.session_audit.specs.Numbers.{IsTargetInside, TargetTotalFits, target_total, AreChainTotals}
 use Rattle.session_audit.proofs.ChainLemmas.{read-inside, read-small, totals-more}
 use Rattle.session_audit.proofs.chains.chain_totals.Goals as goal
 
@@ -15,8 +15,8 @@ pub target_total-requires-clause-small : goal.target_total-requires-clause-small
 target_total-requires-clause-small c =
     let o = c.at.result in
     let lt : c.loop-index.index < length c.args.orders.now = subst (λ (n : ℕ). c.loop-index.index < n) c.len-index-end.ensures c.loop-index-test.true in
-    subst (λ (t : Option ℕ). IsTargetSmall t c.args.traded.now c.deref.result.now) (sym c.target.ensures.same)
-    (subst (λ (ns : List ℕ). IsTargetSmall o.target c.args.traded.now ns) (sym c.deref.ensures.value)
+    subst (λ (t : Option ℕ). TargetTotalFits t c.args.traded.now c.deref.result.now) (sym c.target.ensures.same)
+    (subst (λ (ns : List ℕ). TargetTotalFits o.target c.args.traded.now ns) (sym c.deref.ensures.value)
     (read-small c.args.orders.now c.requires.order_list c.args.traded.now c.loop-index.index c.loop-index.totals.items lt o c.at.ensures c.loop-index.invariant c.requires.small))
 
 pub loop-index-preserved : goal.loop-index-preserved

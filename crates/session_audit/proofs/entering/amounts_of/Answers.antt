@@ -1,5 +1,5 @@
 use Rattle.std.proofs.Common.{◌≡◌, ◌<◌, ◌++◌, ◌∷◌, [], ◌∙◌, ℕ, length, ap, arith}
-use Rattle.session_audit.specs.Entering.{amount_of}
+use Rattle.session_audit.specs.Entering.{amount_by_earlier}
 use Rattle.session_audit.proofs.EnteringLemmas.{amounts-more}
 use Rattle.session_audit.proofs.entering.amounts_of.Goals as goal
 
@@ -7,6 +7,6 @@ pub loop-index-preserved : goal.loop-index-preserved
 loop-index-preserved c =
     let so_far = c.loop-index.amounts.items in
     let lt : c.loop-index.index < length c.args.orders.now = let m = c.requires.inside in let t = c.loop-index-test.true in omega arith in
-    let n : c.amount_of.result ≡ amount_of c.args.orders.now c.args.first c.args.rest.now c.args.spent.now so_far c.loop-index.index = c.amount_of.ensures ∙ ap (λ ns. amount_of c.args.orders.now c.args.first c.args.rest.now c.args.spent.now ns c.loop-index.index) c.deref.ensures.value in
+    let n : c.amount_by_earlier.result ≡ amount_by_earlier c.args.orders.now c.args.first c.args.rest.now c.args.spent.now so_far c.loop-index.index = c.amount_by_earlier.ensures ∙ ap (λ ns. amount_by_earlier c.args.orders.now c.args.first c.args.rest.now c.args.spent.now ns c.loop-index.index) c.deref.ensures.value in
     c.in_ok-push.ensures.items ∙ ap (λ (m : ℕ). so_far ++ m ∷ []) n
     ∙ amounts-more c.args.orders.now c.requires.order_list c.args.first c.args.rest.now c.args.spent.now c.loop-index.index so_far lt c.loop-index.invariant

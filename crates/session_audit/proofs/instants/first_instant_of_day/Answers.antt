@@ -4,7 +4,7 @@ use Rattle.audit_base.specs.Flaws.{finding_of}
 use Rattle.audit_base.specs.Orders.{order_at}
 use Rattle.session_audit.specs.Instants.{is_instant_order}
 use Rattle.session_audit.proofs.InstantLemmas.{first-at}
-use Rattle.session_audit.proofs.instants.first_instant.Goals as goal
+use Rattle.session_audit.proofs.instants.first_instant_of_day.Goals as goal
 
 pub returns-then-is_instant_order : goal.returns-then-is_instant_order
 returns-then-is_instant_order c =

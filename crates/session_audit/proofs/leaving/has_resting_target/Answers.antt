@@ -1,7 +1,7 @@
 use Rattle.std.proofs.Common.{arith}
 use Rattle.audit_base.proofs.ContinuousLemmas.{target-below}
 use Rattle.session_audit.proofs.EnteringLemmas.{target-is}
-use Rattle.session_audit.proofs.leaving.target_rests.Goals as goal
+use Rattle.session_audit.proofs.leaving.has_resting_target.Goals as goal
 
 pub at-replaced-requires : goal.at-replaced-requires
 at-replaced-requires c =
