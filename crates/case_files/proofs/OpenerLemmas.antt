@@ -3,10 +3,10 @@
 use Rattle.std.proofs.Common.{◌≡◌, sym, ◌∙◌, refl, arith, ℕ, true, false, List, Ok, Err}
 use Rattle.case_keeper.specs.Keepers.{KeeperState}
 use Rattle.case_keeper.specs.declared.keeper.KeepFault.TheVariants.{Failed}
-use Rattle.case_run.specs.Openers.{OpenerState, Opens}
+use Rattle.case_run.specs.Openers.{OpenerState, OpensCasebook}
 
 pub opens_untold : {B : Type 0} (state : B → KeeperState) (old : OpenerState) (path : List ℕ) (book : B)
-    → (state book).faults ≡ 0 → old.tells ≡ false → Opens state old old path (Ok book)
+    → (state book).faults ≡ 0 → old.tells ≡ false → OpensCasebook state old old path (Ok book)
 opens_untold state old path book fresh silent =
     record {
       keeps = record { tells_stays = refl; kept_stays = (λ path. refl); later = omega arith };

@@ -3,7 +3,7 @@
 use Rattle.std.specs.Prelude.{◌≡◌, ℕ, Bool, false, List, Option, None}
 use Rattle.case_files.specs.FileOpeners.{fresh_opener}
 use Rattle.case_keeper.specs.Keepers.{KeeperState}
-use Rattle.case_run.specs.Books.{RunsWords}
+use Rattle.case_run.specs.NamedCasebooks.{RunsWords}
 use Rattle.case_run.specs.Openers.{OpenerState}
 use Rattle.case_run.specs.declared.statuses.CaseStatus.{CaseStatus}
 use Rattle.log_source.specs.Sinks.{SinkState}

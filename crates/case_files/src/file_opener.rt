@@ -1,7 +1,7 @@
 //! The opener of the program: databases, each in a file under its path.
 ghost use Rattle.std.specs.Prelude.{◌≡◌, false, IsTrue, IfOk};
 ghost use Rattle.case_files.specs.FileOpeners.{file_opener_state, fresh_opener, RefusesPath};
-ghost use Rattle.case_run.specs.Openers.{Opens};
+ghost use Rattle.case_run.specs.Openers.{OpensCasebook};
 ghost use Rattle.case_sqlite.specs.SqlKeepers.{sql_state};
 ghost use Rattle.command_words.specs.WordForms.{is_path};
 
@@ -122,7 +122,7 @@ impl Opener for FileOpener {
     ghost state = { file_opener_state };
 
     fn open_book(&mut self, path: &str) -> Result<SqlKeeper<FileStore<File>>, KeepFault>
-        ensures opens { Opens sql_state (file_opener_state self.old) (file_opener_state self.new)
+        ensures opens { OpensCasebook sql_state (file_opener_state self.old) (file_opener_state self.new)
             path.now result }
         // A path that is empty or begins with `-` is refused, and counted as a fault.
         ensures refused { is_path path.now ≡ false → RefusesPath self.old self.new result }

@@ -8,7 +8,7 @@ use Rattle.std.proofs.lemmas.Bool.{ltb-true, ltb-false}
 use Rattle.std.proofs.Math.Dec.{ltb}
 use Rattle.std.proofs.Math.Seq.{take-length}
 use Rattle.std.proofs.lemmas.List.Splits.{slice_split_first, slice_split-cons_no}
-use Rattle.case_run.specs.Commands.{all_there, command_of, commands_of, is_then, part_length, with_next}
+use Rattle.case_run.specs.Commands.{all_or_none, command_of, commands_of, is_then, part_length, with_next}
 use Rattle.case_run.specs.declared.commands.Command.{Command}
 
 true_false : true ≡ false → ⊥
@@ -41,10 +41,10 @@ split_last (word ∷ words) is = by_word (is_then word) refl (split_last words)
 
 -- the command of the words before the first separator, and those of the words after it
 front_commands : (words : List (List ℕ)) → part_length words < length words → commands_of words ≡ with_next (command_of (take (part_length words) words)) (commands_of (drop (part_length words + 1) words))
-front_commands words inside = ap (λ parts. all_there (map command_of parts)) (slice_split_first is_then words [] inside)
+front_commands words inside = ap (λ parts. all_or_none (map command_of parts)) (slice_split_first is_then words [] inside)
 
 last_commands : (words : List (List ℕ)) → part_length words ≡ length words → commands_of words ≡ with_next (command_of words) (Some [])
-last_commands words is = ap (λ parts. all_there (map command_of parts)) (split_last words is)
+last_commands words is = ap (λ parts. all_or_none (map command_of parts)) (split_last words is)
 
 -- The same in the words of the code.
 

@@ -12,10 +12,11 @@ use Rattle.log_verdict.specs.Laws.{OneVerdict}
 use Rattle.log_verdict.specs.LogVerdicts.{order_log, trade_log, log_in, IsLogVerdict}
 use Rattle.case_keeper.specs.declared.case.Case.{Case}
 use Rattle.case_run.specs.Laws.{OnePlay}
-use Rattle.case_run.specs.Play.{Turn, IsTurn, IsVerdictOn, GoesOn, HasEnded, PlaysOn, verdict_turn, after}
+use Rattle.case_run.specs.Play.{AreTurns, IsTurn, IsVerdictOn, PlayTurn, play_result, verdict_turn}
 use Rattle.case_run.specs.declared.commands.Command.{Command}
 use Rattle.case_run.specs.declared.commands.Command.TheVariants as command
 use Rattle.case_run.specs.declared.commands.Filing.{Filing}
+use Rattle.case_run.specs.declared.statuses.CaseStatus.TheVariants as status
 
 -- a shelf has one log under a name
 one_log : (found : Option (List ℕ)) (a b : List ℕ) → found ≡ Some a → found ≡ Some b → a ≡ b
@@ -49,24 +50,32 @@ module _ (one_verdict : OneVerdict) (logs : Which → List ℕ → Option (List 
         (y.has_trades (subst (λ (o : List ℕ). IsOk (order_log wanted.form o)) (sym same_orders) ok)) (x.has_trades ok) in
         one_verdict _ _ _ a b x.is (by_other_trades x.orders x.trades y.trades b has_trades there)
 
-  one_turn : (cases : List Case) (c : Command) (a b : Turn) → IsTurn logs cases c a → IsTurn logs cases c b → a ≡ b
+  one_turn : (cases : List Case) (c : Command) (a b : PlayTurn) → IsTurn logs cases c a → IsTurn logs cases c b → a ≡ b
   one_turn cases (command.File wanted) a b x y =
       x.2 ∙ ap (λ (v : Verdict). verdict_turn cases wanted v) (one_verdict_on wanted x.0 y.0 x.1 y.1) ∙ sym y.2
   one_turn cases (command.List filter) a b x y = x ∙ sym y
   one_turn cases (command.Show label) a b x y = x ∙ sym y
 
-  one_next : (before : Turn) (c : Command) (a b : Turn) → GoesOn logs before c a ⊎ HasEnded before a → GoesOn logs before c b ⊎ HasEnded before b → a ≡ b
-  one_next before c a b (inl x) (inl y) =
-      x.next_is ∙ ap (λ (t : Turn). after before t) (one_turn before.cases c x.turn y.turn x.is y.is) ∙ sym y.next_is
-  one_next before c a b (inl x) (inr y) = absurd (x.unended y.ended)
-  one_next before c a b (inr x) (inl y) = absurd (y.unended x.ended)
-  one_next before c a b (inr x) (inr y) = x.same ∙ sym y.same
+  -- what comes behind a turn of Play
+  abbrev Behind : PlayTurn → List Command → List PlayTurn → Type 0
+  Behind turn commands turns = ((turn.status ≡ status.Malformed) × (turns ≡ [])) ⊎ ((turn.status ≡ status.Malformed → ⊥) × AreTurns logs turn.cases commands turns)
 
-  one_playing : (before : Turn) (commands : List Command) (a b : Turn) → PlaysOn logs before commands a → PlaysOn logs before commands b → a ≡ b
-  one_playing before [] a b x y = x ∙ sym y
-  one_playing before (c ∷ commands) a b x y =
-      one_playing x.0 commands a b x.2
-      (subst (λ (t : Turn). PlaysOn logs t commands b) (one_next before c y.0 x.0 y.1 x.1) y.2)
+  one_behind : (turn : PlayTurn) (commands : List Command) (a b : List PlayTurn) → (AreTurns logs turn.cases commands a → AreTurns logs turn.cases commands b → a ≡ b) → Behind turn commands a → Behind turn commands b → a ≡ b
+  one_behind turn commands a b one (inl p) (inl q) = p.1 ∙ sym q.1
+  one_behind turn commands a b one (inl p) (inr q) = absurd (q.0 p.0)
+  one_behind turn commands a b one (inr p) (inl q) = absurd (p.0 q.0)
+  one_behind turn commands a b one (inr p) (inr q) = one p.1 q.1
+
+  one_list : (cases : List Case) (commands : List Command) (a b : List PlayTurn) → AreTurns logs cases commands a → AreTurns logs cases commands b → a ≡ b
+  one_list cases [] a b x y = x ∙ sym y
+  one_list cases (c ∷ commands) [] b x y = absurd x
+  one_list cases (c ∷ commands) (turn ∷ a) [] x y = absurd y
+  one_list cases (c ∷ commands) (turn ∷ a) (other ∷ b) x y =
+      let same : other ≡ turn = one_turn cases c other turn y.0 x.0 in
+      ap (λ (ts : List PlayTurn). turn ∷ ts)
+      (one_behind turn commands a b (one_list turn.cases commands a b) x.1 (subst (λ (t : PlayTurn). Behind t commands b) same y.1))
+      ∙ ap (λ (t : PlayTurn). t ∷ b) (sym same)
 
 pub one_play : OneVerdict → OnePlay
-one_play one_verdict logs cases commands a b x y = one_playing one_verdict logs _ commands a b x y
+one_play one_verdict logs cases commands a b x y =
+    x.2 ∙ ap (λ (ts : List PlayTurn). play_result cases ts) (one_list one_verdict logs cases commands x.0 y.0 x.1 y.1) ∙ sym y.2

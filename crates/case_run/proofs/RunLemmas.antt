@@ -1,208 +1,387 @@
 -- The run over the commands so far, and one command more.
-use Rattle.std.proofs.Common.{◌≡◌, ◌∙◌, sym, ap, subst, refl, inl, inr, ◌⊎◌, ⊎_elim, ℕ, ◌≤◌, ◌<◌, ◌+◌, Bool, true, false, List, [], ◌∷◌, ◌++◌, length, take, drop, Option, take-append-drop, get_or, suc, arith}
+use Rattle.std.proofs.Common.{◌≡◌, ◌∙◌, sym, ap, subst, refl, inl, inr, ◌⊎◌, ⊎_elim, ℕ, ◌<◌, ◌+◌, Bool, true, false, List, [], ◌∷◌, ◌++◌, length, take, drop, Option, Some, append-nil, length-append, take-append-drop, get_or, suc, arith}
 use Rattle.std.proofs.KnownBytes.{Appends-nil, Appends-trans}
 use Rattle.std.proofs.Math.Path.{fun_ext}
 use Rattle.std.proofs.Math.Seq.{drop-cons}
 use Rattle.std.proofs.lemmas.List.{take_more}
+use Rattle.std.specs.Io.KnownBytes.{Appends}
 use Rattle.audit_base.specs.declared.terms.Which.{Which}
 use Rattle.log_verdict.specs.Steps.{Reading, BeginsWithin, EndsWithin, reading}
 use Rattle.case_keeper.specs.Keepers.{KeeperState}
 use Rattle.case_keeper.specs.declared.case.Case.{Case}
+use Rattle.case_keeper.specs.declared.casebook.Filed.{Filed}
+use Rattle.case_keeper.specs.declared.casebook.Filed.TheVariants.{Kept, Known}
+use Rattle.audit_report.specs.declared.verdicts.Verdict.{Verdict}
+use Rattle.audit_report.specs.declared.verdicts.Verdict.TheVariants as verdict
 use Rattle.log_source.specs.declared.shelf.Shelf.{Ghosts as Shelf}
-use Rattle.log_source.specs.Sinks.{SinkState}
-use Rattle.case_run.specs.Calls.{Call, Tells, call_of}
-use Rattle.case_run.specs.Play.{Turn, IsTurn, GoesOn, after}
-use Rattle.case_run.specs.Runs.{AnswersLength, IsOfPlay, RunsCommands}
+use Rattle.log_source.specs.Sinks.{AppendsPart, SinkState}
+use Rattle.case_run.specs.Causes.{ReadsLogsFor, halt_status}
+use Rattle.case_run.specs.Play.{IsTurn, PlayTurn, cases_after, filed_status, play_result, verdict_turn}
+use Rattle.case_run.specs.Runs.{AnswersPlay, EndsWithinOrTooLong, FilesTrace, IsPlayStatus, RunsCommands, known_logs, run_state}
 use Rattle.case_run.specs.Statuses.{ends_run}
-use Rattle.case_run.specs.Traces.{AnswersPlay, AreDone, GoesTo, IsLater, IsPlayed, IsTaken, Known, Moment, TakesTurn, between, end_of, known_of, start_of}
-use Rattle.case_run.specs.Turns.{IsGoing, KeepsAll}
+use Rattle.case_run.specs.Traces.{AllDone, AreDone, BadLog, EndCause, EndedBy, Ending, EndsMalformed, FilesCases, Halted, IsDoneFrom, IsLastTurn, IsLater, KnownLogs, KnowsLogsAndCases, RunState, RunTurn, WriteFailed, WritesTexts, end_status, state_after, status_after, turn_commands, turn_texts}
+use Rattle.case_run.specs.Turns.{IsGoing, KeepsAll, TakesTurn}
 use Rattle.case_run.specs.declared.commands.Command.{Command}
+use Rattle.case_run.specs.declared.commands.Command.TheVariants as command
+use Rattle.case_run.specs.declared.halts.Halt.{Halt}
+use Rattle.case_run.specs.declared.halts.Halt.TheVariants as halt
 use Rattle.case_run.specs.declared.statuses.CaseStatus.{CaseStatus}
 use Rattle.case_run.specs.declared.statuses.CaseStatus.TheVariants as status
 use Rattle.case_run.proofs.JoinLemmas.{keeps_both}
-use Rattle.case_run.proofs.PlayLemmas.{ended_stays, plays_all}
+use Rattle.case_run.proofs.PlayLemmas.{PlaysTo, plays_on}
 
--- a status after which a run goes on is not that of a malformed log
-pub not_malformed : (s : CaseStatus) → ends_run s ≡ false → s ≡ status.Malformed → ⊥
-not_malformed s goes is = true_false (sym goes ∙ ap ends_run is)
+-- One turn more behind the turns so far.
+
+state_more : (from : RunState) (turns : List RunTurn) (turn : RunTurn) → state_after from (turns ++ turn ∷ []) ≡ turn.left
+state_more from [] turn = refl
+state_more from (first ∷ turns) turn = state_more first.left turns turn
+
+status_more : (before : CaseStatus) (turns : List RunTurn) (turn : RunTurn) → status_after before (turns ++ turn ∷ []) ≡ turn.status
+status_more before [] turn = refl
+status_more before (first ∷ turns) turn = status_more first.status turns turn
+
+commands_more : (turns : List RunTurn) (turn : RunTurn) → turn_commands (turns ++ turn ∷ []) ≡ turn_commands turns ++ turn.command ∷ []
+commands_more [] turn = refl
+commands_more (first ∷ turns) turn = ap (λ (cs : List Command). first.command ∷ cs) (commands_more turns turn)
+
+done_more : (known : KnownLogs) (from : RunState) (turns : List RunTurn) (turn : RunTurn) → AreDone known from turns → IsDoneFrom known (state_after from turns) turn → AreDone known from (turns ++ turn ∷ [])
+done_more known from [] turn done is = (is, tt)
+done_more known from (first ∷ turns) turn done is = (done.0, done_more known first.left turns turn done.1 is)
+
+-- What turns write and count.
+
+texts_written : (known : KnownLogs) (from : RunState) (turns : List RunTurn) → AreDone known from turns → Appends from.sink.wrote (state_after from turns).sink.wrote (turn_texts turns)
+texts_written known from [] done = Appends-nil from.sink.wrote
+texts_written known from (turn ∷ turns) done =
+    Appends-trans from.sink.wrote turn.left.sink.wrote (state_after turn.left turns).sink.wrote turn.text (turn_texts turns) done.0.written (texts_written known turn.left turns done.1)
+
+pub later_turns : (known : KnownLogs) (from : RunState) (turns : List RunTurn) → AreDone known from turns → IsLater from (state_after from turns)
+later_turns known from [] done = record { slots = λ log. omega arith; sink = omega arith; keeper = omega arith }
+later_turns known from (turn ∷ turns) done =
+    let more = later_turns known turn.left turns done.1 in
+    record {
+      slots = λ log. omega (arith, done.0.later.slots log, more.slots log);
+      sink = omega (arith, done.0.later.sink, more.sink);
+      keeper = omega (arith, done.0.later.keeper, more.keeper);
+    }
+
+-- a prefix of a text behind others is a prefix of all of them
+prefix_behind : (a b c : Option (List ℕ)) (texts text : List ℕ) → Appends a b texts → AppendsPart b c text → AppendsPart a c (texts ++ text)
+prefix_behind a b c texts text first part = record {
+  count = length texts + part.count;
+  short = rw (length-append texts text) (let short = part.short in omega (arith, short));
+  part = rw (take_behind texts text part.count) (Appends-trans a b c texts (take part.count text) first part.part);
+}
   where
-    true_false : false ≡ true → ⊥
-    true_false e = cc
+    take_behind : (xs ys : List ℕ) (n : ℕ) → take (length xs + n) (xs ++ ys) ≡ xs ++ take n ys
+    take_behind [] ys n =
+        let same : n ≡ 0 + n = omega arith in
+        subst (λ (m : ℕ). take m ys ≡ take n ys) same refl
+    take_behind (x ∷ xs) ys n =
+        let more : suc (length xs + n) ≡ suc (length xs) + n = omega arith in
+        subst (λ (m : ℕ). take m (x ∷ xs ++ ys) ≡ x ∷ xs ++ take n ys) more (ap (λ (zs : List ℕ). x ∷ zs) (take_behind xs ys n))
 
--- one command more is done
-done_more : (known : Known) (from : Moment) (before : CaseStatus) (commands : List Command) (mid : Moment) (so_far : CaseStatus) (c : Command) (to : Moment) (answer : CaseStatus)
-    → AreDone known from before commands mid so_far → TakesTurn (between known mid to) c answer → ends_run answer ≡ false → AreDone known from before (commands ++ c ∷ []) to answer
-done_more known from before [] mid so_far c to answer (same, said) turn goes =
-    (to, answer, subst (λ (m : Moment). TakesTurn (between known m to) c answer) (sym same) turn, goes, (refl, refl))
-done_more known from before (x ∷ commands) mid so_far c to answer (next, said, first, unended, rest) turn goes =
-    (next, said, first, unended, done_more known next said commands mid so_far c to answer rest turn goes)
+-- Play of a run over a shelf and a casebook that tell.
 
--- over the commands so far, up to a moment, and over one more
-module _ (known : Known) (from at to : Moment) (done : List Command) (last : Command) (so_far : CaseStatus) (goes : GoesTo known from done at so_far) where
-  abbrev call : Call
-  call = between known from to
+-- what Play leaves is what the run answers, writes and files
+plays : (known : KnownLogs) (from to : RunState) (commands : List Command) (answer : CaseStatus) (cases : List Case) (text : List ℕ) → Appends from.sink.wrote to.sink.wrote text
+    → PlaysTo known.log_of status.Done cases commands text answer to.keeper.cases → AnswersPlay known from to commands answer cases
+plays known from to commands answer cases text wrote is = record {
+  played = play_result cases is.turns;
+  is = (is.turns, is.are, refl);
+  status_is = is.status_is;
+  wrote = subst (λ (t : List ℕ). Appends from.sink.wrote to.sink.wrote t) (sym is.text_is) wrote;
+  cases_are = is.cases_are;
+}
 
-  so_far_of : (cases : List Case) → Tells call cases → AnswersPlay (between known from at) done so_far cases
-  so_far_of cases tells = goes.played cases (record { shelf = tells.shelf; book = tells.book })
+-- a stretch of Play behind the turns, which leaves the cases as they are
+nothing_more : (known : KnownLogs) (from : RunState) (turns : List RunTurn) (cases : List Case) → AreDone known from turns → KnowsLogsAndCases known from cases
+    → PlaysTo known.log_of status.Done cases (turn_commands turns) (turn_texts turns) (status_after status.Done turns) (state_after from turns).keeper.cases
+nothing_more known from turns cases done knows =
+    subst (λ (cs : List Command). PlaysTo known.log_of status.Done cases cs (turn_texts turns) (status_after status.Done turns) (state_after from turns).keeper.cases) (append-nil (turn_commands turns))
+    (subst (λ (t : List ℕ). PlaysTo known.log_of status.Done cases (turn_commands turns ++ []) t (status_after status.Done turns) (state_after from turns).keeper.cases) (append-nil (turn_texts turns))
+    (plays_on known from turns status.Done cases done knows [] [] (status_after status.Done turns) (state_after from turns).keeper.cases
+    (λ there knows_there. record { turns = []; are = refl; text_is = refl; status_is = refl; cases_are = knows_there.cases_are })))
 
-  turn_tells : (cases : List Case) (tells : Tells call cases) → Tells (between known at to) (so_far_of cases tells).end.cases
-  turn_tells cases tells = record { shelf = tells.shelf; book = (so_far_of cases tells).leaves.cases_are }
+-- what the turns left is Play's, and what the ending leaves on file is by it
+files_trace : (known : KnownLogs) (from to : RunState) (turns : List RunTurn) (ending : Ending) (cases : List Case) → AreDone known from turns → KnowsLogsAndCases known from cases
+    → ((there : List Case) → KnowsLogsAndCases known (state_after from turns) there → FilesCases known there to ending) → FilesTrace known from to (record { turns = turns; ending = ending }) cases
+files_trace known from to turns ending cases done knows files =
+    let is = nothing_more known from turns cases done knows in
+    record {
+      played = play_result cases is.turns;
+      is = (is.turns, is.are, refl);
+      status_is = is.status_is;
+      text_is = is.text_is;
+      cases_are = is.cases_are;
+      filed = files (cases_after cases is.turns) (record { logs = knows.logs; cases_are = is.cases_are });
+    }
 
-  -- the turn goes on where Play stands
-  goes_on : (cases : List Case) (tells : Tells call cases) (turn : Turn) → IsTurn known.log_of (so_far_of cases tells).end.cases last turn
-      → GoesOn known.log_of (so_far_of cases tells).end last (after (so_far_of cases tells).end turn)
-  goes_on cases tells turn is = record {
-    unended = λ e. not_malformed so_far goes.goes_on (sym (so_far_of cases tells).status_is ∙ e);
-    turn = turn;
-    is = is;
-    next_is = refl;
+turns_play : (known : KnownLogs) (from : RunState) (turns : List RunTurn) (cases : List Case) → AreDone known from turns → KnowsLogsAndCases known from cases
+    → AnswersPlay known from (state_after from turns) (turn_commands turns) (status_after status.Done turns) cases
+turns_play known from turns cases done knows =
+    plays known from (state_after from turns) (turn_commands turns) (status_after status.Done turns) cases (turn_texts turns) (texts_written known from turns done) (nothing_more known from turns cases done knows)
+
+-- a log that is not in its grammar ends Play, whatever commands come after
+bad_plays : (known : KnownLogs) (from : RunState) (turns : List RunTurn) (turn : RunTurn) (rest : List Command) (cases : List Case) → AreDone known from turns → EndsMalformed known (state_after from turns) turn
+    → KnowsLogsAndCases known from cases → AnswersPlay known from turn.left (turn_commands turns ++ turn.command ∷ rest) status.Malformed cases
+bad_plays known from turns turn rest cases done ends knows =
+    plays known from turn.left (turn_commands turns ++ turn.command ∷ rest) status.Malformed cases (turn_texts turns ++ turn.text)
+    (Appends-trans from.sink.wrote (state_after from turns).sink.wrote turn.left.sink.wrote (turn_texts turns) turn.text (texts_written known from turns done) ends.written)
+    (plays_on known from turns status.Done cases done knows (turn.command ∷ rest) turn.text status.Malformed turn.left.keeper.cases
+    (λ there knows_there.
+    let this = ends.answered.played there knows_there in
+    record {
+      turns = record { cases = this.filed; text = turn.text; status = turn.status } ∷ [];
+      are = (this.is, inl (ends.status_is, refl));
+      text_is = append-nil turn.text;
+      status_is = ends.status_is;
+      cases_are = this.cases_are;
+    }))
+
+-- a turn of a log that is not in its grammar leaves the cases as they are
+malformed_stays : (logs : Which → List ℕ → Option (List ℕ)) (cases : List Case) (c : Command) (turn : PlayTurn) → IsTurn logs cases c turn → turn.status ≡ status.Malformed → turn.cases ≡ cases
+malformed_stays logs cases (command.File wanted) turn is bad = ap (λ (t : PlayTurn). t.cases) is.2 ∙ by_verdict is.0 (sym (ap (λ (t : PlayTurn). t.status) is.2) ∙ bad)
+  where
+    by_filed : (filed : Filed) → filed_status filed ≡ status.Malformed → ⊥
+    by_filed Kept e = cc
+    by_filed (Known case) e = cc
+
+    by_verdict : (v : Verdict) → (verdict_turn cases wanted v).status ≡ status.Malformed → (verdict_turn cases wanted v).cases ≡ cases
+    by_verdict (verdict.Accepted accepted) e = absurd (by_filed _ e)
+    by_verdict (verdict.Rejected finding) e = absurd (by_filed _ e)
+    by_verdict (verdict.Malformed log place) e = refl
+malformed_stays logs cases (command.List filter) turn is bad = ap (λ (t : PlayTurn). t.cases) is
+malformed_stays logs cases (command.Show label) turn is bad = ap (λ (t : PlayTurn). t.cases) is
+
+-- A run that is over.
+
+-- all its commands were done
+pub runs_done : (known : KnownLogs) (from : RunState) (turns : List RunTurn) → AreDone known from turns → RunsCommands known from (state_after from turns) (turn_commands turns) (status_after status.Done turns)
+runs_done known from turns done = record {
+  trace = record { turns = turns; ending = AllDone };
+  is = record { undone = []; commands_are = sym (append-nil (turn_commands turns)); done = done; ends = refl };
+  state_is = refl;
+  status_is = refl;
+  wrote = texts_written known from turns done;
+  filed = λ cases knows. files_trace known from (state_after from turns) turns AllDone cases done knows (λ there knows_there. knows_there.cases_are);
+  played = λ is cases knows. turns_play known from turns cases done knows;
+}
+
+-- one of them ended it
+module _ (known : KnownLogs) (from : RunState) (turns : List RunTurn) (done : AreDone known from turns) (turn : RunTurn) (rest : List Command) where
+  ending_wrote : (why : EndCause) → IsLastTurn known (state_after from turns) turn why → WritesTexts from.sink.wrote turn.left.sink.wrote (turn_texts turns) (EndedBy turn why)
+  ending_wrote BadLog ends =
+      Appends-trans from.sink.wrote (state_after from turns).sink.wrote turn.left.sink.wrote (turn_texts turns) turn.text (texts_written known from turns done) ends.written
+  ending_wrote (Halted why) ends =
+      Appends-trans from.sink.wrote (state_after from turns).sink.wrote turn.left.sink.wrote (turn_texts turns) turn.text (texts_written known from turns done) ends.written
+  ending_wrote WriteFailed ends =
+      prefix_behind from.sink.wrote (state_after from turns).sink.wrote turn.left.sink.wrote (turn_texts turns) turn.text (texts_written known from turns done) ends.cut.wrote
+
+  ending_files : (why : EndCause) → IsLastTurn known (state_after from turns) turn why → (there : List Case) → KnowsLogsAndCases known (state_after from turns) there → FilesCases known there turn.left (EndedBy turn why)
+  ending_files BadLog ends there knows =
+      let this = ends.answered.played there knows in
+      this.cases_are ∙ ap Some (malformed_stays known.log_of there turn.command (record { cases = this.filed; text = turn.text; status = turn.status }) this.is ends.status_is)
+  ending_files (Halted why) ends there knows = ends.halted.cases_stay ∙ knows.cases_are
+  ending_files WriteFailed ends there knows = ⊎_elim
+      (λ answered. inr (answered.played there knows))
+      (λ halted. inl (halted.1.cases_stay ∙ knows.cases_are))
+      ends.answer
+
+  no_play_status : (why : Halt) → IsPlayStatus (halt_status why) → ⊥
+  no_play_status (halt.ReadFault log) is = ⊎_elim (λ e. cc) (λ o. ⊎_elim (λ e. cc) (λ e. cc) o) is
+  no_play_status (halt.TooLong log) is = ⊎_elim (λ e. cc) (λ o. ⊎_elim (λ e. cc) (λ e. cc) o) is
+  no_play_status halt.KeeperFault is = ⊎_elim (λ e. cc) (λ o. ⊎_elim (λ e. cc) (λ e. cc) o) is
+  no_play_status halt.Memory is = ⊎_elim (λ e. cc) (λ o. ⊎_elim (λ e. cc) (λ e. cc) o) is
+
+  ending_plays : (why : EndCause) → IsLastTurn known (state_after from turns) turn why → IsPlayStatus (end_status why) → (cases : List Case) → KnowsLogsAndCases known from cases
+      → AnswersPlay known from turn.left (turn_commands turns ++ turn.command ∷ rest) (end_status why) cases
+  ending_plays BadLog ends is cases knows = bad_plays known from turns turn rest cases done ends knows
+  ending_plays (Halted why) ends is cases knows = absurd (no_play_status why is)
+  ending_plays WriteFailed ends is cases knows = absurd (⊎_elim (λ e. cc) (λ o. ⊎_elim (λ e. cc) (λ e. cc) o) is)
+
+  pub runs_ended : (why : EndCause) → IsLastTurn known (state_after from turns) turn why → RunsCommands known from turn.left (turn_commands turns ++ turn.command ∷ rest) (end_status why)
+  runs_ended why ends = record {
+    trace = record { turns = turns; ending = EndedBy turn why };
+    is = record { undone = turn.command ∷ rest; commands_are = refl; done = done; ends = ((rest, refl), ends) };
+    state_is = refl;
+    status_is = refl;
+    wrote = ending_wrote why ends;
+    filed = λ cases knows. files_trace known from turn.left turns (EndedBy turn why) cases done knows (ending_files why ends);
+    played = ending_plays why ends;
   }
 
-  -- one command more is Play's
-  plays_one : (answer : CaseStatus) → IsTaken (between known at to) last answer → IsPlayed call (done ++ last ∷ []) answer
-  plays_one answer taken cases tells =
-      let so = so_far_of cases tells in
-      let left = taken so.end.cases (turn_tells cases tells) in
+-- From one command to its turn.
+
+no_bool : false ≡ true → ⊥
+no_bool e = cc
+
+halt_ends : (why : Halt) → ends_run (halt_status why) ≡ true
+halt_ends (halt.ReadFault log) = refl
+halt_ends (halt.TooLong log) = refl
+halt_ends halt.KeeperFault = refl
+halt_ends halt.Memory = refl
+
+-- an answer that ends the run is that a log is not in its grammar
+malformed_of : (r : Reading) (c : Command) (s : CaseStatus) → ReadsLogsFor r c s → ends_run s ≡ true → s ≡ status.Malformed
+malformed_of r c status.Done read ends = absurd (cc)
+malformed_of r c status.Refused read ends = absurd (cc)
+malformed_of r c status.Malformed read ends = refl
+malformed_of r c status.Usage read ends = absurd read
+malformed_of r c status.ReadFault read ends = absurd read
+malformed_of r c status.WriteFault read ends = absurd read
+malformed_of r c status.TooLong read ends = absurd read
+malformed_of r c status.Memory read ends = absurd read
+malformed_of r c status.KeeperFault read ends = absurd read
+
+-- The turn of a command that was done.
+pub record HasDone (known : KnownLogs) (from to : RunState) (the_command : Command) (answer : CaseStatus) : Type 0 where
+  pub turn : RunTurn
+  pub command_is : turn.command ≡ the_command
+  pub left_is : turn.left ≡ to
+  pub status_is : turn.status ≡ answer
+  pub done : IsDoneFrom known from turn
+
+-- The turn of a command that ended the run.
+pub record HasEnded (known : KnownLogs) (from to : RunState) (the_command : Command) (answer : CaseStatus) : Type 0 where
+  pub turn : RunTurn
+  pub why : EndCause
+  pub command_is : turn.command ≡ the_command
+  pub left_is : turn.left ≡ to
+  pub status_is : end_status why ≡ answer
+  pub ends : IsLastTurn known from turn why
+
+module _ (known : KnownLogs) (from to : RunState) (c : Command) (answer : CaseStatus) (takes : TakesTurn known from to c answer) where
+  pub has_done : IsLater from to → ends_run answer ≡ false → HasDone known from to c answer
+  has_done later goes = ⊎_elim
+      (λ whole.
+      let goes_on : ends_run takes.turn.status ≡ false = ap ends_run (sym whole.answer_is) ∙ goes in
+      ⊎_elim
+      (λ answered. record {
+        turn = takes.turn;
+        command_is = takes.command_is;
+        left_is = takes.left_is;
+        status_is = sym whole.answer_is;
+        done = record { answered = answered; goes_on = goes_on; written = whole.wrote; later = subst (λ (s : RunState). IsLater from s) (sym takes.left_is) later };
+      })
+      (λ halted. absurd (no_bool (sym goes_on ∙ ap ends_run halted.1.status_is ∙ halt_ends halted.0)))
+      takes.answer_or_halt)
+      (λ front. absurd (no_bool (sym goes ∙ ap ends_run front.answer_is)))
+      takes.writes
+
+  pub has_ended : ends_run answer ≡ true → HasEnded known from to c answer
+  has_ended ends = ⊎_elim
+      (λ whole. ⊎_elim
+      (λ answered.
+      let bad : takes.turn.status ≡ status.Malformed = malformed_of _ _ takes.turn.status answered.read (ap ends_run (sym whole.answer_is) ∙ ends) in
       record {
-        end = after so.end left.turn;
-        play = plays_all known.log_of _ done (last ∷ []) so.end (after so.end left.turn) so.play (after so.end left.turn, inl (goes_on cases tells left.turn left.is), refl);
-        status_is = left.status_is;
-        leaves = record {
-          cases_are = left.leaves.cases_are;
-          wrote = Appends-trans from.sink.wrote at.sink.wrote to.sink.wrote so.end.text left.turn.text so.leaves.wrote left.leaves.wrote;
-        };
-      }
-
-  -- a log that is not in its grammar ends Play, whatever commands come after
-  plays_bad : (rest : List Command) → IsTaken (between known at to) last status.Malformed → IsPlayed call (done ++ last ∷ rest) status.Malformed
-  plays_bad rest taken cases tells =
-      let so = so_far_of cases tells in
-      let left = taken so.end.cases (turn_tells cases tells) in
-      let end : Turn = after so.end left.turn in
-      record {
-        end = end;
-        play = plays_all known.log_of _ done (last ∷ rest) so.end end so.play (end, inl (goes_on cases tells left.turn left.is), ended_stays known.log_of end rest left.status_is);
-        status_is = left.status_is;
-        leaves = record {
-          cases_are = left.leaves.cases_are;
-          wrote = Appends-trans from.sink.wrote at.sink.wrote to.sink.wrote so.end.text left.turn.text so.leaves.wrote left.leaves.wrote;
-        };
-      }
-
-  -- where a command that ends the run has a status of Play, it is that of a malformed log
-  plays_end : (rest : List Command) (answer : CaseStatus) → ends_run answer ≡ true → TakesTurn (between known at to) last answer → IsOfPlay answer → IsPlayed call (done ++ last ∷ rest) answer
-  plays_end rest status.Done ends turn is = absurd (cc)
-  plays_end rest status.Refused ends turn is = absurd (cc)
-  plays_end rest status.Malformed ends turn is = plays_bad rest turn.0
-  plays_end rest status.ReadFault ends turn is = absurd (⊎_elim (λ e. cc) (λ o. ⊎_elim (λ e. cc) (λ e. cc) o) is)
-  plays_end rest status.TooLong ends turn is = absurd (⊎_elim (λ e. cc) (λ o. ⊎_elim (λ e. cc) (λ e. cc) o) is)
-  plays_end rest status.Memory ends turn is = absurd (⊎_elim (λ e. cc) (λ o. ⊎_elim (λ e. cc) (λ e. cc) o) is)
-  plays_end rest status.KeeperFault ends turn is = absurd (⊎_elim (λ e. cc) (λ o. ⊎_elim (λ e. cc) (λ e. cc) o) is)
-  plays_end rest status.WriteFault ends turn is = absurd (⊎_elim (λ e. cc) (λ o. ⊎_elim (λ e. cc) (λ e. cc) o) is)
-  plays_end rest status.Usage ends turn is = absurd turn
-
-  -- the run ends here, whatever commands come after
-  pub ends_here : (rest : List Command) (answer : CaseStatus) → ends_run answer ≡ true → TakesTurn (between known at to) last answer → RunsCommands call (done ++ last ∷ rest) answer
-  ends_here rest answer ends turn = record {
-    trace = inr (record { before = done; last = last; rest = rest; split = refl; at = at; so_far = so_far; goes = goes; turn = turn; ends = ends });
-    played = plays_end rest answer ends turn;
-  }
-
-  -- a command that does not end the run is Play's
-  plays_here : (answer : CaseStatus) → ends_run answer ≡ false → TakesTurn (between known at to) last answer → IsPlayed call (done ++ last ∷ []) answer
-  plays_here status.Done unended turn = plays_one status.Done turn.0
-  plays_here status.Refused unended turn = plays_one status.Refused turn.0
-  plays_here status.Malformed unended turn = absurd (cc)
-  plays_here status.ReadFault unended turn = absurd (cc)
-  plays_here status.TooLong unended turn = absurd (cc)
-  plays_here status.Memory unended turn = absurd (cc)
-  plays_here status.KeeperFault unended turn = absurd (cc)
-  plays_here status.WriteFault unended turn = absurd (cc)
-  plays_here status.Usage unended turn = absurd (cc)
-
-  -- and the run goes on
-  pub goes_here : (answer : CaseStatus) → IsLater from to → ends_run answer ≡ false → TakesTurn (between known at to) last answer → GoesTo known from (done ++ last ∷ []) to answer
-  goes_here answer later unended turn = record {
-    done = done_more known from status.Done done at so_far last to answer goes.done turn unended;
-    goes_on = unended;
-    later = later;
-    played = plays_here answer unended turn;
-  }
+        turn = takes.turn;
+        why = BadLog;
+        command_is = takes.command_is;
+        left_is = takes.left_is;
+        status_is = sym bad ∙ sym whole.answer_is;
+        ends = record { answered = answered; status_is = bad; written = whole.wrote };
+      })
+      (λ halted. record {
+        turn = takes.turn;
+        why = Halted halted.0;
+        command_is = takes.command_is;
+        left_is = takes.left_is;
+        status_is = sym halted.1.status_is ∙ sym whole.answer_is;
+        ends = record { halted = halted.1; written = whole.wrote };
+      })
+      takes.answer_or_halt)
+      (λ front. record {
+        turn = takes.turn;
+        why = WriteFailed;
+        command_is = takes.command_is;
+        left_is = takes.left_is;
+        status_is = sym front.answer_is;
+        ends = record { answer = takes.answer_or_halt; cut = record { cause = front.cause; wrote = front.wrote } };
+      })
+      takes.writes
 
 -- after a command that does not end the run both slots stay within the limit
-pub length_goes : (r : Reading) (answer : CaseStatus) → ends_run answer ≡ false → AnswersLength r answer → BeginsWithin r → EndsWithin r
+pub length_goes : (r : Reading) (answer : CaseStatus) → ends_run answer ≡ false → EndsWithinOrTooLong r answer → BeginsWithin r → EndsWithin r
 length_goes r answer unended ends begins = ⊎_elim (λ within. within) (λ told. absurd (not_told answer unended told)) (ends begins)
   where
-    no_bool : false ≡ true → ⊥
-    no_bool e = cc
-
     not_told : (s : CaseStatus) → ends_run s ≡ false → (s ≡ status.TooLong) ⊎ (s ≡ status.WriteFault) → ⊥
     not_told s unended (inl e) = no_bool (sym unended ∙ ap ends_run e)
     not_told s unended (inr e) = no_bool (sym unended ∙ ap ends_run e)
 
--- before any command
-pub goes_none : (known : Known) (from : Moment) → GoesTo known from [] from status.Done
-goes_none known from = record {
-  done = (refl, refl);
-  goes_on = refl;
-  later = record { slots = λ log. omega arith; sink = omega arith; book = omega arith };
-  played = λ cases tells. record {
-    end = record { cases = cases; text = []; status = status.Done };
-    play = refl;
-    status_is = refl;
-    leaves = record { cases_are = tells.book; wrote = Appends-nil from.sink.wrote };
-  };
-}
-
--- a run that no command ended
-pub runs_all : (call : Call) (commands : List Command) (answer : CaseStatus) → GoesTo (known_of call.shelf) (start_of call) commands (end_of call) answer → RunsCommands call commands answer
-runs_all call commands answer goes = record { trace = inl goes; played = λ is. goes.played }
-
 -- The same in the words of the loop: the commands up to an index, and the one there.
 
-module _ {S : Type 0} (shelf : Shelf S) (commands : List Command) (i : ℕ) (c : Command) (less : i < length commands) (there : c ≡ get_or commands i c) (a b d : S) (sink_a sink_b sink_d : SinkState) (book_a book_b book_d : KeeperState)
-    (so_far answer : CaseStatus) (going : IsGoing shelf (take i commands) a b sink_a sink_b book_a book_b so_far) (keeps : KeepsAll shelf b d sink_b sink_d book_b book_d)
-    (turn : TakesTurn (call_of (reading shelf b d) sink_b sink_d book_b book_d) c answer) where
+-- what is known of the shelf is what was known when the run began
+known_stays : {S : Type 0} (shelf : Shelf S) (a b : S) → shelf.tells b ≡ shelf.tells a → ((log : Which) (name : List ℕ) → shelf.log_of b log name ≡ shelf.log_of a log name) → known_logs shelf b ≡ known_logs shelf a
+known_stays shelf a b tells logs =
+    ap (λ (t : Bool). record (known_logs shelf b) { tells = t }) tells
+    ∙ ap (λ (l : Which → List ℕ → Option (List ℕ)). record (known_logs shelf a) { log_of = l }) (fun_ext (λ log. fun_ext (λ name. logs log name)))
+
+module _ {S : Type 0} (shelf : Shelf S) (commands : List Command) (i : ℕ) (c : Command) (less : i < length commands) (there : c ≡ get_or commands i c) (a b d : S) (sink_a sink_b sink_d : SinkState) (keeper_a keeper_b keeper_d : KeeperState)
+    (so_far answer : CaseStatus) (going : IsGoing shelf (take i commands) a b sink_a sink_b keeper_a keeper_b so_far) (keeps : KeepsAll shelf b d sink_b sink_d keeper_b keeper_d)
+    (turn : TakesTurn (known_logs shelf b) (run_state shelf b sink_b keeper_b) (run_state shelf d sink_d keeper_d) c answer) where
   cut_here_in : commands ≡ take i commands ++ c ∷ drop (suc i) commands
   cut_here_in = sym (take-append-drop i commands) ∙ ap (λ (r : List Command). take i commands ++ r) (drop-cons commands i c less ∙ ap (λ (x : Command). x ∷ drop (suc i) commands) (sym there))
 
   one_more_in : take (i + 1) commands ≡ take i commands ++ c ∷ []
   one_more_in = take_more commands i c less ∙ ap (λ (x : Command). take i commands ++ x ∷ []) (sym there)
 
-  abbrev whole : Call
-  whole = call_of (reading shelf a d) sink_a sink_d book_a book_d
+  abbrev known : KnownLogs
+  known = known_logs shelf a
 
-  abbrev known : Known
-  known = known_of (reading shelf a d)
+  abbrev start : RunState
+  start = run_state shelf a sink_a keeper_a
 
-  abbrev middle : Moment
-  middle = end_of (call_of (reading shelf a b) sink_a sink_b book_a book_b)
+  abbrev end : RunState
+  end = run_state shelf d sink_d keeper_d
 
-  -- the shelf tells what it told when the run began
-  turn_in : TakesTurn (between known middle (end_of whole)) c answer
+  turn_in : TakesTurn known (state_after start going.turns) end c answer
   turn_in =
-      subst (λ (told : Bool). TakesTurn (call_of (record (reading shelf b d) { tells = told; log_of = shelf.log_of a }) sink_b sink_d book_b book_d) c answer) going.stays.logs.tells
-      (subst (λ (logs : Which → List ℕ → Option (List ℕ)). TakesTurn (call_of (record (reading shelf b d) { log_of = logs }) sink_b sink_d book_b book_d) c answer)
-      (fun_ext (λ log. fun_ext (λ name. going.stays.logs.logs log name))) turn)
+      subst (λ (s : RunState). TakesTurn known s end c answer) (sym going.now_is)
+      (subst (λ (k : KnownLogs). TakesTurn k (run_state shelf b sink_b keeper_b) end c answer) (known_stays shelf a b going.stays.logs.tells going.stays.logs.logs) turn)
 
-  stays_in : KeepsAll shelf a d sink_a sink_d book_a book_d
-  stays_in = keeps_both shelf a b d sink_a sink_b sink_d book_a book_b book_d going.stays keeps
+  stays_in : KeepsAll shelf a d sink_a sink_d keeper_a keeper_d
+  stays_in = keeps_both shelf a b d sink_a sink_b sink_d keeper_a keeper_b keeper_d going.stays keeps
 
-  later_in : IsLater (start_of whole) (end_of whole)
-  later_in = record { slots = stays_in.later; sink = stays_in.sink.later; book = stays_in.book }
+  later_in : IsLater (state_after start going.turns) end
+  later_in = subst (λ (s : RunState). IsLater s end) (sym going.now_is) (record { slots = keeps.later; sink = keeps.sink.later; keeper = keeps.keeper })
 
   -- the command ends the run
-  pub ends_in : ends_run answer ≡ true → RunsCommands whole commands answer
-  ends_in ends = subst (λ (cs : List Command). RunsCommands whole cs answer) (sym cut_here_in) (ends_here known (start_of whole) middle (end_of whole) (take i commands) c so_far going.goes (drop (suc i) commands) answer ends turn_in)
+  pub ends_in : ends_run answer ≡ true → RunsCommands known start end commands answer
+  ends_in ends =
+      let last = has_ended known (state_after start going.turns) end c answer turn_in ends in
+      subst (λ (cs : List Command). RunsCommands known start end cs answer)
+      (ap (λ (cs : List Command). cs ++ last.turn.command ∷ drop (suc i) commands) going.commands_are ∙ ap (λ (x : Command). take i commands ++ x ∷ drop (suc i) commands) last.command_is ∙ sym cut_here_in)
+      (subst (λ (s : CaseStatus). RunsCommands known start end (turn_commands going.turns ++ last.turn.command ∷ drop (suc i) commands) s) last.status_is
+      (subst (λ (s : RunState). RunsCommands known start s (turn_commands going.turns ++ last.turn.command ∷ drop (suc i) commands) (end_status last.why)) last.left_is
+      (runs_ended known start going.turns going.done last.turn (drop (suc i) commands) last.why last.ends)))
 
   -- the run goes on
-  pub goes_in : ends_run answer ≡ false → AnswersLength (reading shelf b d) answer → IsGoing shelf (take (i + 1) commands) a d sink_a sink_d book_a book_d answer
-  goes_in goes long = record {
-    goes = subst (λ (cs : List Command). GoesTo known (start_of whole) cs (end_of whole) answer) (sym one_more_in) (goes_here known (start_of whole) middle (end_of whole) (take i commands) c so_far going.goes answer later_in goes turn_in);
-    within = λ begins. length_goes (reading shelf b d) answer goes long (going.within begins);
-    stays = stays_in;
-  }
+  pub goes_in : ends_run answer ≡ false → EndsWithinOrTooLong (reading shelf b d) answer → IsGoing shelf (take (i + 1) commands) a d sink_a sink_d keeper_a keeper_d answer
+  goes_in goes long =
+      let next = has_done known (state_after start going.turns) end c answer turn_in later_in goes in
+      record {
+        turns = going.turns ++ next.turn ∷ [];
+        done = done_more known start going.turns next.turn going.done next.done;
+        commands_are = commands_more going.turns next.turn ∙ ap (λ (cs : List Command). cs ++ next.turn.command ∷ []) going.commands_are
+            ∙ ap (λ (x : Command). take i commands ++ x ∷ []) next.command_is ∙ sym one_more_in;
+        now_is = state_more start going.turns next.turn ∙ next.left_is;
+        status_is = status_more status.Done going.turns next.turn ∙ next.status_is;
+        within = λ begins. length_goes (reading shelf b d) answer goes long (going.within begins);
+        stays = stays_in;
+      }
 
   -- both slots stay within the limit, or the length is answered
-  pub length_in : AnswersLength (reading shelf b d) answer → AnswersLength (reading shelf a d) answer
+  pub length_in : EndsWithinOrTooLong (reading shelf b d) answer → EndsWithinOrTooLong (reading shelf a d) answer
   length_in long begins = long (going.within begins)
+
+-- all commands were done
+pub all_in : {S : Type 0} (shelf : Shelf S) (done commands : List Command) (a b : S) (sink_a sink_b : SinkState) (keeper_a keeper_b : KeeperState) (answer : CaseStatus) → done ≡ commands → IsGoing shelf done a b sink_a sink_b keeper_a keeper_b answer
+    → RunsCommands (known_logs shelf a) (run_state shelf a sink_a keeper_a) (run_state shelf b sink_b keeper_b) commands answer
+all_in shelf done commands a b sink_a sink_b keeper_a keeper_b answer all going =
+    let known : KnownLogs = known_logs shelf a in
+    let start : RunState = run_state shelf a sink_a keeper_a in
+    subst (λ (cs : List Command). RunsCommands known start (run_state shelf b sink_b keeper_b) cs answer) (going.commands_are ∙ all)
+    (subst (λ (s : CaseStatus). RunsCommands known start (run_state shelf b sink_b keeper_b) (turn_commands going.turns) s) going.status_is
+    (subst (λ (s : RunState). RunsCommands known start s (turn_commands going.turns) (status_after status.Done going.turns)) going.now_is
+    (runs_done known start going.turns going.done)))

@@ -25,8 +25,8 @@ use Rattle.log_verdict.specs.LogVerdicts.{log_in, order_log, trade_log, IsLogVer
 use Rattle.log_verdict.specs.Steps.{Reading, LogStep, IsRead}
 use Rattle.record_verdict.specs.declared.questions.Question.{Question}
 use Rattle.record_verdict.specs.Judgements.{question, IsJudged, IsVerdictOfFinding}
-use Rattle.case_run.specs.Calls.{IsStarted, OfLog, ReadsGoodLogs, name_in}
-use Rattle.case_run.specs.Turns.{halt_of_stop, IsLogHalt, JudgesLogs, ReadsFor, StaysWithin}
+use Rattle.case_run.specs.Causes.{IsFilingLogStarted, OfFilingLog, ReadsGoodLogs, filing_log_name}
+use Rattle.case_run.specs.Turns.{halt_of_stop, IsLogHalt, JudgesLogs, ReadsForVerdict, EndsWithinOrHalts}
 use Rattle.case_run.specs.declared.commands.Command.TheVariants as command
 use Rattle.case_run.specs.declared.commands.Filing.{Filing}
 
@@ -41,7 +41,7 @@ judged_sound q entries paired log bad is =
 
 -- The log of a slot has the name and the form that the filing names.
 pub record Names (wanted : Filing) (log : Which) (source : Source) : Type 0 where
-  pub name : source.name.now ≡ name_in wanted log
+  pub name : source.name.now ≡ filing_log_name wanted log
   pub form : source.form ≡ wanted.form
 
 module _ (r : Reading) (wanted : Filing) (orders trades : Source) (first : Names wanted Orders orders) (second : Names wanted Trades trades) where
@@ -77,13 +77,13 @@ module _ (r : Reading) (wanted : Filing) (orders trades : Source) (first : Names
       has_trades = λ good. absurd (no_good (order_log wanted.form bytes) bad (orders_say bytes (Err bad) says) good);
       is = rw (orders_say bytes (Err bad) says) is;
     };
-    read = subst (ReadsFor r wanted) (sym is) (record { bytes = bytes; read = read_orders bytes read; holds = ap is_ok (orders_say bytes (Err bad) says) });
+    read = subst (ReadsForVerdict r wanted) (sym is) (record { bytes = bytes; read = read_orders bytes read; holds = ap is_ok (orders_say bytes (Err bad) says) });
   }
 
   -- and where it is in its grammar
   module _ (v : Verdict) (one two : List ℕ) (entries : List OrderRecord) (read_one : IsRead r (step_of r Orders orders.name.now) one) (read_two : IsRead r (step_of r Trades trades.name.now) two)
       (says : order_log orders.form one ≡ Ok entries) where
-    judges : ReadsFor r wanted v → IsLogVerdict asked (log_in wanted.form one) (log_in wanted.form two) v → JudgesLogs r wanted v
+    judges : ReadsForVerdict r wanted v → IsLogVerdict asked (log_in wanted.form one) (log_in wanted.form two) v → JudgesLogs r wanted v
     judges read is = record {
       on = λ tells. record {
         orders = one;
@@ -101,7 +101,7 @@ module _ (r : Reading) (wanted : Filing) (orders trades : Source) (first : Names
       record { bytes = two; read = read_trades two read_two; holds = rw (trades_say two (Ok paired) said) refl },
     )
 
-    not_bad : (v : Verdict) (paired : Result (List TradeRecord) Finding) → trade_log trades.form two ≡ Ok paired → IsJudged asked entries paired v → ReadsFor r wanted v
+    not_bad : (v : Verdict) (paired : Result (List TradeRecord) Finding) → trade_log trades.form two ≡ Ok paired → IsJudged asked entries paired v → ReadsForVerdict r wanted v
     not_bad (verdict.Accepted accepted) paired said is = good paired said
     not_bad (verdict.Rejected finding) paired said is = good paired said
     not_bad (verdict.Malformed log bad) paired said is = absurd (judged_sound asked entries paired log bad is)
@@ -110,7 +110,7 @@ module _ (r : Reading) (wanted : Filing) (orders trades : Source) (first : Names
         → MatchResult said (λ paired. IsJudged asked entries paired v) (λ bad. v ≡ verdict.Malformed Trades bad) → JudgesLogs r wanted v
     of_trades (Ok paired) said is = judges (not_bad v paired said is) (rw (orders_say one (Ok entries) says, trades_say two (Ok paired) said) is)
     of_trades (Err bad) said is =
-        judges (subst (ReadsFor r wanted) (sym is) (record { bytes = two; read = read_trades two read_two; holds = ap is_ok (trades_say two (Err bad) said) }))
+        judges (subst (ReadsForVerdict r wanted) (sym is) (record { bytes = two; read = read_trades two read_two; holds = ap is_ok (trades_say two (Err bad) said) }))
         (rw (orders_say one (Ok entries) says, trades_say two (Err bad) said) is)
 
   -- the verdict on both logs is that on the logs of the filing
@@ -122,11 +122,11 @@ module _ (r : Reading) (wanted : Filing) (orders trades : Source) (first : Names
           of_trades v is.bytes holds.bytes entries is.read holds.read says (trade_log trades.form holds.bytes) refl holds.holds
       of_orders (Err bad) says holds = of_bad_orders v is.bytes bad is.read says holds.0
 
-  started : (log : Which) → both.IsStarted r orders log → IsStarted r wanted log
+  started : (log : Which) → both.IsStarted r orders log → IsFilingLogStarted r wanted log
   started Orders is = tt
   started Trades is = record { bytes = is.bytes; read = read_orders is.bytes is.read; holds = subst (λ (f : Form). IsOk (order_log f is.bytes)) first.form is.holds }
 
-  of_slot : (holds : Reading → LogStep → Type 0) (log : Which) → both.IsStarted r orders log → holds r (step_of r log (both.source_of orders trades log).name.now) → OfLog holds r wanted log
+  of_slot : (holds : Reading → LogStep → Type 0) (log : Which) → both.IsStarted r orders log → holds r (step_of r log (both.source_of orders trades log).name.now) → OfFilingLog holds r wanted log
   of_slot holds Orders is cause = record { is_started = started Orders is; holds = subst (λ (n : List ℕ). holds r (step_of r Orders n)) first.name cause }
   of_slot holds Trades is cause = record { is_started = started Trades is; holds = subst (λ (n : List ℕ). holds r (step_of r Trades n)) second.name cause }
 
@@ -137,10 +137,10 @@ module _ (r : Reading) (wanted : Filing) (orders trades : Source) (first : Names
   halts_logs stop.Memory is = tt
 
 -- the length is what halts the command where it is why nothing is known
-pub within_logs : (r : Reading) (why : Stop) → both.StaysWithin {T = Verdict} r (Err why) → StaysWithin {T = Verdict} r (Err (halt_of_stop why))
+pub within_logs : (r : Reading) (why : Stop) → both.StaysWithin {T = Verdict} r (Err why) → EndsWithinOrHalts {T = Verdict} r (Err (halt_of_stop why))
 within_logs r (stop.ReadFault log) within begins = ⊎_elim (λ none. absurd none) (λ ends. inr ends) (within begins)
 within_logs r (stop.TooLong log) within begins = inl tt
 within_logs r stop.Memory within begins = ⊎_elim (λ none. absurd none) (λ ends. inr ends) (within begins)
 
-pub within_verdict : (r : Reading) (v : Verdict) → both.StaysWithin {T = Verdict} r (Ok v) → StaysWithin {T = Verdict} r (Ok v)
+pub within_verdict : (r : Reading) (v : Verdict) → both.StaysWithin {T = Verdict} r (Ok v) → EndsWithinOrHalts {T = Verdict} r (Ok v)
 within_verdict r v within begins = ⊎_elim (λ none. absurd none) (λ ends. inr ends) (within begins)

@@ -1,5 +1,5 @@
--- The words of a casebook, and the commands that they ask for. LABEL and SYMBOL are names, and no word of a
--- command is `then`.
+-- The words of a casebook, and the commands that they ask for. LABEL and SYMBOL are names, and no
+-- word of a command is `then`.
 use Rattle.std.specs.Prelude.{ℕ, Bool, ◌&&◌, ◌==◌, Option, None, Some, option_and_then, option_map, List, [], ◌∷◌, codes, length, map, if◌then◌else◌}
 use Rattle.std.specs.List.{position_or_len, slice_split}
 use Rattle.audit_base.specs.Least.{first_answer, only_if}
@@ -14,7 +14,8 @@ use Rattle.case_keeper.specs.declared.case.Mark.TheVariants.{Accepted, Broken}
 use Rattle.case_run.specs.declared.commands.Command.{Command}
 use Rattle.case_run.specs.declared.commands.Command.TheVariants as command
 
--- `file LABEL RULE SYMBOL FORM ORDERS TRADES`; LABEL is a name that does not begin with `-`, as SYMBOL is
+-- `file LABEL RULE SYMBOL FORM ORDERS TRADES`; LABEL is a name that does not begin with `-`, as
+-- SYMBOL is
 abbrev pub file_command : List (List ℕ) → Option Command
 file_command words =
     if length words == 7 && word_equals (nth_word words 0) (codes "file")
@@ -35,7 +36,8 @@ file_command words =
 
 -- the property of a history or of trades, looked at before any rule, that a word names
 abbrev pub log_property : List ℕ → Option Property
-log_property word = first_answer (only_if (word_equals word (property_word property.DuplicateId)) property.DuplicateId
+log_property word = first_answer
+    (only_if (word_equals word (property_word property.DuplicateId)) property.DuplicateId
     ∷ only_if (word_equals word (property_word property.TimeBack)) property.TimeBack
     ∷ only_if (word_equals word (property_word property.UnknownTarget)) property.UnknownTarget
     ∷ only_if (word_equals word (property_word property.InstantOrder)) property.InstantOrder
@@ -45,7 +47,8 @@ log_property word = first_answer (only_if (word_equals word (property_word prope
 
 -- the property of a rule that a word names
 abbrev pub rule_property : List ℕ → Option Property
-rule_property word = first_answer (only_if (word_equals word (property_word property.Inactive)) property.Inactive
+rule_property word = first_answer
+    (only_if (word_equals word (property_word property.Inactive)) property.Inactive
     ∷ only_if (word_equals word (property_word property.Limit)) property.Limit
     ∷ only_if (word_equals word (property_word property.UniformPrice)) property.UniformPrice
     ∷ only_if (word_equals word (property_word property.BuyQuantity)) property.BuyQuantity
@@ -84,6 +87,7 @@ list_filter [] = None
 list_filter (word ∷ words) =
     if word_equals word (codes "list") then filter_named words else None
 
+-- the command that these words ask for
 abbrev pub list_command : List (List ℕ) → Option Command
 list_command words = option_map command.List (list_filter words)
 
@@ -102,18 +106,20 @@ command_of words = first_answer (file_command words ∷ list_command words ∷ s
 abbrev pub is_then : List ℕ → Bool
 is_then word = word_equals word (codes "then")
 
--- how many words stand before the first separator
+-- how many words are before the first separator
 abbrev pub part_length : List (List ℕ) → ℕ
 part_length words = position_or_len is_then words
 
--- all of these, where each is there
+-- the first and then the others, where both are there
 abbrev pub with_next : {A : Type 0} → Option A → Option (List A) → Option (List A)
 with_next a rest = option_and_then (λ x. option_map (λ xs. x ∷ xs) rest) a
 
-abbrev pub all_there : {A : Type 0} → List (Option A) → Option (List A)
-all_there [] = Some []
-all_there (a ∷ rest) = with_next a (all_there rest)
+-- all of a list, where each is there, and else nothing
+abbrev pub all_or_none : {A : Type 0} → List (Option A) → Option (List A)
+all_or_none [] = Some []
+all_or_none (a ∷ rest) = with_next a (all_or_none rest)
 
--- the commands that words ask for: one or more with `then` between them; nothing where they are not well-formed
+-- the commands that words ask for: one or more with `then` between them; nothing where they are not
+-- well-formed
 abbrev pub commands_of : List (List ℕ) → Option (List Command)
-commands_of words = all_there (map command_of (slice_split is_then words))
+commands_of words = all_or_none (map command_of (slice_split is_then words))

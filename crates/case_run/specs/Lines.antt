@@ -32,6 +32,6 @@ abbrev pub keeper_fault_line : List ℕ
 keeper_fault_line = line_text (codes "keeperfault" ∷ [])
 
 -- how the command line is used
-abbrev pub usage_line : List ℕ
-usage_line = codes "usage: DATABASE file LABEL RULE SYMBOL FORM ORDERS TRADES"
+abbrev pub casebook_usage_line : List ℕ
+casebook_usage_line = codes "usage: DATABASE file LABEL RULE SYMBOL FORM ORDERS TRADES"
     ++ codes " | list [SYMBOL [RESULT]]" ++ codes " | show LABEL, joined by then" ++ 10 ∷ []

@@ -4,7 +4,7 @@ use Rattle.log_source.specs.Calls.{count_after, faults_after, is_failing_number}
 use Rattle.case_run.specs.Openers.{OpenerState}
 use Rattle.case_run.specs.declared.map_opener.MapOpener.{MapOpener}
 
--- what it stands at: it tells that there are no cases under any path
+-- what is known of it: there are no cases under any path
 abbrev pub map_opener_state : MapOpener → OpenerState
 map_opener_state opener =
     record { tells = true; kept = (λ path. Some []); faults = opener.faults }

@@ -6,10 +6,9 @@ ghost use Rattle.audit_report.specs.Texts.{IsVerdictInRange};
 ghost use Rattle.log_verdict.specs.Steps.{reading, KeepsShelfLogs, FaultsNeverFall};
 ghost use Rattle.case_run.specs.Lines.{case_line, known_line};
 ghost use Rattle.case_run.specs.Play as spec;
-ghost use Rattle.case_run.specs.Calls.{call_of};
-ghost use Rattle.case_run.specs.Runs.{AnswersLength};
-ghost use Rattle.case_run.specs.Traces.{TakesTurn};
-ghost use Rattle.case_run.specs.Turns.{AnswersBook, AnswersCommand, FilesVerdict, KeepsAll, StaysWithin};
+ghost use Rattle.case_run.specs.Runs.{EndsWithinOrTooLong, known_logs, run_state};
+ghost use Rattle.case_run.specs.Turns.{AnswersCommand, AnswersFromCasebook, EndsWithinOrHalts};
+ghost use Rattle.case_run.specs.Turns.{FilesVerdict, KeepsAll, TakesTurn};
 
 use super::commands::{Command, Filing};
 use super::halts::Halt;
@@ -117,7 +116,7 @@ fn shown_status(found: &Option<Case>) -> CaseStatus
 
 /// Files a case. Its line is made before the book is changed.
 fn file_case<B: Keeper>(alloc: Global, case: &Case, book: &mut Casebook<B>) -> Result<Answer, Halt>
-    ensures files { AnswersBook (λ cases. spec.filed_turn cases case.now)
+    ensures files { AnswersFromCasebook (λ cases. spec.filed_turn cases case.now)
         (B.state book.old) (B.state book.new) result }
     ensures later { (B.state book.old).faults ≤ (B.state book.new).faults }
 {
@@ -134,7 +133,8 @@ fn file_case<B: Keeper>(alloc: Global, case: &Case, book: &mut Casebook<B>) -> R
     }
 }
 
-/// Files a verdict. A log that is not in its grammar is told, and nothing is filed.
+/// Files a verdict. Of a log that is not in its grammar the answer is the bad place, and nothing is
+/// filed.
 fn file_verdict<B: Keeper>(
     alloc: Global,
     filing: &Filing,
@@ -177,7 +177,7 @@ fn file<F: Shelf, B: Keeper>(
     ensures book { (B.state book.old).faults ≤ (B.state book.new).faults }
     ensures answers { AnswersCommand (reading F.Shelf shelf.old shelf.new)
         (B.state book.old) (B.state book.new) (Command.File filing.now) result }
-    ensures within { StaysWithin (reading F.Shelf shelf.old shelf.new) result }
+    ensures within { EndsWithinOrHalts (reading F.Shelf shelf.old shelf.new) result }
 {
     // A match and no `?`, as in `verdict_on`.
     match verdict_of(alloc, seed, filing, shelf) {
@@ -188,7 +188,7 @@ fn file<F: Shelf, B: Keeper>(
 
 /// Lists the cases that pass a filter.
 fn list<B: Keeper>(alloc: Global, filter: &Filter, book: &mut Casebook<B>) -> Result<Answer, Halt>
-    ensures lists { AnswersBook (λ cases. spec.list_turn cases filter.now)
+    ensures lists { AnswersFromCasebook (λ cases. spec.list_turn cases filter.now)
         (B.state book.old) (B.state book.new) result }
     ensures later { (B.state book.old).faults ≤ (B.state book.new).faults }
 {
@@ -201,7 +201,7 @@ fn list<B: Keeper>(alloc: Global, filter: &Filter, book: &mut Casebook<B>) -> Re
 
 /// Shows the case of a label.
 fn show<B: Keeper>(alloc: Global, label: &Name, book: &mut Casebook<B>) -> Result<Answer, Halt>
-    ensures shows { AnswersBook (λ cases. spec.show_turn cases label.now)
+    ensures shows { AnswersFromCasebook (λ cases. spec.show_turn cases label.now)
         (B.state book.old) (B.state book.new) result }
     ensures later { (B.state book.old).faults ≤ (B.state book.new).faults }
 {
@@ -225,7 +225,7 @@ fn answer_to<F: Shelf, B: Keeper>(
     ensures book { (B.state book.old).faults ≤ (B.state book.new).faults }
     ensures answers { AnswersCommand (reading F.Shelf shelf.old shelf.new)
         (B.state book.old) (B.state book.new) command.now result }
-    ensures within { StaysWithin (reading F.Shelf shelf.old shelf.new) result }
+    ensures within { EndsWithinOrHalts (reading F.Shelf shelf.old shelf.new) result }
 {
     match command {
         Command::File(filing) => file(alloc, seed, filing, shelf, book),
@@ -245,9 +245,10 @@ pub(crate) fn take_turn<F: Shelf, K: Sink, B: Keeper>(
 ) -> CaseStatus
     ensures keeps { KeepsAll F.Shelf shelf.old shelf.new (K.state out.old) (K.state out.new)
         (B.state book.old) (B.state book.new) }
-    ensures turn { TakesTurn (call_of (reading F.Shelf shelf.old shelf.new) (K.state out.old)
-        (K.state out.new) (B.state book.old) (B.state book.new)) command.now result }
-    ensures length { AnswersLength (reading F.Shelf shelf.old shelf.new) result }
+    ensures turn { TakesTurn (known_logs F.Shelf shelf.old)
+        (run_state F.Shelf shelf.old (K.state out.old) (B.state book.old))
+        (run_state F.Shelf shelf.new (K.state out.new) (B.state book.new)) command.now result }
+    ensures length { EndsWithinOrTooLong (reading F.Shelf shelf.old shelf.new) result }
 {
     match answer_to(alloc, seed, command, shelf, book) {
         Ok(answer) => write_text(out, &answer.text, answer.status),

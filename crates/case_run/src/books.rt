@@ -4,8 +4,8 @@ ghost use Rattle.std.specs.Option.{option_map};
 ghost use Rattle.std.specs.String.{string_bytes};
 ghost use Rattle.log_verdict.specs.Steps.{KeepsShelfLogs};
 ghost use Rattle.log_source.specs.Sinks.{SinkStays};
-ghost use Rattle.case_run.specs.Books.{RunsPath, RunsWords};
-ghost use Rattle.case_run.specs.Openers.{KeepsBooks};
+ghost use Rattle.case_run.specs.NamedCasebooks.{RunsPath, RunsWords};
+ghost use Rattle.case_run.specs.Openers.{KeepsCasebooks};
 
 use super::halts::Halt;
 use super::lines::usage_text;
@@ -38,7 +38,7 @@ fn run_path<F: Shelf, K: Sink, O: Opener>(
 ) -> Ended<O::Book>
     ensures logs { KeepsShelfLogs F.Shelf shelf.old shelf.new }
     ensures sink { SinkStays (K.state out.old) (K.state out.new) }
-    ensures books { KeepsBooks (O.state opener.old) (O.state opener.new) }
+    ensures books { KeepsCasebooks (O.state opener.old) (O.state opener.new) }
     ensures runs { RunsPath F.Shelf shelf.old shelf.new (O.state opener.old) (O.state opener.new)
         path.now (map string_bytes words.now) (K.state out.old) (K.state out.new)
         (option_map O.Book.state result.book) result.status }
@@ -59,13 +59,13 @@ fn run_path<F: Shelf, K: Sink, O: Opener>(
     }
 }
 
-/// Opens the casebook that the first word names, and runs the commands that the other words ask for over
-/// it, as `run_case` does, with the fixed seed. The casebook is handed back.
+/// Opens the casebook that the first word names, and runs the commands that the other words ask for
+/// over it, as `run_case` does, with the fixed seed. The casebook is handed back.
 ///
-/// With no word nothing is opened, and the answer is `Usage`. The path is opened before the other words are
-/// looked at. Where it is not opened the answer is `Memory`, with nothing written, or `KeeperFault`, which
-/// comes only where the opener's faults rose or where it tells and has nothing under the path; there is
-/// then no casebook.
+/// With no word nothing is opened, and the answer is `Usage`. The path is opened before the other
+/// words are looked at. Where it is not opened the answer is `Memory`, with nothing written, or
+/// `KeeperFault`, which comes only where the opener's faults rose or where it is known that it has
+/// nothing under the path; there is then no casebook.
 pub fn run_book<F: Shelf, K: Sink, O: Opener>(
     alloc: Global,
     words: &[String],
@@ -75,7 +75,7 @@ pub fn run_book<F: Shelf, K: Sink, O: Opener>(
 ) -> Ended<O::Book>
     ensures logs { KeepsShelfLogs F.Shelf shelf.old shelf.new }
     ensures sink { SinkStays (K.state out.old) (K.state out.new) }
-    ensures books { KeepsBooks (O.state opener.old) (O.state opener.new) }
+    ensures books { KeepsCasebooks (O.state opener.old) (O.state opener.new) }
     ensures runs { RunsWords F.Shelf shelf.old shelf.new (O.state opener.old) (O.state opener.new)
         (map string_bytes words.now) (K.state out.old) (K.state out.new)
         (option_map O.Book.state result.book) result.status }
@@ -94,7 +94,7 @@ pub fn run_book_seeded<F: Shelf, K: Sink, O: Opener>(
 ) -> Ended<O::Book>
     ensures logs { KeepsShelfLogs F.Shelf shelf.old shelf.new }
     ensures sink { SinkStays (K.state out.old) (K.state out.new) }
-    ensures books { KeepsBooks (O.state opener.old) (O.state opener.new) }
+    ensures books { KeepsCasebooks (O.state opener.old) (O.state opener.new) }
     ensures runs { RunsWords F.Shelf shelf.old shelf.new (O.state opener.old) (O.state opener.new)
         (map string_bytes words.now) (K.state out.old) (K.state out.new)
         (option_map O.Book.state result.book) result.status }

@@ -4,8 +4,8 @@ use audit_base::terms::{Form, Rule};
 use case_keeper::case::Filter;
 use command_words::paths::PathText;
 
-/// What is to be filed: the verdict of a rule on two logs about a symbol, under a label. Both logs are in
-/// the same form.
+/// What is to be filed: the verdict of a rule on two logs about a symbol, under a label. Both logs
+/// are in the same form.
 #[derive(Drop)]
 pub struct Filing {
     pub label: Name,

@@ -1,4 +1,4 @@
-//! Why a command of a casebook comes to no answer.
+//! Why a command of a casebook has no answer.
 use audit_base::faults::NoMemory;
 use audit_base::terms::Which;
 use case_keeper::keeper::KeepFault;

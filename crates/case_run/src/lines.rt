@@ -1,5 +1,5 @@
-//! The lines of a casebook, each appended by a function of its own. After `NoMemory` nothing is known of
-//! `out`.
+//! The lines of a casebook, each appended by a function of its own. After `NoMemory` nothing is
+//! known of `out`.
 ghost use Rattle.std.specs.Prelude.{◌≡◌, ◌++◌, None, Some, OnOk};
 ghost use Rattle.case_run.specs.Lines as text;
 
@@ -12,7 +12,7 @@ use std::alloc::Global;
 
 /// How the command line is used: a line.
 pub(crate) fn usage_text() -> &'static [u8]
-    ensures { result.now ≡ text.usage_line }
+    ensures { result.now ≡ text.casebook_usage_line }
 {
     b"usage: DATABASE file LABEL RULE SYMBOL FORM ORDERS TRADES | list [SYMBOL [RESULT]] | show LABEL, joined by then\n"
 }

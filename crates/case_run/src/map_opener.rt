@@ -7,8 +7,8 @@ use case_keeper::keeper::KeepFault;
 use case_keeper::map_keeper::MapKeeper;
 use std::alloc::Global;
 
-/// An opener of casebooks in memory, each of which begins with no cases. Its calls are counted from 1;
-/// those whose numbers are in `fails` fail and are counted as faults, and no others.
+/// An opener of casebooks in memory, each of which begins with no cases. Its calls are counted from
+/// 1; those whose numbers are in `fails` fail and are counted as faults, and no others.
 #[derive(Drop)]
 pub struct MapOpener {
     fails: Vec<u32>,
@@ -44,7 +44,7 @@ impl MapOpener {
 
 impl Opener for MapOpener {
     ghost use Rattle.case_run.specs.MapOpeners.{map_opener_state, opening_fails, CountsOpening};
-    ghost use Rattle.case_run.specs.Openers.{Opens};
+    ghost use Rattle.case_run.specs.Openers.{OpensCasebook};
     ghost use Rattle.case_keeper.specs.MapKeepers.{map_keeper_state};
 
     type Book = MapKeeper;
@@ -52,7 +52,7 @@ impl Opener for MapOpener {
     ghost state = { map_opener_state };
 
     fn open_book(&mut self, path: &str) -> Result<MapKeeper, KeepFault>
-        ensures opens { Opens map_keeper_state (map_opener_state self.old) (map_opener_state self.new)
+        ensures opens { OpensCasebook map_keeper_state (map_opener_state self.old) (map_opener_state self.new)
             path.now result }
         ensures counted { CountsOpening self.old self.new }
         ensures failing { is_err result ≡ opening_fails self.old }

@@ -4,8 +4,8 @@ ghost use Rattle.std.specs.String.{string_bytes};
 ghost use Rattle.log_verdict.specs.Steps.{reading};
 ghost use Rattle.case_run.specs.Commands.{commands_of};
 ghost use Rattle.case_run.specs.Laws.{OnePlay};
-ghost use Rattle.case_run.specs.Calls.{call_of};
-ghost use Rattle.case_run.specs.Runs.{AnswersLength, IsCaseRun, RunsCommands};
+ghost use Rattle.case_run.specs.Runs.{EndsWithinOrTooLong, IsCaseRun, RunsCommands};
+ghost use Rattle.case_run.specs.Runs.{known_logs, run_state};
 ghost use Rattle.case_run.specs.Turns.{KeepsAll};
 
 use super::answers::take_turn;
@@ -34,9 +34,10 @@ fn run_commands<F: Shelf, K: Sink, B: Keeper>(
 ) -> CaseStatus
     ensures keeps { KeepsAll F.Shelf shelf.old shelf.new (K.state out.old) (K.state out.new)
         (B.state book.old) (B.state book.new) }
-    ensures runs { RunsCommands (call_of (reading F.Shelf shelf.old shelf.new) (K.state out.old)
-        (K.state out.new) (B.state book.old) (B.state book.new)) commands.now result }
-    ensures length { AnswersLength (reading F.Shelf shelf.old shelf.new) result }
+    ensures runs { RunsCommands (known_logs F.Shelf shelf.old)
+        (run_state F.Shelf shelf.old (K.state out.old) (B.state book.old))
+        (run_state F.Shelf shelf.new (K.state out.new) (B.state book.new)) commands.now result }
+    ensures length { EndsWithinOrTooLong (reading F.Shelf shelf.old shelf.new) result }
 {
     let mut status = CaseStatus::Done;
     for command in commands {
@@ -48,20 +49,21 @@ fn run_commands<F: Shelf, K: Sink, B: Keeper>(
     status
 }
 
-/// Runs the commands that the words ask for over a casebook, and writes what each comes to. The status is
-/// answered: that of the last command, or the first above 1, which ends the run.
+/// Runs the commands that the words ask for over a casebook, and writes the text of each. The
+/// status is answered: that of the last command, or the first above 1, which ends the run.
 ///
-/// The words are one or more commands with the word `then` between them: `file LABEL RULE SYMBOL FORM
-/// ORDERS TRADES`, `list`, `list SYMBOL`, `list SYMBOL RESULT`, `show LABEL`. `Usage` comes exactly where
-/// they are not well-formed. `file` audits two logs and files the verdict under the label, unless that
-/// has a case, which is then told (`Refused`). `ReadFault` comes only where a log that the last command
-/// names could not be read, `TooLong` where it has more than 67,108,864 bytes, `KeeperFault` only where the
-/// book's faults rose, `WriteFault` only where the sink's did, and `Memory` where memory ran out. A
-/// command's text is made before the book is changed, and written after: where writing fails, the case stays
-/// filed; after `Memory` and `KeeperFault` the last command has filed none. What commands leave is one (`one_play`).
+/// The words are one or more commands with the word `then` between them: `file LABEL RULE SYMBOL
+/// FORM ORDERS TRADES`, `list`, `list SYMBOL`, `list SYMBOL RESULT`, `show LABEL`. `Usage` comes
+/// exactly where they are not well-formed. `file` audits two logs and files the verdict under the
+/// label, unless that has a case, which is then written (`Refused`). `ReadFault` comes only where a
+/// log that the last command names could not be read, `TooLong` where it has more than 67,108,864
+/// bytes, `KeeperFault` only where the book's faults rose, `WriteFault` only where the sink's did,
+/// and `Memory` where memory ran out. A command's text is made before the book is changed, and
+/// written after: where writing fails, the case stays filed; after `Memory` and `KeeperFault` the
+/// last command has filed none. What commands leave is one (`one_play`).
 ///
-/// The hashes by which names are found begin with the fixed seed: see `run_case_seeded` for logs whose names
-/// may have been chosen to make this slow.
+/// The hashes by which names are found begin with the fixed seed: see `run_case_seeded` for logs
+/// whose names may have been chosen to make this slow.
 pub fn run_case<F: Shelf, K: Sink, B: Keeper>(
     alloc: Global,
     words: &[String],
@@ -76,8 +78,8 @@ pub fn run_case<F: Shelf, K: Sink, B: Keeper>(
     run_case_seeded(alloc, HashSeed::fixed(), words, shelf, out, book)
 }
 
-/// The same as `run_case`, with hashes of this seed. No answer depends on the seed. One that nobody knows
-/// beforehand keeps who writes the logs from choosing names that hash alike.
+/// The same as `run_case`, with hashes of this seed. No answer depends on the seed. One that nobody
+/// knows beforehand keeps who writes the logs from choosing names that hash alike.
 pub fn run_case_seeded<F: Shelf, K: Sink, B: Keeper>(
     alloc: Global,
     seed: HashSeed,

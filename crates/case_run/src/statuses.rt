@@ -7,7 +7,8 @@ ghost use Rattle.case_run.specs.Statuses.{case_status_number, ends_run};
 pub enum CaseStatus {
     /// The last command was done.
     Done,
-    /// The last command was refused: the label to file under has a case, or the label to show has none.
+    /// The last command was refused: the label to file under has a case, or the label to show has
+    /// none.
     Refused,
     /// The words of the command line are not well-formed.
     Usage,

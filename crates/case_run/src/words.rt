@@ -182,9 +182,9 @@ fn show_command(words: &[String]) -> Option<Command>
     Some(Command::Show(label))
 }
 
-/// The command that the words ask for: `file LABEL RULE SYMBOL FORM ORDERS TRADES`, `list`, `list SYMBOL`,
-/// `list SYMBOL RESULT`, or `show LABEL`. RESULT is `accepted` or the word of a property. `Usage` comes
-/// exactly where they are not well-formed.
+/// The command that the words ask for: `file LABEL RULE SYMBOL FORM ORDERS TRADES`, `list`, `list
+/// SYMBOL`, `list SYMBOL RESULT`, or `show LABEL`. RESULT is `accepted` or the word of a property.
+/// `Usage` comes exactly where they are not well-formed.
 fn read_command(alloc: Global, words: &[String]) -> Result<Command, WordsFault>
     ensures command { IfOk result
         (λ command. spec.command_of (map string_bytes words.now) ≡ Some command) }
@@ -203,14 +203,14 @@ fn read_command(alloc: Global, words: &[String]) -> Result<Command, WordsFault>
     }
 }
 
-/// Whether the word stands between two commands.
+/// Whether the word is the one between two commands.
 fn is_then(word: &str) -> bool
     ensures { result ≡ spec.is_then word.now }
 {
     is_word(word, b"then")
 }
 
-/// How many words stand before the first `then`.
+/// How many words are before the first `then`.
 fn part_length(words: &[String]) -> usize
     ensures length { result ≡ spec.part_length (map string_bytes words.now) }
     ensures inside { result ≤ length words.now }
@@ -235,8 +235,8 @@ fn words_behind(words: &[String], place: usize) -> &[String]
     &words[place + 1..]
 }
 
-/// The commands that the words ask for: one or more, with the word `then` between them. `Usage` comes
-/// exactly where they are not well-formed, out of memory aside.
+/// The commands that the words ask for: one or more, with the word `then` between them. `Usage`
+/// comes exactly where they are not well-formed, out of memory aside.
 pub(crate) fn read_commands(alloc: Global, words: &[String]) -> Result<Vec<Command>, WordsFault>
     ensures commands { IfOk result
         (λ commands. spec.commands_of (map string_bytes words.now) ≡ Some commands.items) }

@@ -1,5 +1,5 @@
 //! Writing the text of a command.
-ghost use Rattle.case_run.specs.Writing.{Writes, WritesHalt};
+ghost use Rattle.case_run.specs.Writing.{WritesHaltLine, WritesOrFails};
 ghost use Rattle.log_source.specs.Sinks.{SinkStays};
 
 use super::halts::Halt;
@@ -11,7 +11,7 @@ use log_source::sink::Sink;
 
 /// Writes the text and answers the status, or `WriteFault` where the sink fails.
 pub(crate) fn write_text<K: Sink>(out: &mut K, text: &[u8], status: CaseStatus) -> CaseStatus
-    ensures writes { Writes (K.state out.old) (K.state out.new) status text.now result }
+    ensures writes { WritesOrFails (K.state out.old) (K.state out.new) status text.now result }
     ensures stays { SinkStays (K.state out.old) (K.state out.new) }
 {
     match put_all(out, text) {
@@ -22,7 +22,7 @@ pub(crate) fn write_text<K: Sink>(out: &mut K, text: &[u8], status: CaseStatus) 
 
 /// Writes the line of a halt, and answers its status. Where memory ran out nothing is written.
 pub(crate) fn write_halt<K: Sink>(out: &mut K, halt: Halt) -> CaseStatus
-    ensures writes { WritesHalt (K.state out.old) (K.state out.new) halt result }
+    ensures writes { WritesHaltLine (K.state out.old) (K.state out.new) halt result }
     ensures stays { SinkStays (K.state out.old) (K.state out.new) }
 {
     match halt {

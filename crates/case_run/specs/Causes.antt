@@ -1,0 +1,104 @@
+-- What was read of the logs that a command names, and why a command is halted.
+use Rattle.std.specs.Prelude.{◌≡◌, ℕ, IsOk, is_ok, false, List, []}
+use Rattle.audit_base.specs.declared.terms.Form.{Form}
+use Rattle.audit_base.specs.declared.terms.Which.{Which}
+use Rattle.audit_base.specs.declared.terms.Which.TheVariants.{Orders, Trades}
+use Rattle.audit_report.specs.Lines.{read_fault_line, too_long_line}
+use Rattle.log_verdict.specs.Collecting.{step_of, IsReadAs}
+use Rattle.log_verdict.specs.LogVerdicts.{order_log, trade_log}
+use Rattle.log_verdict.specs.Steps.{Reading, LogStep, IsReadFault, IsTooLong}
+use Rattle.case_keeper.specs.Keepers.{KeeperState}
+use Rattle.log_source.specs.Sources.{Rose}
+use Rattle.case_run.specs.Lines.{keeper_fault_line}
+use Rattle.case_run.specs.declared.commands.Command.{Command}
+use Rattle.case_run.specs.declared.commands.Command.TheVariants as command
+use Rattle.case_run.specs.declared.commands.Filing.{Filing}
+use Rattle.case_run.specs.declared.halts.Halt.{Halt}
+use Rattle.case_run.specs.declared.halts.Halt.TheVariants as halt
+use Rattle.case_run.specs.declared.statuses.CaseStatus.{CaseStatus}
+use Rattle.case_run.specs.declared.statuses.CaseStatus.TheVariants as status
+
+-- the name of a log of a filing
+abbrev pub filing_log_name : Filing → Which → List ℕ
+filing_log_name wanted Orders = wanted.orders
+filing_log_name wanted Trades = wanted.trades
+
+-- a log of these bytes is not in its grammar
+abbrev pub IsBadLog : Which → Form → List ℕ → Type 0
+IsBadLog Orders form bytes = is_ok (order_log form bytes) ≡ false
+IsBadLog Trades form bytes = is_ok (trade_log form bytes) ≡ false
+
+-- no log was started
+abbrev pub StartsNoLog : Reading → Type 0
+StartsNoLog r = (log : Which) → r.after log ≡ r.before log
+
+-- the logs that the command names were read to their end, and are in their grammar; `list` and
+-- `show` name none, and start none
+abbrev pub ReadsGoodLogs : Reading → Command → Type 0
+ReadsGoodLogs r (command.File wanted) =
+    IsReadAs r Orders wanted.orders (λ bytes. IsOk (order_log wanted.form bytes))
+    × IsReadAs r Trades wanted.trades (λ bytes. IsOk (trade_log wanted.form bytes))
+ReadsGoodLogs r (command.List filter) = StartsNoLog r
+ReadsGoodLogs r (command.Show label) = StartsNoLog r
+
+-- the command names a log that is not in its grammar, and it was read to its end
+abbrev pub ReadsBadLog : Reading → Command → Type 0
+ReadsBadLog r (command.File wanted) = (log : Which)
+    × IsReadAs r log (filing_log_name wanted log) (IsBadLog log wanted.form)
+ReadsBadLog r (command.List filter) = ⊥
+ReadsBadLog r (command.Show label) = ⊥
+
+-- what was read of the logs of a command that was answered with this status; no command is answered
+-- with a status other than 0, 1 and 3
+abbrev pub ReadsLogsFor : Reading → Command → CaseStatus → Type 0
+ReadsLogsFor r the_command status.Done = ReadsGoodLogs r the_command
+ReadsLogsFor r the_command status.Refused = ReadsGoodLogs r the_command
+ReadsLogsFor r the_command status.Malformed = ReadsBadLog r the_command
+ReadsLogsFor r the_command status.Usage = ⊥
+ReadsLogsFor r the_command status.ReadFault = ⊥
+ReadsLogsFor r the_command status.WriteFault = ⊥
+ReadsLogsFor r the_command status.TooLong = ⊥
+ReadsLogsFor r the_command status.Memory = ⊥
+ReadsLogsFor r the_command status.KeeperFault = ⊥
+
+-- the order log of a filing is started first, and the trade log only after an order log that was
+-- read to its end and is in its grammar
+abbrev pub IsFilingLogStarted : Reading → Filing → Which → Type 0
+IsFilingLogStarted r wanted Orders = Unit {0}
+IsFilingLogStarted r wanted Trades =
+    IsReadAs r Orders wanted.orders (λ bytes. IsOk (order_log wanted.form bytes))
+
+-- A log that the filing names was started, and this became of it.
+pub record OfFilingLog (is : Reading → LogStep → Type 0) (r : Reading) (wanted : Filing)
+    (log : Which) : Type 0 where
+  pub is_started : IsFilingLogStarted r wanted log
+  pub holds : is r (step_of r log (filing_log_name wanted log))
+
+-- the same of a log that the command names; `list` and `show` name none
+abbrev pub OfCommandLog : (Reading → LogStep → Type 0) → Reading → Command → Which → Type 0
+OfCommandLog is r (command.File wanted) log = OfFilingLog is r wanted log
+OfCommandLog is r (command.List filter) log = ⊥
+OfCommandLog is r (command.Show label) log = ⊥
+
+-- why a command is halted: a log that it names could not be read, or is too long; its logs were
+-- read and are in their grammar, and then the keeper's faults rose; memory ran out, freely
+abbrev pub IsHaltCause : Reading → KeeperState → KeeperState → Command → Halt → Type 0
+IsHaltCause r old new the_command (halt.ReadFault log) = OfCommandLog IsReadFault r the_command log
+IsHaltCause r old new the_command (halt.TooLong log) = OfCommandLog IsTooLong r the_command log
+IsHaltCause r old new the_command halt.KeeperFault =
+    ReadsGoodLogs r the_command × Rose old.faults new.faults
+IsHaltCause r old new the_command halt.Memory = Unit {0}
+
+-- the status of a halt
+abbrev pub halt_status : Halt → CaseStatus
+halt_status (halt.ReadFault log) = status.ReadFault
+halt_status (halt.TooLong log) = status.TooLong
+halt_status halt.KeeperFault = status.KeeperFault
+halt_status halt.Memory = status.Memory
+
+-- the line that is written for a halt; none where memory ran out
+abbrev pub halt_line : Halt → List ℕ
+halt_line (halt.ReadFault log) = read_fault_line log
+halt_line (halt.TooLong log) = too_long_line log
+halt_line halt.KeeperFault = keeper_fault_line
+halt_line halt.Memory = []
