@@ -47,19 +47,19 @@ name_delimited value is =
     let s = short-name value is in record { nonempty = omega (arith, s.some); no_end = no-soh value s.unquoted }
 
 -- a field whose value is in the form of a name, and that the field before it does not count
-pub record IsWritten (before : Option TagValue) (field_written : TagValue) : Type 0 where
-  pub tag_low : 0 < field_written.tag
-  pub tag_high : field_written.tag < 1000
-  pub value_form : is_name field_written.value ≡ true
-  pub uncounted : is_counted before field_written.tag ≡ false
+pub record IsWritten (before : Option TagValue) (written : TagValue) : Type 0 where
+  pub tag_low : 0 < written.tag
+  pub tag_high : written.tag < 1000
+  pub value_form : is_name written.value ≡ true
+  pub uncounted : is_counted before written.tag ≡ false
 
 abbrev pub AreWritten : Option TagValue → List TagValue → Type 0
 AreWritten before [] = Unit {0}
-AreWritten before (field_written ∷ fields) = IsWritten before field_written × AreWritten (Some field_written) fields
+AreWritten before (written ∷ fields) = IsWritten before written × AreWritten (Some written) fields
 
-pub field_written : (before : Option TagValue) (tag : ℕ) (value : List ℕ) → (nat_lt 0 tag && nat_lt tag 1000) ≡ true → is_name value ≡ true → is_counted before tag ≡ false
+pub written : (before : Option TagValue) (tag : ℕ) (value : List ℕ) → (nat_lt 0 tag && nat_lt tag 1000) ≡ true → is_name value ≡ true → is_counted before tag ≡ false
     → IsWritten before (field tag value)
-field_written before tag value small form uncounted =
+written before tag value small form uncounted =
     let p = and_parts (nat_lt 0 tag) (nat_lt tag 1000) small in
     record { tag_low = (grind (arith, nat_tests, p.0)); tag_high = (grind (arith, nat_tests, p.1)); value_form = form; uncounted = uncounted }
 

@@ -8,12 +8,12 @@ use Rattle.audit_base.proofs.OffenceLemmas.{no_offence-fair}
 use Rattle.fairness.proofs.PassingLemmas.{best-stands, unfair, unfair-is, unfair-breaks}
 use Rattle.fairness.proofs.checking.check_passing.Goals as goal
 
-pub unfair_at-requires-clause-short_bid : goal.unfair_flaw-requires-clause-short_bid
-unfair_at-requires-clause-short_bid c = best-stands c.args.orders.now c.args.deals.now Buy c.args.short_bid
+pub unfair_flaw-requires-clause-short_bid : goal.unfair_flaw-requires-clause-short_bid
+unfair_flaw-requires-clause-short_bid c = best-stands c.args.orders.now c.args.deals.now Buy c.args.short_bid
     c.requires.short_bid
 
-pub unfair_at-requires-clause-short_ask : goal.unfair_flaw-requires-clause-short_ask
-unfair_at-requires-clause-short_ask c = best-stands c.args.orders.now c.args.deals.now Sell c.args.short_ask
+pub unfair_flaw-requires-clause-short_ask : goal.unfair_flaw-requires-clause-short_ask
+unfair_flaw-requires-clause-short_ask c = best-stands c.args.orders.now c.args.deals.now Sell c.args.short_ask
     c.requires.short_ask
 
 pub returns-in-Some-clause-offence : goal.returns-in-Some-clause-offence
