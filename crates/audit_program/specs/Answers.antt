@@ -1,7 +1,7 @@
 -- What a run of the program answers, whatever words its command line has.
 use Rattle.std.specs.Prelude.{◌≡◌, ℕ, Bool, false, List, Option, None}
 use Rattle.audit_report.specs.declared.statuses.Status.{Status}
-use Rattle.audit_run.specs.TopCall.{IsRun}
+use Rattle.audit_run.specs.TopCall.{AuditorAnswers}
 use Rattle.command_words.specs.Words.{request_of}
 use Rattle.log_source.specs.Sinks.{SinkState}
 use Rattle.log_source.specs.declared.shelf.Shelf.{Ghosts as Shelf}
@@ -13,10 +13,10 @@ pub record AuditorEnds (S : Type 0) : Type 0 where
   pub sink : SinkState
 
 -- the answer is that of the top call to what words ask for
-abbrev pub AuditorAnswers : {S : Type 0} → Shelf S → List (List ℕ)
+abbrev pub AuditorAnswersWords : {S : Type 0} → Shelf S → List (List ℕ)
     → AuditorEnds S → AuditorEnds S → Status → Type 0
-AuditorAnswers shelf words old new status =
-    IsRun shelf (request_of words) old.shelf new.shelf old.sink new.sink status
+AuditorAnswersWords shelf words old new status =
+    AuditorAnswers shelf (request_of words) old.shelf new.shelf old.sink new.sink status
 
 -- a shelf that has the file under each path, with nothing started, and a sink that holds what
 -- the output holds

@@ -6,7 +6,7 @@
 
 ghost use Rattle.std.specs.Prelude.{◌≡◌};
 ghost use Rattle.std.specs.Process.{exit_status};
-ghost use Rattle.audit_program.specs.Answers.{AuditorAnswers, AuditorBegins, AuditorBeginsUnknown};
+ghost use Rattle.audit_program.specs.Answers.{AuditorAnswersWords, AuditorBegins, AuditorBeginsUnknown};
 ghost use Rattle.audit_report.specs.Statuses.{status_number};
 ghost use Rattle.audit_report.specs.declared.statuses.Status.TheVariants as status;
 ghost use Rattle.run_notes.specs.ProgramAnswers.{AnswersCommandLine, AnswersFrom, AnswersUnknownWords, EndsAsAnswer};
@@ -36,7 +36,7 @@ fn answer_words<R: CommandLine + AllocGlobal + RandomSource, F: Shelf, K: Sink>(
     shelf: &mut F,
     out: &mut K,
 ) -> Status
-    ensures { AnswersCommandLine (AuditorAnswers F.Shelf) status.Memory (R.told rt.now)
+    ensures { AnswersCommandLine (AuditorAnswersWords F.Shelf) status.Memory (R.told rt.now)
         (record { shelf = shelf.old; sink = K.state out.old })
         (record { shelf = shelf.new; sink = K.state out.new }) result }
 {
@@ -63,7 +63,7 @@ fn run_over<R: CommandLine + AllocGlobal + RandomSource, S: FileSystem + Drop, W
 ) -> Ran<S, W>
     ensures { let shelf = ⟦<NotedShelf<FileShelf<S>> as Shelf>⟧ in
         let state = ⟦<NotedSink<StdSink<W>> as Sink>⟧.state in
-        AnswersFrom (AuditorAnswers shelf) status.Memory (R.told rt.now)
+        AnswersFrom (AuditorAnswersWords shelf) status.Memory (R.told rt.now)
         (AuditorBegins shelf (S.tells files) (S.file_at files) (W.contents output))
         (record { shelf = result.shelf; sink = state result.out }) result.status }
 {
@@ -97,7 +97,7 @@ fn tell<F: Shelf>(rt: &HostRuntime, status: Status, shelf: &NotedShelf<F>, last:
 /// Runs the command over files and standard output.
 fn answer(rt: HostRuntime) -> Status
     ensures { let shelf = ⟦<NotedShelf<FileShelf<HostRuntime>> as Shelf>⟧ in
-        AnswersUnknownWords (AuditorAnswers shelf) status.Memory (AuditorBeginsUnknown shelf) result }
+        AnswersUnknownWords (AuditorAnswersWords shelf) status.Memory (AuditorBeginsUnknown shelf) result }
 {
     let Ok(files) = rt.clone() else {
         return Status::Memory;
@@ -117,7 +117,7 @@ fn exit_code(status: Status) -> ExitCode
 /// Runs the program, and gives the exit code of its process.
 pub fn run_auditor(rt: HostRuntime) -> ExitCode
     ensures { let shelf = ⟦<NotedShelf<FileShelf<HostRuntime>> as Shelf>⟧ in
-        EndsAsAnswer (AuditorAnswers shelf) status.Memory status_number
+        EndsAsAnswer (AuditorAnswersWords shelf) status.Memory status_number
         (AuditorBeginsUnknown shelf) result }
 {
     exit_code(answer(rt))

@@ -19,11 +19,12 @@ use Rattle.record_verdict.specs.declared.questions.Question.{Question}
 use Rattle.command_words.specs.declared.requests.Request.{Request}
 use Rattle.command_words.specs.declared.requests.Request.TheVariants.{Expect}
 use Rattle.audit_run.specs.ExpectedTrades.{AuditAcceptsExpectedTrades, ExpectedTradesAreAccepted, WroteExpected}
-use Rattle.record_verdict.specs.Judgements.{question, IsJudged}
 use Rattle.audit_run.specs.Laws.{GenerateWrites}
+use Rattle.audit_run.specs.OtherTexts.{orders_finding, ExpectsRecords, IsAcceptedBeside, IsExpectAnswer, IsExpectedLog}
+use Rattle.audit_run.specs.Requests.{IsAnswerTo}
+use Rattle.audit_run.specs.VerdictAnswers.{IsDone, IsVerdictAnswer}
+use Rattle.record_verdict.specs.Judgements.{question, IsJudged}
 use Rattle.log_verdict.specs.LogVerdicts.{Log, log_in, order_log, trade_log}
-use Rattle.audit_run.specs.OtherTexts.{orders_finding, ExpectsOf, IsAcceptedBeside, IsDone, IsExpectedLog, IsExpectReport, IsRefused}
-use Rattle.audit_run.specs.Requests.{IsReport}
 use Rattle.log_verdict.specs.Laws.{OneVerdict}
 use Rattle.audit_run.proofs.StepLemmas.{held-all}
 
@@ -36,15 +37,15 @@ same-added None new a b some x y = absurd (not_true some)
 same-added (Some xs) None a b some x y = absurd x
 same-added (Some xs) (Some ys) a b some x y = append_cancel_left xs a b (sym x ∙ y)
 
--- the text that was written is the one that is reported of the log that is held
-reported : (the_rule : Rule) (symbol : List ℕ) (orders : Log) (text : List ℕ) → WroteExpected the_rule symbol orders text → IsExpectReport the_rule symbol orders status.Accepted text
-reported the_rule symbol orders text w =
+-- the text that was written is the answer to the log that is held
+answered : (the_rule : Rule) (symbol : List ℕ) (orders : Log) (text : List ℕ) → WroteExpected the_rule symbol orders text → IsExpectAnswer the_rule symbol orders status.Accepted text
+answered the_rule symbol orders text w =
     let request : Request = Expect the_rule symbol w.name orders.form in
-    let done = w.answered.runs in
+    let done = w.answered.causes in
     let same : done.text ≡ text = same-added w.old.wrote w.new.wrote done.text text w.sink_tells done.wrote w.wrote in
     let logs : done.is.logs ≡ orders.bytes ∷ [] = held-all w.r request [] done.is.steps done.is.logs (orders.bytes ∷ []) w.shelf_tells done.is.read done.is.all w.held in
-    subst (λ (t : List ℕ). IsReport request (orders.bytes ∷ []) status.Accepted t) same
-    (subst (λ (ls : List (List ℕ)). IsReport request ls status.Accepted done.text) logs done.is.report)
+    subst (λ (t : List ℕ). IsAnswerTo request (orders.bytes ∷ []) status.Accepted t) same
+    (subst (λ (ls : List (List ℕ)). IsAnswerTo request ls status.Accepted done.text) logs done.is.answer)
 
 not_rejected : status.Accepted ≡ status.Rejected → ⊥
 not_rejected e = cc
@@ -54,7 +55,7 @@ not_malformed e = cc
 
 -- what is answered with status 0 was done
 done-of : (found : Option Finding) (is_text : List ℕ → Type 0) (text : List ℕ)
-    → MatchOption found (IsDone is_text status.Accepted text) (λ finding. IsRefused (verdict.Rejected finding) status.Accepted text) → is_text text
+    → MatchOption found (IsDone is_text status.Accepted text) (λ finding. IsVerdictAnswer (verdict.Rejected finding) status.Accepted text) → is_text text
 done-of None is_text text is = is.is
 done-of (Some finding) is_text text is = absurd (not_rejected is.status_is)
 
@@ -72,7 +73,7 @@ module _ (the_rule : Rule) (symbol : List ℕ) (table : Bool) (text : List ℕ) 
       (is.acceptance, subst (λ (s : Result (Result (List TradeRecord) Finding) BadPlace). beside (Ok entries) s (verdict.Accepted is.acceptance)) (sym is.says) is.judged)
 
   accepted-of : (said : Result (List OrderRecord) BadPlace)
-      → MatchResult said (λ entries. ExpectsOf the_rule symbol entries status.Accepted text) (λ bad. IsRefused (verdict.Malformed Orders bad) status.Accepted text)
+      → MatchResult said (λ entries. ExpectsRecords the_rule symbol entries status.Accepted text) (λ bad. IsVerdictAnswer (verdict.Malformed Orders bad) status.Accepted text)
       → (accepted : Accepted) × beside said (trade_log Csv text) (verdict.Accepted accepted)
   accepted-of (Ok entries) is =
       let log = done-of (orders_finding the_rule symbol entries) (IsExpectedLog the_rule symbol entries) text is in
@@ -81,7 +82,7 @@ module _ (the_rule : Rule) (symbol : List ℕ) (table : Bool) (text : List ℕ) 
 
 pub expected-accepted : OneVerdict → ExpectedTradesAreAccepted
 expected-accepted one the_rule symbol table orders text w =
-    let known = accepted-of the_rule symbol table text (order_log orders.form orders.bytes) (reported the_rule symbol orders text w) in
+    let known = accepted-of the_rule symbol table text (order_log orders.form orders.bytes) (answered the_rule symbol orders text w) in
     record {
       accepted = known.0;
       is = known.1;
@@ -91,8 +92,8 @@ expected-accepted one the_rule symbol table orders text w =
 pub audit-accepts : OneVerdict → AuditAcceptsExpectedTrades
 audit-accepts one the_rule symbol table orders text answer w audited =
     let known = expected-accepted one the_rule symbol table orders text w in
-    ⊎_elim (λ written. inl (written.is.status_is ∙ ap verdict_status (known.only written.is.verdict written.is.is))) (λ none. inr none.0)
-    (audited.answered.headline (orders.bytes ∷ text ∷ []) audited.ready)
+    ⊎_elim (λ written. inl (written.is.answer.status_is ∙ ap verdict_status (known.only written.is.verdict written.is.is))) (λ none. inr none.status_is)
+    (audited.answered.commands (orders.bytes ∷ text ∷ []) audited.ready)
 
 no-log : {A : Type 0} (x : A) → None ≡ Some x → ⊥
 no-log x e = cc
@@ -101,8 +102,8 @@ pub generate-writes : GenerateWrites
 generate-writes start count r old new status.Accepted is = inl refl
 generate-writes start count r old new status.WriteFault is = inr (inl refl)
 generate-writes start count r old new status.Memory is = inr (inr refl)
-generate-writes start count r old new status.Rejected is = absurd (not_rejected (sym is.is.report.done))
-generate-writes start count r old new status.Malformed is = absurd (not_malformed (sym is.is.report.done))
-generate-writes start count r old new status.ReadFault is = absurd (no-log _ is.is.next)
-generate-writes start count r old new status.TooLong is = absurd (no-log _ is.is.next)
+generate-writes start count r old new status.Rejected is = absurd (not_rejected (sym is.is.answer.done))
+generate-writes start count r old new status.Malformed is = absurd (not_malformed (sym is.is.answer.done))
+generate-writes start count r old new status.ReadFault is = absurd (no-log _ is.is.reached.next)
+generate-writes start count r old new status.TooLong is = absurd (no-log _ is.is.reached.next)
 generate-writes start count r old new status.Usage is = absurd is

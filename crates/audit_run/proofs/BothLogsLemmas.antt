@@ -1,4 +1,4 @@
--- The commands that read two logs: which steps lead to a report, and where they stop.
+-- The commands that read two logs: which steps lead to an answer, and where they stop.
 use Rattle.std.proofs.Common.{◌≡◌, ◌∙◌, refl, ℕ, true, false, List, [], ◌∷◌, None, Some, Result, Ok, Err, IsOk}
 use Rattle.std.specs.Prelude.{MatchResult}
 use Rattle.audit_base.specs.declared.findings.Finding.{Finding}
@@ -8,20 +8,19 @@ use Rattle.audit_base.specs.declared.records.OrderRecord.{OrderRecord}
 use Rattle.audit_base.specs.declared.terms.Which.{Which}
 use Rattle.audit_base.specs.declared.terms.Which.TheVariants.{Orders, Trades}
 use Rattle.audit_report.specs.declared.statuses.Status.{Status}
-use Rattle.audit_report.specs.Lines.{read_fault_line, too_long_line}
 use Rattle.log_verdict.specs.declared.sources.Source.{Source}
 use Rattle.command_words.specs.declared.requests.Request.{Request}
 use Rattle.log_verdict.specs.declared.stops.Stop.{Stop}
 use Rattle.log_verdict.specs.declared.stops.Stop.TheVariants as stop
 use Rattle.log_verdict.specs.BothLogs.{source_of, IsAuditStop, IsStarted, ReadsAfterOrders, ReadsLogs}
-use Rattle.audit_run.specs.Deciding.{IsStop, StartsBoth}
+use Rattle.audit_run.specs.Deciding.{ReadingStops, StartsBoth}
+use Rattle.audit_run.specs.OneLog.{IsStatusOfLogs}
+use Rattle.audit_run.specs.Requests.{log_read_at, next_log, IsAnswerTo}
+use Rattle.audit_run.specs.Runs.{IsAnswerToReadLogs, ReadingDecides, ReadsUpTo}
 use Rattle.log_verdict.specs.Collecting.{step_of}
 use Rattle.log_verdict.specs.LogVerdicts.{log_in, order_log, trade_log, OfLogs}
-use Rattle.audit_run.specs.Reporting.{IsReportStatus}
-use Rattle.audit_run.specs.Requests.{log_at, next_log, IsReport}
-use Rattle.audit_run.specs.Runs.{IsText, ReportsLogs, StopsAtLog}
-use Rattle.log_verdict.specs.Steps.{Reading, LogStep, IsRead, IsReadFault, IsTooLong, StepsLead, FaultsNeverFall, with_slot}
-use Rattle.audit_run.proofs.ReportLemmas.{text-of}
+use Rattle.log_verdict.specs.Steps.{Reading, LogStep, IsRead, StepsLead, FaultsNeverFall, with_slot}
+use Rattle.audit_run.proofs.AnswerLemmas.{text-of}
 
 module _ (r : Reading) (later : FaultsNeverFall r) (orders trades : Source) (request : Request) (starts : StartsBoth request orders trades) where
   abbrev first_step : LogStep
@@ -56,60 +55,64 @@ module _ (r : Reading) (later : FaultsNeverFall r) (orders trades : Source) (req
       not_good : false ≡ true → ⊥
       not_good e = cc
 
-  -- a report on what was read of both logs, where the command needs no third log then
+  -- an answer on what was read of both logs, where the command needs no third log then
   module _ (of_records : List OrderRecord → Result (List TradeRecord) Finding → Type 0) (of_bad : Which → BadPlace → Type 0) (the_status : Status) (text : List ℕ)
-      (reports : (logs : List (List ℕ)) → log_at logs 2 ≡ [] → OfLogs of_records of_bad (log_in orders.form (log_at logs 0)) (log_in trades.form (log_at logs 1)) → IsReport request logs the_status text)
+      (reports : (logs : List (List ℕ)) → log_read_at logs 2 ≡ [] → OfLogs of_records of_bad (log_in orders.form (log_read_at logs 0)) (log_in trades.form (log_read_at logs 1)) → IsAnswerTo request logs the_status text)
       (ends : (first second : List ℕ) (entries : List OrderRecord) → order_log orders.form first ≡ Ok entries → MatchResult (trade_log trades.form second) (of_records entries) (of_bad Trades)
       → next_log request (first ∷ second ∷ []) ≡ None) where
-    both_reports : (bytes : List ℕ) → IsRead r first_step bytes → (said : Result (List OrderRecord) BadPlace) → order_log orders.form bytes ≡ said
-        → ReadsAfterOrders r trades of_records of_bad said → ReportsLogs r request the_status text
-    both_reports bytes read (Err bad) e (is, untouched) = record {
+    both_answers : (bytes : List ℕ) → IsRead r first_step bytes → (said : Result (List OrderRecord) BadPlace) → order_log orders.form bytes ≡ said
+        → ReadsAfterOrders r trades of_records of_bad said → IsAnswerToReadLogs r request the_status text
+    both_answers bytes read (Err bad) e (is, untouched) = record {
       steps = first_step ∷ [];
       logs = bytes ∷ [];
       lead = one_leads untouched;
       read = (bytes, record { next = starts.first; read = read }, refl);
       all = one_next bytes bad e;
-      report = reports (bytes ∷ []) refl (rw e is);
+      answer = reports (bytes ∷ []) refl (rw e is);
     }
-    both_reports bytes read (Ok entries) e is = record {
+    both_answers bytes read (Ok entries) e is = record {
       steps = first_step ∷ second_step ∷ [];
       logs = bytes ∷ is.bytes ∷ [];
       lead = both_lead;
       read = (bytes, record { next = starts.first; read = read }, (is.bytes, record { next = both_next bytes (Ok entries) e refl; read = is.read }, refl));
       all = ends bytes is.bytes entries e is.holds;
-      report = reports (bytes ∷ is.bytes ∷ []) refl (rw e is.holds);
+      answer = reports (bytes ∷ is.bytes ∷ []) refl (rw e is.holds);
     }
 
-    pub both_text : ((logs : List (List ℕ)) → IsReport request logs the_status text → IsReportStatus the_status) → ReadsLogs r orders trades of_records of_bad → IsText r request the_status text
+    pub both_text : ((logs : List (List ℕ)) → IsAnswerTo request logs the_status text → IsStatusOfLogs the_status) → ReadsLogs r orders trades of_records of_bad → ReadingDecides r request the_status text
     both_text answers is =
-        let whole = both_reports is.bytes is.read (order_log orders.form is.bytes) refl is.holds in
-        text-of r request the_status text (answers whole.logs whole.report) whole
+        let whole = both_answers is.bytes is.read (order_log orders.form is.bytes) refl is.holds in
+        text-of r request the_status text (answers whole.logs whole.answer) whole
 
-  stops_at : (why : Reading → LogStep → Type 0) (line : Which → List ℕ) (log : Which) → IsStarted r orders log → why r (step_of r log (source_of orders trades log).name.now)
-      → StopsAtLog why line r request (line log)
-  stops_at why line Orders untouched cause = record {
+  -- the last log that was started is one of the two
+  reaches : (log : Which) → IsStarted r orders log → ReadsUpTo r request (step_of r log (source_of orders trades log).name.now)
+  reaches Orders untouched = record {
     steps = [];
     logs = [];
-    last = first_step;
     lead = one_leads untouched;
     read = refl;
     next = starts.first;
-    cause = cause;
-    text_is = refl;
   }
-  stops_at why line Trades good cause = record {
+  reaches Trades good = record {
     steps = first_step ∷ [];
     logs = good.bytes ∷ [];
-    last = second_step;
     lead = both_lead;
     read = (good.bytes, record { next = starts.first; read = good.read }, refl);
     next = both_next good.bytes (order_log orders.form good.bytes) refl good.holds;
-    cause = cause;
-    text_is = refl;
   }
 
-  -- where it is not known what both logs come to, the line says at which log reading stopped
-  pub both_stop : (the_stop : Stop) → IsAuditStop r orders trades the_stop → IsStop r request the_stop
-  both_stop (stop.ReadFault log) is = stops_at IsReadFault read_fault_line log is.is_started is.fault
-  both_stop (stop.TooLong log) is = stops_at IsTooLong too_long_line log is.is_started is.long
+  -- where reading stopped at one of them, the line says at which
+  pub both_stop : (the_stop : Stop) → IsAuditStop r orders trades the_stop → ReadingStops r request the_stop
+  both_stop (stop.ReadFault log) is = record {
+    last = step_of r log (source_of orders trades log).name.now;
+    reached = reaches log is.is_started;
+    cause = is.fault;
+    text_is = refl;
+  }
+  both_stop (stop.TooLong log) is = record {
+    last = step_of r log (source_of orders trades log).name.now;
+    reached = reaches log is.is_started;
+    cause = is.long;
+    text_is = refl;
+  }
   both_stop stop.Memory is = tt

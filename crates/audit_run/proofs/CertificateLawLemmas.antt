@@ -20,9 +20,9 @@ use Rattle.audit_report.specs.declared.verdicts.Accepted.{Accepted}
 use Rattle.audit_report.specs.declared.verdicts.Verdict.{Verdict}
 use Rattle.audit_report.specs.declared.verdicts.Verdict.TheVariants as verdict
 use Rattle.record_verdict.specs.declared.questions.Question.{Question}
-use Rattle.audit_run.specs.Certificates.{IsCertificateOf, ReportsWith, Verifies, VerifiesRecords}
-use Rattle.record_verdict.specs.Judgements.{IsJudged, IsVerdictOfFinding}
+use Rattle.audit_run.specs.Certificates.{IsCertificateOf, IsVerdictAnswerWith, VerifiesDeals, VerifiesRecords}
 use Rattle.audit_run.specs.Laws.{CertifiedIsVerified}
+use Rattle.record_verdict.specs.Judgements.{IsJudged, IsVerdictOfFinding}
 use Rattle.log_verdict.specs.LogVerdicts.{IsLogVerdict, Log}
 
 -- the rules of certificates admit the same orders
@@ -63,10 +63,10 @@ module _ (q : Question) (orders trades : Log) (certificate text : List ℕ) (the
       let admits = same_call q.rule q.symbol (order_list q.symbol is.entries) _ certificate is.agrees in
       let same : early_finding (call_scope q.symbol) is.entries is.paired ≡ None =
       ap (λ (i : Option Finding). first_answer (history_finding q.symbol is.entries ∷ i ∷ pairing_finding is.paired ∷ unsound_trade (order_list q.symbol is.entries) q.symbol (paired_trades is.paired) ∷ [])) (sym admits) ∙ none in
-      let came : Verifies q.symbol (order_list q.symbol is.entries) (deals_of_symbol (order_list q.symbol is.entries) q.symbol (paired_trades is.paired)) certificate the_status text = rw same at verified in
+      let came : VerifiesDeals q.symbol (order_list q.symbol is.entries) (deals_of_symbol (order_list q.symbol is.entries) q.symbol (paired_trades is.paired)) certificate the_status text = rw same at verified in
       ⊎_elim (λ verified. verified.status_is) (λ disproved. absurd (disproved.none q.rule is.agrees)) came
 
-  of_verdict : (v : Verdict) → IsLogVerdict q orders trades v → ReportsWith (IsCertificateOf q orders trades) v status.Accepted certificate
+  of_verdict : (v : Verdict) → IsLogVerdict q orders trades v → IsVerdictAnswerWith (IsCertificateOf q orders trades) v status.Accepted certificate
       → ((is : IsCertificateOf q orders trades certificate) → VerifiesRecords q.symbol certificate is.entries is.paired the_status text) → the_status ≡ status.Accepted
   of_verdict (verdict.Accepted a) accepted reports verified = agreed a accepted reports.is (verified reports.is)
   of_verdict (verdict.Rejected f) accepted reports verified = absurd (apart reports.status_is)
@@ -80,5 +80,5 @@ module _ (q : Question) (orders trades : Log) (certificate text : List ℕ) (the
 
 pub certified-verified : CertifiedIsVerified
 certified-verified q orders trades certificate text the_status certified verified =
-    of_verdict q orders trades certificate text the_status certified.verdict certified.is certified.reports
+    of_verdict q orders trades certificate text the_status certified.verdict certified.is certified.answer
     (λ is. rw (is.logs.records, is.logs.trades_are) at verified)

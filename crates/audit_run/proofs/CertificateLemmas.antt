@@ -7,29 +7,28 @@ use Rattle.audit_base.specs.declared.records.OrderRecord.{OrderRecord}
 use Rattle.audit_base.specs.declared.records.TradeRecord.{TradeRecord}
 use Rattle.audit_base.specs.declared.terms.Which.{Which}
 use Rattle.audit_base.specs.declared.terms.Which.TheVariants.{Orders, Trades}
-use Rattle.audit_report.specs.Lines.{read_fault_line, too_long_line}
 use Rattle.log_source.specs.Sources.{Slot, Rose}
 use Rattle.record_verdict.specs.declared.before_rule.BeforeRule.{BeforeRule}
 use Rattle.record_verdict.specs.declared.before_rule.BeforeRule.TheVariants as upto
 use Rattle.record_verdict.specs.declared.scopes.Scope.{Scope}
 use Rattle.record_verdict.specs.Scopes.{call_scope}
 use Rattle.log_verdict.specs.declared.sources.Source.{Source}
-use Rattle.audit_run.specs.declared.reports.Report.{Report}
+use Rattle.audit_run.specs.declared.answers.Answer.{Answer}
 use Rattle.command_words.specs.declared.requests.Request.{Request}
 use Rattle.log_verdict.specs.declared.stops.Stop.{Stop}
 use Rattle.log_verdict.specs.declared.stops.Stop.TheVariants as stop
 use Rattle.log_verdict.specs.BothLogs.{IsAfterOrders, IsLogStop, ReadsAfterOrders, ReadsUpToRule, StaysWithin, StaysWithinAt}
-use Rattle.audit_run.specs.Certificates.{IsVerifyReport}
-use Rattle.log_verdict.specs.Collecting.{step_of, IsReadAs, TouchesOnly}
-use Rattle.audit_run.specs.JudgedReports.{VerifiesAs}
-use Rattle.log_verdict.specs.LogVerdicts.{log_in, order_log, trade_log}
-use Rattle.audit_run.specs.Reporting.{DecidesLog, SaysReport}
+use Rattle.audit_run.specs.Certificates.{IsVerifyAnswer}
+use Rattle.audit_run.specs.Deciding.{request_to_verify, DecidesAnswer, IsAnswerOfKind, ReadingStops}
+use Rattle.audit_run.specs.JudgedAnswers.{IsVerifyAnswerOn}
+use Rattle.audit_run.specs.OneLog.{DecidesBytes}
 use Rattle.audit_run.specs.Requests.{next_log}
-use Rattle.audit_run.specs.Runs.{IsText, ReadsOn, StopsAtLog}
+use Rattle.audit_run.specs.Runs.{ReadingDecides, ReadsOneByOne, ReadsUpTo}
+use Rattle.log_verdict.specs.Collecting.{step_of, IsReadAs, TouchesOnly}
+use Rattle.log_verdict.specs.LogVerdicts.{log_in, order_log, trade_log}
 use Rattle.log_verdict.specs.Steps.{Reading, LogStep, IsRead, IsReadFault, IsTooLong, StepsLead, FaultsNeverFall, with_slot}
 use Rattle.record_verdict.specs.BeforeRule.{is_malformed, IsBeforeRule}
-use Rattle.audit_run.proofs.ReportLemmas.{text-of, verify-status}
-use Rattle.audit_run.specs.Deciding.{verify_of, DecidesReport, IsStop}
+use Rattle.audit_run.proofs.AnswerLemmas.{text-of, verify-status}
 
 -- a reading of the whole, from the reading of a part before and one after
 abbrev joined : Reading → Reading → Reading
@@ -46,7 +45,7 @@ bad_trades scope entries (Ok paired) (upto.Malformed log bad) come malformed = a
 bad_trades scope entries (Ok paired) (upto.Found finding) come malformed = absurd (not_both (sym malformed))
 bad_trades scope entries (Ok paired) (upto.Sound resolved) come malformed = absurd (not_both (sym malformed))
 
--- Both logs were read, are in their grammars, and come to this.
+-- Both logs were read, are in their grammars, and this is known of them before the rule.
 pub record BothRead (r : Reading) (scope : Scope) (orders trades : Source) (reached : BeforeRule) : Type 0 where
   pub one : List ℕ
   pub two : List ℕ
@@ -98,7 +97,7 @@ module _ (first second : Reading) (after : Continues first second) (later : Faul
   asked = call_scope symbol
 
   abbrev request : Request
-  request = verify_of symbol orders trades certificate
+  request = request_to_verify symbol orders trades certificate
 
   abbrev first_step : LogStep
   first_step = step_of first Orders orders.name.now
@@ -136,10 +135,10 @@ module _ (first second : Reading) (after : Continues first second) (later : Faul
     third_next : next_log request (both.one ∷ both.two ∷ []) ≡ Some (Trades, certificate)
     third_next = rw both.trades_are refl
 
-    two_read : ReadsOn whole request [] (first_step ∷ second_step ∷ []) (both.one ∷ both.two ∷ [])
+    two_read : ReadsOneByOne whole request [] (first_step ∷ second_step ∷ []) (both.one ∷ both.two ∷ [])
     two_read = (both.one, record { next = refl; read = read_first first_step both.one both.read_one }, (both.two, record { next = second_next; read = read_first second_step both.two both.read_two }, refl))
 
-    three_read : (bytes : List ℕ) → IsRead second third_step bytes → ReadsOn whole request [] (first_step ∷ second_step ∷ third_step ∷ []) (both.one ∷ both.two ∷ bytes ∷ [])
+    three_read : (bytes : List ℕ) → IsRead second third_step bytes → ReadsOneByOne whole request [] (first_step ∷ second_step ∷ third_step ∷ []) (both.one ∷ both.two ∷ bytes ∷ [])
     three_read bytes read = (
       both.one,
       record { next = refl; read = read_first first_step both.one both.read_one },
@@ -150,30 +149,27 @@ module _ (first second : Reading) (after : Continues first second) (later : Faul
       ),
     )
 
-    certificate_text : (report : Report) → IsReadAs second Trades certificate (λ bytes. SaysReport (VerifiesAs symbol reached bytes) report) → IsText whole request report.status report.text.items
-    certificate_text report is =
-        let verified : IsVerifyReport symbol (log_in orders.form both.one) (log_in trades.form both.two) is.bytes report.status report.text.items =
+    certificate_text : (answer : Answer) → IsReadAs second Trades certificate (λ bytes. IsAnswerOfKind (IsVerifyAnswerOn symbol reached bytes) answer) → ReadingDecides whole request answer.status answer.text.items
+    certificate_text answer is =
+        let verified : IsVerifyAnswer symbol (log_in orders.form both.one) (log_in trades.form both.two) is.bytes answer.status answer.text.items =
         is.holds (log_in orders.form both.one) (log_in trades.form both.two) (rw (both.orders_are, both.trades_are) both.come) in
-        text-of whole request report.status report.text.items (verify-status symbol (log_in orders.form both.one) (log_in trades.form both.two) is.bytes report.status report.text.items verified)
+        text-of whole request answer.status answer.text.items (verify-status symbol (log_in orders.form both.one) (log_in trades.form both.two) is.bytes answer.status answer.text.items verified)
         (record {
           steps = first_step ∷ second_step ∷ third_step ∷ [];
           logs = both.one ∷ both.two ∷ is.bytes ∷ [];
           lead = three_lead;
           read = three_read is.bytes is.read;
           all = refl;
-          report = verified;
+          answer = verified;
         })
 
-    stops_third : (why : Reading → LogStep → Type 0) (line : Which → List ℕ) → why whole third_step → StopsAtLog why line whole request (line Trades)
-    stops_third why line cause = record {
+    reaches_third : ReadsUpTo whole request third_step
+    reaches_third = record {
       steps = first_step ∷ second_step ∷ [];
       logs = both.one ∷ both.two ∷ [];
-      last = third_step;
       lead = three_lead;
       read = two_read;
       next = third_next;
-      cause = cause;
-      text_is = refl;
     }
 
     third_fault : IsReadFault second third_step → IsReadFault whole third_step
@@ -192,14 +188,14 @@ module _ (first second : Reading) (after : Continues first second) (later : Faul
           (subst (λ (o : Option (List ℕ)). IsSomeAnd o (λ bytes. second.limit < length bytes)) (after.logs Trades certificate) (is.longer (after.tells ∙ t)));
     }
 
-    certificate_stop : (the_stop : Stop) → IsLogStop second Trades certificate the_stop → IsStop whole request the_stop
-    certificate_stop (stop.ReadFault log) (is, fault) = rw is (stops_third IsReadFault read_fault_line (third_fault fault))
-    certificate_stop (stop.TooLong log) (is, long) = rw is (stops_third IsTooLong too_long_line (third_long long))
+    certificate_stop : (the_stop : Stop) → IsLogStop second Trades certificate the_stop → ReadingStops whole request the_stop
+    certificate_stop (stop.ReadFault log) (is, fault) = rw is (record { last = third_step; reached = reaches_third; cause = third_fault fault; text_is = refl })
+    certificate_stop (stop.TooLong log) (is, long) = rw is (record { last = third_step; reached = reaches_third; cause = third_long long; text_is = refl })
     certificate_stop stop.Memory is = tt
 
     -- what is decided of the certificate is decided of the whole call
-    pub decides_certificate : (result : Result Report Stop) → DecidesLog second Trades certificate (VerifiesAs symbol reached) result → DecidesReport whole request result
-    decides_certificate (Ok report) is = certificate_text report is
+    pub decides_certificate : (result : Result Answer Stop) → DecidesBytes second Trades certificate (IsVerifyAnswerOn symbol reached) result → DecidesAnswer whole request result
+    decides_certificate (Ok answer) is = certificate_text answer is
     decides_certificate (Err the_stop) is = certificate_stop the_stop is
 
   at_most : (a b c : ℕ) → a ≤ b → b ≤ c → a ≤ c
@@ -211,7 +207,7 @@ module _ (first second : Reading) (after : Continues first second) (later : Faul
       at_most (first.before Trades).faults (first.after Trades).faults (second.after Trades).faults (later Trades)
       (subst (λ (s : Slot). s.faults ≤ (second.after Trades).faults) (after.slots Trades) only.later)
 
-  pub within_certificate : (reached : BeforeRule) (result : Result Report Stop) → StaysWithin {T = BeforeRule} first (Ok reached) → StaysWithinAt second Trades result → StaysWithin whole result
+  pub within_certificate : (reached : BeforeRule) (result : Result Answer Stop) → StaysWithin {T = BeforeRule} first (Ok reached) → StaysWithinAt second Trades result → StaysWithin whole result
   within_certificate reached result before stays begins = ⊎_elim (λ stop. inl stop) (λ taken. ⊎_elim (λ none. absurd none) (λ ends. inr (all_within (subst (λ (n : ℕ). (second.after Trades).taken ≤ n) after.limit taken) ends)) (before begins)) stays
     where
       all_within : (second.after Trades).taken ≤ first.limit → ((log : Which) → (first.after log).taken ≤ first.limit) → (log : Which) → (whole.after log).taken ≤ first.limit

@@ -29,9 +29,9 @@ use Rattle.canonical_form.specs.Trades.{ExpectedHavePlaces, TradesAreSound, Trad
 use Rattle.continuous_laws.specs.Laws.{OnlyPairs}
 use Rattle.record_verdict.specs.declared.questions.Question.{Question}
 use Rattle.audit_run.specs.Expecting.{IsConformingLog, IsLogOfOrders}
+use Rattle.audit_run.specs.OtherTexts.{IsAcceptedBeside}
 use Rattle.record_verdict.specs.Judgements.{question, table_lines, AreOnlyQuantities, IsReportedBound}
 use Rattle.log_verdict.specs.LogVerdicts.{trades_without_pairing}
-use Rattle.audit_run.specs.OtherTexts.{IsAcceptedBeside}
 use Rattle.record_verdict.specs.Stages.{IsJudgedDeals}
 use Rattle.record_verdict.specs.Laws.{SoundTradesAreJudged}
 
@@ -81,7 +81,7 @@ module _ (laws : Laws) (orders : List Order) (list : IsOrderList orders) (regula
   only-these rule.Matching deals ranges conforms = tt
   only-these rule.Fair deals ranges conforms = tt
 
-  -- what is reported of them
+  -- what is answered to them
   acceptance_of : (q : Question) → List Deal → Option Cut → Accepted
   acceptance_of q deals bound = record {
     rule = q.rule;

@@ -14,8 +14,8 @@ use Rattle.audit_base.specs.Orders.{OrdersInRange, IsOrderList}
 use Rattle.audit_base.specs.Expected.{uniform_deals, IsExpectedUniform}
 use Rattle.call_laws.specs.Optimum.{UniformOptimum, UniformTradesAreExpected}
 use Rattle.audit_report.specs.Summaries.{call_line}
+use Rattle.audit_run.specs.OneLog.{AddsLine}
 use Rattle.audit_run.specs.OtherTexts.{IsCallLine}
-use Rattle.audit_run.specs.Reporting.{AddsLine}
 
 -- there is one least number with a property
 one-least : (P : ℕ → Type 0) (a b : ℕ) → IsLeast P a → IsLeast P b → a ≡ b

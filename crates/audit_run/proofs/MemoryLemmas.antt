@@ -10,10 +10,10 @@ use Rattle.log_source.specs.QuietShelves.{quiet_log, quiet_slot}
 use Rattle.log_source.specs.Sinks.{SinkState, SinkStays}
 use Rattle.log_source.specs.Sources.{Rose, longest_log}
 use Rattle.command_words.specs.declared.requests.Request.{Request}
-use Rattle.audit_run.specs.InMemory.{ReportsInRoom}
-use Rattle.audit_run.specs.Runs.{Runs}
+use Rattle.audit_run.specs.InMemory.{AnswersInRoom}
+use Rattle.audit_run.specs.Runs.{AnswersWithCause}
 use Rattle.log_verdict.specs.Steps.{Reading}
-use Rattle.audit_run.proofs.ReadyLemmas.{report_in_room}
+use Rattle.audit_run.proofs.ReadyLemmas.{answer_in_room}
 use Rattle.audit_run.proofs.StepLemmas.{rose-in}
 
 no_rise : Rose 0 0 → ⊥
@@ -33,11 +33,11 @@ there : (bytes : List ℕ) (x : Option (List ℕ)) → x ≡ Some bytes → x �
 there bytes x some none = cc
 
 -- a log in memory is read
-pub never_unread : (asked : Option Request) (old new : QuietShelf) (before after : SinkState) (result : Status) → Runs asked (quiet_reading old new) before after result → result ≡ status.ReadFault → ⊥
+pub never_unread : (asked : Option Request) (old new : QuietShelf) (before after : SinkState) (result : Status) → AnswersWithCause asked (quiet_reading old new) before after result → result ≡ status.ReadFault → ⊥
 never_unread None old new before after status.ReadFault runs e = absurd runs.0
 never_unread (Some request) old new before after status.ReadFault runs e =
     let stops = runs.is in
-    ⊎_elim (λ rose. quiet old new stops.last.log (rose-in (quiet_slot old) stops.steps stops.last (quiet_slot new) stops.lead rose))
+    ⊎_elim (λ rose. quiet old new stops.last.log (rose-in (quiet_slot old) stops.reached.steps stops.last (quiet_slot new) stops.reached.lead rose))
     (λ none. there (quiet_log old stops.last.log) _ refl none.1) stops.cause.cause
 never_unread asked old new before after status.Accepted runs e = cc
 never_unread asked old new before after status.Rejected runs e = cc
@@ -51,10 +51,10 @@ never_unread asked old new before after status.Memory runs e = cc
 pub no_fails : (fails : List ℕ) (room : ℕ) → fails ≡ [] → sure_room fails room ≡ room
 no_fails fails room none = rw none refl
 
--- where the sink has room for the report, it is written
+-- where the sink has room for the answer, it is written
 pub in_room : (asked : Option Request) (old new : QuietShelf) (before after : SinkState) (written fails : List ℕ) (room : ℕ) (result : Status) → before.wrote ≡ Some written → before.sure ≡ sure_room fails room
-    → SinkStays before after → fails ≡ [] → Runs asked (quiet_reading old new) before after result
-    → ReportsInRoom asked (quiet_reading old new) (length written) room before after result
+    → SinkStays before after → fails ≡ [] → AnswersWithCause asked (quiet_reading old new) before after result
+    → AnswersInRoom asked (quiet_reading old new) (length written) room before after result
 in_room None old new before after written fails room result wrote sure stays none runs = tt
 in_room (Some request) old new before after written fails room result wrote sure stays none runs = λ logs ready.
-    report_in_room (quiet_reading old new) request logs refl (quiet old new) before after written room result wrote (sure ∙ no_fails fails room none) stays ready runs
+    answer_in_room (quiet_reading old new) request logs refl (quiet old new) before after written room result wrote (sure ∙ no_fails fails room none) stays ready runs

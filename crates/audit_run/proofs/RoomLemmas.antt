@@ -4,14 +4,13 @@ use Rattle.std.specs.Prelude.{IfSome}
 use Rattle.std.specs.Io.KnownBytes.{Appends}
 use Rattle.audit_report.specs.declared.statuses.Status.{Status}
 use Rattle.audit_report.specs.declared.statuses.Status.TheVariants as status
-use Rattle.audit_report.specs.Lines.{auditor_usage_line}
 use Rattle.log_source.specs.Sinks.{SinkState, SinkStays}
 use Rattle.command_words.specs.declared.requests.Request.{Request}
 use Rattle.audit_run.specs.Corollaries.{HasRoomForText}
-use Rattle.audit_run.specs.Runs.{IsSomeText, Runs, WritesPart}
+use Rattle.audit_run.specs.Runs.{AnswersWithCause, IsDecidedText, IsUsageLine, WritesPrefix}
 use Rattle.log_verdict.specs.Steps.{Reading}
 
--- a sink that takes so much for sure doesn't fail at a proper prefix
+-- a sink that takes as many bytes for sure doesn't fail at a proper prefix
 never_part : (before : List ℕ) (now : Option (List ℕ)) (text : List ℕ) (count sure room : ℕ) → count < length text → Appends (Some before) now (take count text) → sure ≡ room
     → IfSome now (λ bytes. sure ≤ length bytes) → length before + length text ≤ room → ⊥
 never_part before None text count sure room short part same reached within = part
@@ -22,7 +21,7 @@ never_part before (Some bytes) text count sure room short part same reached with
 
 -- a text that has room isn't cut
 pub never_cut : (is_text : List ℕ → Type 0) (old new : SinkState) (before : List ℕ) (room : ℕ) → old.wrote ≡ Some before → old.sure ≡ room → SinkStays old new
-    → ((text : List ℕ) → is_text text → length before + length text ≤ room) → WritesPart is_text old new → ⊥
+    → ((text : List ℕ) → is_text text → length before + length text ≤ room) → WritesPrefix is_text old new → ⊥
 never_cut is_text old new before room wrote sure stays fits part =
     never_part before new.wrote part.text part.wrote.count new.sure room part.wrote.short
     (subst (λ (o : Option (List ℕ)). Appends o new.wrote (take part.wrote.count part.text)) wrote part.wrote.part) (stays.sure ∙ sure) part.cause.reached
@@ -30,9 +29,9 @@ never_cut is_text old new before room wrote sure stays fits part =
 
 -- where every text has room, none is cut
 pub never_full : (asked : Option Request) (r : Reading) (old new : SinkState) (before : List ℕ) (room : ℕ) (result : Status) → old.wrote ≡ Some before → old.sure ≡ room → SinkStays old new
-    → HasRoomForText asked r (length before) room → Runs asked r old new result → result ≡ status.WriteFault → ⊥
-never_full None r old new before room status.WriteFault wrote sure stays fits runs e = never_cut (λ text. text ≡ auditor_usage_line) old new before room wrote sure stays fits runs.0
-never_full (Some request) r old new before room status.WriteFault wrote sure stays fits runs e = never_cut (IsSomeText r request) old new before room wrote sure stays fits runs
+    → HasRoomForText asked r (length before) room → AnswersWithCause asked r old new result → result ≡ status.WriteFault → ⊥
+never_full None r old new before room status.WriteFault wrote sure stays fits runs e = never_cut IsUsageLine old new before room wrote sure stays fits runs.0
+never_full (Some request) r old new before room status.WriteFault wrote sure stays fits runs e = never_cut (IsDecidedText r request) old new before room wrote sure stays fits runs
 never_full asked r old new before room status.Accepted wrote sure stays fits runs e = cc
 never_full asked r old new before room status.Rejected wrote sure stays fits runs e = cc
 never_full asked r old new before room status.Usage wrote sure stays fits runs e = cc

@@ -1,19 +1,19 @@
 -- The steps of a call, one after another: what they leave, what they read, and whose faults rise.
-use Rattle.std.proofs.Common.{◌≡◌, ◌∙◌, sym, ap, subst, refl, inl, inr, ℕ, ◌≤◌, List, [], ◌∷◌, ◌++◌, length, Option, None, Some, true, append_assoc, append-nil, arith}
+use Rattle.std.proofs.Common.{◌≡◌, ◌∙◌, sym, ap, subst, refl, inl, inr, ℕ, ◌≤◌, List, [], ◌∷◌, ◌++◌, Option, None, Some, true, append_assoc, append-nil, arith}
 use Rattle.audit_base.specs.declared.terms.Which.{Which}
 use Rattle.audit_base.specs.declared.terms.Which.TheVariants.{Orders, Trades}
 use Rattle.log_source.specs.Sources.{Slot, Rose}
 use Rattle.command_words.specs.declared.requests.Request.{Request}
 use Rattle.audit_run.specs.Requests.{next_log}
-use Rattle.audit_run.specs.Runs.{ReadsNext, ReadsOn, Holds, HoldsLogs}
+use Rattle.audit_run.specs.Runs.{HoldsLog, HoldsNeededLogs, HoldsNext, ReadsNext, ReadsOneByOne}
 use Rattle.log_verdict.specs.Steps.{Reading, LogStep, StepsLead, with_slot}
 
--- what stands in a slot after it was changed
+-- what is in a slot after it was changed
 with_slot-same : (slots : Which → Slot) (log : Which) (slot : Slot) → with_slot slots log slot log ≡ slot
 with_slot-same slots Orders slot = refl
 with_slot-same slots Trades slot = refl
 
--- a change that leaves the faults of its slot no lesser leaves none lesser
+-- a change that leaves the faults of its slot no fewer leaves those of no slot fewer
 with_slot-later : (slots : Which → Slot) (log : Which) (slot : Slot) (other : Which) → (slots log).faults ≤ slot.faults
     → (slots other).faults ≤ (with_slot slots log slot other).faults
 with_slot-later slots Orders slot Orders later = later
@@ -41,47 +41,52 @@ rose-in slots (step ∷ steps) last after lead rose =
 some-none : {A : Type 0} (o : Option A) (x : A) → o ≡ None → o ≡ Some x → ⊥
 some-none o x none some = cc
 
+same-next : (o : Option (Which × List ℕ)) (a b : Which × List ℕ) → o ≡ Some a → o ≡ Some b → a ≡ b
+same-next o a b x y = cc
+
 same-bytes : (log : Option (List ℕ)) (a b : List ℕ) → log ≡ Some a → log ≡ Some b → a ≡ b
 same-bytes log a b x y = cc
 
 -- the log that is held is the log that was read
 held-read : (r : Reading) (request : Request) (read : List (List ℕ)) (step : LogStep) (bytes held : List ℕ) → r.tells ≡ true → ReadsNext r request read step bytes
-    → Holds r (next_log request read) held → bytes ≡ held
+    → HoldsNext r request read held → bytes ≡ held
 held-read r request read step bytes held tells reads holds =
-    let there = subst (λ (o : Option (Which × List ℕ)). Holds r o held) reads.next holds in
-    same-bytes (r.log_of step.log step.name) bytes held (reads.read.known tells) there.0
+    let same = same-next (next_log request read) (holds.log, holds.name) (step.log, step.name) holds.next reads.next in
+    same-bytes (r.log_of step.log step.name) bytes held (reads.read.known tells)
+    (subst (λ (p : Which × List ℕ). r.log_of p.0 p.1 ≡ Some held) same holds.holds.there)
 
 -- after logs that were read the shelf holds those that the command needs still
 pub held-after : (r : Reading) (request : Request) (read : List (List ℕ)) (steps : List LogStep) (logs held : List (List ℕ)) → r.tells ≡ true
-    → ReadsOn r request read steps logs → HoldsLogs r request read held → (next : Which × List ℕ) → next_log request logs ≡ Some next
-    → (rest : List (List ℕ)) × HoldsLogs r request logs rest
+    → ReadsOneByOne r request read steps logs → HoldsNeededLogs r request read held → (next : Which × List ℕ) → next_log request logs ≡ Some next
+    → (rest : List (List ℕ)) × HoldsNeededLogs r request logs rest
 held-after r request read [] logs held tells reads holds next is =
-    (held, subst (λ (x : List (List ℕ)). HoldsLogs r request x held) (sym reads) holds)
+    (held, subst (λ (x : List (List ℕ)). HoldsNeededLogs r request x held) (sym reads) holds)
 held-after r request read (step ∷ steps) logs [] tells reads holds next is =
     absurd (some-none (next_log request read) (step.log, step.name) holds reads.1.next)
 held-after r request read (step ∷ steps) logs (bytes ∷ held) tells reads holds next is =
     let same : reads.0 ≡ bytes = held-read r request read step reads.0 bytes tells reads.1 holds.0 in
     held-after r request (read ++ reads.0 ∷ []) steps logs held tells reads.2
-    (subst (λ (x : List ℕ). HoldsLogs r request (read ++ x ∷ []) held) (sym same) holds.1) next is
+    (subst (λ (x : List ℕ). HoldsNeededLogs r request (read ++ x ∷ []) held) (sym same) holds.1) next is
 
 -- the next log is held
-pub held-next : (r : Reading) (request : Request) (logs rest : List (List ℕ)) (next : Which × List ℕ) → next_log request logs ≡ Some next → HoldsLogs r request logs rest
-    → (bytes : List ℕ) × (r.log_of next.0 next.1 ≡ Some bytes) × (length bytes ≤ r.limit)
+pub held-next : (r : Reading) (request : Request) (logs rest : List (List ℕ)) (next : Which × List ℕ) → next_log request logs ≡ Some next → HoldsNeededLogs r request logs rest
+    → (bytes : List ℕ) × HoldsLog r next.0 next.1 bytes
 held-next r request logs [] next is holds = absurd (some-none (next_log request logs) next holds is)
 held-next r request logs (bytes ∷ rest) next is holds =
-    let there = subst (λ (o : Option (Which × List ℕ)). Holds r o bytes) is holds.0 in (bytes, there.0, there.1)
+    let same = same-next (next_log request logs) (holds.0.log, holds.0.name) next holds.0.next is in
+    (bytes, subst (λ (p : Which × List ℕ). HoldsLog r p.0 p.1 bytes) same holds.0.holds)
 
 -- the logs that were read are those that the shelf holds
 pub held-all : (r : Reading) (request : Request) (read : List (List ℕ)) (steps : List LogStep) (logs held : List (List ℕ)) → r.tells ≡ true
-    → ReadsOn r request read steps logs → next_log request logs ≡ None → HoldsLogs r request read held → logs ≡ read ++ held
+    → ReadsOneByOne r request read steps logs → next_log request logs ≡ None → HoldsNeededLogs r request read held → logs ≡ read ++ held
 held-all r request read [] logs [] tells reads all holds = reads ∙ sym (append-nil read)
 held-all r request read [] logs (bytes ∷ held) tells reads all holds =
     let none : next_log request read ≡ None = subst (λ (x : List (List ℕ)). next_log request x ≡ None) reads all in
-    absurd (subst (λ (o : Option (Which × List ℕ)). Holds r o bytes) none holds.0)
+    absurd (some-none (next_log request read) (holds.0.log, holds.0.name) none holds.0.next)
 held-all r request read (step ∷ steps) logs [] tells reads all holds =
     absurd (some-none (next_log request read) (step.log, step.name) holds reads.1.next)
 held-all r request read (step ∷ steps) logs (bytes ∷ held) tells reads all holds =
     let same : reads.0 ≡ bytes = held-read r request read step reads.0 bytes tells reads.1 holds.0 in
     let rest : logs ≡ (read ++ reads.0 ∷ []) ++ held = held-all r request (read ++ reads.0 ∷ []) steps logs held tells reads.2 all
-    (subst (λ (x : List ℕ). HoldsLogs r request (read ++ x ∷ []) held) (sym same) holds.1) in
+    (subst (λ (x : List ℕ). HoldsNeededLogs r request (read ++ x ∷ []) held) (sym same) holds.1) in
     rest ∙ ap (λ (x : List ℕ). (read ++ x ∷ []) ++ held) same ∙ append_assoc read (bytes ∷ []) held

@@ -1,4 +1,4 @@
--- What the commands about certificates report: `certify` and `verify`.
+-- What the commands about certificates answer: `certify` and `verify`.
 use Rattle.std.specs.Prelude.{◌≡◌, ◌⊎◌, ℕ, List, Result, MatchOption}
 use Rattle.audit_base.specs.declared.findings.Finding.{Finding}
 use Rattle.audit_base.specs.declared.orders.Deal.{Deal}
@@ -20,7 +20,7 @@ use Rattle.audit_report.specs.declared.verdicts.Verdict.TheVariants.{Accepted, R
 use Rattle.audit_report.specs.Certificates.{refused_line, verified_line}
 use Rattle.record_verdict.specs.declared.questions.Question.{Question}
 use Rattle.log_verdict.specs.LogVerdicts.{Log, HaveRecords, IsLogVerdict, OfLogs}
-use Rattle.audit_run.specs.OtherTexts.{IsDone, IsRefused}
+use Rattle.audit_run.specs.VerdictAnswers.{IsDone, IsVerdictAnswer}
 
 -- The logs have orders and deals, and the text is their certificate, which agrees.
 pub record IsCertificateOf (q : Question) (orders trades : Log) (text : List ℕ) : Type 0 where
@@ -28,22 +28,27 @@ pub record IsCertificateOf (q : Question) (orders trades : Log) (text : List ℕ
   pub paired : Result (List TradeRecord) Finding
   pub logs : HaveRecords orders trades entries paired
   pub certificate : let history = order_list q.symbol entries in
-      IsCertificateUnder q.rule q.symbol history (deals_of_symbol history q.symbol (paired_trades paired)) text
+      IsCertificateUnder q.rule q.symbol history
+      (deals_of_symbol history q.symbol (paired_trades paired)) text
   pub agrees : let history = order_list q.symbol entries in
-      AgreesUnder q.rule q.symbol history (deals_of_symbol history q.symbol (paired_trades paired)) text
+      AgreesUnder q.rule q.symbol history
+      (deals_of_symbol history q.symbol (paired_trades paired)) text
 
--- what `audit` reports of a verdict, with a text of this kind in the place of the accepted text
-abbrev pub ReportsWith : (List ℕ → Type 0) → Verdict → Status → List ℕ → Type 0
-ReportsWith is_text (Accepted accepted) status text = IsDone is_text status text
-ReportsWith is_text (Rejected finding) status text = IsRefused (Rejected finding) status text
-ReportsWith is_text (Malformed log bad) status text = IsRefused (Malformed log bad) status text
+-- the answer by a verdict, but with a text of this kind in the place of the accepted text
+abbrev pub IsVerdictAnswerWith : (List ℕ → Type 0) → Verdict → Status → List ℕ → Type 0
+IsVerdictAnswerWith is_text (Accepted accepted) status text = IsDone is_text status text
+IsVerdictAnswerWith is_text (Rejected finding) status text =
+    IsVerdictAnswer (Rejected finding) status text
+IsVerdictAnswerWith is_text (Malformed log bad) status text =
+    IsVerdictAnswer (Malformed log bad) status text
 
--- `certify`: what `audit` reports of two logs, with their certificate in the place of the accepted text
-pub record IsCertifyReport (q : Question) (orders trades : Log) (status : Status)
+-- `certify` answers by the verdict on two logs, as `audit` does, but with their certificate in
+-- the place of the accepted text.
+pub record IsCertifyAnswer (q : Question) (orders trades : Log) (status : Status)
     (text : List ℕ) : Type 0 where
   pub verdict : Verdict
   pub is : IsLogVerdict q orders trades verdict
-  pub reports : ReportsWith (IsCertificateOf q orders trades) verdict status text
+  pub answer : IsVerdictAnswerWith (IsCertificateOf q orders trades) verdict status text
 
 -- The certificate agrees under a rule, to which the deals then conform, and the line says so.
 pub record IsVerified (symbol : List ℕ) (orders : List Order) (deals : List Deal)
@@ -54,7 +59,8 @@ pub record IsVerified (symbol : List ℕ) (orders : List Order) (deals : List De
   pub status_is : the_status ≡ status.Accepted
   pub text_is : text ≡ verified_line the_rule symbol (volume deals)
 
--- The certificate agrees under no rule, and the line has the number of its first line that is refused.
+-- The certificate agrees under no rule, and the line has the number of its
+-- first line that is refused.
 pub record IsDisproved (symbol : List ℕ) (orders : List Order) (deals : List Deal)
     (certificate : List ℕ) (the_status : Status) (text : List ℕ) : Type 0 where
   pub line : ℕ
@@ -63,24 +69,28 @@ pub record IsDisproved (symbol : List ℕ) (orders : List Order) (deals : List D
   pub status_is : the_status ≡ status.Rejected
   pub text_is : text ≡ refused_line line
 
--- what is reported of a certificate over sound trades
-abbrev pub Verifies : List ℕ → List Order → List Deal → List ℕ → Status → List ℕ → Type 0
-Verifies symbol orders deals certificate the_status text =
+-- over sound trades `verify` answers under which rule the certificate agrees, or which of its
+-- lines is the first that is refused
+abbrev pub VerifiesDeals : List ℕ → List Order → List Deal → List ℕ → Status → List ℕ → Type 0
+VerifiesDeals symbol orders deals certificate the_status text =
     IsVerified symbol orders deals certificate the_status text
     ⊎ IsDisproved symbol orders deals certificate the_status text
 
--- records with a finding before a rule of a call is looked at are refused; else what came of the
--- certificate is reported
+-- over records `verify` answers a finding that comes before any rule of a call, if there is one;
+-- else what it answers over their deals
 abbrev pub VerifiesRecords : List ℕ → List ℕ → List OrderRecord
     → Result (List TradeRecord) Finding → Status → List ℕ → Type 0
 VerifiesRecords symbol certificate entries paired the_status text =
     let orders = order_list symbol entries in
     MatchOption (early_finding (call_scope symbol) entries paired)
-    (Verifies symbol orders (deals_of_symbol orders symbol (paired_trades paired)) certificate the_status text)
-    (λ finding. IsRefused (Rejected finding) the_status text)
+    (VerifiesDeals symbol orders (deals_of_symbol orders symbol (paired_trades paired)) certificate
+    the_status text)
+    (λ finding. IsVerdictAnswer (Rejected finding) the_status text)
 
--- `verify`: logs out of their grammar are refused; else what their records and the certificate come to is reported
-abbrev pub IsVerifyReport : List ℕ → Log → Log → List ℕ → Status → List ℕ → Type 0
-IsVerifyReport symbol orders trades certificate the_status text =
-    OfLogs (λ entries paired. VerifiesRecords symbol certificate entries paired the_status text)
-    (λ log bad. IsRefused (Malformed log bad) the_status text) orders trades
+-- `verify` answers the first bad place of logs out of their grammar; else what it
+-- answers over their records
+abbrev pub IsVerifyAnswer : List ℕ → Log → Log → List ℕ → Status → List ℕ → Type 0
+IsVerifyAnswer symbol orders trades certificate the_status text =
+    OfLogs
+    (λ entries paired. VerifiesRecords symbol certificate entries paired the_status text)
+    (λ log bad. IsVerdictAnswer (Malformed log bad) the_status text) orders trades

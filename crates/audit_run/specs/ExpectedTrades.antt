@@ -1,4 +1,5 @@
--- That an audit accepts the trades that `expect` writes: what one call wrote, handed to another call.
+-- That an audit accepts the trades that `expect` writes: what one call
+-- wrote, handed to another call.
 use Rattle.std.specs.Prelude.{◌≡◌, ◌⊎◌, ℕ, Bool, true, List, [], ◌∷◌, Some, IsSome}
 use Rattle.std.specs.Io.KnownBytes.{Appends}
 use Rattle.audit_base.specs.declared.terms.Form.TheVariants.{Csv}
@@ -11,28 +12,32 @@ use Rattle.audit_report.specs.declared.verdicts.Verdict.TheVariants as verdict
 use Rattle.log_source.specs.Sinks.{SinkState}
 use Rattle.record_verdict.specs.declared.questions.Question.{Question}
 use Rattle.command_words.specs.declared.requests.Request.{Request}
-use Rattle.command_words.specs.declared.requests.Request.TheVariants.{Audit, Expect}
+use Rattle.command_words.specs.declared.requests.Request.TheVariants.{Expect}
 use Rattle.record_verdict.specs.Judgements.{question}
 use Rattle.log_verdict.specs.LogVerdicts.{Log, log_in, IsLogVerdict}
-use Rattle.audit_run.specs.Runs.{HoldsLogs, IsReady, ReportsHeldLogs, Runs}
+use Rattle.audit_run.specs.Runs.{AllIsThere, AnswersHeldLogs, AnswersWithCause, HoldsNeededLogs}
+use Rattle.audit_run.specs.TopCall.{audit_of_logs}
 use Rattle.log_verdict.specs.Steps.{Reading}
 
--- A call of `run` on these well-formed words answered this, as its clauses say.
-pub record Answered (request : Request) (r : Reading) (old new : SinkState)
+-- A call of `run` on these well-formed words answered this, by what `run` says of the logs that
+-- the shelf holds and by what it says of causes.
+pub record IsAnsweredCall (request : Request) (r : Reading) (old new : SinkState)
     (status : Status) : Type 0 where
-  pub headline : ReportsHeldLogs (Some request) r old new status
-  pub runs : Runs (Some request) r old new status
+  pub commands : AnswersHeldLogs (Some request) r old new status
+  pub causes : AnswersWithCause (Some request) r old new status
 
--- A call of `expect` answered 0 and wrote this text. Shelf and sink tell, and the shelf holds the order log.
+-- A call of `expect` answered 0 and wrote this text. It is known what the shelf holds and what
+-- the sink was given, and the shelf holds the order log.
 pub record WroteExpected (the_rule : Rule) (symbol : List ℕ) (orders : Log)
     (text : List ℕ) : Type 0 where
   pub name : List ℕ
   pub r : Reading
   pub old : SinkState
   pub new : SinkState
-  pub answered : Answered (Expect the_rule symbol name orders.form) r old new status.Accepted
+  pub answered : IsAnsweredCall (Expect the_rule symbol name orders.form)
+      r old new status.Accepted
   pub shelf_tells : r.tells ≡ true
-  pub held : HoldsLogs r (Expect the_rule symbol name orders.form) [] (orders.bytes ∷ [])
+  pub held : HoldsNeededLogs r (Expect the_rule symbol name orders.form) [] (orders.bytes ∷ [])
   pub sink_tells : IsSome old.wrote
   pub wrote : Appends old.wrote new.wrote text
 
@@ -43,31 +48,28 @@ pub record AreAccepted (q : Question) (orders trades : Log) : Type 0 where
   pub only : (other : Verdict) → IsLogVerdict q orders trades other
       → other ≡ verdict.Accepted accepted
 
--- the text that `expect` wrote is accepted as a CSV trade log beside the same order log, under the same rule
+-- the text that `expect` wrote is accepted as a CSV trade log beside the same
+-- order log, under the same rule
 abbrev pub ExpectedTradesAreAccepted : Type 0
 ExpectedTradesAreAccepted = (the_rule : Rule) (symbol : List ℕ) (table : Bool) (orders : Log)
     (text : List ℕ) → WroteExpected the_rule symbol orders text
     → AreAccepted (question the_rule symbol table) orders (log_in Csv text)
 
--- the request for an audit of two logs under these names
-abbrev pub audit_of_logs : Question → Log → Log → List ℕ → List ℕ → Request
-audit_of_logs q orders trades orders_name trades_name =
-    Audit q.rule q.symbol orders_name trades_name orders.form trades.form q.table
-
--- A call of `audit`, for which all is there, answered this of these logs: the shelf holds both, and no fault rose.
+-- A call of `audit` answered this to these logs: the shelf holds both, and nothing fails.
 pub record AuditedLogs (q : Question) (orders trades : Log) (status : Status) : Type 0 where
   pub orders_name : List ℕ
   pub trades_name : List ℕ
   pub r : Reading
   pub old : SinkState
   pub new : SinkState
-  pub answered : Answered (audit_of_logs q orders trades orders_name trades_name) r old new status
-  pub ready : IsReady r (audit_of_logs q orders trades orders_name trades_name)
+  pub answered : IsAnsweredCall (audit_of_logs q orders trades orders_name trades_name)
+      r old new status
+  pub ready : AllIsThere r (audit_of_logs q orders trades orders_name trades_name)
       (orders.bytes ∷ trades.bytes ∷ []) old new
 
 -- so `audit` of the two answers 0, or that memory ran out
 abbrev pub AuditAcceptsExpectedTrades : Type 0
 AuditAcceptsExpectedTrades = (the_rule : Rule) (symbol : List ℕ) (table : Bool) (orders : Log)
-    (text : List ℕ) (answer : Status) → WroteExpected the_rule symbol orders text
-    → AuditedLogs (question the_rule symbol table) orders (log_in Csv text) answer
-    → (answer ≡ status.Accepted) ⊎ (answer ≡ status.Memory)
+    (text : List ℕ) (the_status : Status) → WroteExpected the_rule symbol orders text
+    → AuditedLogs (question the_rule symbol table) orders (log_in Csv text) the_status
+    → (the_status ≡ status.Accepted) ⊎ (the_status ≡ status.Memory)

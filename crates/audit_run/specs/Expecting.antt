@@ -13,7 +13,8 @@ use Rattle.csv_logs.specs.Logs.{csv_trade_log}
 use Rattle.csv_logs.specs.Written.{csv_trades_text}
 use Rattle.audit_run.specs.OtherTexts.{IsExpectedLog}
 
--- The text is the CSV log of the Expected trades of these orders, which conform, and it says these trades.
+-- The text is the CSV log of the Expected trades of these orders, which conform,
+-- and it says these trades.
 pub record IsConformingLog (the_rule : Rule) (symbol : List ℕ) (orders : List Order)
     (text : List ℕ) : Type 0 where
   pub deals : List Deal
@@ -27,5 +28,5 @@ pub record IsConformingLog (the_rule : Rule) (symbol : List ℕ) (orders : List 
 -- the text is the log of the Expected trades of whatever well-formed records have these orders
 abbrev pub IsLogOfOrders : Rule → List ℕ → List Order → List ℕ → Type 0
 IsLogOfOrders the_rule symbol orders text =
-    (entries : List OrderRecord) → WellFormed symbol entries → orders ≡ order_list symbol entries
-    → IsExpectedLog the_rule symbol entries text
+    (entries : List OrderRecord) → WellFormed symbol entries
+    → orders ≡ order_list symbol entries → IsExpectedLog the_rule symbol entries text

@@ -1,19 +1,20 @@
--- What a reader must believe, in the order in which it is read: what `run` says, answers and writes, and what
--- each command reads and reports.
+-- What a reader must believe, in the order in which it is read: what `run` says, what a run
+-- answers and writes, and what each command reads and answers.
 pub mod TopCall
 pub mod Runs
 pub mod Requests
+pub mod VerdictAnswers
 pub mod OtherTexts
 pub mod Certificates
 pub mod Sessions
 pub mod Laws
-pub mod OneReport
+pub mod AnswerIsOne
 pub mod ExpectedTrades
 pub mod InMemory
 pub mod Corollaries
 -- What private functions pass on to one another.
 pub mod Deciding
-pub mod JudgedReports
-pub mod Reporting
+pub mod JudgedAnswers
+pub mod OneLog
 pub mod Expecting
 pub mod Writing

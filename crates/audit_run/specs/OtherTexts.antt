@@ -1,4 +1,4 @@
--- What the commands that write logs report: `expect`, `convert` and `generate`.
+-- What the commands that write logs answer: `expect`, `convert` and `generate`.
 use Rattle.std.specs.Prelude.{◌≡◌, ℕ, Bool, List, [], ◌∷◌, ◌++◌, Option, Result, Ok, length, MatchOption, MatchResult}
 use Rattle.audit_base.specs.declared.faults.BadPlace.{BadPlace}
 use Rattle.audit_base.specs.declared.findings.Finding.{Finding}
@@ -24,33 +24,22 @@ use Rattle.audit_base.specs.Verdicts.{instant_order_finding}
 use Rattle.audit_report.specs.declared.statuses.Status.{Status}
 use Rattle.audit_report.specs.declared.statuses.Status.TheVariants.{Accepted}
 use Rattle.audit_report.specs.declared.verdicts.Accepted.{Accepted as AcceptedLog}
-use Rattle.audit_report.specs.declared.verdicts.Verdict.{Verdict}
 use Rattle.audit_report.specs.declared.verdicts.Verdict.TheVariants as verdict
 use Rattle.audit_report.specs.declared.verdicts.Verdict.TheVariants.{Rejected, Malformed}
 use Rattle.audit_report.specs.Summaries.{generated_line, call_line, continuous_line}
-use Rattle.audit_report.specs.Statuses.{verdict_status}
-use Rattle.audit_report.specs.Texts.{verdict_text}
 use Rattle.csv_logs.specs.Written.{csv_orders_text, csv_trades_text}
 use Rattle.log_maker.specs.Generator.{generated_orders, generated_records}
 use Rattle.record_verdict.specs.declared.questions.Question.{Question}
 use Rattle.record_verdict.specs.Judgements.{question, IsJudged}
 use Rattle.log_verdict.specs.LogVerdicts.{Log, order_log, trade_log}
+use Rattle.audit_run.specs.VerdictAnswers.{IsAnswerWith, IsDone, IsVerdictAnswer}
 
--- The command refuses what it read: the report is that of the verdict which says why.
-pub record IsRefused (verdict : Verdict) (status : Status) (text : List ℕ) : Type 0 where
-  pub status_is : status ≡ verdict_status verdict
-  pub text_is : text ≡ verdict_text verdict
-
--- The command was done in full, and what it wrote is of this kind.
-pub record IsDone (is_text : List ℕ → Type 0) (status : Status) (text : List ℕ) : Type 0 where
-  pub done : status ≡ Accepted
-  pub is : is_text text
-
--- what is found in an order log before any trade is looked at: the history's finding, or an order that the
--- rule does not admit
+-- what is found in an order log before any trade is looked at: the history's finding, or an order
+-- that the rule does not admit
 abbrev pub orders_finding : Rule → List ℕ → List OrderRecord → Option Finding
 orders_finding the_rule symbol entries =
-    first_answer (history_finding symbol entries ∷ instant_order_finding the_rule (order_list symbol entries) ∷ [])
+    first_answer (history_finding symbol entries
+    ∷ instant_order_finding the_rule (order_list symbol entries) ∷ [])
 
 -- What a trade log says is accepted beside these records of orders.
 pub record IsAcceptedBeside (q : Question) (entries : List OrderRecord)
@@ -60,7 +49,8 @@ pub record IsAcceptedBeside (q : Question) (entries : List OrderRecord)
   pub acceptance : AcceptedLog
   pub judged : IsJudged q entries (Ok trades) (verdict.Accepted acceptance)
 
--- The text is the CSV log of the Expected trades of these records of orders. An audit accepts it beside them.
+-- The text is the CSV log of the Expected trades of these records of orders. An
+-- audit accepts it beside them.
 pub record IsExpectedLog (the_rule : Rule) (symbol : List ℕ) (entries : List OrderRecord)
     (text : List ℕ) : Type 0 where
   pub deals : List Deal
@@ -69,38 +59,40 @@ pub record IsExpectedLog (the_rule : Rule) (symbol : List ℕ) (entries : List O
   pub accepted : (table : Bool)
       → IsAcceptedBeside (question the_rule symbol table) entries (trade_log Csv text)
 
--- records of orders with a finding are refused; else the Expected trades are written
-abbrev pub ExpectsOf : Rule → List ℕ → List OrderRecord → Status → List ℕ → Type 0
-ExpectsOf the_rule symbol entries status text =
+-- over the records of an order log `expect` answers a finding, if there is one; else the log of
+-- the Expected trades
+abbrev pub ExpectsRecords : Rule → List ℕ → List OrderRecord → Status → List ℕ → Type 0
+ExpectsRecords the_rule symbol entries status text =
     MatchOption (orders_finding the_rule symbol entries)
     (IsDone (IsExpectedLog the_rule symbol entries) status text)
-    (λ finding. IsRefused (Rejected finding) status text)
+    (λ finding. IsVerdictAnswer (Rejected finding) status text)
 
--- `expect`: an order log out of its grammar is refused; else what its records come to is reported
-abbrev pub IsExpectReport : Rule → List ℕ → Log → Status → List ℕ → Type 0
-IsExpectReport the_rule symbol orders status text =
+-- `expect` answers the first bad place of an order log out of its grammar; else what it answers
+-- over its records
+abbrev pub IsExpectAnswer : Rule → List ℕ → Log → Status → List ℕ → Type 0
+IsExpectAnswer the_rule symbol orders status text =
     MatchResult (order_log orders.form orders.bytes)
-    (λ entries. ExpectsOf the_rule symbol entries status text)
-    (λ bad. IsRefused (Malformed Orders bad) status text)
+    (λ entries. ExpectsRecords the_rule symbol entries status text)
+    (λ bad. IsVerdictAnswer (Malformed Orders bad) status text)
 
--- trades are written as a CSV log, and reports that do not pair are refused
+-- over trades `convert` answers their CSV log; where execution reports do not pair, the finding
 abbrev pub ConvertsTrades : Result (List TradeRecord) Finding → Status → List ℕ → Type 0
 ConvertsTrades paired status text =
     MatchResult paired
-    (λ trades. IsDone (λ written. written ≡ csv_trades_text trades) status text)
-    (λ finding. IsRefused (Rejected finding) status text)
+    (λ trades. IsAnswerWith Accepted (csv_trades_text trades) status text)
+    (λ finding. IsVerdictAnswer (Rejected finding) status text)
 
--- `convert`: a log out of its grammar is refused, and so is a trade log whose reports do not pair; else all
--- its records are written as a CSV log
-abbrev pub IsConvertReport : Which → Log → Status → List ℕ → Type 0
-IsConvertReport Orders log status text =
+-- `convert` answers the first bad place of a log out of its grammar; else its records as a CSV
+-- log, or, of a trade log whose execution reports do not pair, the finding
+abbrev pub IsConvertAnswer : Which → Log → Status → List ℕ → Type 0
+IsConvertAnswer Orders log status text =
     MatchResult (order_log log.form log.bytes)
-    (λ entries. IsDone (λ written. written ≡ csv_orders_text entries) status text)
-    (λ bad. IsRefused (Malformed Orders bad) status text)
-IsConvertReport Trades log status text =
+    (λ entries. IsAnswerWith Accepted (csv_orders_text entries) status text)
+    (λ bad. IsVerdictAnswer (Malformed Orders bad) status text)
+IsConvertAnswer Trades log status text =
     MatchResult (trade_log log.form log.bytes)
     (λ paired. ConvertsTrades paired status text)
-    (λ bad. IsRefused (Malformed Trades bad) status text)
+    (λ bad. IsVerdictAnswer (Malformed Trades bad) status text)
 
 -- The line says of the Expected trades of a call how many there are, their volume, and its bound.
 pub record IsCallLine (the_rule : VolumeRule) (orders : List Order)
@@ -118,9 +110,10 @@ pub record IsContinuousLine (orders : List Order) (line : List ℕ) : Type 0 whe
   pub expected : IsExpected rule.Continuous orders deals
   pub line_is : line ≡ continuous_line (length deals) (volume deals)
 
--- The summary of orders that were generated: a line of START and COUNT, and one of the Expected trades
--- under each rule that has such.
-pub record IsSummaryOf (orders : List Order) (start count : ℕ) (text : List ℕ) : Type 0 where
+-- The summary of orders that were generated: a line of START and COUNT, and one of the Expected
+-- trades under each rule that has such.
+pub record IsSummaryOfOrders (orders : List Order) (start count : ℕ)
+    (text : List ℕ) : Type 0 where
   pub uniform : List ℕ
   pub maximum : List ℕ
   pub continuous : List ℕ
@@ -129,7 +122,7 @@ pub record IsSummaryOf (orders : List Order) (start count : ℕ) (text : List �
   pub continuous_is : IsContinuousLine orders continuous
   pub text_is : text ≡ generated_line start count ++ uniform ++ maximum ++ continuous
 
--- `generate`: the summary of the orders of the generated records
-abbrev pub IsSummary : ℕ → ℕ → List ℕ → Type 0
-IsSummary start count text =
-    IsSummaryOf (generated_orders (generated_records start count)) start count text
+-- `generate` writes the summary of the orders of the generated records
+abbrev pub IsGeneratedSummary : ℕ → ℕ → List ℕ → Type 0
+IsGeneratedSummary start count text =
+    IsSummaryOfOrders (generated_orders (generated_records start count)) start count text

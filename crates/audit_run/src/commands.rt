@@ -1,19 +1,19 @@
-//! The report of each command. A command is an arm of `report_on`.
+//! The answer to each command. A command is an arm of `answer_request`.
 ghost use Rattle.std.specs.Prelude.{◌≡◌, IsTrue};
 ghost use Rattle.audit_base.specs.RuleKinds.{asks_for_greatest};
 ghost use Rattle.log_source.specs.Sources.{longest_log};
 ghost use Rattle.log_verdict.specs.BothLogs.{HaveOneLimit, StaysWithin};
-ghost use Rattle.audit_run.specs.Deciding.{audit_of, certify_of, DecidesReport};
+ghost use Rattle.audit_run.specs.Deciding.{request_to_audit, request_to_certify, DecidesAnswer};
 ghost use Rattle.command_words.specs.Words.{MayBeAsked};
 ghost use Rattle.log_verdict.specs.Steps.{reading, reading_by, KeepsShelfLogs, FaultsNeverFall};
 
-use super::converting::report_convert;
-use super::expecting::report_expect;
-use super::generating::report_generate;
-use super::judged_reports::certify_report;
-use super::reports::{Report, verdict_report};
-use super::sessions::report_session;
-use super::verifying::report_verify;
+use super::answers::{Answer, verdict_answer};
+use super::converting::answer_convert;
+use super::expecting::answer_expect;
+use super::generating::answer_generate;
+use super::judged_answers::certify_answer;
+use super::sessions::answer_session;
+use super::verifying::answer_verify;
 use audit_base::names::Name;
 use audit_base::terms::{Form, Rule};
 use command_words::paths::PathText;
@@ -27,43 +27,43 @@ use record_verdict::questions::Question;
 use seeded_hash::seed::HashSeed;
 use std::alloc::Global;
 
-/// The report of the command `audit`.
-fn report_audit<F: Shelf>(
+/// The answer to `audit`.
+fn answer_audit<F: Shelf>(
     alloc: Global,
     shelf: &mut F,
     question: &Question,
     orders: &Source<'_>,
     trades: &Source<'_>,
-) -> Result<Report, Stop>
+) -> Result<Answer, Stop>
     requires limit { HaveOneLimit orders.now trades.now }
     ensures logs { KeepsShelfLogs F.Shelf shelf.old shelf.new }
     ensures later { FaultsNeverFall (reading_by orders.now F.Shelf shelf.old shelf.new) }
-    ensures decides { DecidesReport (reading_by orders.now F.Shelf shelf.old shelf.new)
-        (audit_of question.now orders.now trades.now) result }
+    ensures decides { DecidesAnswer (reading_by orders.now F.Shelf shelf.old shelf.new)
+        (request_to_audit question.now orders.now trades.now) result }
     ensures within { StaysWithin (reading_by orders.now F.Shelf shelf.old shelf.new) result }
 {
     // A match and no `?`, as in `verdict_on`.
     match verdict_on(alloc, shelf, question, orders, trades) {
-        Ok(verdict) => Ok(verdict_report(alloc, &verdict)?),
+        Ok(verdict) => Ok(verdict_answer(alloc, &verdict)?),
         Err(stop) => Err(stop),
     }
 }
 
-/// The report of the command `certify`.
-fn report_certify<F: Shelf>(
+/// The answer to `certify`.
+fn answer_certify<F: Shelf>(
     alloc: Global,
     shelf: &mut F,
     rule: Rule,
     symbol: &Name,
     orders: &Source<'_>,
     trades: &Source<'_>,
-) -> Result<Report, Stop>
+) -> Result<Answer, Stop>
     requires rule { IsTrue (asks_for_greatest rule) }
     requires limit { HaveOneLimit orders.now trades.now }
     ensures logs { KeepsShelfLogs F.Shelf shelf.old shelf.new }
     ensures later { FaultsNeverFall (reading_by orders.now F.Shelf shelf.old shelf.new) }
-    ensures decides { DecidesReport (reading_by orders.now F.Shelf shelf.old shelf.new)
-        (certify_of rule symbol.now orders.now trades.now) result }
+    ensures decides { DecidesAnswer (reading_by orders.now F.Shelf shelf.old shelf.new)
+        (request_to_certify rule symbol.now orders.now trades.now) result }
     ensures within { StaysWithin (reading_by orders.now F.Shelf shelf.old shelf.new) result }
 {
     let question = Question {
@@ -73,7 +73,7 @@ fn report_certify<F: Shelf>(
     };
     // A match and no `?`, as in `verdict_on`.
     match read_both(alloc, shelf, &question.scope(), orders, trades) {
-        Ok(reached) => Ok(certify_report(alloc, &question, &reached)?),
+        Ok(reached) => Ok(certify_answer(alloc, &question, &reached)?),
         Err(stop) => Err(stop),
     }
 }
@@ -87,17 +87,17 @@ fn source_of(path: &PathText, form: Form, seed: HashSeed) -> Source<'_>
     Source::of(path.as_str(), form, seed)
 }
 
-/// The report of the command that the request is.
-pub(crate) fn report_on<F: Shelf>(
+/// The answer to a request, whatever its command is.
+pub(crate) fn answer_request<F: Shelf>(
     alloc: Global,
     seed: HashSeed,
     shelf: &mut F,
     request: &Request,
-) -> Result<Report, Stop>
+) -> Result<Answer, Stop>
     requires { MayBeAsked request.now }
     ensures logs { KeepsShelfLogs F.Shelf shelf.old shelf.new }
     ensures later { FaultsNeverFall (reading F.Shelf shelf.old shelf.new) }
-    ensures decides { DecidesReport (reading F.Shelf shelf.old shelf.new) request.now result }
+    ensures decides { DecidesAnswer (reading F.Shelf shelf.old shelf.new) request.now result }
     ensures within { StaysWithin (reading F.Shelf shelf.old shelf.new) result }
 {
     match request {
@@ -117,7 +117,7 @@ pub(crate) fn report_on<F: Shelf>(
             };
             let orders = source_of(orders, *orders_form, seed);
             let trades = source_of(trades, *trades_form, seed);
-            report_audit(alloc, shelf, &question, &orders, &trades)
+            answer_audit(alloc, shelf, &question, &orders, &trades)
         }
         Request::Expect {
             rule,
@@ -126,12 +126,12 @@ pub(crate) fn report_on<F: Shelf>(
             orders_form,
         } => {
             let orders = source_of(orders, *orders_form, seed);
-            report_expect(alloc, shelf, *rule, symbol, &orders)
+            answer_expect(alloc, shelf, *rule, symbol, &orders)
         }
         Request::Convert { log, form, path } => {
-            report_convert(alloc, shelf, *log, &source_of(path, *form, seed))
+            answer_convert(alloc, shelf, *log, &source_of(path, *form, seed))
         }
-        Request::Generate { start, count } => Ok(report_generate(alloc, *start, *count)?),
+        Request::Generate { start, count } => Ok(answer_generate(alloc, *start, *count)?),
         Request::Certify {
             rule,
             symbol,
@@ -142,7 +142,7 @@ pub(crate) fn report_on<F: Shelf>(
         } => {
             let orders = source_of(orders, *orders_form, seed);
             let trades = source_of(trades, *trades_form, seed);
-            report_certify(alloc, shelf, *rule, symbol, &orders, &trades)
+            answer_certify(alloc, shelf, *rule, symbol, &orders, &trades)
         }
         Request::Verify {
             symbol,
@@ -154,7 +154,7 @@ pub(crate) fn report_on<F: Shelf>(
         } => {
             let orders = source_of(orders, *orders_form, seed);
             let trades = source_of(trades, *trades_form, seed);
-            report_verify(alloc, shelf, symbol, &orders, &trades, certificate.as_str())
+            answer_verify(alloc, shelf, symbol, &orders, &trades, certificate.as_str())
         }
         Request::Session {
             symbol,
@@ -167,7 +167,7 @@ pub(crate) fn report_on<F: Shelf>(
         } => {
             let orders = source_of(orders, *orders_form, seed);
             let trades = source_of(trades, *trades_form, seed);
-            report_session(
+            answer_session(
                 alloc,
                 shelf,
                 symbol,

@@ -7,25 +7,26 @@ ghost use Rattle.log_source.specs.declared.memory_sink.MemorySink.{MemorySink};
 ghost use Rattle.log_source.specs.declared.quiet_shelf.QuietShelf.{QuietShelf};
 ghost use Rattle.command_words.specs.declared.requests.Request.{Request};
 ghost use Rattle.audit_run.specs.Corollaries.{HasRoomForText};
-ghost use Rattle.audit_run.specs.Runs.{Runs};
+ghost use Rattle.audit_run.specs.Runs.{AnswersWithCause};
 ghost use Rattle.log_verdict.specs.Steps.{Reading, reading};
 
 use log_source::quiet_shelf::QuietShelf;
 use log_source::shelf::Shelf;
 
-/// Over a shelf that never fails the answer is never `ReadFault`, whatever the words and the sink.
+/// Over a shelf that never fails the status is never `ReadFault`, whatever the words and the sink.
 pub fn a_quiet_shelf_is_read()
     ensures { (asked : Option Request) (old new : QuietShelf) (before after : SinkState)
-        (answer : Status) → Runs asked (reading ⟦<QuietShelf as Shelf>⟧ old new) before after answer
-        → answer ≢ Status.ReadFault }
+        (the_status : Status)
+        → AnswersWithCause asked (reading ⟦<QuietShelf as Shelf>⟧ old new) before after the_status
+        → the_status ≢ Status.ReadFault }
 {}
 
-/// Into a sink in memory none of whose writes is to fail, and which has room for every text that the call
-/// may write, the answer is never `WriteFault`, whatever the words and the shelf.
+/// Into a sink in memory none of whose writes is to fail, and which has room for every text that
+/// the call may write, the status is never `WriteFault`, whatever the words and the shelf.
 pub fn a_sink_with_room_is_written()
-    ensures { (asked : Option Request) (r : Reading) (old new : MemorySink) (answer : Status)
+    ensures { (asked : Option Request) (r : Reading) (old new : MemorySink) (the_status : Status)
         → failing_writes old ≡ [] → HasRoomForText asked r (sink_length old) (sink_room old)
         → SinkStays (memory_sink_state old) (memory_sink_state new)
-        → Runs asked r (memory_sink_state old) (memory_sink_state new) answer
-        → answer ≢ Status.WriteFault }
+        → AnswersWithCause asked r (memory_sink_state old) (memory_sink_state new) the_status
+        → the_status ≢ Status.WriteFault }
 {}

@@ -14,13 +14,13 @@ ghost use Rattle.log_source.specs.Collectors.{HasPlace};
 ghost use Rattle.log_source.specs.Sources.{longest_read};
 ghost use Rattle.log_verdict.specs.BothLogs.{StaysWithinAt};
 ghost use Rattle.log_verdict.specs.Collecting.{TouchesOnly};
-ghost use Rattle.log_verdict.specs.LogVerdicts.{log_in};
+ghost use Rattle.audit_run.specs.Deciding.{IsAnswerOfKind};
 ghost use Rattle.audit_run.specs.Expecting.{IsConformingLog, IsLogOfOrders};
-ghost use Rattle.audit_run.specs.OtherTexts.{ExpectsOf, IsExpectReport};
-ghost use Rattle.audit_run.specs.Reporting.{DecidesLog, SaysReport};
+ghost use Rattle.audit_run.specs.OneLog.{DecidesLog};
+ghost use Rattle.audit_run.specs.OtherTexts.{ExpectsRecords, IsExpectAnswer};
 ghost use Rattle.log_verdict.specs.Steps.{reading_by, KeepsShelfLogs};
 
-use super::reports::{Report, done_report, finding_report, report_without};
+use super::answers::{Answer, done_answer, finding_answer, unread_answer};
 use audit_base::faults::NoMemory;
 use audit_base::names::Name;
 use audit_base::orders::Deal;
@@ -108,73 +108,73 @@ fn expected_log(
     conforming_log(alloc, rule, symbol, orders)
 }
 
-/// What is reported of the records of an order log.
-fn report_records<S: AuditedSymbol>(
+/// The answer to the records of an order log.
+fn answer_records<S: AuditedSymbol>(
     alloc: Global,
     rule: Rule,
     symbol: &Name,
     draft: HistoryDraft<S>,
-) -> Result<Report, NoMemory>
+) -> Result<Answer, NoMemory>
     requires rule { IsTrue (has_table rule) }
     requires symbol { symbol.now ≡ S.symbol }
     requires place { HasPlace (IsHistoryDraft S.symbol) draft }
-    ensures { IfOk result (λ report. (entries : List OrderRecord)
+    ensures { IfOk result (λ answer. (entries : List OrderRecord)
         → IsHistoryDraft S.symbol draft entries
-        → SaysReport (ExpectsOf rule symbol.now entries) report) }
+        → IsAnswerOfKind (ExpectsRecords rule symbol.now entries) answer) }
 {
     let history = match draft.end() {
         Ok(history) => history,
-        Err(finding) => return finding_report(alloc, finding),
+        Err(finding) => return finding_answer(alloc, finding),
     };
     let orders = history.orders();
     match call_finding(rule, &orders) {
-        Some(finding) => finding_report(alloc, finding),
-        None => Ok(done_report(expected_log(alloc, rule, symbol, &orders)?)),
+        Some(finding) => finding_answer(alloc, finding),
+        None => Ok(done_answer(expected_log(alloc, rule, symbol, &orders)?)),
     }
 }
 
-/// The report, by the history of the symbol.
-fn report_about<S: AuditedSymbol, F: Shelf>(
+/// The answer to `expect`, by the history of the symbol.
+fn answer_about<S: AuditedSymbol, F: Shelf>(
     alloc: Global,
     shelf: &mut F,
     rule: Rule,
     symbol: &Name,
     orders: &Source<'_>,
-) -> Result<Report, Stop>
+) -> Result<Answer, Stop>
     requires rule { IsTrue (has_table rule) }
     requires limit { orders.now.limit ≤ longest_read }
     requires symbol { symbol.now ≡ S.symbol }
     ensures logs { KeepsShelfLogs F.Shelf shelf.old shelf.new }
     ensures only { TouchesOnly (reading_by orders.now F.Shelf shelf.old shelf.new) Which.Orders }
-    ensures decides { DecidesLog (reading_by orders.now F.Shelf shelf.old shelf.new) Which.Orders
-        orders.now.name.now
-        (λ bytes. IsExpectReport rule symbol.now (log_in orders.now.form bytes)) result }
-    ensures within { StaysWithinAt (reading_by orders.now F.Shelf shelf.old shelf.new) Which.Orders result }
+    ensures decides { DecidesLog (reading_by orders.now F.Shelf shelf.old shelf.new)
+        Which.Orders orders.now (IsExpectAnswer rule symbol.now) result }
+    ensures within { StaysWithinAt (reading_by orders.now F.Shelf shelf.old shelf.new)
+        Which.Orders result }
 {
     let draft = HistoryDraft::<S>::new(alloc, orders.seed, *symbol);
     match collect_orders::<F, HistoryDraft<S>>(alloc, shelf, orders, draft) {
-        Ok(draft) => Ok(report_records(alloc, rule, symbol, draft)?),
-        Err(unread) => report_without(alloc, Which::Orders, unread),
+        Ok(draft) => Ok(answer_records(alloc, rule, symbol, draft)?),
+        Err(unread) => unread_answer(alloc, Which::Orders, unread),
     }
 }
 
-/// The report of the command `expect`: the trade log of the Expected trades; or that of the bad place or
+/// The answer to `expect`: the trade log of the Expected trades; or that of the bad place or
 /// the finding for which there are none.
-pub(crate) fn report_expect<F: Shelf>(
+pub(crate) fn answer_expect<F: Shelf>(
     alloc: Global,
     shelf: &mut F,
     rule: Rule,
     symbol: &Name,
     orders: &Source<'_>,
-) -> Result<Report, Stop>
+) -> Result<Answer, Stop>
     requires rule { IsTrue (has_table rule) }
     requires limit { orders.now.limit ≤ longest_read }
     ensures logs { KeepsShelfLogs F.Shelf shelf.old shelf.new }
     ensures only { TouchesOnly (reading_by orders.now F.Shelf shelf.old shelf.new) Which.Orders }
-    ensures decides { DecidesLog (reading_by orders.now F.Shelf shelf.old shelf.new) Which.Orders
-        orders.now.name.now
-        (λ bytes. IsExpectReport rule symbol.now (log_in orders.now.form bytes)) result }
-    ensures within { StaysWithinAt (reading_by orders.now F.Shelf shelf.old shelf.new) Which.Orders result }
+    ensures decides { DecidesLog (reading_by orders.now F.Shelf shelf.old shelf.new)
+        Which.Orders orders.now (IsExpectAnswer rule symbol.now) result }
+    ensures within { StaysWithinAt (reading_by orders.now F.Shelf shelf.old shelf.new)
+        Which.Orders result }
 {
-    report_about::<Brand, F>(alloc, shelf, rule, symbol, orders)
+    answer_about::<Brand, F>(alloc, shelf, rule, symbol, orders)
 }

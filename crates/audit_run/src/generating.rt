@@ -1,14 +1,16 @@
-//! The command `generate`: a log of any length that is the same at each run, and what its Expected trades
-//! come to.
+//! The command `generate`: a summary of the Expected trades of a log of any length, which is the
+//! same at each run.
 ghost use Rattle.std.specs.Prelude.{◌≡◌, ◌<◌, ◌^◌, IfOk, OnOk, length};
 ghost use Rattle.audit_base.specs.declared.terms.VolumeRule.TheVariants as of_volume;
 ghost use Rattle.audit_base.specs.Histories.{Regular};
 ghost use Rattle.audit_base.specs.Orders.{IsOrderList};
 ghost use Rattle.log_maker.specs.Generator.{IsCount, IsStart, generated_orders, generated_records};
-ghost use Rattle.audit_run.specs.OtherTexts.{IsCallLine, IsContinuousLine, IsDone, IsSummary, IsSummaryOf};
-ghost use Rattle.audit_run.specs.Reporting.{AddsLine, SaysReport};
+ghost use Rattle.audit_run.specs.Deciding.{IsAnswerOfKind};
+ghost use Rattle.audit_run.specs.OneLog.{AddsLine};
+ghost use Rattle.audit_run.specs.OtherTexts.{IsCallLine, IsContinuousLine, IsGeneratedSummary, IsSummaryOfOrders};
+ghost use Rattle.audit_run.specs.VerdictAnswers.{IsDone};
 
-use super::reports::{Report, done_report};
+use super::answers::{Answer, done_answer};
 use audit_base::faults::NoMemory;
 use audit_base::orders::Deal;
 use audit_base::terms::Rule;
@@ -103,7 +105,7 @@ fn summary(
 ) -> Result<Vec<u8>, NoMemory>
     requires order_list { IsOrderList orders.now }
     requires regular { Regular orders.now }
-    ensures { IfOk result (λ text. IsSummaryOf orders.now start count text.items) }
+    ensures { IfOk result (λ text. IsSummaryOfOrders orders.now start count text.items) }
 {
     let mut text = Vec::new(alloc);
     append_generated_line(alloc, start, count, &mut text)?;
@@ -113,13 +115,13 @@ fn summary(
     Ok(text)
 }
 
-/// The report of the command `generate`: the summary of the log of START and COUNT.
-pub(crate) fn report_generate(alloc: Global, start: u32, count: u32) -> Result<Report, NoMemory>
+/// The answer to `generate`: the summary of the log of START and COUNT.
+pub(crate) fn answer_generate(alloc: Global, start: u32, count: u32) -> Result<Answer, NoMemory>
     requires start { IsStart start }
     requires count { IsCount count }
-    ensures { IfOk result (SaysReport (IsDone (IsSummary start count))) }
+    ensures { IfOk result (IsAnswerOfKind (IsDone (IsGeneratedSummary start count))) }
 {
     let history = generated_history(alloc, start, count)?;
     let text = summary(alloc, start, count, &history.orders())?;
-    Ok(done_report(text))
+    Ok(done_answer(text))
 }

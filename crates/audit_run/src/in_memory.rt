@@ -2,9 +2,9 @@
 ghost use Rattle.std.specs.Prelude.{◌≡◌, ◌≢◌, [], map};
 ghost use Rattle.std.specs.String.{string_bytes};
 ghost use Rattle.log_source.specs.MemorySinks.{failing_writes, sink_length, memory_sink_state, sink_room};
-ghost use Rattle.audit_run.specs.InMemory.{ReportsInRoom};
+ghost use Rattle.audit_run.specs.InMemory.{AnswersInRoom};
+ghost use Rattle.audit_run.specs.TopCall.{AuditorAnswers};
 ghost use Rattle.log_verdict.specs.Steps.{reading};
-ghost use Rattle.audit_run.specs.TopCall.{IsRun};
 ghost use Rattle.command_words.specs.Words.{request_of};
 
 use super::running::run;
@@ -14,11 +14,12 @@ use log_source::quiet_shelf::QuietShelf;
 use log_source::shelf::Shelf;
 use std::alloc::Global;
 
-/// Runs a command over two logs in memory, into a sink in memory: all that `run` says, and no fault of the
-/// shelf.
-/// `ReadFault` never comes. Where no write of the sink is to fail, the logs are no longer than a log may
-/// be and the sink has room for the report, the answer is the report's status, with the report written,
-/// or `Memory`.
+/// Runs a command over two logs in memory, into a sink in memory: all that `run` says, and no
+/// fault of the shelf.
+///
+/// `ReadFault` never comes. Where no write of the sink is to fail, the logs are no longer than a
+/// log may be and the sink has room for the answer's text, its status is answered, with the text
+/// written, or `Memory`.
 pub fn run_in_memory(
     alloc: Global,
     words: &[String],
@@ -26,11 +27,11 @@ pub fn run_in_memory(
     out: &mut MemorySink,
 ) -> Status
     ensures run { let asked = request_of (map string_bytes words.now) in
-        IsRun ⟦<QuietShelf as Shelf>⟧ asked shelf.old shelf.new
+        AuditorAnswers ⟦<QuietShelf as Shelf>⟧ asked shelf.old shelf.new
         (memory_sink_state out.old) (memory_sink_state out.new) result }
     ensures read { result ≢ Status.ReadFault }
-    ensures report { failing_writes out.old ≡ []
-        → ReportsInRoom (request_of (map string_bytes words.now))
+    ensures answer { failing_writes out.old ≡ []
+        → AnswersInRoom (request_of (map string_bytes words.now))
         (reading ⟦<QuietShelf as Shelf>⟧ shelf.old shelf.new) (sink_length out.old) (sink_room out.old)
         (memory_sink_state out.old) (memory_sink_state out.new) result }
 {

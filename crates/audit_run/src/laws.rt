@@ -1,8 +1,9 @@
-//! That a command has one report, that an audit accepts the trades that `expect` writes, what `generate` answers, and
-//! that a certificate that was written is verified. That two logs have one verdict stands in `log_verdict`.
+//! That a command has one answer, that an audit accepts the trades that `expect` writes, what
+//! `generate` answers, and that a certificate that was written is verified. That two logs have
+//! one verdict is a law of `log_verdict`.
+ghost use Rattle.audit_run.specs.AnswerIsOne.{AnswerIsOne, RunsAgree};
 ghost use Rattle.audit_run.specs.ExpectedTrades.{AuditAcceptsExpectedTrades, ExpectedTradesAreAccepted};
 ghost use Rattle.audit_run.specs.Laws.{CertifiedIsVerified, GenerateWrites};
-ghost use Rattle.audit_run.specs.OneReport.{OneReport, RunsAgree};
 
 use audit_certificate::one_answer::{one_answer_for_a_text, one_certificate};
 use log_verdict::laws::records_are_in_range;
@@ -10,10 +11,11 @@ pub use log_verdict::laws::{forms_agree, one_verdict};
 use session_audit::laws::one_day_offence;
 use verdict_laws::histories::expected_trades_are_one;
 
-/// Two reports on one request and the same logs have the same status and the same text, whatever the command is and
-/// however long the logs are. So what the headline of `run` says is written is one text.
-pub fn one_report()
-    ensures { OneReport }
+/// Two answers to one request on the same logs have the same status and the same text, whatever
+/// the command is and however long the logs are. So what `run` says is written of the logs that a
+/// shelf holds is one text.
+pub fn answer_is_one()
+    ensures { AnswerIsOne }
 {
     one_verdict();
     one_certificate();
@@ -23,19 +25,20 @@ pub fn one_report()
     records_are_in_range();
 }
 
-/// Of two calls of `run` on the same words, for both of which the same logs are there, within the size limit, and no
-/// fault rises, one runs out of memory, or both answer the same status and write the same text: whatever shelves and
-/// sinks they have, and however the bytes are cut.
+/// Of two calls of `run` on the same words, for both of which the same logs are there, within the
+/// size limit, and no fault rises, one runs out of memory, or both answer the same status and
+/// write the same text: whatever shelves and sinks they have, and however the bytes are cut.
 pub fn runs_agree()
     ensures { RunsAgree }
 {
-    one_report();
+    answer_is_one();
 }
 
-/// Where a call of `run` on the words of `expect` answers 0, over a shelf and a sink that tell, the text that
-/// it wrote is accepted as a CSV trade log beside the same order log, under the same rule, with a table or
-/// without. So where a call on the words of `audit` finds both logs within the size limit and no fault rises,
-/// it answers 0, or that memory ran out.
+/// Where a call of `run` on the words of `expect` answers 0, and it is known what the shelf
+/// holds and what the sink was given, the text that it wrote is accepted as a CSV trade log
+/// beside the same order log, under the same rule, with a table or without. So where a call
+/// on the words of `audit` finds both logs within the size limit and nothing fails, it
+/// answers 0, or that memory ran out.
 pub fn expected_trades_are_accepted()
     ensures verdict { ExpectedTradesAreAccepted }
     ensures audit { AuditAcceptsExpectedTrades }
@@ -43,7 +46,8 @@ pub fn expected_trades_are_accepted()
     one_verdict();
 }
 
-/// A call of `run` on the words of `generate` answers 0, that the sink failed, or that memory ran out.
+/// A call of `run` on the words of `generate` answers 0, that the sink
+/// failed, or that memory ran out.
 pub fn generate_writes()
     ensures { GenerateWrites }
 {}

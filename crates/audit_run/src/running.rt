@@ -1,25 +1,26 @@
-//! The top call: from the words of a command line to the report and the status.
+//! The top call: from the words of a command line to the text that is written and the status.
 ghost use Rattle.std.specs.Prelude.{map};
 ghost use Rattle.std.specs.String.{string_bytes};
 ghost use Rattle.log_source.specs.Sinks.{SinkStays};
 ghost use Rattle.command_words.specs.Words.{MayBeAsked};
-ghost use Rattle.audit_run.specs.Runs.{Answers, AnswersLength};
+ghost use Rattle.audit_run.specs.Runs.{AnswersRequest, AnswersTooLong};
+ghost use Rattle.audit_run.specs.TopCall.{AuditorAnswers};
 ghost use Rattle.log_verdict.specs.Steps.{reading, KeepsShelfLogs, FaultsNeverFall};
-ghost use Rattle.audit_run.specs.TopCall.{IsRun};
 ghost use Rattle.command_words.specs.Words.{request_of};
 
-use super::commands::report_on;
+use super::commands::answer_request;
 use super::writing::{write_stop, write_text};
 use audit_report::reports::usage_text;
 use audit_report::statuses::Status;
 use command_words::requests::{Request, WordsFault, read_words};
 use log_source::shelf::Shelf;
 use log_source::sink::Sink;
+use log_verdict::laws::one_verdict;
 use seeded_hash::seed::HashSeed;
 use std::alloc::Global;
 
-/// Answers well-formed words: the whole report is made, and then written.
-fn answer<F: Shelf, K: Sink>(
+/// Answers well-formed words: the whole answer is made, and then its text is written.
+fn run_request<F: Shelf, K: Sink>(
     alloc: Global,
     seed: HashSeed,
     shelf: &mut F,
@@ -30,35 +31,35 @@ fn answer<F: Shelf, K: Sink>(
     ensures logs { KeepsShelfLogs F.Shelf shelf.old shelf.new }
     ensures later { FaultsNeverFall (reading F.Shelf shelf.old shelf.new) }
     ensures stays { SinkStays (K.state out.old) (K.state out.new) }
-    ensures answers { Answers (reading F.Shelf shelf.old shelf.new) request.now
+    ensures answers { AnswersRequest (reading F.Shelf shelf.old shelf.new) request.now
         (K.state out.old) (K.state out.new) result }
-    ensures length { AnswersLength (reading F.Shelf shelf.old shelf.new) result }
+    ensures too_long { AnswersTooLong (reading F.Shelf shelf.old shelf.new) result }
 {
-    match report_on(alloc, seed, shelf, request) {
-        Ok(report) => write_text(out, &report.text, report.status),
+    match answer_request(alloc, seed, shelf, request) {
+        Ok(answer) => write_text(out, &answer.text, answer.status),
         Err(stop) => write_stop(out, stop),
     }
 }
 
-/// Runs a command: reads the words, then the logs that they name from the shelf, and writes the report
-/// on them, or one line. The status is answered.
+/// Runs a command: reads the words, then the logs that they name from the shelf, and writes the
+/// text of the answer to them, or one line. The status is answered.
 ///
 /// The words are those of the command line without the program's name. `Usage` comes exactly where
-/// they are not well-formed, `ReadFault` only where a log could not be read, `TooLong` where one has
-/// more than 67,108,864 bytes, `WriteFault` only where the sink's faults rose, and `Memory` where
-/// memory ran out, with nothing written. What the shelf has under its names stays as it was.
+/// they are not well-formed, `ReadFault` only where a log could not be read, `TooLong` where one
+/// has more than 67,108,864 bytes, `WriteFault` only where the sink's faults rose, and `Memory`
+/// where memory ran out, with nothing written. What the shelf has under its names stays as it was.
 ///
-/// The hashes by which names are found begin with the fixed seed: see `run_seeded` for logs whose names
-/// may have been chosen to make this slow.
+/// The hashes by which names are found begin with the fixed seed: see `run_seeded` for logs whose
+/// names may have been chosen to make this slow.
 pub fn run<F: Shelf, K: Sink>(alloc: Global, words: &[String], shelf: &mut F, out: &mut K) -> Status
-    ensures { IsRun F.Shelf (request_of (map string_bytes words.now)) shelf.old shelf.new
+    ensures { AuditorAnswers F.Shelf (request_of (map string_bytes words.now)) shelf.old shelf.new
         (K.state out.old) (K.state out.new) result }
 {
     run_seeded(alloc, HashSeed::fixed(), words, shelf, out)
 }
 
-/// The same as `run`, with hashes of this seed. No answer depends on the seed. One that nobody knows
-/// beforehand keeps who writes the logs from choosing names that hash alike.
+/// The same as `run`, with hashes of this seed. No answer depends on the seed. One that nobody
+/// knows beforehand keeps who writes the logs from choosing names that hash alike.
 pub fn run_seeded<F: Shelf, K: Sink>(
     alloc: Global,
     seed: HashSeed,
@@ -66,11 +67,13 @@ pub fn run_seeded<F: Shelf, K: Sink>(
     shelf: &mut F,
     out: &mut K,
 ) -> Status
-    ensures { IsRun F.Shelf (request_of (map string_bytes words.now)) shelf.old shelf.new
+    ensures { AuditorAnswers F.Shelf (request_of (map string_bytes words.now)) shelf.old shelf.new
         (K.state out.old) (K.state out.new) result }
 {
+    // A law that the answer rests on. It computes nothing.
+    one_verdict();
     match read_words(alloc, words) {
-        Ok(request) => answer(alloc, seed, shelf, out, &request),
+        Ok(request) => run_request(alloc, seed, shelf, out, &request),
         Err(WordsFault::Usage) => write_text(out, usage_text(), Status::Usage),
         Err(WordsFault::Memory) => Status::Memory,
     }

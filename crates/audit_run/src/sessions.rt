@@ -1,19 +1,18 @@
-//! The command `session`: what a day of phases comes to over two logs.
+//! The command `session`: whether a day of phases conforms, over two logs.
 ghost use Rattle.std.specs.Prelude.{IfOk};
 ghost use Rattle.audit_base.specs.Deals.{DealsInRange};
 ghost use Rattle.audit_base.specs.Histories.{Regular};
 ghost use Rattle.audit_base.specs.Orders.{IsOrderList};
 ghost use Rattle.log_verdict.specs.BothLogs.{HaveOneLimit, StaysWithin};
-ghost use Rattle.audit_run.specs.Deciding.{session_of, DecidesReport};
-ghost use Rattle.audit_run.specs.JudgedReports.{ReportsDay};
-ghost use Rattle.audit_run.specs.Reporting.{SaysReport};
-ghost use Rattle.audit_run.specs.Sessions.{AreOnlyOfDay, JudgesDay};
+ghost use Rattle.audit_run.specs.Deciding.{request_to_judge_day, DecidesAnswer, IsAnswerOfKind};
+ghost use Rattle.audit_run.specs.JudgedAnswers.{IsSessionAnswerOn};
+ghost use Rattle.audit_run.specs.Sessions.{AreOnlyOfDay, JudgesDayDeals};
 ghost use Rattle.log_verdict.specs.Steps.{reading_by, KeepsShelfLogs, FaultsNeverFall};
 ghost use Rattle.record_verdict.specs.BeforeRule.{AreJudgeable, IsJudgeable};
 ghost use Rattle.session_audit.specs.Days.{ConformsDay};
 ghost use Rattle.session_audit.specs.Phases.{ArePhases};
 
-use super::reports::{Report, done_report, finding_report, malformed_report};
+use super::answers::{Answer, done_answer, finding_answer, malformed_answer};
 use audit_base::faults::NoMemory;
 use audit_base::names::Name;
 use audit_base::orders::Deal;
@@ -43,17 +42,17 @@ fn only_of_day(orders: &OrderList<'_>, phases: &[Phase], deals: &[Deal])
     day_uniqueness();
 }
 
-/// The report of a day over sound trades.
-fn report_day(
+/// The answer to a day over sound trades.
+fn answer_day(
     alloc: Global,
     symbol: &Name,
     phases: &[Phase],
     table: bool,
     resolved: &ResolvedTrades,
-) -> Result<Report, NoMemory>
+) -> Result<Answer, NoMemory>
     requires phases { ArePhases phases.now }
     requires judgeable { AreJudgeable resolved.now }
-    ensures { IfOk result (SaysReport (JudgesDay symbol.now phases.now table
+    ensures { IfOk result (IsAnswerOfKind (JudgesDayDeals symbol.now phases.now table
         resolved.now.history resolved.now.deals.items resolved.now.count)) }
 {
     let orders = resolved.history.orders();
@@ -63,34 +62,35 @@ fn report_day(
             only_of_day(&orders, phases, deals);
             let trades = deals.len() as u32;
             let text = session_text(alloc, symbol, phases, &orders, &totals, trades, table)?;
-            Ok(done_report(text))
+            Ok(done_answer(text))
         }
-        Day::Broken(finding) => finding_report(alloc, finding),
+        Day::Broken(finding) => finding_answer(alloc, finding),
     }
 }
 
-/// The report of a day over logs that come to this.
-fn session_report(
+/// The answer to a day over logs of which this is known before the rule.
+fn session_answer(
     alloc: Global,
     symbol: &Name,
     phases: &[Phase],
     table: bool,
     reached: &BeforeRule,
-) -> Result<Report, NoMemory>
+) -> Result<Answer, NoMemory>
     requires phases { ArePhases phases.now }
     requires judgeable { IsJudgeable reached.now }
-    ensures { IfOk result (ReportsDay symbol.now phases.now table reached.now) }
+    ensures { IfOk result (IsAnswerOfKind
+        (IsSessionAnswerOn symbol.now phases.now table reached.now)) }
 {
     match reached {
-        BeforeRule::Malformed { log, bad } => malformed_report(alloc, *log, bad),
-        BeforeRule::Found(finding) => finding_report(alloc, *finding),
-        BeforeRule::Sound(resolved) => report_day(alloc, symbol, phases, table, resolved),
+        BeforeRule::Malformed { log, bad } => malformed_answer(alloc, *log, bad),
+        BeforeRule::Found(finding) => finding_answer(alloc, *finding),
+        BeforeRule::Sound(resolved) => answer_day(alloc, symbol, phases, table, resolved),
     }
 }
 
-/// The report of the command `session`. The reading admits every order: whether a call admits its own
-/// orders is for the day to say.
-pub(crate) fn report_session<F: Shelf>(
+/// The answer to `session`. The reading admits every order: whether a call admits its own orders
+/// is for the day to say.
+pub(crate) fn answer_session<F: Shelf>(
     alloc: Global,
     shelf: &mut F,
     symbol: &Name,
@@ -98,13 +98,13 @@ pub(crate) fn report_session<F: Shelf>(
     table: bool,
     orders: &Source<'_>,
     trades: &Source<'_>,
-) -> Result<Report, Stop>
+) -> Result<Answer, Stop>
     requires phases { ArePhases phases.now }
     requires limit { HaveOneLimit orders.now trades.now }
     ensures logs { KeepsShelfLogs F.Shelf shelf.old shelf.new }
     ensures later { FaultsNeverFall (reading_by orders.now F.Shelf shelf.old shelf.new) }
-    ensures decides { DecidesReport (reading_by orders.now F.Shelf shelf.old shelf.new)
-        (session_of symbol.now phases.now table orders.now trades.now) result }
+    ensures decides { DecidesAnswer (reading_by orders.now F.Shelf shelf.old shelf.new)
+        (request_to_judge_day symbol.now phases.now table orders.now trades.now) result }
     ensures within { StaysWithin (reading_by orders.now F.Shelf shelf.old shelf.new) result }
 {
     let scope = Scope {
@@ -113,7 +113,7 @@ pub(crate) fn report_session<F: Shelf>(
     };
     // A match and no `?`, as in `verdict_on`.
     match read_both(alloc, shelf, &scope, orders, trades) {
-        Ok(reached) => Ok(session_report(alloc, symbol, phases, table, &reached)?),
+        Ok(reached) => Ok(session_answer(alloc, symbol, phases, table, &reached)?),
         Err(stop) => Err(stop),
     }
 }

@@ -1,5 +1,5 @@
 //! Writing the one text of a run.
-ghost use Rattle.audit_run.specs.Writing.{Writes, WritesStop};
+ghost use Rattle.audit_run.specs.Writing.{AnswersStop, AnswersText};
 ghost use Rattle.log_source.specs.Sinks.{SinkStays};
 
 use audit_report::reports::{read_fault_text, too_long_text};
@@ -10,7 +10,7 @@ use log_verdict::stops::Stop;
 
 /// Writes the text and answers the status, or `WriteFault` where the sink fails.
 pub(crate) fn write_text<K: Sink>(out: &mut K, text: &[u8], status: Status) -> Status
-    ensures writes { Writes (K.state out.old) (K.state out.new) status text.now result }
+    ensures writes { AnswersText (K.state out.old) (K.state out.new) status text.now result }
     ensures stays { SinkStays (K.state out.old) (K.state out.new) }
 {
     match put_all(out, text) {
@@ -21,7 +21,7 @@ pub(crate) fn write_text<K: Sink>(out: &mut K, text: &[u8], status: Status) -> S
 
 /// Writes the line of a stop, and answers its status. Where memory ran out nothing is written.
 pub(crate) fn write_stop<K: Sink>(out: &mut K, stop: Stop) -> Status
-    ensures writes { WritesStop (K.state out.old) (K.state out.new) stop result }
+    ensures writes { AnswersStop (K.state out.old) (K.state out.new) stop result }
     ensures stays { SinkStays (K.state out.old) (K.state out.new) }
 {
     match stop {

@@ -1,5 +1,5 @@
-use Rattle.audit_run.proofs.OneReportLemmas.{runs-agree}
+use Rattle.audit_run.proofs.OneAnswerLemmas.{runs-agree}
 use Rattle.audit_run.proofs.laws.runs_agree.Goals as goal
 
 pub returns : goal.returns
-returns c = runs-agree c.one_report.ensures
+returns c = runs-agree c.answer_is_one.ensures

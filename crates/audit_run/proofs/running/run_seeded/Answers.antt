@@ -5,27 +5,38 @@ use Rattle.command_words.specs.declared.requests.WordsFault.TheVariants.{Usage, 
 use Rattle.command_words.specs.declared.requests.Request.{Request}
 use Rattle.log_verdict.specs.Steps.{reading}
 use Rattle.command_words.specs.Words.{request_of}
-use Rattle.audit_run.proofs.ReadyLemmas.{report_written}
-use Rattle.audit_run.proofs.RunLemmas.{memory_reports, memory_runs}
+use Rattle.audit_run.specs.Runs.{AnswersHeldLogs}
+use Rattle.audit_run.proofs.HeadlineLemmas.{answers_verdict}
+use Rattle.audit_run.proofs.ReadyLemmas.{answer_written}
+use Rattle.audit_run.proofs.RunLemmas.{memory_answers, memory_causes}
 use Rattle.audit_run.proofs.running.run_seeded.Goals as goal
 
 pub returns-in-Ok : goal.returns-in-Ok
 returns-in-Ok g c =
+    let asked = request_of (map string_bytes c.args.words.now) in
+    let r = reading g.F.Shelf c.args.shelf.now c.run_request.new.shelf in
+    let commands : AnswersHeldLogs asked r (g.K.Sink.state c.args.out.now) (g.K.Sink.state c.run_request.new.out) c.run_request.result =
+    rw c.in-Ok.ensures.request (λ logs ready. answer_written r c.in-Ok.request logs _ _ c.run_request.result ready c.run_request.ensures.answers) in
     record {
-      headline = rw c.in-Ok.ensures.request (λ logs ready. report_written (reading g.F.Shelf c.args.shelf.now c.answer.new.shelf) c.in-Ok.request logs _ _ c.answer.result ready c.answer.ensures.answers);
-      runs = rw c.in-Ok.ensures.request c.answer.ensures.answers;
-      length = c.answer.ensures.length;
-      logs = c.answer.ensures.logs;
-      later = c.answer.ensures.later;
-      sink = c.answer.ensures.stays;
+      headline = answers_verdict c.one_verdict.ensures asked r _ _ c.run_request.result commands;
+      commands = commands;
+      causes = rw c.in-Ok.ensures.request c.run_request.ensures.answers;
+      too_long = c.run_request.ensures.too_long;
+      logs = c.run_request.ensures.logs;
+      later = c.run_request.ensures.later;
+      sink = c.run_request.ensures.stays;
     }
 
 pub returns-in-Err-Usage : goal.returns-in-Err-Usage
 returns-in-Err-Usage g c =
+    let asked = request_of (map string_bytes c.args.words.now) in
+    let r = reading g.F.Shelf c.args.shelf.now c.args.shelf.now in
+    let commands : AnswersHeldLogs asked r (g.K.Sink.state c.args.out.now) (g.K.Sink.state c.write_text.new.out) c.write_text.result = search rules in
     record {
-      headline = search rules;
-      runs = search rules;
-      length = search rules;
+      headline = answers_verdict c.one_verdict.ensures asked r _ _ c.write_text.result commands;
+      commands = commands;
+      causes = search rules;
+      too_long = search rules;
       logs = search rules;
       later = search rules;
       sink = search rules;
@@ -33,11 +44,15 @@ returns-in-Err-Usage g c =
 
 pub returns-in-Err-Memory : goal.returns-in-Err-Memory
 returns-in-Err-Memory g c =
+    let asked = request_of (map string_bytes c.args.words.now) in
+    let r = reading g.F.Shelf c.args.shelf.now c.args.shelf.now in
+    let commands = memory_answers asked r (g.K.Sink.state c.args.out.now) in
     record {
-      headline = memory_reports (request_of (map string_bytes c.args.words.now)) (reading g.F.Shelf c.args.shelf.now c.args.shelf.now) (g.K.Sink.state c.args.out.now);
-      runs = memory_runs (request_of (map string_bytes c.args.words.now)) (reading g.F.Shelf c.args.shelf.now c.args.shelf.now) (g.K.Sink.state c.args.out.now)
+      headline = answers_verdict c.one_verdict.ensures asked r _ _ _ commands;
+      commands = commands;
+      causes = memory_causes asked r (g.K.Sink.state c.args.out.now)
           (λ none. not_usage (rw (c.in-Err-Memory.is ∙ ap Err c.in-Err-Memory.field-0-is) at (c.read_words.ensures.decided none)));
-      length = search rules;
+      too_long = search rules;
       logs = search rules;
       later = search rules;
       sink = search rules;

@@ -1,0 +1,281 @@
+-- What a command that reads one log, or none, answers: from one log to the whole call.
+use Rattle.std.proofs.Common.{◌≡◌, sym, subst, refl, inl, inr, ⊎_elim, ℕ, ◌≤◌, Bool, List, [], ◌∷◌, length, Option, None, Some, Result, Ok, Err, arith}
+use Rattle.std.specs.Prelude.{MatchOption, MatchResult}
+use Rattle.audit_base.specs.declared.faults.BadPlace.{BadPlace}
+use Rattle.audit_base.specs.declared.findings.Finding.{Finding}
+use Rattle.audit_base.specs.declared.orders.Deal.{Deal}
+use Rattle.audit_base.specs.declared.orders.Order.{Order}
+use Rattle.audit_base.specs.declared.records.OrderRecord.{OrderRecord}
+use Rattle.audit_base.specs.declared.records.TradeRecord.{TradeRecord}
+use Rattle.audit_base.specs.declared.terms.Rule.{Rule}
+use Rattle.audit_base.specs.declared.terms.Which.{Which}
+use Rattle.audit_base.specs.declared.terms.Which.TheVariants.{Orders, Trades}
+use Rattle.audit_base.specs.Histories.{history_finding, order_list, WellFormed}
+use Rattle.audit_base.specs.Trades.{deals_of_symbol}
+use Rattle.record_verdict.specs.Scopes.{call_scope, day_scope, early_finding}
+use Rattle.audit_base.specs.Verdicts.{instant_order_finding, paired_trades}
+use Rattle.audit_report.specs.declared.statuses.Status.{Status}
+use Rattle.audit_report.specs.declared.statuses.Status.TheVariants as status
+use Rattle.audit_report.specs.declared.verdicts.Verdict.{Verdict}
+use Rattle.audit_report.specs.declared.verdicts.Verdict.TheVariants as verdict
+use Rattle.audit_report.specs.Statuses.{verdict_status}
+use Rattle.audit_report.specs.Texts.{verdict_text}
+use Rattle.log_source.specs.declared.shelf.Shelf.{Ghosts as Shelf}
+use Rattle.log_source.specs.Sources.{longest_log, other_log}
+use Rattle.log_verdict.specs.declared.reading.Unread.{Unread}
+use Rattle.log_verdict.specs.declared.reading.Unread.TheVariants as unread
+use Rattle.audit_run.specs.declared.answers.Answer.{Answer}
+use Rattle.command_words.specs.declared.requests.Request.{Request}
+use Rattle.log_verdict.specs.declared.stops.Stop.{Stop}
+use Rattle.log_verdict.specs.declared.stops.Stop.TheVariants as stop
+use Rattle.record_verdict.specs.declared.questions.Question.{Question}
+use Rattle.audit_run.specs.Certificates.{IsCertificateOf, IsCertifyAnswer, IsVerdictAnswerWith, IsVerifyAnswer, VerifiesDeals, VerifiesRecords}
+use Rattle.audit_run.specs.Deciding.{DecidesAnswer, IsAnswerOfKind}
+use Rattle.audit_run.specs.OneLog.{DecidesBytes, DecidesUnread, IsStatusOfLogs}
+use Rattle.audit_run.specs.OtherTexts.{orders_finding, ConvertsTrades, ExpectsRecords, IsConvertAnswer, IsExpectedLog}
+use Rattle.audit_run.specs.Requests.{next_log, IsAnswerTo}
+use Rattle.audit_run.specs.Runs.{IsAnswerToReadLogs, ReadingDecides, ReadsUpTo}
+use Rattle.audit_run.specs.Sessions.{IsDayText, IsSessionAnswer, JudgesDayDeals, JudgesDayRecords}
+use Rattle.audit_run.specs.VerdictAnswers.{IsAnswerWith, IsAuditAnswer, IsDone, IsVerdictAnswer}
+use Rattle.log_verdict.specs.BothLogs.{StaysWithin, StaysWithinAt}
+use Rattle.log_verdict.specs.Collecting.{step_of, IsUnread, TouchesOnly}
+use Rattle.csv_logs.specs.Written.{csv_orders_text, csv_trades_text}
+use Rattle.session_audit.specs.declared.phases.Phase.{Phase}
+use Rattle.log_verdict.specs.LogVerdicts.{Log, order_log, trade_log}
+use Rattle.log_verdict.specs.declared.sources.Source.{Source}
+use Rattle.log_verdict.specs.Steps.{Reading, LogStep, BeginsWithin, StepsLead, FaultsNeverFall, with_slot, reading, reading_by, reading_within}
+
+-- The statuses that an answer may have.
+
+verdict-status : (v : Verdict) (s : Status) (text : List ℕ) → IsVerdictAnswer v s text → IsStatusOfLogs s
+verdict-status v s text is = subst IsStatusOfLogs (sym is.status_is) (one v)
+  where
+    one : (v : Verdict) → IsStatusOfLogs (verdict_status v)
+    one (verdict.Accepted a) = tt
+    one (verdict.Rejected f) = tt
+    one (verdict.Malformed log bad) = tt
+
+pub audit-status : (q : Question) (orders trades : Log) (s : Status) (text : List ℕ) → IsAuditAnswer q orders trades s text → IsStatusOfLogs s
+audit-status q orders trades s text is = verdict-status is.verdict s text is.answer
+
+with-status : (the_text : List ℕ) (s : Status) (text : List ℕ) → IsAnswerWith status.Accepted the_text s text → IsStatusOfLogs s
+with-status the_text s text is = subst IsStatusOfLogs (sym is.status_is) tt
+
+pub done-status : (is_text : List ℕ → Type 0) (s : Status) (text : List ℕ) → IsDone is_text s text → IsStatusOfLogs s
+done-status is_text s text is = subst IsStatusOfLogs (sym is.done) tt
+
+replaced-status : (is_text : List ℕ → Type 0) (v : Verdict) (s : Status) (text : List ℕ) → IsVerdictAnswerWith is_text v s text → IsStatusOfLogs s
+replaced-status is_text (verdict.Accepted a) s text is = done-status is_text s text is
+replaced-status is_text (verdict.Rejected f) s text is = verdict-status (verdict.Rejected f) s text is
+replaced-status is_text (verdict.Malformed log bad) s text is = verdict-status (verdict.Malformed log bad) s text is
+
+pub certify-status : (q : Question) (orders trades : Log) (s : Status) (text : List ℕ) → IsCertifyAnswer q orders trades s text → IsStatusOfLogs s
+certify-status q orders trades s text is = replaced-status (IsCertificateOf q orders trades) is.verdict s text is.answer
+
+verifies-status : (symbol : List ℕ) (orders : List Order) (deals : List Deal) (certificate : List ℕ) (found : Option Finding) (s : Status) (text : List ℕ)
+    → MatchOption found (VerifiesDeals symbol orders deals certificate s text) (λ finding. IsVerdictAnswer (verdict.Rejected finding) s text) → IsStatusOfLogs s
+verifies-status symbol orders deals certificate None s text (inl is) = subst IsStatusOfLogs (sym is.status_is) tt
+verifies-status symbol orders deals certificate None s text (inr is) = subst IsStatusOfLogs (sym is.status_is) tt
+verifies-status symbol orders deals certificate (Some finding) s text is = verdict-status (verdict.Rejected finding) s text is
+
+pub verify-status : (symbol : List ℕ) (orders trades : Log) (certificate : List ℕ) (s : Status) (text : List ℕ) → IsVerifyAnswer symbol orders trades certificate s text → IsStatusOfLogs s
+verify-status symbol orders trades certificate s text is = of_said (order_log orders.form orders.bytes) (trade_log trades.form trades.bytes) is
+  where
+    of_said : (first : Result (List OrderRecord) BadPlace) (second : Result (Result (List TradeRecord) Finding) BadPlace)
+        → MatchResult first (λ entries. MatchResult second (λ paired. VerifiesRecords symbol certificate entries paired s text) (λ bad. IsVerdictAnswer (verdict.Malformed Trades bad) s text))
+        (λ bad. IsVerdictAnswer (verdict.Malformed Orders bad) s text) → IsStatusOfLogs s
+    of_said (Ok entries) (Ok paired) is =
+        verifies-status symbol (order_list symbol entries) (deals_of_symbol (order_list symbol entries) symbol (paired_trades paired)) certificate (early_finding (call_scope symbol) entries paired) s text is
+    of_said (Ok entries) (Err bad) is = verdict-status (verdict.Malformed Trades bad) s text is
+    of_said (Err bad) second is = verdict-status (verdict.Malformed Orders bad) s text is
+
+days-status : (symbol : List ℕ) (phases : List Phase) (table : Bool) (orders : List Order) (deals : List Deal) (count : ℕ) (found : Option Finding) (s : Status) (text : List ℕ)
+    → MatchOption found (JudgesDayDeals symbol phases table orders deals count s text) (λ finding. IsVerdictAnswer (verdict.Rejected finding) s text) → IsStatusOfLogs s
+days-status symbol phases table orders deals count None s text (inl is) = done-status (IsDayText symbol phases table orders deals) s text is
+days-status symbol phases table orders deals count None s text (inr is) = verdict-status (verdict.Rejected is.finding) s text is.answer
+days-status symbol phases table orders deals count (Some finding) s text is = verdict-status (verdict.Rejected finding) s text is
+
+pub session-status : (symbol : List ℕ) (phases : List Phase) (table : Bool) (orders trades : Log) (s : Status) (text : List ℕ) → IsSessionAnswer symbol phases table orders trades s text → IsStatusOfLogs s
+session-status symbol phases table orders trades s text is = of_said (order_log orders.form orders.bytes) (trade_log trades.form trades.bytes) is
+  where
+    of_said : (first : Result (List OrderRecord) BadPlace) (second : Result (Result (List TradeRecord) Finding) BadPlace)
+        → MatchResult first (λ entries. MatchResult second (λ paired. JudgesDayRecords symbol phases table entries paired s text) (λ bad. IsVerdictAnswer (verdict.Malformed Trades bad) s text))
+        (λ bad. IsVerdictAnswer (verdict.Malformed Orders bad) s text) → IsStatusOfLogs s
+    of_said (Ok entries) (Ok paired) is =
+        days-status symbol phases table (order_list symbol entries) (deals_of_symbol (order_list symbol entries) symbol (paired_trades paired)) (length (paired_trades paired))
+        (early_finding (day_scope symbol) entries paired) s text is
+    of_said (Ok entries) (Err bad) is = verdict-status (verdict.Malformed Trades bad) s text is
+    of_said (Err bad) second is = verdict-status (verdict.Malformed Orders bad) s text is
+
+expects-status : (the_rule : Rule) (symbol : List ℕ) (entries : List OrderRecord) (found : Option Finding) (s : Status) (text : List ℕ)
+    → MatchOption found (IsDone (IsExpectedLog the_rule symbol entries) s text) (λ finding. IsVerdictAnswer (verdict.Rejected finding) s text) → IsStatusOfLogs s
+expects-status the_rule symbol entries None s text is = done-status _ s text is
+expects-status the_rule symbol entries (Some finding) s text is = verdict-status _ s text is
+
+pub expect-status : (the_rule : Rule) (symbol : List ℕ) (said : Result (List OrderRecord) BadPlace) (s : Status) (text : List ℕ)
+    → MatchResult said (λ entries. ExpectsRecords the_rule symbol entries s text) (λ bad. IsVerdictAnswer (verdict.Malformed Orders bad) s text) → IsStatusOfLogs s
+expect-status the_rule symbol (Ok entries) s text is = expects-status the_rule symbol entries (orders_finding the_rule symbol entries) s text is
+expect-status the_rule symbol (Err bad) s text is = verdict-status _ s text is
+
+converts-status : (paired : Result (List TradeRecord) Finding) (s : Status) (text : List ℕ) → ConvertsTrades paired s text → IsStatusOfLogs s
+converts-status (Ok trades) s text is = with-status (csv_trades_text trades) s text is
+converts-status (Err finding) s text is = verdict-status (verdict.Rejected finding) s text is
+
+orders-status : (said : Result (List OrderRecord) BadPlace) (s : Status) (text : List ℕ)
+    → MatchResult said (λ entries. IsAnswerWith status.Accepted (csv_orders_text entries) s text) (λ bad. IsVerdictAnswer (verdict.Malformed Orders bad) s text) → IsStatusOfLogs s
+orders-status (Ok entries) s text is = with-status (csv_orders_text entries) s text is
+orders-status (Err bad) s text is = verdict-status (verdict.Malformed Orders bad) s text is
+
+trades-status : (said : Result (Result (List TradeRecord) Finding) BadPlace) (s : Status) (text : List ℕ)
+    → MatchResult said (λ paired. ConvertsTrades paired s text) (λ bad. IsVerdictAnswer (verdict.Malformed Trades bad) s text) → IsStatusOfLogs s
+trades-status (Ok paired) s text is = converts-status paired s text is
+trades-status (Err bad) s text is = verdict-status (verdict.Malformed Trades bad) s text is
+
+pub convert-status : (which : Which) (log : Log) (s : Status) (text : List ℕ) → IsConvertAnswer which log s text → IsStatusOfLogs s
+convert-status Orders log s text is = orders-status (order_log log.form log.bytes) s text is
+convert-status Trades log s text is = trades-status (trade_log log.form log.bytes) s text is
+
+-- One log that was not read into records.
+
+module _ {R : Type 0} (meaning : List ℕ → Result R BadPlace) (r : Reading) (log : Which) (name : List ℕ) (says : List ℕ → Status → List ℕ → Type 0) where
+  pub decides-unread : ((bytes : List ℕ) (bad : BadPlace) → meaning bytes ≡ Err bad → says bytes (verdict_status (verdict.Malformed log bad)) (verdict_text (verdict.Malformed log bad)))
+      → (why : Unread) (result : Result Answer Stop) → IsUnread meaning r log name why → DecidesUnread log why result → DecidesBytes r log name says result
+  decides-unread refuses (unread.Bad bad) (Ok answer) is made = record {
+    bytes = is.bytes;
+    read = is.read;
+    holds = rw (made.status_is, made.text_is) (refuses is.bytes bad is.holds);
+  }
+  decides-unread refuses (unread.Bad bad) (Err why) is made = rw made tt
+  decides-unread refuses unread.ReadFault result is made = rw made (refl, is)
+  decides-unread refuses unread.TooLong result is made = rw made (refl, is)
+  decides-unread refuses unread.Memory result is made = rw made tt
+
+-- where the log was not read into records, it is too long or stays within the longest log
+pub within-unread : (r : Reading) (log : Which) (why : Unread) (result : Result Answer Stop) → DecidesUnread log why result → ((why ≡ unread.TooLong → ⊥) → (r.after log).taken ≤ r.limit)
+    → StaysWithinAt r log result
+within-unread r log (unread.Bad bad) result is within = inr (within (λ e. cc))
+within-unread r log unread.ReadFault result is within = inr (within (λ e. cc))
+within-unread r log unread.TooLong result is within = inl (rw is tt)
+within-unread r log unread.Memory result is within = inr (within (λ e. cc))
+
+-- One log, or none, of the whole call.
+
+module _ (r : Reading) (request : Request) where
+  pub text-of : (s : Status) (text : List ℕ) → IsStatusOfLogs s → IsAnswerToReadLogs r request s text → ReadingDecides r request s text
+  text-of status.Accepted text answers is = is
+  text-of status.Rejected text answers is = is
+  text-of status.Malformed text answers is = is
+  text-of status.Usage text answers is = absurd answers
+  text-of status.ReadFault text answers is = absurd answers
+  text-of status.WriteFault text answers is = absurd answers
+  text-of status.TooLong text answers is = absurd answers
+  text-of status.Memory text answers is = absurd answers
+
+  module _ (log : Which) (name : List ℕ) (only : TouchesOnly r log) where
+    abbrev one_step : LogStep
+    one_step = step_of r log name
+
+    one-leads : StepsLead r.before (one_step ∷ []) r.after
+    one-leads = (record { at = refl; later = only.later }, ends log only.other)
+      where
+        ends : (log : Which) → r.after (other_log log) ≡ r.before (other_log log) → (which : Which) → r.after which ≡ with_slot r.before log (r.after log) which
+        ends Orders same Orders = refl
+        ends Orders same Trades = same
+        ends Trades same Orders = same
+        ends Trades same Trades = refl
+
+    pub one-later : FaultsNeverFall r
+    one-later = falls log only.later only.other
+      where
+        falls : (log : Which) → (r.before log).faults ≤ (r.after log).faults → r.after (other_log log) ≡ r.before (other_log log) → FaultsNeverFall r
+        falls Orders own same Orders = own
+        falls Orders own same Trades = rw same (at_most _)
+          where
+            at_most : (n : ℕ) → n ≤ n
+            at_most n = omega arith
+        falls Trades own same Orders = rw same (at_most _)
+          where
+            at_most : (n : ℕ) → n ≤ n
+            at_most n = omega arith
+        falls Trades own same Trades = own
+
+    pub one-within : (result : Result Answer Stop) → ((r.before log).taken ≤ r.limit → StaysWithinAt r log result) → StaysWithin r result
+    one-within result within begins = ⊎_elim (λ stop. inl stop) (λ own. inr (ends log own only.other begins)) (within (begins log))
+      where
+        ends : (log : Which) → (r.after log).taken ≤ r.limit → r.after (other_log log) ≡ r.before (other_log log) → BeginsWithin r → (which : Which) → (r.after which).taken ≤ r.limit
+        ends Orders own same begins Orders = own
+        ends Orders own same begins Trades = rw same (begins Trades)
+        ends Trades own same begins Orders = rw same (begins Orders)
+        ends Trades own same begins Trades = own
+
+    one-reaches : next_log request [] ≡ Some (log, name) → ReadsUpTo r request one_step
+    one-reaches first = record {
+      steps = [];
+      logs = [];
+      lead = one-leads;
+      read = refl;
+      next = first;
+    }
+
+    -- what is decided of one log is decided of the whole call
+    pub decides-one : (says : List ℕ → Status → List ℕ → Type 0) (result : Result Answer Stop) → next_log request [] ≡ Some (log, name) → ((bytes : List ℕ) → next_log request (bytes ∷ []) ≡ None)
+        → ((bytes : List ℕ) (s : Status) (text : List ℕ) → says bytes s text → IsAnswerTo request (bytes ∷ []) s text)
+        → ((bytes : List ℕ) (s : Status) (text : List ℕ) → says bytes s text → IsStatusOfLogs s)
+        → DecidesBytes r log name says result → DecidesAnswer r request result
+    decides-one says (Ok answer) first last reports answers is =
+        text-of answer.status answer.text.items (answers is.bytes answer.status answer.text.items is.holds)
+        (record {
+          steps = one_step ∷ [];
+          logs = is.bytes ∷ [];
+          lead = one-leads;
+          read = (is.bytes, record { next = first; read = is.read }, refl);
+          all = last is.bytes;
+          answer = reports is.bytes answer.status answer.text.items is.holds;
+        })
+    decides-one says (Err (stop.ReadFault which)) first last reports answers is = rw is.0 (record { last = one_step; reached = one-reaches first; cause = is.1; text_is = refl })
+    decides-one says (Err (stop.TooLong which)) first last reports answers is = rw is.0 (record { last = one_step; reached = one-reaches first; cause = is.1; text_is = refl })
+    decides-one says (Err stop.Memory) first last reports answers is = tt
+
+  -- a command that needs no log answers without one
+  pub decides-none : (result : Result Answer Stop) → ((log : Which) → r.after log ≡ r.before log) → next_log request [] ≡ None
+      → MatchResult result (λ answer. IsAnswerTo request [] answer.status answer.text.items × IsStatusOfLogs answer.status) (λ why. why ≡ stop.Memory) → DecidesAnswer r request result
+  decides-none (Ok answer) same none is =
+      text-of answer.status answer.text.items is.1 (record { steps = []; logs = []; lead = same; read = refl; all = none; answer = is.0 })
+  decides-none (Err why) same none is = rw is tt
+
+-- What `expect` answers to the records of an order log.
+
+expects-found : (the_rule : Rule) (symbol : List ℕ) (entries : List OrderRecord) (finding : Finding) (answer : Answer) → orders_finding the_rule symbol entries ≡ Some finding
+    → IsAnswerOfKind (IsVerdictAnswer (verdict.Rejected finding)) answer → IsAnswerOfKind (ExpectsRecords the_rule symbol entries) answer
+expects-found the_rule symbol entries finding answer found made = rw found made
+
+pub expects-history : (the_rule : Rule) (symbol : List ℕ) (entries : List OrderRecord) (finding : Finding) (answer : Answer) → history_finding symbol entries ≡ Some finding
+    → IsAnswerOfKind (IsVerdictAnswer (verdict.Rejected finding)) answer → IsAnswerOfKind (ExpectsRecords the_rule symbol entries) answer
+expects-history the_rule symbol entries finding answer found made = expects-found the_rule symbol entries finding answer (rw found refl) made
+
+expects-order : (the_rule : Rule) (symbol : List ℕ) (entries : List OrderRecord) (finding : Finding) (answer : Answer) → WellFormed symbol entries
+    → instant_order_finding the_rule (order_list symbol entries) ≡ Some finding → IsAnswerOfKind (IsVerdictAnswer (verdict.Rejected finding)) answer → IsAnswerOfKind (ExpectsRecords the_rule symbol entries) answer
+expects-order the_rule symbol entries finding answer formed found made = expects-found the_rule symbol entries finding answer (rw (formed, found) refl) made
+
+-- as before, of orders that are those of the records, for a symbol that is the history's own
+pub expects-named : (the_rule : Rule) (symbol own : List ℕ) (entries : List OrderRecord) (orders : List Order) (finding : Finding) (answer : Answer) → symbol ≡ own → WellFormed own entries
+    → orders ≡ order_list own entries → instant_order_finding the_rule orders ≡ Some finding → IsAnswerOfKind (IsVerdictAnswer (verdict.Rejected finding)) answer → IsAnswerOfKind (ExpectsRecords the_rule symbol entries) answer
+expects-named the_rule symbol own entries orders finding answer same formed listed found made =
+    subst (λ (s : List ℕ). IsAnswerOfKind (ExpectsRecords the_rule s entries) answer) (sym same)
+    (expects-order the_rule own entries finding answer formed (subst (λ (l : List Order). instant_order_finding the_rule l ≡ Some finding) listed found) made)
+
+pub expects-done : (the_rule : Rule) (symbol : List ℕ) (entries : List OrderRecord) (answer : Answer) → WellFormed symbol entries → instant_order_finding the_rule (order_list symbol entries) ≡ None
+    → answer.status ≡ status.Accepted → IsExpectedLog the_rule symbol entries answer.text.items → IsAnswerOfKind (ExpectsRecords the_rule symbol entries) answer
+expects-done the_rule symbol entries answer formed admits done is = rw none (record { done = done; is = is })
+  where
+    none : orders_finding the_rule symbol entries ≡ None
+    none = rw (formed, admits) refl
+
+-- A call whose logs have at most 64 MiB.
+
+module _ {S : Type 0} (shelf : Shelf S) (old new : S) (source : Source) (few : source.limit ≡ longest_log) where
+  pub decides_within : (request : Request) (result : Result Answer Stop) → DecidesAnswer (reading_by source shelf old new) request result → DecidesAnswer (reading shelf old new) request result
+  decides_within request result is = subst (λ (n : ℕ). DecidesAnswer (reading_within n shelf old new) request result) few is
+
+  pub stays_within : (result : Result Answer Stop) → StaysWithin (reading_by source shelf old new) result → StaysWithin (reading shelf old new) result
+  stays_within result is = subst (λ (n : ℕ). StaysWithin (reading_within n shelf old new) result) few is

@@ -1,0 +1,132 @@
+-- What is answered to two logs, by what is known of them before the rule is looked at.
+use Rattle.std.proofs.Common.{◌≡◌, subst, refl, ℕ, List, Option, None, Some, Result, Ok, Err}
+use Rattle.std.specs.Prelude.{MatchResult}
+use Rattle.audit_base.specs.declared.faults.BadPlace.{BadPlace}
+use Rattle.audit_base.specs.declared.findings.Finding.{Finding}
+use Rattle.audit_base.specs.declared.orders.Deal.{Deal}
+use Rattle.audit_base.specs.declared.orders.Order.{Order}
+use Rattle.audit_base.specs.declared.records.OrderRecord.{OrderRecord}
+use Rattle.audit_base.specs.declared.records.TradeRecord.{TradeRecord}
+use Rattle.audit_base.specs.declared.terms.Which.{Which}
+use Rattle.audit_base.specs.declared.terms.Which.TheVariants.{Orders, Trades}
+use Rattle.audit_base.specs.Histories.{order_list}
+use Rattle.audit_base.specs.Rules.{Conforms}
+use Rattle.audit_base.specs.Verdicts.{IsRuleVerdict}
+use Rattle.audit_certificate.specs.Agreement.{AgreesUnder, IsCertificateUnder}
+use Rattle.audit_report.specs.declared.verdicts.Accepted.{Accepted}
+use Rattle.audit_report.specs.declared.verdicts.Verdict.{Verdict}
+use Rattle.audit_report.specs.declared.verdicts.Verdict.TheVariants as verdict
+use Rattle.matching_core.specs.declared.deals_draft.ResolvedTrades.{ResolvedTrades}
+use Rattle.record_verdict.specs.declared.before_rule.BeforeRule.{BeforeRule}
+use Rattle.record_verdict.specs.declared.before_rule.BeforeRule.TheVariants as upto
+use Rattle.record_verdict.specs.declared.questions.Question.{Question}
+use Rattle.audit_run.specs.declared.answers.Answer.{Answer}
+use Rattle.audit_run.specs.Certificates.{IsCertificateOf, IsVerdictAnswerWith}
+use Rattle.audit_run.specs.Deciding.{IsAnswerOfKind}
+use Rattle.audit_run.specs.JudgedAnswers.{IsCertifyAnswerOn, IsDealsCertificate, LogsReach}
+use Rattle.audit_run.specs.VerdictAnswers.{IsVerdictAnswer}
+use Rattle.record_verdict.specs.Judgements.{IsJudged, IsVerdictOfFinding}
+use Rattle.log_verdict.specs.LogVerdicts.{order_log, trade_log, HaveRecords, IsLogVerdict, Log, OfLogs}
+use Rattle.record_verdict.specs.Scopes.{scope_of}
+use Rattle.record_verdict.specs.Stages.{IsJudgedDeals, VerdictIs}
+use Rattle.record_verdict.specs.BeforeRule.{AreSound, IsBeforeRule}
+
+-- what follows of records and of a bad place follows of two logs
+pub of_logs : (P P' : List OrderRecord → Result (List TradeRecord) Finding → Type 0) (B B' : Which → BadPlace → Type 0)
+    → ((entries : List OrderRecord) (paired : Result (List TradeRecord) Finding) → P entries paired → P' entries paired)
+    → ((log : Which) (bad : BadPlace) → B log bad → B' log bad) → (orders trades : Log) → OfLogs P B orders trades → OfLogs P' B' orders trades
+of_logs P P' B B' records bads orders trades come = of_said (order_log orders.form orders.bytes) (trade_log trades.form trades.bytes) come
+  where
+    of_said : (first : Result (List OrderRecord) BadPlace) (second : Result (Result (List TradeRecord) Finding) BadPlace)
+        → MatchResult first (λ entries. MatchResult second (P entries) (B Trades)) (B Orders) → MatchResult first (λ entries. MatchResult second (P' entries) (B' Trades)) (B' Orders)
+    of_said (Ok entries) (Ok paired) is = records entries paired is
+    of_said (Ok entries) (Err bad) is = bads Trades bad is
+    of_said (Err bad) second is = bads Orders bad is
+
+-- the verdict by what is known of two logs is that of the logs
+pub verdict_of_logs : (q : Question) (reached : BeforeRule) (v : Verdict) (orders trades : Log) → VerdictIs q reached v → LogsReach (scope_of q) orders trades reached → IsLogVerdict q orders trades v
+verdict_of_logs q reached v orders trades is come =
+    of_logs (λ entries paired. IsBeforeRule (scope_of q) entries paired reached) (λ entries paired. IsJudged q entries paired v)
+    (λ log bad. reached ≡ upto.Malformed log bad) (λ log bad. v ≡ verdict.Malformed log bad) is.of_records is.of_place orders trades come
+
+-- an answer of a bad place or of a finding is that of `certify`
+refused_certifies : (q : Question) (reached : BeforeRule) (v other : Verdict) (answer : Answer) → VerdictIs q reached v → v ≡ other → IsAnswerOfKind (IsVerdictAnswer v) answer
+    → ((is_text : List ℕ → Type 0) → IsAnswerOfKind (IsVerdictAnswer other) answer → IsVerdictAnswerWith is_text other answer.status answer.text.items) → IsAnswerOfKind (IsCertifyAnswerOn q reached) answer
+refused_certifies q reached v other answer is same made reports orders trades come = record {
+  verdict = v;
+  is = verdict_of_logs q reached v orders trades is come;
+  answer = rw same (reports (IsCertificateOf q orders trades) (rw same at made));
+}
+
+pub answer_certifies : (q : Question) (reached : BeforeRule) (v : Verdict) (answer : Answer) → ((sound : ResolvedTrades) → reached ≡ upto.Sound sound → ⊥) → VerdictIs q reached v → IsAnswerOfKind (IsVerdictAnswer v) answer
+    → IsAnswerOfKind (IsCertifyAnswerOn q reached) answer
+answer_certifies q (upto.Malformed log bad) v answer none is made =
+    refused_certifies q (upto.Malformed log bad) v (verdict.Malformed log bad) answer is (is.of_place log bad refl) made
+    (λ is_text is. is)
+answer_certifies q (upto.Found finding) v answer none is made =
+    refused_certifies q (upto.Found finding) v (verdict.Rejected finding) answer is (is.of_finding finding refl) made
+    (λ is_text is. is)
+answer_certifies q (upto.Sound sound) v answer none is made = absurd (none sound refl)
+
+-- Logs of which sound trades are known have records of which they are.
+pub record HaveSoundRecords (q : Question) (orders trades : Log) (resolved : ResolvedTrades) : Type 0 where
+  pub entries : List OrderRecord
+  pub paired : Result (List TradeRecord) Finding
+  pub logs : HaveRecords orders trades entries paired
+  pub sound : AreSound (scope_of q) entries paired resolved
+
+pub sound_records : (q : Question) (orders trades : Log) (resolved : ResolvedTrades) → LogsReach (scope_of q) orders trades (upto.Sound resolved) → HaveSoundRecords q orders trades resolved
+sound_records q orders trades resolved come = of_said (order_log orders.form orders.bytes) (trade_log trades.form trades.bytes) refl refl come
+  where
+    apart : (other : Which) (place : BadPlace) → upto.Sound resolved ≡ upto.Malformed other place → ⊥
+    apart other place e = cc
+
+    of_said : (first : Result (List OrderRecord) BadPlace) (second : Result (Result (List TradeRecord) Finding) BadPlace)
+        → order_log orders.form orders.bytes ≡ first → trade_log trades.form trades.bytes ≡ second
+        → MatchResult first (λ entries. MatchResult second (λ paired. IsBeforeRule (scope_of q) entries paired (upto.Sound resolved)) (λ bad. upto.Sound resolved ≡ upto.Malformed Trades bad))
+        (λ bad. upto.Sound resolved ≡ upto.Malformed Orders bad)
+        → HaveSoundRecords q orders trades resolved
+    of_said (Ok entries) (Ok paired) e f is = record { entries = entries; paired = paired; logs = record { records = e; trades_are = f }; sound = is }
+    of_said (Ok entries) (Err bad) e f is = absurd (apart Trades bad is)
+    of_said (Err bad) second e f is = absurd (apart Orders bad is)
+
+certificate_of : (q : Question) (orders trades : Log) (resolved : ResolvedTrades) (text : List ℕ) → HaveSoundRecords q orders trades resolved → IsDealsCertificate q resolved text
+    → IsCertificateOf q orders trades text
+certificate_of q orders trades resolved text have is =
+    let history : List Order = order_list q.symbol have.entries in
+    record {
+      entries = have.entries;
+      paired = have.paired;
+      logs = have.logs;
+      certificate = subst (λ (ds : List Deal). IsCertificateUnder q.rule q.symbol history ds text) have.sound.deals
+          (subst (λ (os : List Order). IsCertificateUnder q.rule q.symbol os resolved.deals.items text) have.sound.orders is.certificate);
+      agrees = subst (λ (ds : List Deal). AgreesUnder q.rule q.symbol history ds text) have.sound.deals
+          (subst (λ (os : List Order). AgreesUnder q.rule q.symbol os resolved.deals.items text) have.sound.orders is.agrees);
+    }
+
+-- the answer of sound trades is that of `certify`
+pub sound_certifies : (q : Question) (resolved : ResolvedTrades) (v : Verdict) (answer : Answer) → VerdictIs q (upto.Sound resolved) v → IsAnswerOfKind (IsVerdictAnswerWith (IsDealsCertificate q resolved) v) answer → IsAnswerOfKind (IsCertifyAnswerOn q (upto.Sound resolved)) answer
+sound_certifies q resolved v answer is made orders trades come = record {
+  verdict = v;
+  is = verdict_of_logs q (upto.Sound resolved) v orders trades is come;
+  answer = of_verdict v made;
+}
+  where
+    of_verdict : (v : Verdict) → IsVerdictAnswerWith (IsDealsCertificate q resolved) v answer.status answer.text.items → IsVerdictAnswerWith (IsCertificateOf q orders trades) v answer.status answer.text.items
+    of_verdict (verdict.Accepted a) reports = record {
+      done = reports.done;
+      is = certificate_of q orders trades resolved answer.text.items (sound_records q orders trades resolved come) reports.is;
+    }
+    of_verdict (verdict.Rejected f) reports = reports
+    of_verdict (verdict.Malformed log bad) reports = reports
+
+-- deals that are accepted conform
+pub accepted_conforms : (q : Question) (orders : List Order) (deals : List Deal) (count : ℕ) (a : Accepted) → IsJudgedDeals q orders deals count (verdict.Accepted a) → Conforms q.rule orders deals
+accepted_conforms q orders deals count a is = by_finding is.found is.by_the_rule is.outcome
+  where
+    apart : (finding : Finding) → verdict.Accepted a ≡ verdict.Rejected finding → ⊥
+    apart finding e = cc
+
+    by_finding : (found : Option Finding) → IsRuleVerdict q.rule orders deals count found → IsVerdictOfFinding q orders deals found (verdict.Accepted a) → Conforms q.rule orders deals
+    by_finding None conforms outcome = conforms
+    by_finding (Some finding) offence outcome = absurd (apart finding outcome)

@@ -1,0 +1,48 @@
+-- What is answered to two logs, by what is known of them before the rule is looked at.
+use Rattle.std.specs.Prelude.{◌≡◌, List, ℕ, Bool}
+use Rattle.audit_certificate.specs.Agreement.{AgreesUnder, IsCertificateUnder}
+use Rattle.audit_report.specs.declared.statuses.Status.{Status}
+use Rattle.session_audit.specs.declared.phases.Phase.{Phase}
+use Rattle.matching_core.specs.declared.deals_draft.ResolvedTrades.{ResolvedTrades}
+use Rattle.record_verdict.specs.declared.before_rule.BeforeRule.{BeforeRule}
+use Rattle.record_verdict.specs.declared.before_rule.BeforeRule.TheVariants as upto
+use Rattle.record_verdict.specs.declared.questions.Question.{Question}
+use Rattle.audit_run.specs.Certificates.{IsCertifyAnswer, IsVerifyAnswer}
+use Rattle.audit_run.specs.Sessions.{IsSessionAnswer}
+use Rattle.log_verdict.specs.LogVerdicts.{Log, OfLogs}
+use Rattle.record_verdict.specs.BeforeRule.{IsBeforeRule}
+use Rattle.record_verdict.specs.Scopes.{call_scope, day_scope, scope_of}
+use Rattle.record_verdict.specs.declared.scopes.Scope.{Scope}
+
+-- what is known of two logs before the rule is looked at: the first bad
+-- place, or what their records do
+abbrev pub LogsReach : Scope → Log → Log → BeforeRule → Type 0
+LogsReach scope orders trades reached =
+    OfLogs (λ entries paired. IsBeforeRule scope entries paired reached)
+    (λ log bad. reached ≡ upto.Malformed log bad) orders trades
+
+-- `certify` answers this to whatever logs of which that much is known
+abbrev pub IsCertifyAnswerOn : Question → BeforeRule → Status → List ℕ → Type 0
+IsCertifyAnswerOn q reached status text =
+    (orders trades : Log) → LogsReach (scope_of q) orders trades reached
+    → IsCertifyAnswer q orders trades status text
+
+-- `verify`, with this certificate, answers this to whatever logs of which that much is known
+abbrev pub IsVerifyAnswerOn : List ℕ → BeforeRule → List ℕ → Status → List ℕ → Type 0
+IsVerifyAnswerOn symbol reached certificate status text =
+    (orders trades : Log) → LogsReach (call_scope symbol) orders trades reached
+    → IsVerifyAnswer symbol orders trades certificate status text
+
+-- `session`, with these phases, answers this to whatever logs of which that much is known
+abbrev pub IsSessionAnswerOn : List ℕ → List Phase → Bool → BeforeRule → Status → List ℕ
+    → Type 0
+IsSessionAnswerOn symbol phases table reached status text =
+    (orders trades : Log) → LogsReach (day_scope symbol) orders trades reached
+    → IsSessionAnswer symbol phases table orders trades status text
+
+-- The text is the certificate of these deals, which agrees.
+pub record IsDealsCertificate (q : Question) (resolved : ResolvedTrades)
+    (text : List ℕ) : Type 0 where
+  pub certificate : IsCertificateUnder q.rule q.symbol resolved.history resolved.deals.items
+      text
+  pub agrees : AgreesUnder q.rule q.symbol resolved.history resolved.deals.items text

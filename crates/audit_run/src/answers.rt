@@ -1,0 +1,77 @@
+//! The answer to a command: its status and its text, made whole before any of it is written.
+ghost use Rattle.std.specs.Prelude.{◌≡◌, IfOk};
+ghost use Rattle.audit_report.specs.declared.verdicts.Verdict.TheVariants as verdict;
+ghost use Rattle.audit_report.specs.Texts.{IsVerdictInRange};
+ghost use Rattle.audit_run.specs.Deciding.{IsAnswerOfKind};
+ghost use Rattle.audit_run.specs.OneLog.{DecidesUnread};
+ghost use Rattle.audit_run.specs.VerdictAnswers.{IsVerdictAnswer};
+
+use audit_base::faults::{BadPlace, NoMemory};
+use audit_base::findings::Finding;
+use audit_base::terms::Which;
+use audit_report::reports::report_text;
+use audit_report::statuses::Status;
+use audit_report::verdicts::{Verdict, status_of};
+use log_verdict::reading::Unread;
+use log_verdict::stops::Stop;
+use std::alloc::Global;
+
+/// What a command answers: the status, and the text that is written.
+#[derive(Drop)]
+pub struct Answer {
+    pub status: Status,
+    pub text: Vec<u8>,
+}
+
+/// The answer of a verdict: its status and its text.
+pub(crate) fn verdict_answer(alloc: Global, verdict: &Verdict) -> Result<Answer, NoMemory>
+    requires { IsVerdictInRange verdict.now }
+    ensures { IfOk result (IsAnswerOfKind (IsVerdictAnswer verdict.now)) }
+{
+    let text = report_text(alloc, verdict)?;
+    Ok(Answer {
+        status: status_of(verdict),
+        text,
+    })
+}
+
+/// The answer of the verdict that rejects with this finding.
+pub(crate) fn finding_answer(alloc: Global, finding: Finding) -> Result<Answer, NoMemory>
+    ensures { IfOk result (IsAnswerOfKind (IsVerdictAnswer (verdict.Rejected finding))) }
+{
+    verdict_answer(alloc, &Verdict::Rejected(finding))
+}
+
+/// The answer of the verdict that a log is malformed at this place.
+pub(crate) fn malformed_answer(
+    alloc: Global,
+    log: Which,
+    bad: &BadPlace,
+) -> Result<Answer, NoMemory>
+    ensures { IfOk result (IsAnswerOfKind (IsVerdictAnswer (verdict.Malformed log bad.now))) }
+{
+    verdict_answer(alloc, &Verdict::Malformed { log, bad: *bad })
+}
+
+/// The answer to a command that was done in full.
+pub(crate) fn done_answer(text: Vec<u8>) -> Answer
+    ensures status { result.status ≡ Status.Accepted }
+    ensures text { result.text.items ≡ text.items }
+{
+    Answer {
+        status: Status::Accepted,
+        text,
+    }
+}
+
+/// The answer to a log that was not read into records, or why there is none.
+pub(crate) fn unread_answer(alloc: Global, log: Which, unread: Unread) -> Result<Answer, Stop>
+    ensures { DecidesUnread log unread result }
+{
+    match unread {
+        Unread::Bad(bad) => Ok(malformed_answer(alloc, log, &bad)?),
+        Unread::ReadFault => Err(Stop::ReadFault(log)),
+        Unread::TooLong => Err(Stop::TooLong(log)),
+        Unread::Memory => Err(Stop::Memory),
+    }
+}

@@ -1,0 +1,63 @@
+//! The answer to `certify`, by what is known of two logs before the rule is looked at.
+ghost use Rattle.std.specs.Prelude.{IfOk, IsTrue};
+ghost use Rattle.audit_base.specs.RuleKinds.{asks_for_greatest};
+ghost use Rattle.audit_run.specs.Certificates.{IsVerdictAnswerWith};
+ghost use Rattle.audit_run.specs.Deciding.{IsAnswerOfKind};
+ghost use Rattle.audit_run.specs.JudgedAnswers.{IsCertifyAnswerOn, IsDealsCertificate};
+ghost use Rattle.audit_report.specs.Texts.{IsVerdictInRange};
+ghost use Rattle.record_verdict.specs.Stages.{IsJudgedDeals};
+ghost use Rattle.record_verdict.specs.BeforeRule.{AreJudgeable, IsJudgeable};
+
+use super::answers::{Answer, done_answer, verdict_answer};
+use audit_base::faults::NoMemory;
+use audit_certificate::certifying::certify;
+use audit_report::verdicts::Verdict;
+use matching_core::deals_draft::ResolvedTrades;
+use record_verdict::before_rule::BeforeRule;
+use record_verdict::questions::Question;
+use record_verdict::verdicts::verdict_after;
+use std::alloc::Global;
+
+/// The certificate of sound trades that conform, or what `audit` answers where they do not.
+fn certified_answer(
+    alloc: Global,
+    question: &Question,
+    resolved: &ResolvedTrades,
+    verdict: &Verdict,
+) -> Result<Answer, NoMemory>
+    requires rule { IsTrue (asks_for_greatest question.now.rule) }
+    requires judgeable { AreJudgeable resolved.now }
+    requires judged { let sound = resolved.now in
+        IsJudgedDeals question.now sound.history sound.deals.items sound.count verdict.now }
+    requires in_range { IsVerdictInRange verdict.now }
+    ensures { IfOk result (IsAnswerOfKind
+        (IsVerdictAnswerWith (IsDealsCertificate question.now resolved.now) verdict.now)) }
+{
+    match verdict {
+        Verdict::Accepted(_) => Ok(done_answer(certify(
+            alloc,
+            question.rule,
+            &question.symbol,
+            &resolved.history.orders(),
+            &resolved.deals,
+        )?)),
+        Verdict::Rejected(_) | Verdict::Malformed { .. } => verdict_answer(alloc, verdict),
+    }
+}
+
+/// The answer to `certify` on two logs of which this is known before the rule.
+pub(crate) fn certify_answer(
+    alloc: Global,
+    question: &Question,
+    reached: &BeforeRule,
+) -> Result<Answer, NoMemory>
+    requires rule { IsTrue (asks_for_greatest question.now.rule) }
+    requires judgeable { IsJudgeable reached.now }
+    ensures { IfOk result (IsAnswerOfKind (IsCertifyAnswerOn question.now reached.now)) }
+{
+    let verdict = verdict_after(alloc, question, reached)?;
+    if let BeforeRule::Sound(resolved) = reached {
+        return certified_answer(alloc, question, resolved, &verdict);
+    }
+    verdict_answer(alloc, &verdict)
+}
