@@ -1,6 +1,6 @@
 -- Each call has the words behind the first command.
 use Rattle.std.proofs.Common.{length}
-use Rattle.run_notes.proofs.usage_notes.+tell_commands.Given as goal
+use Rattle.run_notes.proofs.usage_notes.+print_commands.Given as goal
 
 abbrev pub decreases-print_commands : goal.decreases-print_commands
 decreases-print_commands l = length l.words.now
