@@ -25,7 +25,7 @@ use Rattle.audit_base.specs.Bounds.{demand, cut, supply_below, executable_volume
 use Rattle.audit_base.specs.Shows.{finding_at_record}
 use Rattle.audit_base.specs.Expected.{uniform_deals, maximum_deals}
 use Rattle.audit_base.specs.Rules.{Conforms}
-use Rattle.audit_base.specs.Verdicts.{IsVerdict}
+use Rattle.audit_base.specs.Verdicts.{IsRecordFinding}
 use Rattle.audit_base.proofs.OffenceLemmas.{no_offence-matching, no_offence-one_price, no_offence-fair}
 use Rattle.audit_base.proofs.ExampleLogs.{all_definitions, all_named, all_in_range, symbol, key, at, new_order, immediate_order, cancel, replace, trade, orders_in, deals_in, line, whole, half_over}
 
@@ -36,7 +36,7 @@ one_trade_orders = new_order Buy (codes "b1") 100 10 ∷ new_order Sell (codes "
 abbrev one_trade : List TradeRecord
 one_trade = trade (codes "T1") (codes "b1") (codes "s1") 100 (half_over 9) ∷ []
 
-pub one_trade-accepted : IsVerdict rule.Matching symbol one_trade_orders (Ok one_trade) None
+pub one_trade-accepted : IsRecordFinding rule.Matching symbol one_trade_orders (Ok one_trade) None
 unfolding all_definitions
 one_trade-accepted = no_offence-matching false (orders_in one_trade_orders) (deals_in one_trade_orders one_trade) (all_named (orders_in one_trade_orders) (deals_in one_trade_orders one_trade) refl) refl
 
@@ -51,18 +51,18 @@ abbrev overfilled_more : List TradeRecord
 overfilled_more = trade (codes "T1") (codes "b1") (codes "s1") 5 (whole 9) ∷ trade (codes "T2") (codes "b1") (codes "s1") 5 (whole 9) ∷ trade (codes "T3") (codes "b1") (codes "s1") 1 (whole 9)
     ∷ trade (codes "T4") (codes "b1") (codes "s1") 1 (whole 9) ∷ []
 
-pub buyer_overfilled : IsVerdict rule.Matching symbol overfilled_orders (Ok overfilled_trades)
+pub buyer_overfilled : IsRecordFinding rule.Matching symbol overfilled_orders (Ok overfilled_trades)
     (Some (finding_at_record property.BuyQuantity which.Trades 3 (Some (shown.Order (line 1 Buy (codes "b1") 10 10 11))) None))
 unfolding all_definitions
 buyer_overfilled = refl
 
-pub buyer_overfilled_and_more : IsVerdict rule.Matching symbol overfilled_orders (Ok overfilled_more)
+pub buyer_overfilled_and_more : IsRecordFinding rule.Matching symbol overfilled_orders (Ok overfilled_more)
     (Some (finding_at_record property.BuyQuantity which.Trades 3 (Some (shown.Order (line 1 Buy (codes "b1") 10 10 11))) None))
 unfolding all_definitions
 buyer_overfilled_and_more = refl
 
 -- the trade after it is not what the finding names, and the trades are no matching
-pub buyer_overfilled-not_later : IsVerdict rule.Matching symbol overfilled_orders (Ok overfilled_more)
+pub buyer_overfilled-not_later : IsRecordFinding rule.Matching symbol overfilled_orders (Ok overfilled_more)
     (Some (finding_at_record property.BuyQuantity which.Trades 4 (Some (shown.Order (line 1 Buy (codes "b1") 10 10 12))) None)) → ⊥
 unfolding all_definitions
 buyer_overfilled-not_later e = let p : ◌≡◌ {A = ℕ} 4 3 = ap (λ (f : Finding). f.place) e in absurd (omega arith)
@@ -75,45 +75,45 @@ buyer_overfilled-no_matching m = let w : 11 ≤ 10 = m.within 0 (omega arith) in
 abbrev seller_overfilled_orders : List OrderRecord
 seller_overfilled_orders = new_order Buy (codes "b1") 100 10 ∷ new_order Sell (codes "s1") 10 9 ∷ []
 
-pub seller_overfilled : IsVerdict rule.Matching symbol seller_overfilled_orders (Ok (trade (codes "T1") (codes "b1") (codes "s1") 11 (whole 9) ∷ []))
+pub seller_overfilled : IsRecordFinding rule.Matching symbol seller_overfilled_orders (Ok (trade (codes "T1") (codes "b1") (codes "s1") 11 (whole 9) ∷ []))
     (Some (finding_at_record property.SellQuantity which.Trades 1 (Some (shown.Order (line 2 Sell (codes "s1") 10 9 11))) None))
 unfolding all_definitions
 seller_overfilled = refl
 
 -- price-over-the-limit: 10.00000001 is above the bid's limit
-pub price_over_the_limit : IsVerdict rule.Matching symbol one_trade_orders (Ok (trade (codes "T1") (codes "b1") (codes "s1") 100 (whole 10 + 1) ∷ []))
+pub price_over_the_limit : IsRecordFinding rule.Matching symbol one_trade_orders (Ok (trade (codes "T1") (codes "b1") (codes "s1") 100 (whole 10 + 1) ∷ []))
     (Some (finding_at_record property.Limit which.Trades 1 (Some (shown.Order (line 1 Buy (codes "b1") 100 10 100))) (Some (shown.Order (line 2 Sell (codes "s1") 100 9 100)))))
 unfolding all_definitions
 price_over_the_limit = refl
 
 -- unknown-sell-order and duplicate-trade
-pub unknown_sell_order : IsVerdict rule.Matching symbol one_trade_orders (Ok (trade (codes "T1") (codes "b1") (codes "s9") 100 (half_over 9) ∷ []))
+pub unknown_sell_order : IsRecordFinding rule.Matching symbol one_trade_orders (Ok (trade (codes "T1") (codes "b1") (codes "s9") 100 (half_over 9) ∷ []))
     (Some (finding_at_record property.UnknownOrder which.Trades 1 (Some (shown.Unknown Sell (key Sell (codes "s9")))) None))
 unfolding all_definitions
 unknown_sell_order = refl
 
-pub duplicate_trade : IsVerdict rule.Matching symbol one_trade_orders (Ok (trade (codes "T1") (codes "b1") (codes "s1") 50 (half_over 9) ∷ trade (codes "T1") (codes "b1") (codes "s1") 50 (half_over 9) ∷ []))
+pub duplicate_trade : IsRecordFinding rule.Matching symbol one_trade_orders (Ok (trade (codes "T1") (codes "b1") (codes "s1") 50 (half_over 9) ∷ trade (codes "T1") (codes "b1") (codes "s1") 50 (half_over 9) ∷ []))
     (Some (finding_at_record property.DuplicateTrade which.Trades 2 (Some (shown.Place which.Trades 1)) None))
 unfolding all_definitions
 duplicate_trade = refl
 
 -- duplicate-id, time-back and unknown-target
-pub duplicate_id : IsVerdict rule.Matching symbol (new_order Buy (codes "b1") 5 10 ∷ new_order Buy (codes "b1") 6 11 ∷ []) (Ok [])
+pub duplicate_id : IsRecordFinding rule.Matching symbol (new_order Buy (codes "b1") 5 10 ∷ new_order Buy (codes "b1") 6 11 ∷ []) (Ok [])
     (Some (finding_at_record property.DuplicateId which.Orders 2 (Some (shown.Place which.Orders 1)) None))
 unfolding all_definitions
 duplicate_id = refl
 
-pub time_back : IsVerdict rule.Matching symbol (New (key Buy (codes "b1")) (at 1) symbol Buy 5 (whole 10) Rests ∷ New (key Buy (codes "b2")) (at 0) symbol Buy 5 (whole 10) Rests ∷ []) (Ok [])
+pub time_back : IsRecordFinding rule.Matching symbol (New (key Buy (codes "b1")) (at 1) symbol Buy 5 (whole 10) Rests ∷ New (key Buy (codes "b2")) (at 0) symbol Buy 5 (whole 10) Rests ∷ []) (Ok [])
     (Some (finding_at_record property.TimeBack which.Orders 2 (Some (shown.Place which.Orders 1)) None))
 unfolding all_definitions
 time_back = refl
 
-pub unknown_target : IsVerdict rule.Matching symbol (cancel Buy (codes "x1") (codes "b9") ∷ []) (Ok []) (Some (finding_at_record property.UnknownTarget which.Orders 1 None None))
+pub unknown_target : IsRecordFinding rule.Matching symbol (cancel Buy (codes "x1") (codes "b9") ∷ []) (Ok []) (Some (finding_at_record property.UnknownTarget which.Orders 1 None None))
 unfolding all_definitions
 unknown_target = refl
 
 -- immediate-in-a-call: an immediate order is refused under a call's rule
-pub immediate_in_a_call : IsVerdict rule.Maximum symbol (immediate_order Buy (codes "i1") 5 10 ∷ new_order Sell (codes "s1") 5 9 ∷ []) (Ok [])
+pub immediate_in_a_call : IsRecordFinding rule.Maximum symbol (immediate_order Buy (codes "i1") 5 10 ∷ new_order Sell (codes "s1") 5 9 ∷ []) (Ok [])
     (Some (finding_at_record property.InstantOrder which.Orders 1 None None))
 unfolding all_definitions
 immediate_in_a_call = refl
@@ -125,19 +125,19 @@ skipped_orders = new_order Buy (codes "b1") 5 10 ∷ new_order Buy (codes "b2") 
 abbrev skipped_trades : List TradeRecord
 skipped_trades = trade (codes "T1") (codes "b2") (codes "s1") 5 (whole 10) ∷ []
 
-pub buyer_skipped : IsVerdict rule.Fair symbol skipped_orders (Ok skipped_trades)
+pub buyer_skipped : IsRecordFinding rule.Fair symbol skipped_orders (Ok skipped_trades)
     (Some (finding_at_record property.BuyPriority which.Trades 1 (Some (shown.Order (line 1 Buy (codes "b1") 5 10 0))) (Some (shown.Order (line 2 Buy (codes "b2") 5 10 5)))))
 unfolding all_definitions
 buyer_skipped = refl
 
-pub buyer_skipped_and_another : IsVerdict rule.Fair symbol
+pub buyer_skipped_and_another : IsRecordFinding rule.Fair symbol
     (new_order Buy (codes "b1") 5 10 ∷ new_order Buy (codes "b2") 5 10 ∷ new_order Sell (codes "s1") 5 9 ∷ new_order Buy (codes "b3") 5 10 ∷ []) (Ok skipped_trades)
     (Some (finding_at_record property.BuyPriority which.Trades 1 (Some (shown.Order (line 1 Buy (codes "b1") 5 10 0))) (Some (shown.Order (line 2 Buy (codes "b2") 5 10 5)))))
 unfolding all_definitions
 buyer_skipped_and_another = refl
 
 -- the trades are a matching all the same, and not a fair one
-pub buyer_skipped-matching : IsVerdict rule.Matching symbol skipped_orders (Ok skipped_trades) None
+pub buyer_skipped-matching : IsRecordFinding rule.Matching symbol skipped_orders (Ok skipped_trades) None
 unfolding all_definitions
 buyer_skipped-matching = no_offence-matching false (orders_in skipped_orders) (deals_in skipped_orders skipped_trades) (all_named (orders_in skipped_orders) (deals_in skipped_orders skipped_trades) refl) refl
 
@@ -158,7 +158,7 @@ crossed_trades = trade (codes "T1") (codes "b1") (codes "s2") 1 (half_over 9) �
 abbrev crossed_pair : List Order
 crossed_pair = orders_in crossed_orders
 
-pub crossed_pair_maximum : IsVerdict rule.Maximum symbol crossed_orders (Ok crossed_trades) None
+pub crossed_pair_maximum : IsRecordFinding rule.Maximum symbol crossed_orders (Ok crossed_trades) None
 unfolding all_definitions
 crossed_pair_maximum =
     let deals = deals_in crossed_orders crossed_trades in
@@ -175,7 +175,7 @@ pub expect_maximum : maximum_deals (orders_in crossed_orders) 2
 unfolding all_definitions
 expect_maximum = refl
 
-pub crossed_pair_uniform : IsVerdict rule.Uniform symbol crossed_orders (Ok crossed_trades) (Some (finding_at_record property.UniformPrice which.Trades 2 (Some (shown.Place which.Trades 1)) None))
+pub crossed_pair_uniform : IsRecordFinding rule.Uniform symbol crossed_orders (Ok crossed_trades) (Some (finding_at_record property.UniformPrice which.Trades 2 (Some (shown.Place which.Trades 1)) None))
 unfolding all_definitions
 crossed_pair_uniform = refl
 
@@ -193,7 +193,7 @@ staircase_three = trade (codes "T1") (codes "b1") (codes "s1") 1 (whole 1) ∷ t
 abbrev staircase : List Order
 staircase = orders_in staircase_orders
 
-pub staircase_uniform : IsVerdict rule.Uniform symbol staircase_orders (Ok staircase_trades) None
+pub staircase_uniform : IsRecordFinding rule.Uniform symbol staircase_orders (Ok staircase_trades) None
 unfolding all_definitions
 staircase_uniform =
     let deals = deals_in staircase_orders staircase_trades in
@@ -257,7 +257,7 @@ staircase-ask deals c =
 abbrev due : ℕ → Side → List ℕ → ℕ → ℕ → ℕ → ℕ → Shown
 due place side id quantity price traded_so_far n = shown.Due (line place side id quantity price traded_so_far) n
 
-pub staircase_maximum : IsVerdict rule.Maximum symbol staircase_orders (Ok staircase_trades) (Some (record {
+pub staircase_maximum : IsRecordFinding rule.Maximum symbol staircase_orders (Ok staircase_trades) (Some (record {
   property = property.Volume;
   log = which.Trades;
   place = 3;
@@ -302,14 +302,14 @@ second_pairing = trade (codes "T1") (codes "b1") (codes "s1") 10 (half_over 8) �
 abbrev pairing : List Order
 pairing = orders_in pairing_orders
 
-pub two_pairings-first : IsVerdict rule.Uniform symbol pairing_orders (Ok first_pairing) None
+pub two_pairings-first : IsRecordFinding rule.Uniform symbol pairing_orders (Ok first_pairing) None
 unfolding all_definitions
 two_pairings-first =
     let deals = deals_in pairing_orders first_pairing in
     let m : Matching pairing deals = no_offence-matching true pairing deals (all_named pairing deals refl) refl in
     record { matching = m; fair = no_offence-fair pairing deals m refl; one_price = no_offence-one_price true pairing deals refl refl; greatest = line-greatest pairing deals 0 (omega arith) (omega arith) }
 
-pub two_pairings-second : IsVerdict rule.Uniform symbol pairing_orders (Ok second_pairing) None
+pub two_pairings-second : IsRecordFinding rule.Uniform symbol pairing_orders (Ok second_pairing) None
 unfolding all_definitions
 two_pairings-second =
     let deals = deals_in pairing_orders second_pairing in
@@ -321,7 +321,7 @@ unfolding all_definitions
 two_pairings-shown = refl
 
 -- empty-logs: nothing conforms to `uniform` where there is nothing
-pub empty_logs : IsVerdict rule.Uniform symbol [] (Ok []) None
+pub empty_logs : IsRecordFinding rule.Uniform symbol [] (Ok []) None
 unfolding all_definitions
 empty_logs =
     let m : Matching [] [] = no_offence-matching true [] [] (all_named [] [] refl) refl in
@@ -376,7 +376,7 @@ untraded = record {
   short = Some (record { reached = 0; greatest = 100 });
 }
 
-pub untraded_maximum : IsVerdict rule.Maximum symbol one_trade_orders (Ok []) (Some untraded)
+pub untraded_maximum : IsRecordFinding rule.Maximum symbol one_trade_orders (Ok []) (Some untraded)
 unfolding all_definitions
 untraded_maximum =
     let c = one_trade-maximum in
@@ -395,7 +395,7 @@ untraded_maximum =
       shows = refl;
     }
 
-pub untraded_uniform : IsVerdict rule.Uniform symbol one_trade_orders (Ok []) (Some untraded)
+pub untraded_uniform : IsRecordFinding rule.Uniform symbol one_trade_orders (Ok []) (Some untraded)
 unfolding all_definitions
 untraded_uniform =
     let c = one_trade-uniform in
@@ -415,7 +415,7 @@ untraded_uniform =
     }
 
 -- accepting no trades there is refuted
-pub untraded_maximum-not_accepted : IsVerdict rule.Maximum symbol one_trade_orders (Ok []) None → ⊥
+pub untraded_maximum-not_accepted : IsRecordFinding rule.Maximum symbol one_trade_orders (Ok []) None → ⊥
 unfolding all_definitions
 untraded_maximum-not_accepted c = let le : 100 ≤ 0 = c.greatest pair_deal (all_in_range pair_deal refl) one_trade-maximum.matching in absurd (omega arith)
 
@@ -423,7 +423,7 @@ untraded_maximum-not_accepted c = let le : 100 ≤ 0 = c.greatest pair_deal (all
 abbrev cancelled_orders : List OrderRecord
 cancelled_orders = new_order Sell (codes "s1") 5 10 ∷ new_order Buy (codes "b1") 3 10 ∷ cancel Sell (codes "x1") (codes "s1") ∷ new_order Buy (codes "b2") 2 10 ∷ []
 
-pub cancelled_sell_maximum : IsVerdict rule.Maximum symbol cancelled_orders (Ok (trade (codes "T1") (codes "b1") (codes "s1") 3 (whole 10) ∷ []))
+pub cancelled_sell_maximum : IsRecordFinding rule.Maximum symbol cancelled_orders (Ok (trade (codes "T1") (codes "b1") (codes "s1") 3 (whole 10) ∷ []))
     (Some (finding_at_record property.Inactive which.Trades 1 (Some (shown.Order (line 1 Sell (codes "s1") 5 10 3))) None))
 unfolding all_definitions
 cancelled_sell_maximum = refl
@@ -438,7 +438,7 @@ replaced_trades = trade (codes "T1") (codes "b2") (codes "r1") 9 (whole 11) ∷ 
 abbrev replaced : List Order
 replaced = orders_in replaced_orders
 
-pub replacement_in_a_call : IsVerdict rule.Maximum symbol replaced_orders (Ok replaced_trades) None
+pub replacement_in_a_call : IsRecordFinding rule.Maximum symbol replaced_orders (Ok replaced_trades) None
 unfolding all_definitions
 replacement_in_a_call =
     let deals = deals_in replaced_orders replaced_trades in
@@ -452,7 +452,7 @@ great_orders = New (key Buy (codes "b1")) (at 0) symbol Buy (10 ^ 12) (10 ^ 18 -
 abbrev great : List Order
 great = orders_in great_orders
 
-pub greatest_numbers : IsVerdict rule.Maximum symbol great_orders (Ok []) None
+pub greatest_numbers : IsRecordFinding rule.Maximum symbol great_orders (Ok []) None
 unfolding all_definitions
 greatest_numbers =
     let m : Matching great [] = no_offence-matching false great [] (all_named great [] refl) refl in
@@ -479,7 +479,7 @@ table_trades = trade (codes "T1") (codes "b1") (codes "s1") 10 (whole 10) ∷ tr
 abbrev table : List Order
 table = orders_in table_orders
 
-pub table_of_a_call : IsVerdict rule.Maximum symbol table_orders (Ok table_trades) None
+pub table_of_a_call : IsRecordFinding rule.Maximum symbol table_orders (Ok table_trades) None
 unfolding all_definitions
 table_of_a_call =
     let deals = deals_in table_orders table_trades in

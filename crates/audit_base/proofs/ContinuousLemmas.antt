@@ -4,7 +4,7 @@ use Rattle.std.specs.Prelude.{◌&&◌, not}
 use Rattle.std.proofs.lemmas.List.Sums.{sum_by-cons}
 use Rattle.audit_base.specs.declared.orders.Order.{Order}
 use Rattle.audit_base.specs.Orders.{order_at, place_at, IsOrderList}
-use Rattle.audit_base.specs.Continuous.{chain_within, chain, before_quantity_by_past, entered_within, entered_by_past, is_cancelled_at_place, size_if, size_by_past, rests_before_if, rests_before_by_past}
+use Rattle.audit_base.specs.Continuous.{chain_within, chain, chain_traded_in_ledger, entered_within, entered_in_ledger, is_cancelled_at_place, size_where_entered, size_in_ledger, rests_before_where_entered, rests_before_in_ledger}
 
 -- all that a list of targets needs to say of one target: it is below a number of steps
 abbrev pub IsBelow : Option ℕ → ℕ → Type 0
@@ -47,15 +47,15 @@ module _ (orders : List Order) (list : IsOrderList orders) where
 
   module _ (past : ℕ → ℕ → ℕ) where
     -- Before is what the chain has traded before the order's own place
-    pub before-is : (i : ℕ) → before_quantity_by_past orders past i ≡ sum_by (past (place_at orders i)) (chain orders i)
-    unfolding before_quantity_by_past
+    pub before-is : (i : ℕ) → chain_traded_in_ledger orders past i ≡ sum_by (past (place_at orders i)) (chain orders i)
+    unfolding chain_traded_in_ledger
     before-is i = refl
 
-    pub before-none : (i : ℕ) → (order_at orders i).target ≡ None → before_quantity_by_past orders past i ≡ 0
+    pub before-none : (i : ℕ) → (order_at orders i).target ≡ None → chain_traded_in_ledger orders past i ≡ 0
     before-none i e = before-is i ∙ ap (sum_by (past (place_at orders i))) (chain-none i e)
 
     pub before-some : (i t : ℕ) → i < length orders → (order_at orders i).target ≡ Some t
-        → before_quantity_by_past orders past i ≡ past (place_at orders i) t + sum_by (past (place_at orders i)) (chain orders t)
+        → chain_traded_in_ledger orders past i ≡ past (place_at orders i) t + sum_by (past (place_at orders i)) (chain orders t)
     before-some i t lt e = before-is i ∙ ap (sum_by (past (place_at orders i))) (chain-some i t lt e) ∙ sum_by-cons (past (place_at orders i)) t (chain orders t)
 
     pub entered-steps : (m n : ℕ) (i : ℕ) (target : Option ℕ) → IsBelow target m → IsBelow target n → IsBelow target (length orders)
@@ -70,16 +70,16 @@ module _ (orders : List Order) (list : IsOrderList orders) where
         let back = target-below t inside in
         let rest : entered_within (suc m) orders past t (order_at orders t).target ≡ entered_within (suc n) orders past t (order_at orders t).target =
         entered-steps m n t (order_at orders t).target (λ u e. let lt = back u e in omega arith) (λ u e. let lt = back u e in omega arith) (λ u e. let lt = back u e in omega arith) in
-        ap (λ (b : Bool). not (is_cancelled_at_place (order_at orders i).cancelled (place_at orders i)) && rests_before_if b orders past (place_at orders i) t) rest
+        ap (λ (b : Bool). not (is_cancelled_at_place (order_at orders i).cancelled (place_at orders i)) && rests_before_where_entered b orders past (place_at orders i) t) rest
 
     -- Entered: `cancelled` isn't the order's own place, and it has no target, or its target rests before its own place
-    pub entered-none : (i : ℕ) → (order_at orders i).target ≡ None → entered_by_past orders past i ≡ not (is_cancelled_at_place (order_at orders i).cancelled (place_at orders i))
-    unfolding entered_by_past
+    pub entered-none : (i : ℕ) → (order_at orders i).target ≡ None → entered_in_ledger orders past i ≡ not (is_cancelled_at_place (order_at orders i).cancelled (place_at orders i))
+    unfolding entered_in_ledger
     entered-none i e = ap (λ (t : Option ℕ). entered_within (suc i) orders past i t) e
 
     pub entered-some : (i t : ℕ) → i < length orders → (order_at orders i).target ≡ Some t
-        → entered_by_past orders past i ≡ (not (is_cancelled_at_place (order_at orders i).cancelled (place_at orders i)) && rests_before_by_past orders past (place_at orders i) t)
-    unfolding entered_by_past rests_before_by_past
+        → entered_in_ledger orders past i ≡ (not (is_cancelled_at_place (order_at orders i).cancelled (place_at orders i)) && rests_before_in_ledger orders past (place_at orders i) t)
+    unfolding entered_in_ledger rests_before_in_ledger
     entered-some i t lt e =
         let lower = target-below i lt t e in
         let back = target-below t (omega arith) in
@@ -88,10 +88,10 @@ module _ (orders : List Order) (list : IsOrderList orders) where
         ap (λ (o : Option ℕ). entered_within (suc i) orders past i o) e ∙ step
 
     -- Size and Rests by whether the order entered
-    pub size-is : (i : ℕ) → size_by_past orders past i ≡ size_if (entered_by_past orders past i) orders past i
-    unfolding size_by_past
+    pub size-is : (i : ℕ) → size_in_ledger orders past i ≡ size_where_entered (entered_in_ledger orders past i) orders past i
+    unfolding size_in_ledger
     size-is i = refl
 
-    pub rests-is : (p i : ℕ) → rests_before_by_past orders past p i ≡ rests_before_if (entered_by_past orders past i) orders past p i
-    unfolding rests_before_by_past
+    pub rests-is : (p i : ℕ) → rests_before_in_ledger orders past p i ≡ rests_before_where_entered (entered_in_ledger orders past i) orders past p i
+    unfolding rests_before_in_ledger
     rests-is p i = refl

@@ -15,7 +15,7 @@ use Rattle.audit_base.specs.Orders.{order_at, place_at, side_at, limit_at, same_
 use Rattle.audit_base.specs.Priority.{better, Better}
 use Rattle.audit_base.specs.Deals.{deal_past_end, deal_at, names_order, NamesOrders, DealInRange}
 use Rattle.audit_base.specs.CallOffences.{keeps_limits}
-use Rattle.audit_base.specs.Continuous.{cause, resting_order, incoming_order, traded_before, traded_at, entered_by_past, size_by_past, size_if, left_before_by_past, rests_before_by_past, active_after_by_past, uncancelled_before}
+use Rattle.audit_base.specs.Continuous.{cause, resting_order, incoming_order, traded_before, traded_at, entered_in_ledger, size_in_ledger, size_where_entered, left_before_in_ledger, rests_before_in_ledger, active_after_in_ledger, uncancelled_before}
 use Rattle.audit_base.specs.ContinuousRules.{KeepsLimits, Conservation, Spread, ConformsAt, ConformsContinuous}
 use Rattle.audit_base.specs.ContinuousOffences.{traded_upto, continuous_inactive_finding, continuous_limit_finding, size_finding, conservation_finding, waits_ahead, resting_priority_finding, active_after_on_side, active_orders_meet, spread_finding, finding_at_place, IsContinuousOffence}
 use Rattle.audit_base.proofs.OrderLemmas.{is-same_side, same_side-is}
@@ -68,11 +68,11 @@ at-take-le orders deals i k x = sum_by-take-le (part_at orders i x) deals (k + 1
 
 -- what no fault of a deal of cause i says
 pub record IsFaultlessAt (orders : List Order) (deals : List Deal) (i k : ℕ) : Type 0 where
-  pub rested : rests_before_by_past orders (traded_before orders deals) i (resting_order orders (deal_at deals k)) ≡ true
-  pub arrived : entered_by_past orders (traded_before orders deals) (incoming_order orders (deal_at deals k)) ≡ true
+  pub rested : rests_before_in_ledger orders (traded_before orders deals) i (resting_order orders (deal_at deals k)) ≡ true
+  pub arrived : entered_in_ledger orders (traded_before orders deals) (incoming_order orders (deal_at deals k)) ≡ true
   pub limits : keeps_limits orders (deal_at deals k) ≡ true
-  pub bid_within : traded_upto orders deals i k (deal_at deals k).bid ≤ size_by_past orders (traded_before orders deals) (deal_at deals k).bid
-  pub ask_within : traded_upto orders deals i k (deal_at deals k).ask ≤ size_by_past orders (traded_before orders deals) (deal_at deals k).ask
+  pub bid_within : traded_upto orders deals i k (deal_at deals k).bid ≤ size_in_ledger orders (traded_before orders deals) (deal_at deals k).bid
+  pub ask_within : traded_upto orders deals i k (deal_at deals k).ask ≤ size_in_ledger orders (traded_before orders deals) (deal_at deals k).ask
 
 fault-none_here : (orders : List Order) (deals : List Deal) (i k : ℕ)
     → first_answer (continuous_inactive_finding orders deals i k ∷ continuous_limit_finding orders deals i k
@@ -99,35 +99,35 @@ conservation-none orders deals i k e at = fault-none_here orders deals i k (sym 
 
 module _ (orders : List Order) (deals : List Deal) (i : ℕ) (calm : (j : ℕ) → j < i → ConformsAt orders deals j) where
   -- before place i no order has traded more than its Size
-  within_before : (x : ℕ) → x < length orders → traded_before orders deals i x ≤ size_by_past orders (traded_before orders deals) x
+  within_before : (x : ℕ) → x < length orders → traded_before orders deals i x ≤ size_in_ledger orders (traded_before orders deals) x
   within_before x lt = elim (cases_eq i 0) [
     | inl e ↦ let none : traded_before orders deals i x ≡ 0 = rw e (traded-first orders deals x) in omega arith
     | inr ne ↦
         let last = (calm (i - 1) (omega (arith, ne))).conservation.within x lt in
         let same : suc (i - 1) ≡ i = omega (arith, ne) in
-        subst (λ p. traded_before orders deals p x ≤ size_by_past orders (traded_before orders deals) x) same last
+        subst (λ p. traded_before orders deals p x ≤ size_in_ledger orders (traded_before orders deals) x) same last
   ]
 
   module _ (each : (k : ℕ) → k < length deals → cause orders (deal_at deals k) ≡ i → IsFaultlessAt orders deals i k) where
     within_first : (x : ℕ) → x < length orders → (n : ℕ) → n ≤ length deals
-        → traded_before orders deals i x + traded_at orders (take n deals) i x ≤ size_by_past orders (traded_before orders deals) x
+        → traded_before orders deals i x + traded_at orders (take n deals) i x ≤ size_in_ledger orders (traded_before orders deals) x
     within_first x lt zero le = omega (arith, within_before x lt, traded_at-nothing orders i x)
     within_first x lt (suc n) le =
         let d = deal_at deals n in
         let rest = within_first x lt n (omega arith) in
         let step = traded_at-take orders deals i x n (omega arith) in
-        let whole : traded_before orders deals i x + traded_at orders (take (n + 1) deals) i x ≤ size_by_past orders (traded_before orders deals) x =
+        let whole : traded_before orders deals i x + traded_at orders (take (n + 1) deals) i x ≤ size_in_ledger orders (traded_before orders deals) x =
         elim (cases_Bool (names_order x d && (cause orders d == i))) [
           | inr away ↦ let none : part_at orders i x d ≡ 0 = cond-false _ d.quantity 0 away in omega arith
           | inl here ↦
               let parts = and_parts (names_order x d) (cause orders d == i) here in
               let f = each n (omega arith) (eqb-true _ _ parts.1) in
               elim (or_cases (d.bid == x) (d.ask == x) parts.0) [
-                | inl b ↦ let e : d.bid ≡ x = eqb-true d.bid x b in subst (λ y. traded_upto orders deals i n y ≤ size_by_past orders (traded_before orders deals) y) e f.bid_within
-                | inr a ↦ let e : d.ask ≡ x = eqb-true d.ask x a in subst (λ y. traded_upto orders deals i n y ≤ size_by_past orders (traded_before orders deals) y) e f.ask_within
+                | inl b ↦ let e : d.bid ≡ x = eqb-true d.bid x b in subst (λ y. traded_upto orders deals i n y ≤ size_in_ledger orders (traded_before orders deals) y) e f.bid_within
+                | inr a ↦ let e : d.ask ≡ x = eqb-true d.ask x a in subst (λ y. traded_upto orders deals i n y ≤ size_in_ledger orders (traded_before orders deals) y) e f.ask_within
               ]
         ] in
-        subst (λ m. traded_before orders deals i x + traded_at orders (take m deals) i x ≤ size_by_past orders (traded_before orders deals) x) (add-one n) whole
+        subst (λ m. traded_before orders deals i x + traded_at orders (take m deals) i x ≤ size_in_ledger orders (traded_before orders deals) x) (add-one n) whole
 
     conserved : Conservation orders deals i
     conserved = record {
@@ -136,19 +136,19 @@ module _ (orders : List Order) (deals : List Deal) (i : ℕ) (calm : (j : ℕ) �
           let d = deal_at deals k in
           let parts = and_parts (nat_le (limit_at orders d.ask) d.price) (nat_le d.price (limit_at orders d.bid)) f.limits in
           record { least = leb-true _ _ parts.0; most = leb-true _ _ parts.1 });
-      resting = All-deals (λ d. cause orders d ≡ i → rests_before_by_past orders (traded_before orders deals) i (resting_order orders d) ≡ true) deals (λ k lt at. (each k lt at).rested);
+      resting = All-deals (λ d. cause orders d ≡ i → rests_before_in_ledger orders (traded_before orders deals) i (resting_order orders d) ≡ true) deals (λ k lt at. (each k lt at).rested);
       within = λ x lt.
-          let all : traded_before orders deals i x + traded_at orders deals i x ≤ size_by_past orders (traded_before orders deals) x =
-          subst (λ ds. traded_before orders deals i x + traded_at orders ds i x ≤ size_by_past orders (traded_before orders deals) x) (take_all (length deals) deals (omega arith))
+          let all : traded_before orders deals i x + traded_at orders deals i x ≤ size_in_ledger orders (traded_before orders deals) x =
+          subst (λ ds. traded_before orders deals i x + traded_at orders ds i x ≤ size_in_ledger orders (traded_before orders deals) x) (take_all (length deals) deals (omega arith))
           (within_first x lt (length deals) (omega arith)) in
           omega (arith, traded-more orders deals i x, all);
     }
 
   none_over : (d : Deal) → ((cause orders d == i) && any_below (waits_ahead orders deals i (resting_order orders d)) (length orders)) ≡ false → cause orders d ≡ i
-      → (x : ℕ) → x < length orders → rests_before_by_past orders (traded_before orders deals) i x ≡ true → Better orders x (resting_order orders d) → left_before_by_past orders (traded_before orders deals) (suc i) x ≡ 0
+      → (x : ℕ) → x < length orders → rests_before_in_ledger orders (traded_before orders deals) i x ≡ true → Better orders x (resting_order orders d) → left_before_in_ledger orders (traded_before orders deals) (suc i) x ≡ 0
   none_over d none at x lt rest b =
       let quiet : any_below (waits_ahead orders deals i (resting_order orders d)) (length orders) ≡ false = sym (rw (eq-eqb _ _ at) refl) ∙ none in
-      elim (cases_lt 0 (left_before_by_past orders (traded_before orders deals) (suc i) x)) [
+      elim (cases_lt 0 (left_before_in_ledger orders (traded_before orders deals) (suc i) x)) [
         | inr zero' ↦ omega arith
         | inl some ↦ absurd (both_ways _ (none-any (waits_ahead orders deals i (resting_order orders d)) (length orders) quiet x lt)
             (and_from _ _ (and_from _ _ rest (lt-ltb _ _ some)) b))
@@ -179,8 +179,8 @@ module _ (orders : List Order) (deals : List Deal) (i : ℕ) (calm : (j : ℕ) �
       let c = option_or-parts _ _ b.1 in
       record {
         conservation = conserved (λ k lt at. conservation-none orders deals i k (none-below (conservation_finding orders deals i) (length deals) a.0 k lt) at);
-        priority = All-deals (λ d. cause orders d ≡ i → (x : ℕ) → x < length orders → rests_before_by_past orders (traded_before orders deals) i x ≡ true
-            → Better orders x (resting_order orders d) → left_before_by_past orders (traded_before orders deals) (suc i) x ≡ 0) deals (λ k lt. none_over (deal_at deals k) (ranked-none k (none-below (resting_priority_finding orders deals i) (length deals) b.0 k lt)));
+        priority = All-deals (λ d. cause orders d ≡ i → (x : ℕ) → x < length orders → rests_before_in_ledger orders (traded_before orders deals) i x ≡ true
+            → Better orders x (resting_order orders d) → left_before_in_ledger orders (traded_before orders deals) (suc i) x ≡ 0) deals (λ k lt. none_over (deal_at deals k) (ranked-none k (none-below (resting_priority_finding orders deals i) (length deals) b.0 k lt)));
         spread = spread-none c.0;
       }
 
@@ -210,11 +210,11 @@ module _ (orders : List Order) (deals : List Deal) (i : ℕ) (no_order : (x : �
   same-past : (x : ℕ) → traded_before orders deals (suc (suc i)) x ≡ traded_before orders deals (suc i) x
   same-past x = let none = none-traded_at orders deals (suc i) x no_deal in let more = traded-more orders deals (suc i) x in omega arith
 
-  rests-earlier : (x : ℕ) → x < length orders → rests_before_by_past orders (traded_before orders deals) (suc (suc i)) x ≡ true → rests_before_by_past orders (traded_before orders deals) (suc i) x ≡ true
-  unfolding rests_before_by_past
+  rests-earlier : (x : ℕ) → x < length orders → rests_before_in_ledger orders (traded_before orders deals) (suc (suc i)) x ≡ true → rests_before_in_ledger orders (traded_before orders deals) (suc i) x ≡ true
+  unfolding rests_before_in_ledger
   rests-earlier x lt t =
       let o = order_at orders x in
-      let whole = size_if (entered_by_past orders (traded_before orders deals) x) orders (traded_before orders deals) x in
+      let whole = size_where_entered (entered_in_ledger orders (traded_before orders deals) x) orders (traded_before orders deals) x in
       let parts = and_parts (may_rest o.life && nat_lt o.place (suc (suc i))) (uncancelled_before o.cancelled (suc (suc i)) && nat_lt (traded_before orders deals (suc (suc i)) x) whole) t in
       let first = and_parts (may_rest o.life) (nat_lt o.place (suc (suc i))) parts.0 in
       let second = and_parts (uncancelled_before o.cancelled (suc (suc i))) (nat_lt (traded_before orders deals (suc (suc i)) x) whole) parts.1 in
@@ -225,15 +225,15 @@ module _ (orders : List Order) (deals : List Deal) (i : ℕ) (no_order : (x : �
       let fewer : traded_before orders deals (suc i) x < whole = omega (arith, same-past x, traded_lt) in
       and_from _ _ (and_from _ _ first.0 (lt-ltb o.place (suc i) earlier)) (and_from _ _ (uncancelled-before o.cancelled (suc i) second.0) (lt-ltb _ _ fewer))
 
-  active-earlier : (x : ℕ) → x < length orders → active_after_by_past orders (traded_before orders deals) (suc i) x ≡ true → active_after_by_past orders (traded_before orders deals) i x ≡ true
-  unfolding active_after_by_past
+  active-earlier : (x : ℕ) → x < length orders → active_after_in_ledger orders (traded_before orders deals) (suc i) x ≡ true → active_after_in_ledger orders (traded_before orders deals) i x ≡ true
+  unfolding active_after_in_ledger
   active-earlier x lt t =
       let past = traded_before orders deals in
       let o = order_at orders x in
-      elim (or_cases (rests_before_by_past orders past (suc (suc i)) x) ((o.place == suc i) && uncancelled_before o.cancelled (suc (suc i)) && nat_lt 0 (left_before_by_past orders past (suc (suc i)) x)) t) [
+      elim (or_cases (rests_before_in_ledger orders past (suc (suc i)) x) ((o.place == suc i) && uncancelled_before o.cancelled (suc (suc i)) && nat_lt 0 (left_before_in_ledger orders past (suc (suc i)) x)) t) [
         | inl rest ↦ or_left _ _ (rests-earlier x lt rest)
         | inr here ↦
-            let outer = and_parts ((o.place == suc i) && uncancelled_before o.cancelled (suc (suc i))) (nat_lt 0 (left_before_by_past orders past (suc (suc i)) x)) here in
+            let outer = and_parts ((o.place == suc i) && uncancelled_before o.cancelled (suc (suc i))) (nat_lt 0 (left_before_in_ledger orders past (suc (suc i)) x)) here in
             let inner = and_parts (o.place == suc i) (uncancelled_before o.cancelled (suc (suc i))) outer.0 in
             absurd (no_order x lt (eqb-true _ _ inner.0))
       ]
@@ -299,11 +299,11 @@ upto-most orders deals i k x =
     let part : traded_at orders (take (k + 1) deals) i x ≤ traded_at orders deals i x = at-take-le orders deals i k x in
     omega (arith, traded-more orders deals i x, part)
 
-size-entered : (orders : List Order) (past : ℕ → ℕ → ℕ) (x : ℕ) → 0 < size_by_past orders past x → entered_by_past orders past x ≡ true
-unfolding size_by_past
-size-entered orders past x some = elim (cases_Bool (entered_by_past orders past x)) [
+size-entered : (orders : List Order) (past : ℕ → ℕ → ℕ) (x : ℕ) → 0 < size_in_ledger orders past x → entered_in_ledger orders past x ≡ true
+unfolding size_in_ledger
+size-entered orders past x some = elim (cases_Bool (entered_in_ledger orders past x)) [
   | inl t ↦ t
-  | inr f ↦ let none : size_if (entered_by_past orders past x) orders past x ≡ 0 = rw f refl in absurd (omega arith)
+  | inr f ↦ let none : size_where_entered (entered_in_ledger orders past x) orders past x ≡ 0 = rw f refl in absurd (omega arith)
 ]
 
 module _ (orders : List Order) (deals : List Deal) (named : All (NamesOrders orders) deals) (ranges : All DealInRange deals) (i : ℕ) (c : ConformsAt orders deals i) where
@@ -344,10 +344,10 @@ module _ (orders : List Order) (deals : List Deal) (named : All (NamesOrders ord
       let parts = and_parts (cause orders d == i) (any_below (waits_ahead orders deals i (resting_order orders d)) (length orders)) both in
       let found = any-found (waits_ahead orders deals i (resting_order orders d)) (length orders) parts.1 in
       let x = found.0 in
-      let outer = and_parts (rests_before_by_past orders (traded_before orders deals) i x && nat_lt 0 (left_before_by_past orders (traded_before orders deals) (suc i) x)) (better (order_at orders x) (order_at orders (resting_order orders d))) found.2 in
-      let inner = and_parts (rests_before_by_past orders (traded_before orders deals) i x) (nat_lt 0 (left_before_by_past orders (traded_before orders deals) (suc i) x)) outer.0 in
+      let outer = and_parts (rests_before_in_ledger orders (traded_before orders deals) i x && nat_lt 0 (left_before_in_ledger orders (traded_before orders deals) (suc i) x)) (better (order_at orders x) (order_at orders (resting_order orders d))) found.2 in
+      let inner = and_parts (rests_before_in_ledger orders (traded_before orders deals) i x) (nat_lt 0 (left_before_in_ledger orders (traded_before orders deals) (suc i) x)) outer.0 in
       let nothing = c.priority k deal_past_end lt (eqb-true _ _ parts.0) x found.1 inner.0 outer.1 in
-      let some = ltb-true 0 (left_before_by_past orders (traded_before orders deals) (suc i) x) inner.1 in
+      let some = ltb-true 0 (left_before_in_ledger orders (traded_before orders deals) (suc i) x) inner.1 in
       omega arith))
 
   none-spread : spread_finding orders deals i ≡ None
@@ -359,8 +359,8 @@ module _ (orders : List Order) (deals : List Deal) (named : All (NamesOrders ord
       let a = cell.0 in
       let outer = and_parts (active_after_on_side orders deals i Buy b && active_after_on_side orders deals i Sell a) (nat_le (limit_at orders a) (limit_at orders b)) cell.2 in
       let both = and_parts (active_after_on_side orders deals i Buy b) (active_after_on_side orders deals i Sell a) outer.0 in
-      let on_b = and_parts (same_side Buy (side_at orders b)) (active_after_by_past orders (traded_before orders deals) i b) both.0 in
-      let on_a = and_parts (same_side Sell (side_at orders a)) (active_after_by_past orders (traded_before orders deals) i a) both.1 in
+      let on_b = and_parts (same_side Buy (side_at orders b)) (active_after_in_ledger orders (traded_before orders deals) i b) both.0 in
+      let on_a = and_parts (same_side Sell (side_at orders a)) (active_after_in_ledger orders (traded_before orders deals) i a) both.1 in
       let apart = c.spread b a row.1 cell.1 (same_side-is Buy _ on_b.0) (same_side-is Sell _ on_a.0) on_b.1 on_a.1 in
       let meets = leb-true (limit_at orders a) (limit_at orders b) outer.1 in
       omega arith))

@@ -12,7 +12,7 @@ use Rattle.audit_base.specs.Orders.{side_at, limit_at, same_side}
 use Rattle.audit_base.specs.Priority.{Better}
 use Rattle.audit_base.specs.Deals.{names_order, quantity_traded_by, traded, pair, volume, NamesOrders}
 use Rattle.audit_base.specs.Calls.{IsMatchingDeal, Matching, Fair, OnePrice, Greatest, GreatestUniform, ConformsFair, ConformsUniform, ConformsMaximum}
-use Rattle.audit_base.specs.Continuous.{cause, resting_order, traded_before, size_by_past, left_before_by_past, rests_before_by_past, active_after_by_past}
+use Rattle.audit_base.specs.Continuous.{cause, resting_order, traded_before, size_in_ledger, left_before_in_ledger, rests_before_in_ledger, active_after_in_ledger}
 use Rattle.audit_base.specs.ContinuousRules.{KeepsLimits, ConformsAt, ConformsContinuous}
 use Rattle.audit_base.proofs.SumLemmas.{sum_by-below, sum_by-same, sum_by-none, below-same, below-single}
 use Rattle.audit_base.proofs.OrderLemmas.{not_both_sides, same_side-is, is-same_side}
@@ -145,15 +145,15 @@ module _ (ds es : List Deal) (same : IsPermutation ds es) where
       record {
         conservation = record {
           limits = All-permutation (λ d. cause orders d ≡ i → KeepsLimits orders d) ds es same limits;
-          resting = All-permutation (λ d. cause orders d ≡ i → rests_before_by_past orders (traded_before orders es) i (resting_order orders d) ≡ true) ds es same
-              (subst (λ q. All (λ d. cause orders d ≡ i → rests_before_by_past orders q i (resting_order orders d) ≡ true) ds) past before);
-          within = subst (λ q. (k : ℕ) → k < length orders → q (suc i) k ≤ size_by_past orders q k) past within;
+          resting = All-permutation (λ d. cause orders d ≡ i → rests_before_in_ledger orders (traded_before orders es) i (resting_order orders d) ≡ true) ds es same
+              (subst (λ q. All (λ d. cause orders d ≡ i → rests_before_in_ledger orders q i (resting_order orders d) ≡ true) ds) past before);
+          within = subst (λ q. (k : ℕ) → k < length orders → q (suc i) k ≤ size_in_ledger orders q k) past within;
         };
-        priority = All-permutation (λ d. cause orders d ≡ i → (k : ℕ) → k < length orders → rests_before_by_past orders (traded_before orders es) i k ≡ true
-            → Better orders k (resting_order orders d) → left_before_by_past orders (traded_before orders es) (suc i) k ≡ 0) ds es same (subst (λ q. All (λ d. cause orders d ≡ i → (k : ℕ) → k < length orders → rests_before_by_past orders q i k ≡ true
-            → Better orders k (resting_order orders d) → left_before_by_past orders q (suc i) k ≡ 0) ds) past priority);
+        priority = All-permutation (λ d. cause orders d ≡ i → (k : ℕ) → k < length orders → rests_before_in_ledger orders (traded_before orders es) i k ≡ true
+            → Better orders k (resting_order orders d) → left_before_in_ledger orders (traded_before orders es) (suc i) k ≡ 0) ds es same (subst (λ q. All (λ d. cause orders d ≡ i → (k : ℕ) → k < length orders → rests_before_in_ledger orders q i k ≡ true
+            → Better orders k (resting_order orders d) → left_before_in_ledger orders q (suc i) k ≡ 0) ds) past priority);
         spread = subst (λ q. (b a : ℕ) → b < length orders → a < length orders → side_at orders b ≡ Buy → side_at orders a ≡ Sell
-            → active_after_by_past orders q i b ≡ true → active_after_by_past orders q i a ≡ true → limit_at orders b < limit_at orders a) past c.spread;
+            → active_after_in_ledger orders q i b ≡ true → active_after_in_ledger orders q i a ≡ true → limit_at orders b < limit_at orders a) past c.spread;
       }
 
   pub ConformsContinuous-permutation : (orders : List Order) → ConformsContinuous orders ds → ConformsContinuous orders es

@@ -20,9 +20,9 @@ use Rattle.audit_base.specs.Orders.{side_at, same_side}
 use Rattle.audit_base.specs.Priority.{best_order}
 use Rattle.audit_base.specs.Deals.{NamesOrders, DealInRange, DealsInRange}
 use Rattle.audit_base.specs.Histories.{order_list}
-use Rattle.audit_base.specs.Trades.{trades_of_symbol, duplicate_trade, unknown_order, unsound_trade, deals_of_symbol}
+use Rattle.audit_base.specs.Trades.{trades_of_symbol, duplicate_trade_finding, unknown_order_finding, trades_finding, deals_of_symbol}
 use Rattle.audit_base.specs.CallOffences.{call_inactive_finding, call_limit_finding, uniform_price_finding, bid_quantity_finding, ask_quantity_finding, best_short, is_outranked_by_short, bid_priority_finding, ask_priority_finding}
-use Rattle.audit_base.specs.Continuous.{traded_before, traded_at, chain, before_quantity_by_past, entered_by_past, size_by_past, rests_before_by_past, active_after_by_past}
+use Rattle.audit_base.specs.Continuous.{traded_before, traded_at, chain, chain_traded_in_ledger, entered_in_ledger, size_in_ledger, rests_before_in_ledger, active_after_in_ledger}
 use Rattle.audit_base.specs.ContinuousOffences.{continuous_inactive_finding, continuous_limit_finding, size_finding, resting_priority_finding, active_orders_meet, spread_finding}
 use Rattle.audit_base.specs.Expected.{pair_deals, available_quantity, pair_share}
 use Rattle.audit_base.proofs.OrderLemmas.{same_side-is}
@@ -80,7 +80,7 @@ line place side id quantity price traded = record { place = place; side = side; 
 
 -- what an example computes with: to unfold this is to unfold all that its line names
 unfoldable pub all_definitions : ℕ
-unfolding trades_of_symbol duplicate_trade unknown_order unsound_trade deals_of_symbol best_order call_inactive_finding call_limit_finding uniform_price_finding bid_quantity_finding ask_quantity_finding best_short is_outranked_by_short bid_priority_finding ask_priority_finding traded_before traded_at chain before_quantity_by_past entered_by_past size_by_past rests_before_by_past active_after_by_past continuous_inactive_finding continuous_limit_finding size_finding resting_priority_finding active_orders_meet spread_finding pair_deals available_quantity pair_share
+unfolding trades_of_symbol duplicate_trade_finding unknown_order_finding trades_finding deals_of_symbol best_order call_inactive_finding call_limit_finding uniform_price_finding bid_quantity_finding ask_quantity_finding best_short is_outranked_by_short bid_priority_finding ask_priority_finding traded_before traded_at chain chain_traded_in_ledger entered_in_ledger size_in_ledger rests_before_in_ledger active_after_in_ledger continuous_inactive_finding continuous_limit_finding size_finding resting_priority_finding active_orders_meet spread_finding pair_deals available_quantity pair_share
 all_definitions = 0
 
 -- whether each deal names a bid and an ask, as a test

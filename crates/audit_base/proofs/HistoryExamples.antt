@@ -12,7 +12,7 @@ use Rattle.audit_base.specs.declared.findings.Property.TheVariants as property
 use Rattle.audit_base.specs.declared.findings.Shown.TheVariants as shown
 use Rattle.audit_base.specs.Shows.{finding_at_record}
 use Rattle.audit_base.specs.Histories.{WellFormed, history_finding}
-use Rattle.audit_base.specs.Verdicts.{IsVerdict}
+use Rattle.audit_base.specs.Verdicts.{IsRecordFinding}
 use Rattle.audit_base.proofs.ContinuousOffenceLemmas.{no_faults-conform}
 use Rattle.audit_base.proofs.ExampleLogs.{all_definitions, symbol, key, at, new_order, immediate_order, cancel, replace, trade, orders_in, deals_in, line, whole}
 
@@ -81,7 +81,7 @@ pub replaced_immediate-cancelled : cancelled_in (orders_in late_entries) ≡ Som
 unfolding all_definitions
 replaced_immediate-cancelled = refl
 
-pub replaced_immediate-inactive : IsVerdict rule.Continuous symbol late_entries (Ok late_trades) (Some (finding_at_record property.Inactive which.Trades 1 (Some (shown.Order (line 2 Buy (codes "r1") 5 10 5))) None))
+pub replaced_immediate-inactive : IsRecordFinding rule.Continuous symbol late_entries (Ok late_trades) (Some (finding_at_record property.Inactive which.Trades 1 (Some (shown.Order (line 2 Buy (codes "r1") 5 10 5))) None))
 unfolding all_definitions
 replaced_immediate-inactive = record { place = 3; before = no_faults-conform (orders_in late_entries) (deals_in late_entries late_trades) 3 refl; here = refl }
 
@@ -92,7 +92,7 @@ ended_entries = new_order Sell (codes "s1") 5 10 ∷ new_order Buy (codes "b1") 
 abbrev ended_trades : List TradeRecord
 ended_trades = trade (codes "T1") (codes "b1") (codes "s1") 2 (whole 10) ∷ trade (codes "T2") (codes "b2") (codes "r1") 3 (whole 10) ∷ []
 
-pub ended_target-inactive : IsVerdict rule.Continuous symbol ended_entries (Ok ended_trades) (Some (finding_at_record property.Inactive which.Trades 2 (Some (shown.Order (line 5 Sell (codes "r1") 5 10 5))) None))
+pub ended_target-inactive : IsRecordFinding rule.Continuous symbol ended_entries (Ok ended_trades) (Some (finding_at_record property.Inactive which.Trades 2 (Some (shown.Order (line 5 Sell (codes "r1") 5 10 5))) None))
 unfolding all_definitions
 ended_target-inactive = record { place = 5; before = no_faults-conform (orders_in ended_entries) (deals_in ended_entries ended_trades) 5 refl; here = refl }
 
@@ -103,6 +103,6 @@ filled_entries = new_order Sell (codes "s1") 2 10 ∷ new_order Buy (codes "b1")
 abbrev filled_trades : List TradeRecord
 filled_trades = trade (codes "T1") (codes "b1") (codes "s1") 2 (whole 10) ∷ trade (codes "T2") (codes "b1") (codes "s1") 1 (whole 10) ∷ []
 
-pub filled_by_same_cause-quantity : IsVerdict rule.Continuous symbol filled_entries (Ok filled_trades) (Some (finding_at_record property.SellQuantity which.Trades 2 (Some (shown.Order (line 1 Sell (codes "s1") 2 10 3))) None))
+pub filled_by_same_cause-quantity : IsRecordFinding rule.Continuous symbol filled_entries (Ok filled_trades) (Some (finding_at_record property.SellQuantity which.Trades 2 (Some (shown.Order (line 1 Sell (codes "s1") 2 10 3))) None))
 unfolding all_definitions
 filled_by_same_cause-quantity = record { place = 2; before = no_faults-conform (orders_in filled_entries) (deals_in filled_entries filled_trades) 2 refl; here = refl }

@@ -16,7 +16,7 @@ use Rattle.audit_base.specs.declared.records.OrderRecord.TheVariants.{New, Cance
 use Rattle.audit_base.specs.declared.orders.Order.{Order}
 use Rattle.audit_base.specs.Least.{least_with}
 use Rattle.audit_base.specs.Orders.{same_name, same_key, order_at, place_at, side_at, order_past_end, IsOrderList, HaveOwnKeys}
-use Rattle.audit_base.specs.Histories.{key_of, symbol_of, target_key, is_order, ends_order, side_of, fits_side, history, entry_past_end, history_entry, history_entry_place, key_at, earlier_entry_with_key, target_of, duplicate_id, time_back, unknown_target, entry_finding, WellFormed, replaced_order_at, is_placed, cancelled_of, order_index, order_of_entry, order_list, Regular}
+use Rattle.audit_base.specs.Histories.{key_of, symbol_of, target_key, is_order, ends_order, side_of, fits_side, history, entry_past_end, history_entry, history_entry_place, key_at, earlier_entry_with_key, target_of, duplicate_id_finding, time_back_finding, unknown_target_finding, entry_finding, WellFormed, replaced_order_at, is_placed, cancelled_of, order_index, order_of_entry, order_list, Regular}
 use Rattle.audit_base.proofs.SumLemmas.{AllPairs-cons}
 use Rattle.audit_base.proofs.OrderLemmas.{same_side-is}
 use Rattle.audit_base.proofs.LeastLemmas.{cases_Option, none_some, option_or-parts, none-below, none-with, with-found, with-exists}
@@ -203,20 +203,20 @@ map-none : {A : Type 0} (f : ℕ → A) (o : Option ℕ) → option_map f o ≡ 
 map-none f None e = refl
 map-none f (Some j) e = cc
 
-first-none : (h : List (ℕ × OrderRecord)) (k : ℕ) → duplicate_id h k ≡ None → earlier_entry_with_key h k ≡ None
+first-none : (h : List (ℕ × OrderRecord)) (k : ℕ) → duplicate_id_finding h k ≡ None → earlier_entry_with_key h k ≡ None
 first-none h k e = map-none _ (earlier_entry_with_key h k) e
 
-third-none : (h : List (ℕ × OrderRecord)) (k : ℕ) → unknown_target h k ≡ None → is_some (target_key (history_entry h k)) ≡ true → (t : ℕ) × (target_of h k ≡ Some t)
+third-none : (h : List (ℕ × OrderRecord)) (k : ℕ) → unknown_target_finding h k ≡ None → is_some (target_key (history_entry h k)) ≡ true → (t : ℕ) × (target_of h k ≡ Some t)
 third-none h k e some = elim (cases_Option (target_of h k)) [
   | inr found ↦ found
   | inl none ↦ absurd (both_ways _ (only-none (is_some (target_key (history_entry h k)) && is_none (target_of h k)) _ e) (and_from _ _ some (ap is_none none)))
 ]
 
-last-none : (h : List (ℕ × OrderRecord)) (k : ℕ) → entry_finding h k ≡ None → unknown_target h k ≡ None
+last-none : (h : List (ℕ × OrderRecord)) (k : ℕ) → entry_finding h k ≡ None → unknown_target_finding h k ≡ None
 last-none h k e =
-    let a = option_or-parts (duplicate_id h k) (option_or (time_back h k) (option_or (unknown_target h k) None)) e in
-    let b = option_or-parts (time_back h k) (option_or (unknown_target h k) None) a.1 in
-    (option_or-parts (unknown_target h k) None b.1).0
+    let a = option_or-parts (duplicate_id_finding h k) (option_or (time_back_finding h k) (option_or (unknown_target_finding h k) None)) e in
+    let b = option_or-parts (time_back_finding h k) (option_or (unknown_target_finding h k) None) a.1 in
+    (option_or-parts (unknown_target_finding h k) None b.1).0
 
 distinct-none : (h : List (ℕ × OrderRecord)) (j k : ℕ) → j < k → earlier_entry_with_key h k ≡ None → key_at h j ≢ key_at h k
 distinct-none h j k lt e same = both_ways _ (none-with (λ i. same_key (key_at h i) (key_at h k)) k e j lt) (is-same_key (key_at h j) (key_at h k) same)

@@ -16,7 +16,7 @@ use Rattle.audit_base.specs.declared.orders.Order.{Order}
 use Rattle.audit_base.specs.declared.orders.Deal.{Deal}
 use Rattle.audit_base.specs.Orders.{order_at, side_at, same_name, same_side, same_key, order_on_side_with_key}
 use Rattle.audit_base.specs.Deals.{NamesOrders, IsDealList, DealInRange, DealsInRange}
-use Rattle.audit_base.specs.Trades.{trades_of_symbol, trade_past_end, trade_at, TradeInRange, TradesInRange, duplicate_trade, unknown_order, unsound_trade, SoundTrades, deal_of_trade, deals_of_symbol}
+use Rattle.audit_base.specs.Trades.{trades_of_symbol, trade_past_end, trade_at, TradeInRange, TradesInRange, duplicate_trade_finding, unknown_order_finding, trades_finding, SoundTrades, deal_of_trade, deals_of_symbol}
 use Rattle.audit_base.proofs.OrderLemmas.{same_side-is}
 use Rattle.audit_base.proofs.LeastLemmas.{cases_Option, option_or-parts, none-below, with-found}
 use Rattle.audit_base.proofs.OffenceLemmas.{only-none}
@@ -45,9 +45,9 @@ found-order orders side key some = elim (cases_Option (order_on_side_with_key or
       (rw same r.0, rw same (same_side-is side _ parts.0))
 ]
 
-known-order : (orders : List Order) (listed : List (ℕ × TradeRecord)) (k : ℕ) → unknown_order orders listed k ≡ None
+known-order : (orders : List Order) (listed : List (ℕ × TradeRecord)) (k : ℕ) → unknown_order_finding orders listed k ≡ None
     → (is_none (order_on_side_with_key orders Buy (trade_at listed k).buy) ≡ false) × (is_none (order_on_side_with_key orders Sell (trade_at listed k).sell) ≡ false)
-unfolding unknown_order
+unfolding unknown_order_finding
 known-order orders listed k e = let parts = option_or-parts _ _ e in (only-none _ _ parts.0, only-none _ _ parts.1)
 
 module _ (orders : List Order) (symbol : List ℕ) (trades : List TradeRecord) where
@@ -60,12 +60,12 @@ module _ (orders : List Order) (symbol : List ℕ) (trades : List TradeRecord) w
 
   -- each deal of sound trades names a bid and an ask
   pub sound-names : SoundTrades orders symbol trades → All (NamesOrders orders) (deals_of_symbol orders symbol trades)
-  unfolding unsound_trade deals_of_symbol
+  unfolding trades_finding deals_of_symbol
   sound-names sound k d lt =
       let listed = trades_of_symbol symbol trades in
       let inside : k < length listed = rw (← length-map listed (deal_of_trade orders)) lt in
-      let none = none-below (λ k. option_or (duplicate_trade listed k) (unknown_order orders listed k)) (length listed) sound k inside in
-      let known = known-order orders listed k ((option_or-parts (duplicate_trade listed k) (unknown_order orders listed k) none).1) in
+      let none = none-below (λ k. option_or (duplicate_trade_finding listed k) (unknown_order_finding orders listed k)) (length listed) sound k inside in
+      let known = known-order orders listed k ((option_or-parts (duplicate_trade_finding listed k) (unknown_order_finding orders listed k) none).1) in
       let bid = found-order orders Buy (trade_at listed k).buy known.0 in
       let ask = found-order orders Sell (trade_at listed k).sell known.1 in
       subst (NamesOrders orders) (sym (deal-at k d inside)) (record { bid_inside = bid.0; ask_inside = ask.0; buys = bid.1; sells = ask.1 })

@@ -21,8 +21,8 @@ use Rattle.audit_base.specs.CallOffences.{offence_before_volume, IsGreatestUnder
 use Rattle.audit_base.specs.ContinuousOffences.{finding_at_place, IsContinuousOffence}
 use Rattle.audit_base.specs.Least.{first_answer}
 use Rattle.audit_base.specs.Histories.{history_finding, order_list}
-use Rattle.audit_base.specs.Trades.{TradesInRange, unsound_trade, deals_of_symbol}
-use Rattle.audit_base.specs.Verdicts.{IsFirstOffence, IsRuleVerdict, instant_order_finding, pairing_finding, paired_trades, log_finding, IsVerdict}
+use Rattle.audit_base.specs.Trades.{TradesInRange, trades_finding, deals_of_symbol}
+use Rattle.audit_base.specs.Verdicts.{IsFirstOffence, IsRuleFinding, instant_finding_of_rule, pairing_finding, paired_trades, finding_before_rule, IsRecordFinding}
 use Rattle.audit_base.proofs.LeastLemmas.{cases_Option, none_some, one-least, option_or-parts}
 use Rattle.audit_base.proofs.OffenceLemmas.{option_or-none_both, matching-no_offence, fair-no_offence}
 use Rattle.audit_base.proofs.ContinuousOffenceLemmas.{conforms-no_fault, offence-fails}
@@ -148,7 +148,7 @@ first_offence-fails rule.Maximum orders deals count f named ranges o c = call_of
 
 -- so there is one verdict of a rule
 pub one-rule_verdict : (r : Rule) (orders : List Order) (deals : List Deal) (count : ℕ) (v w : Option Finding) → All (NamesOrders orders) deals → DealsInRange deals
-    → IsRuleVerdict r orders deals count v → IsRuleVerdict r orders deals count w → v ≡ w
+    → IsRuleFinding r orders deals count v → IsRuleFinding r orders deals count w → v ≡ w
 one-rule_verdict r orders deals count None None named ranges a b = refl
 one-rule_verdict r orders deals count None (Some g) named ranges a b = absurd (first_offence-fails r orders deals count g named ranges b a)
 one-rule_verdict r orders deals count (Some f) None named ranges a b = absurd (first_offence-fails r orders deals count f named ranges a b)
@@ -156,22 +156,22 @@ one-rule_verdict r orders deals count (Some f) (Some g) named ranges a b = ap (�
 
 -- and one verdict on two logs that have been read, where the deals of sound trades are in range
 pub one-verdict-of_deals : (r : Rule) (symbol : List ℕ) (entries : List OrderRecord) (trades : Result (List TradeRecord) Finding) (v w : Option Finding)
-    → (unsound_trade (order_list symbol entries) symbol (paired_trades trades) ≡ None → DealsInRange (deals_of_symbol (order_list symbol entries) symbol (paired_trades trades)))
-    → IsVerdict r symbol entries trades v → IsVerdict r symbol entries trades w → v ≡ w
-one-verdict-of_deals r symbol entries trades v w ranges a b = elim (cases_Option (log_finding r symbol entries trades)) [
+    → (trades_finding (order_list symbol entries) symbol (paired_trades trades) ≡ None → DealsInRange (deals_of_symbol (order_list symbol entries) symbol (paired_trades trades)))
+    → IsRecordFinding r symbol entries trades v → IsRecordFinding r symbol entries trades w → v ≡ w
+one-verdict-of_deals r symbol entries trades v w ranges a b = elim (cases_Option (finding_before_rule r symbol entries trades)) [
   | inr (f, some) ↦ match-some _ _ _ f some a ∙ sym (match-some _ _ _ f some b)
   | inl none ↦
       let orders = order_list symbol entries in
-      let later = option_or-parts (history_finding symbol entries) (first_answer (instant_order_finding r orders ∷ pairing_finding trades ∷ unsound_trade orders symbol (paired_trades trades) ∷ [])) none in
-      let latest = option_or-parts (instant_order_finding r orders) (first_answer (pairing_finding trades ∷ unsound_trade orders symbol (paired_trades trades) ∷ [])) later.1 in
-      let last = option_or-parts (pairing_finding trades) (first_answer (unsound_trade orders symbol (paired_trades trades) ∷ [])) latest.1 in
-      let sound = (option_or-parts (unsound_trade orders symbol (paired_trades trades)) None last.1).0 in
+      let later = option_or-parts (history_finding symbol entries) (first_answer (instant_finding_of_rule r orders ∷ pairing_finding trades ∷ trades_finding orders symbol (paired_trades trades) ∷ [])) none in
+      let latest = option_or-parts (instant_finding_of_rule r orders) (first_answer (pairing_finding trades ∷ trades_finding orders symbol (paired_trades trades) ∷ [])) later.1 in
+      let last = option_or-parts (pairing_finding trades) (first_answer (trades_finding orders symbol (paired_trades trades) ∷ [])) latest.1 in
+      let sound = (option_or-parts (trades_finding orders symbol (paired_trades trades)) None last.1).0 in
       one-rule_verdict r orders (deals_of_symbol orders symbol (paired_trades trades)) (length (paired_trades trades)) v w
       (sound-names orders symbol (paired_trades trades) sound) (ranges sound)
       (match-none _ _ _ none a) (match-none _ _ _ none b)
 ]
 
 pub one-verdict : (r : Rule) (symbol : List ℕ) (entries : List OrderRecord) (trades : Result (List TradeRecord) Finding) (v w : Option Finding) → TradesInRange (paired_trades trades)
-    → IsVerdict r symbol entries trades v → IsVerdict r symbol entries trades w → v ≡ w
+    → IsRecordFinding r symbol entries trades v → IsRecordFinding r symbol entries trades w → v ≡ w
 one-verdict r symbol entries trades v w ranges a b =
     one-verdict-of_deals r symbol entries trades v w (λ _. deals-ranges (order_list symbol entries) symbol (paired_trades trades) ranges) a b

@@ -22,7 +22,8 @@ pub record Matching (orders : List Order) (deals : List Deal) : Type 0 where
   pub kept : All (IsMatchingDeal orders) deals
   pub within : EachIndex orders (λ i. traded deals i ≤ quantity_at orders i)
 
--- Fair: an order that is better than one that trades is fully traded
+-- Fair: of the orders of a side that no record cancels, each that is better than one that trades is
+-- fully traded
 pub record Fair (orders : List Order) (deals : List Deal) : Type 0 where
   pub fills : (side : Side) (i j : ℕ) → IsUncancelledOn orders side i
       → IsUncancelledOn orders side j

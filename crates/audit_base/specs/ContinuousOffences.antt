@@ -13,7 +13,7 @@ use Rattle.audit_base.specs.Orders.{order_at, side_at, limit_at, same_side}
 use Rattle.audit_base.specs.Priority.{better, best_order}
 use Rattle.audit_base.specs.Deals.{deal_at}
 use Rattle.audit_base.specs.CallOffences.{keeps_limits}
-use Rattle.audit_base.specs.Continuous.{cause, incoming_order, resting_order, traded_before, traded_at, traded_after, before_quantity, has_entered, size_of_order, left_after, rests_before, active_after}
+use Rattle.audit_base.specs.Continuous.{cause, incoming_order, resting_order, traded_before, traded_at, traded_after, chain_traded_quantity, has_entered, size_of_order, left_after, rests_before, active_after}
 use Rattle.audit_base.specs.ContinuousRules.{ConformsAt}
 use Rattle.audit_base.specs.Shows.{finding_at_record, finding_at_trade, show_order, show_if_found, priority_property}
 
@@ -27,7 +27,7 @@ traded_upto orders deals i k x =
 -- the number shown with an order in the first part: this, and Before added
 abbrev pub traded_shown_upto : List Order → List Deal → ℕ → ℕ → ℕ → ℕ
 traded_shown_upto orders deals i k x =
-    traded_upto orders deals i k x + before_quantity orders deals x
+    traded_upto orders deals i k x + chain_traded_quantity orders deals x
 
 -- 7: the resting order doesn't rest before i, or else the incoming order never entered
 unfoldable pub continuous_inactive_finding : List Order → List Deal → ℕ → ℕ → Option Finding
@@ -69,7 +69,8 @@ conservation_finding orders deals i k = if cause orders (deal_at deals k) == i
 -- the number shown with an order in the second and the third part:
 -- what it trades in causes up to i, and Before added
 abbrev pub traded_shown_after : List Order → List Deal → ℕ → ℕ → ℕ
-traded_shown_after orders deals i x = traded_after orders deals i x + before_quantity orders deals x
+traded_shown_after orders deals i x =
+    traded_after orders deals i x + chain_traded_quantity orders deals x
 
 -- the order at x rests before i, has something left after i, and is better than the order at r
 abbrev pub waits_ahead : List Order → List Deal → ℕ → ℕ → ℕ → Bool

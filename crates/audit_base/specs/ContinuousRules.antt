@@ -14,7 +14,7 @@ pub record KeepsLimits (orders : List Order) (d : Deal) : Type 0 where
   pub most : d.price ≤ limit_at orders d.bid
 
 -- Conservation at place i: each deal of cause i keeps both limits, its resting order rests before
--- i, and no order has traded more than its Size up to i (no Left is below 0)
+-- i, and no order has traded more than its Size up to i
 pub record Conservation (orders : List Order) (deals : List Deal) (i : ℕ) : Type 0 where
   pub limits : All (λ d. cause orders d ≡ i → KeepsLimits orders d) deals
   pub resting : All (λ d. cause orders d ≡ i

@@ -15,7 +15,7 @@ use Rattle.audit_base.specs.Sums.{sum_below}
 use Rattle.audit_base.specs.Orders.{order_at, place_at, side_at, limit_at, same_side, other_side}
 use Rattle.audit_base.specs.Priority.{better}
 use Rattle.audit_base.specs.Bounds.{IsBoundPrice}
-use Rattle.audit_base.specs.Continuous.{incoming_order, traded_before, size_by_past, left_before_by_past, rests_before_by_past}
+use Rattle.audit_base.specs.Continuous.{incoming_order, traded_before, size_in_ledger, left_before_in_ledger, rests_before_in_ledger}
 use Rattle.audit_base.specs.Calls.{IsGreatestVolume, IsGreatestUniformVolume}
 use Rattle.audit_base.specs.Units.{uniform_units, maximum_units, if_both_uncancelled}
 
@@ -68,30 +68,30 @@ orders_meet o r = same_side (other_side o.side) r.side && limits_meet o.side o.l
 -- what the order at n finds of the one at r: its Left, where it is of the other side,
 -- meets n and rests before the record of n
 unfoldable pub available_quantity : List Order → (ℕ → ℕ → ℕ) → ℕ → ℕ → ℕ
-available_quantity orders past n r =
+available_quantity orders ledger n r =
     if orders_meet (order_at orders n) (order_at orders r)
-    && rests_before_by_past orders past (place_at orders n) r
-    then left_before_by_past orders past (place_at orders n) r else 0
+    && rests_before_in_ledger orders ledger (place_at orders n) r
+    then left_before_in_ledger orders ledger (place_at orders n) r else 0
 
 -- what it finds of all orders that are better than the one at r
 abbrev pub available_quantity_ahead : List Order → (ℕ → ℕ → ℕ) → ℕ → ℕ → ℕ
-available_quantity_ahead orders past n r =
+available_quantity_ahead orders ledger n r =
     sum_below (λ k. if better (order_at orders k) (order_at orders r)
-    then available_quantity orders past n k else 0) (length orders)
+    then available_quantity orders ledger n k else 0) (length orders)
 
 -- what the two trade: the smaller of what n finds of r, and what the better
 -- ones leave of the Size of n
 abbrev pub incoming_share : List Order → (ℕ → ℕ → ℕ) → ℕ → ℕ → ℕ
-incoming_share orders past n r =
-    min (available_quantity orders past n r)
-    (size_by_past orders past n - available_quantity_ahead orders past n r)
+incoming_share orders ledger n r =
+    min (available_quantity orders ledger n r)
+    (size_in_ledger orders ledger n - available_quantity_ahead orders ledger n r)
 
 -- the same of a bid and an ask, of which the later is the incoming one
 unfoldable pub pair_share : List Order → (ℕ → ℕ → ℕ) → ℕ → ℕ → ℕ
-pair_share orders past bid ask =
+pair_share orders ledger bid ask =
     if same_side (side_at orders bid) Buy && same_side (side_at orders ask) Sell
     then (if nat_lt (place_at orders bid) (place_at orders ask)
-    then incoming_share orders past ask bid else incoming_share orders past bid ask) else 0
+    then incoming_share orders ledger ask bid else incoming_share orders ledger bid ask) else 0
 
 -- the limit of the earlier of the two
 abbrev pub resting_limit : List Order → ℕ → ℕ → ℕ

@@ -12,7 +12,7 @@ use Rattle.audit_base.specs.declared.orders.Order.{Order}
 use Rattle.audit_base.specs.declared.findings.Property.TheVariants as property
 use Rattle.audit_base.specs.declared.findings.Finding.{Finding}
 use Rattle.audit_base.specs.Least.{least_answer, least_with, any_below, first_answer, only_if}
-use Rattle.audit_base.specs.Orders.{same_name, same_key, same_side, order_at, place_at, side_at, may_rest, order_past_end, IsMarketPriced}
+use Rattle.audit_base.specs.Orders.{same_name, same_key, same_side, order_at, place_at, side_at, may_rest, order_past_end, HasMarketPriceIfMarket}
 use Rattle.audit_base.specs.Shows.{finding_at_record, show_place}
 
 -- What one record says.
@@ -62,7 +62,8 @@ side_of (Replace key time symbol target side quantity price) = Some side
 
 -- a new order of life Market has the market price of its side; no other record is of that life
 abbrev pub HasMarketPrice : OrderRecord → Type 0
-HasMarketPrice (New key time symbol side quantity price life) = IsMarketPriced life side price
+HasMarketPrice (New key time symbol side quantity price life) =
+    HasMarketPriceIfMarket life side price
 HasMarketPrice (Cancel key time symbol target) = ⊤
 HasMarketPrice (Replace key time symbol target side quantity price) = ⊤
 
@@ -107,17 +108,17 @@ target_of records k =
     && fits_side (side_of (history_entry records k)) (side_of (history_entry records j))) k
 
 -- 1: the key is that of an earlier record, cancels and replacements included
-abbrev pub duplicate_id : List (ℕ × OrderRecord) → ℕ → Option Finding
-duplicate_id records k =
+abbrev pub duplicate_id_finding : List (ℕ × OrderRecord) → ℕ → Option Finding
+duplicate_id_finding records k =
     option_map (λ j. finding_at_record property.DuplicateId which.Orders
     (history_entry_place records k)
     (show_place which.Orders (history_entry_place records j)) None)
     (earlier_entry_with_key records k)
 
 -- 2: the time is earlier than that of the history's record before it
-abbrev pub time_back : List (ℕ × OrderRecord) → ℕ → Option Finding
-time_back records zero = None
-time_back records (suc j) =
+abbrev pub time_back_finding : List (ℕ × OrderRecord) → ℕ → Option Finding
+time_back_finding records zero = None
+time_back_finding records (suc j) =
     only_if (is_before (time_of (history_entry records (suc j)))
     (time_of (history_entry records j)))
     (finding_at_record property.TimeBack which.Orders (history_entry_place records (suc j))
@@ -125,8 +126,8 @@ time_back records (suc j) =
 
 -- 3: a cancel's target is no earlier order of its firm, or a replacement's
 -- none of its firm and side
-abbrev pub unknown_target : List (ℕ × OrderRecord) → ℕ → Option Finding
-unknown_target records k =
+abbrev pub unknown_target_finding : List (ℕ × OrderRecord) → ℕ → Option Finding
+unknown_target_finding records k =
     only_if (is_some (target_key (history_entry records k)) && is_none (target_of records k))
     (finding_at_record property.UnknownTarget which.Orders
     (history_entry_place records k) None None)
@@ -134,7 +135,8 @@ unknown_target records k =
 -- the first of the three at the record at k
 abbrev pub entry_finding : List (ℕ × OrderRecord) → ℕ → Option Finding
 entry_finding records k =
-    first_answer (duplicate_id records k ∷ time_back records k ∷ unknown_target records k ∷ [])
+    first_answer (duplicate_id_finding records k ∷ time_back_finding records k
+    ∷ unknown_target_finding records k ∷ [])
 
 -- the finding at the least place of the history that has one
 abbrev pub history_finding : List ℕ → List OrderRecord → Option Finding
@@ -225,8 +227,8 @@ pub record Regular (orders : List Order) : Type 0 where
       → (c : ℕ) × ((order_at orders t).cancelled ≡ Some c) × (c ≤ place_at orders i)
 
 -- 16: the least order of the history whose life isn't Rests
-abbrev pub instant_order : List Order → Option Finding
-instant_order orders =
+abbrev pub instant_order_finding : List Order → Option Finding
+instant_order_finding orders =
     option_map (λ i. finding_at_record property.InstantOrder which.Orders
     (place_at orders i) None None)
     (least_with (λ i. not (may_rest (order_at orders i).life)) (length orders))

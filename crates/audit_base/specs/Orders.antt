@@ -100,8 +100,8 @@ order_on_side_with_key orders side key =
     (length orders)
 
 -- an order, or the record of one, of life Market has this price
-abbrev pub IsMarketPriced : Life → Side → ℕ → Type 0
-IsMarketPriced life side price = life ≡ Market → price ≡ market_price side
+abbrev pub HasMarketPriceIfMarket : Life → Side → ℕ → Type 0
+HasMarketPriceIfMarket life side price = life ≡ Market → price ≡ market_price side
 
 -- what the numbers of an order may be: a quantity from 1 to 10^12, and a limit from 0 to 10^18 - 1
 pub record OrderInRange (o : Order) : Type 0 where

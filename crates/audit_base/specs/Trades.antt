@@ -51,15 +51,15 @@ abbrev pub TradesInRange : List TradeRecord → Type 0
 TradesInRange trades = All TradeInRange trades
 
 -- 5: the trade id is that of an earlier trade of the symbol
-unfoldable pub duplicate_trade : List (ℕ × TradeRecord) → ℕ → Option Finding
-duplicate_trade listed k =
+unfoldable pub duplicate_trade_finding : List (ℕ × TradeRecord) → ℕ → Option Finding
+duplicate_trade_finding listed k =
     option_map (λ j. finding_at_record property.DuplicateTrade which.Trades (trade_place listed k)
     (show_place which.Trades (trade_place listed j)) None)
     (least_with (λ j. same_name (trade_at listed j).trade (trade_at listed k).trade) k)
 
 -- 6: the buy key is that of no bid, or else the sell key that of no ask
-unfoldable pub unknown_order : List Order → List (ℕ × TradeRecord) → ℕ → Option Finding
-unknown_order orders listed k = let t = trade_at listed k in
+unfoldable pub unknown_order_finding : List Order → List (ℕ × TradeRecord) → ℕ → Option Finding
+unknown_order_finding orders listed k = let t = trade_at listed k in
     option_or (only_if (is_none (order_on_side_with_key orders Buy t.buy))
     (finding_at_record property.UnknownOrder which.Trades (trade_place listed k)
     (Some (shown.Unknown Buy t.buy)) None))
@@ -68,14 +68,15 @@ unknown_order orders listed k = let t = trade_at listed k in
     (Some (shown.Unknown Sell t.sell)) None))
 
 -- the finding at the least trade of the symbol that fails 5 or 6, and at it 5 before 6
-unfoldable pub unsound_trade : List Order → List ℕ → List TradeRecord → Option Finding
-unsound_trade orders symbol trades = let listed = trades_of_symbol symbol trades in
-    least_answer (λ k. option_or (duplicate_trade listed k) (unknown_order orders listed k))
+unfoldable pub trades_finding : List Order → List ℕ → List TradeRecord → Option Finding
+trades_finding orders symbol trades = let listed = trades_of_symbol symbol trades in
+    least_answer
+    (λ k. option_or (duplicate_trade_finding listed k) (unknown_order_finding orders listed k))
     (length listed)
 
 -- Sound trades: no trade of the symbol fails
 abbrev pub SoundTrades : List Order → List ℕ → List TradeRecord → Type 0
-SoundTrades orders symbol trades = unsound_trade orders symbol trades ≡ None
+SoundTrades orders symbol trades = trades_finding orders symbol trades ≡ None
 
 -- the deal of a trade: its bid and its ask by their indices in the order list
 abbrev pub deal_of_trade : List Order → ℕ × TradeRecord → Deal

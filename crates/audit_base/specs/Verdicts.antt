@@ -7,17 +7,17 @@ use Rattle.audit_base.specs.declared.orders.Order.{Order}
 use Rattle.audit_base.specs.declared.orders.Deal.{Deal}
 use Rattle.audit_base.specs.declared.findings.Finding.{Finding}
 use Rattle.audit_base.specs.Least.{first_answer}
-use Rattle.audit_base.specs.Histories.{history_finding, order_list, instant_order}
-use Rattle.audit_base.specs.Trades.{unsound_trade, deals_of_symbol}
+use Rattle.audit_base.specs.Histories.{history_finding, order_list, instant_order_finding}
+use Rattle.audit_base.specs.Trades.{trades_finding, deals_of_symbol}
 use Rattle.audit_base.specs.RuleKinds.{call_rule}
 use Rattle.audit_base.specs.Rules.{Conforms}
 use Rattle.audit_base.specs.CallOffences.{IsCallOffence}
 use Rattle.audit_base.specs.ContinuousOffences.{IsContinuousOffence}
 
 -- finding 16 is looked for under the four rules of a call
-abbrev pub instant_order_finding : Rule → List Order → Option Finding
-instant_order_finding the_rule orders =
-    option_and_then (λ call. instant_order orders) (call_rule the_rule)
+abbrev pub instant_finding_of_rule : Rule → List Order → Option Finding
+instant_finding_of_rule the_rule orders =
+    option_and_then (λ call. instant_order_finding orders) (call_rule the_rule)
 
 -- finding 4: a trade log that has been read is its trades, or this finding
 -- where its reports don't pair
@@ -31,13 +31,14 @@ paired_trades (Ok trades) = trades
 paired_trades (Err finding) = []
 
 -- the findings before those of the rule, in the order of the stages: 1 to 3, 16, 4, 5 and 6
-abbrev pub log_finding : Rule → List ℕ → List OrderRecord → Result (List TradeRecord) Finding
+abbrev pub finding_before_rule : Rule → List ℕ → List OrderRecord
+    → Result (List TradeRecord) Finding
     → Option Finding
-log_finding the_rule symbol entries trades =
+finding_before_rule the_rule symbol entries trades =
     first_answer (history_finding symbol entries
-    ∷ instant_order_finding the_rule (order_list symbol entries)
+    ∷ instant_finding_of_rule the_rule (order_list symbol entries)
     ∷ pairing_finding trades
-    ∷ unsound_trade (order_list symbol entries) symbol (paired_trades trades) ∷ [])
+    ∷ trades_finding (order_list symbol entries) symbol (paired_trades trades) ∷ [])
 
 -- First offence of a rule; `count` is the number of trades of the whole log
 abbrev pub IsFirstOffence : Rule → List Order → List Deal → ℕ → Finding → Type 0
@@ -46,17 +47,17 @@ IsFirstOffence the_rule orders deals count f =
     (λ call. IsCallOffence call orders deals count f)
 
 -- what the rule says: nothing where the deals conform, else the first offence
-abbrev pub IsRuleVerdict : Rule → List Order → List Deal → ℕ → Option Finding → Type 0
-IsRuleVerdict the_rule orders deals count verdict =
+abbrev pub IsRuleFinding : Rule → List Order → List Deal → ℕ → Option Finding → Type 0
+IsRuleFinding the_rule orders deals count verdict =
     MatchOption verdict (Conforms the_rule orders deals)
     (IsFirstOffence the_rule orders deals count)
 
 -- Verdict, after both logs have been read: nothing (the logs are accepted), or the one finding
-abbrev pub IsVerdict : Rule → List ℕ → List OrderRecord → Result (List TradeRecord) Finding
+abbrev pub IsRecordFinding : Rule → List ℕ → List OrderRecord → Result (List TradeRecord) Finding
     → Option Finding → Type 0
-IsVerdict the_rule symbol entries trades verdict =
+IsRecordFinding the_rule symbol entries trades verdict =
     let orders = order_list symbol entries in
-    MatchOption (log_finding the_rule symbol entries trades)
-    (IsRuleVerdict the_rule orders (deals_of_symbol orders symbol (paired_trades trades))
+    MatchOption (finding_before_rule the_rule symbol entries trades)
+    (IsRuleFinding the_rule orders (deals_of_symbol orders symbol (paired_trades trades))
     (length (paired_trades trades)) verdict)
     (λ finding. verdict ≡ Some finding)

@@ -86,7 +86,7 @@ pub record IsOrderLine (orders : List Order) (deals : List Deal) (index : ℕ)
   pub text_is : text ≡ order_line_text (place_at orders index) (traded deals index)
 
 -- two tests in one: at the index of an order the text begins with the line of this order, and at
--- the index behind the last order there is no byte
+-- the index after the last order there is no byte
 pub record IsOrderLineOrEnd (orders : List Order) (deals : List Deal) (index : ℕ)
     (rest : List ℕ) : Type 0 where
   pub line : index < length orders → BeginsWith (IsOrderLine orders deals index) rest
@@ -94,7 +94,7 @@ pub record IsOrderLineOrEnd (orders : List Order) (deals : List Deal) (index : �
 
 -- The certificate.
 
--- the line with this number, from 1, passes. The number behind the last order is that of a line too
+-- the line with this number, from 1, passes. The number after the last order is that of a line too
 -- many, which passes where it isn't there
 abbrev pub LinePasses : VolumeRule → List ℕ → List Order → List Deal → List ℕ → ℕ → Type 0
 LinePasses the_rule symbol orders deals bytes zero = ⊤

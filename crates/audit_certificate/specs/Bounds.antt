@@ -8,9 +8,7 @@ use Rattle.audit_base.specs.declared.orders.Order.{Order}
 use Rattle.audit_base.specs.Numbers.{price_form}
 use Rattle.audit_base.specs.Orders.{order_at, is_uncancelled_on}
 use Rattle.audit_base.specs.Bounds.{IsLeastCut}
-
-abbrev pub is_comma : ℕ → Bool
-is_comma byte = byte == 44
+pub use Rattle.audit_base.specs.Names.{is_comma}
 
 -- a text up to its first comma
 abbrev pub take_upto : List ℕ → Option ℕ → List ℕ
@@ -28,7 +26,7 @@ price_or_above (Some price) = price
 abbrev pub price_in_text : List ℕ → ℕ
 price_in_text text = price_or_above (price_form text)
 
--- the price behind the six bytes `bound,`
+-- the price after the six bytes `bound,`
 abbrev pub named_price : List ℕ → ℕ
 named_price line =
     if nat_lt (length line) 6 then 10 ^ 18 else price_in_text (before_comma (drop 6 line))

@@ -1,4 +1,4 @@
--- How a text is cut into lines. A line is what an LF (10) ends; bytes behind the last LF are one
+-- How a text is cut into lines. A line is what an LF (10) ends; bytes after the last LF are one
 -- more line, which is not ended.
 use Rattle.std.specs.Prelude.{ℕ, zero, suc, ◌+◌, ◌==◌, Bool, List, [], Option, None, Some, IsSomeAnd, option_map, take, drop}
 use Rattle.std.specs.List.{position}
@@ -10,7 +10,7 @@ is_line_end byte = byte == 10
 abbrev pub ended_line : List ℕ → Option (List ℕ)
 ended_line text = option_map (λ size. take size text) (position is_line_end text)
 
--- what is behind the first line
+-- what is after the first line
 abbrev pub behind_size : List ℕ → Option ℕ → List ℕ
 behind_size text None = []
 behind_size text (Some size) = drop (size + 1) text
@@ -18,7 +18,7 @@ behind_size text (Some size) = drop (size + 1) text
 abbrev pub behind_line : List ℕ → List ℕ
 behind_line text = behind_size text (position is_line_end text)
 
--- what is behind the first n lines
+-- what is after the first n lines
 unfoldable pub behind_lines : ℕ → List ℕ → List ℕ
 behind_lines zero text = text
 behind_lines (suc n) text = behind_line (behind_lines n text)

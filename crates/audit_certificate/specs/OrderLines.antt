@@ -15,7 +15,7 @@ order_lines_upto orders traded (suc n) =
     order_lines_upto orders traded n
     ++ order_line_text (place_at orders n) (slice_index traded n) ++ 10 ∷ []
 
--- all order lines pass, and nothing is behind them
+-- all order lines pass, and nothing is after them
 abbrev pub AllOrderLinesPass : List Order → List ℕ → List ℕ → Type 0
 AllOrderLinesPass orders traded bytes = (deals : List Deal) → AreTotals orders deals traded
     → (index : ℕ) → index ≤ length orders
@@ -35,7 +35,7 @@ abbrev pub IsRefusedOrderLine : List Order → List ℕ → List ℕ → ℕ →
 IsRefusedOrderLine orders traded bytes number = (deals : List Deal) → AreTotals orders deals traded
     → IsRefusedLineAt orders deals bytes number
 
--- whether a text begins with the line of the order at an index, and what is then behind it
+-- whether a text begins with the line of the order at an index, and what is then after it
 pub record IsBehindOrder (orders : List Order) (traded : List ℕ) (index : ℕ)
     (rest behind : List ℕ) : Type 0 where
   pub begins : (deals : List Deal) → AreTotals orders deals traded

@@ -10,7 +10,7 @@ use Rattle.audit_base.specs.Deals.{AreTotals}
 use Rattle.audit_certificate.specs.Lines.{behind_line, BeginsWith}
 use Rattle.audit_certificate.specs.Agreement.{IsHeadLine, IsBoundLine, IsLastLine}
 
--- the text begins with a line that passes, and this is what is behind it
+-- the text begins with a line that passes, and this is what is after it
 pub record IsBehind (Test : List ℕ → Type 0) (bytes rest : List ℕ) : Type 0 where
   pub begins : BeginsWith Test bytes
   pub rest_is : rest ≡ behind_line bytes

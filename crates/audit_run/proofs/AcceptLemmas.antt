@@ -23,8 +23,8 @@ use Rattle.audit_run.specs.Laws.{GenerateWrites}
 use Rattle.audit_run.specs.OtherTexts.{orders_finding, ExpectsRecords, IsAcceptedBeside, IsExpectAnswer, IsExpectedLog}
 use Rattle.audit_run.specs.Requests.{IsAnswerTo}
 use Rattle.audit_run.specs.VerdictAnswers.{IsDone, IsVerdictAnswer}
-use Rattle.record_verdict.specs.Judgements.{question, IsJudged}
-use Rattle.log_verdict.specs.LogVerdicts.{Log, log_in, order_log, trade_log}
+use Rattle.record_verdict.specs.Judgements.{question, IsRecordVerdict}
+use Rattle.log_verdict.specs.LogVerdicts.{Log, log_in, records_of_order_log, trades_of_trade_log}
 use Rattle.log_verdict.specs.Laws.{OneVerdict}
 use Rattle.audit_run.proofs.StepLemmas.{held-all}
 
@@ -65,7 +65,7 @@ module _ (the_rule : Rule) (symbol : List ℕ) (table : Bool) (text : List ℕ) 
 
   abbrev beside : Result (List OrderRecord) BadPlace → Result (Result (List TradeRecord) Finding) BadPlace → Verdict → Type 0
   beside orders trades v =
-      MatchResult orders (λ entries. MatchResult trades (λ paired. IsJudged asked entries paired v) (λ bad. v ≡ verdict.Malformed Trades bad)) (λ bad. v ≡ verdict.Malformed Orders bad)
+      MatchResult orders (λ entries. MatchResult trades (λ paired. IsRecordVerdict asked entries paired v) (λ bad. v ≡ verdict.Malformed Trades bad)) (λ bad. v ≡ verdict.Malformed Orders bad)
 
   accepted-by : (entries : List OrderRecord) (trades : Result (Result (List TradeRecord) Finding) BadPlace) → IsAcceptedBeside asked entries trades
       → (accepted : Accepted) × beside (Ok entries) trades (verdict.Accepted accepted)
@@ -74,15 +74,15 @@ module _ (the_rule : Rule) (symbol : List ℕ) (table : Bool) (text : List ℕ) 
 
   accepted-of : (said : Result (List OrderRecord) BadPlace)
       → MatchResult said (λ entries. ExpectsRecords the_rule symbol entries status.Accepted text) (λ bad. IsVerdictAnswer (verdict.Malformed Orders bad) status.Accepted text)
-      → (accepted : Accepted) × beside said (trade_log Csv text) (verdict.Accepted accepted)
+      → (accepted : Accepted) × beside said (trades_of_trade_log Csv text) (verdict.Accepted accepted)
   accepted-of (Ok entries) is =
       let log = done-of (orders_finding the_rule symbol entries) (IsExpectedLog the_rule symbol entries) text is in
-      accepted-by entries (trade_log Csv text) (log.accepted table)
+      accepted-by entries (trades_of_trade_log Csv text) (log.accepted table)
   accepted-of (Err bad) is = absurd (not_malformed is.status_is)
 
 pub expected-accepted : OneVerdict → ExpectedTradesAreAccepted
 expected-accepted one the_rule symbol table orders text w =
-    let known = accepted-of the_rule symbol table text (order_log orders.form orders.bytes) (answered the_rule symbol orders text w) in
+    let known = accepted-of the_rule symbol table text (records_of_order_log orders.form orders.bytes) (answered the_rule symbol orders text w) in
     record {
       accepted = known.0;
       is = known.1;

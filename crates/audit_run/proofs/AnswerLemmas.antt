@@ -12,8 +12,8 @@ use Rattle.audit_base.specs.declared.terms.Which.{Which}
 use Rattle.audit_base.specs.declared.terms.Which.TheVariants.{Orders, Trades}
 use Rattle.audit_base.specs.Histories.{history_finding, order_list, WellFormed}
 use Rattle.audit_base.specs.Trades.{deals_of_symbol}
-use Rattle.record_verdict.specs.Scopes.{call_scope, day_scope, early_finding}
-use Rattle.audit_base.specs.Verdicts.{instant_order_finding, paired_trades}
+use Rattle.record_verdict.specs.Scopes.{call_scope, day_scope, finding_before_rule_in_scope}
+use Rattle.audit_base.specs.Verdicts.{instant_finding_of_rule, paired_trades}
 use Rattle.audit_report.specs.declared.statuses.Status.{Status}
 use Rattle.audit_report.specs.declared.statuses.Status.TheVariants as status
 use Rattle.audit_report.specs.declared.verdicts.Verdict.{Verdict}
@@ -41,7 +41,7 @@ use Rattle.log_verdict.specs.BothLogs.{StaysWithin, StaysWithinAt}
 use Rattle.log_verdict.specs.Collecting.{step_of, IsUnread, TouchesOnly}
 use Rattle.csv_logs.specs.Written.{csv_orders_text, csv_trades_text}
 use Rattle.session_audit.specs.declared.phases.Phase.{Phase}
-use Rattle.log_verdict.specs.LogVerdicts.{Log, order_log, trade_log}
+use Rattle.log_verdict.specs.LogVerdicts.{Log, records_of_order_log, trades_of_trade_log}
 use Rattle.log_verdict.specs.declared.sources.Source.{Source}
 use Rattle.log_verdict.specs.Steps.{Reading, LogStep, BeginsWithin, StepsLead, FaultsNeverFall, with_slot, reading, reading_by, reading_within}
 
@@ -79,13 +79,13 @@ verifies-status symbol orders deals certificate None s text (inr is) = subst IsS
 verifies-status symbol orders deals certificate (Some finding) s text is = verdict-status (verdict.Rejected finding) s text is
 
 pub verify-status : (symbol : List ℕ) (orders trades : Log) (certificate : List ℕ) (s : Status) (text : List ℕ) → IsVerifyAnswer symbol orders trades certificate s text → IsStatusOfLogs s
-verify-status symbol orders trades certificate s text is = of_said (order_log orders.form orders.bytes) (trade_log trades.form trades.bytes) is
+verify-status symbol orders trades certificate s text is = of_said (records_of_order_log orders.form orders.bytes) (trades_of_trade_log trades.form trades.bytes) is
   where
     of_said : (first : Result (List OrderRecord) BadPlace) (second : Result (Result (List TradeRecord) Finding) BadPlace)
         → MatchResult first (λ entries. MatchResult second (λ paired. VerifiesRecords symbol certificate entries paired s text) (λ bad. IsVerdictAnswer (verdict.Malformed Trades bad) s text))
         (λ bad. IsVerdictAnswer (verdict.Malformed Orders bad) s text) → IsStatusOfLogs s
     of_said (Ok entries) (Ok paired) is =
-        verifies-status symbol (order_list symbol entries) (deals_of_symbol (order_list symbol entries) symbol (paired_trades paired)) certificate (early_finding (call_scope symbol) entries paired) s text is
+        verifies-status symbol (order_list symbol entries) (deals_of_symbol (order_list symbol entries) symbol (paired_trades paired)) certificate (finding_before_rule_in_scope (call_scope symbol) entries paired) s text is
     of_said (Ok entries) (Err bad) is = verdict-status (verdict.Malformed Trades bad) s text is
     of_said (Err bad) second is = verdict-status (verdict.Malformed Orders bad) s text is
 
@@ -96,14 +96,14 @@ days-status symbol phases table orders deals count None s text (inr is) = verdic
 days-status symbol phases table orders deals count (Some finding) s text is = verdict-status (verdict.Rejected finding) s text is
 
 pub session-status : (symbol : List ℕ) (phases : List Phase) (table : Bool) (orders trades : Log) (s : Status) (text : List ℕ) → IsSessionAnswer symbol phases table orders trades s text → IsStatusOfLogs s
-session-status symbol phases table orders trades s text is = of_said (order_log orders.form orders.bytes) (trade_log trades.form trades.bytes) is
+session-status symbol phases table orders trades s text is = of_said (records_of_order_log orders.form orders.bytes) (trades_of_trade_log trades.form trades.bytes) is
   where
     of_said : (first : Result (List OrderRecord) BadPlace) (second : Result (Result (List TradeRecord) Finding) BadPlace)
         → MatchResult first (λ entries. MatchResult second (λ paired. JudgesDayRecords symbol phases table entries paired s text) (λ bad. IsVerdictAnswer (verdict.Malformed Trades bad) s text))
         (λ bad. IsVerdictAnswer (verdict.Malformed Orders bad) s text) → IsStatusOfLogs s
     of_said (Ok entries) (Ok paired) is =
         days-status symbol phases table (order_list symbol entries) (deals_of_symbol (order_list symbol entries) symbol (paired_trades paired)) (length (paired_trades paired))
-        (early_finding (day_scope symbol) entries paired) s text is
+        (finding_before_rule_in_scope (day_scope symbol) entries paired) s text is
     of_said (Ok entries) (Err bad) is = verdict-status (verdict.Malformed Trades bad) s text is
     of_said (Err bad) second is = verdict-status (verdict.Malformed Orders bad) s text is
 
@@ -132,8 +132,8 @@ trades-status (Ok paired) s text is = converts-status paired s text is
 trades-status (Err bad) s text is = verdict-status (verdict.Malformed Trades bad) s text is
 
 pub convert-status : (which : Which) (log : Log) (s : Status) (text : List ℕ) → IsConvertAnswer which log s text → IsStatusOfLogs s
-convert-status Orders log s text is = orders-status (order_log log.form log.bytes) s text is
-convert-status Trades log s text is = trades-status (trade_log log.form log.bytes) s text is
+convert-status Orders log s text is = orders-status (records_of_order_log log.form log.bytes) s text is
+convert-status Trades log s text is = trades-status (trades_of_trade_log log.form log.bytes) s text is
 
 -- One log that was not read into records.
 
@@ -254,17 +254,17 @@ pub expects-history : (the_rule : Rule) (symbol : List ℕ) (entries : List Orde
 expects-history the_rule symbol entries finding answer found made = expects-found the_rule symbol entries finding answer (rw found refl) made
 
 expects-order : (the_rule : Rule) (symbol : List ℕ) (entries : List OrderRecord) (finding : Finding) (answer : Answer) → WellFormed symbol entries
-    → instant_order_finding the_rule (order_list symbol entries) ≡ Some finding → IsAnswerOfKind (IsVerdictAnswer (verdict.Rejected finding)) answer → IsAnswerOfKind (ExpectsRecords the_rule symbol entries) answer
+    → instant_finding_of_rule the_rule (order_list symbol entries) ≡ Some finding → IsAnswerOfKind (IsVerdictAnswer (verdict.Rejected finding)) answer → IsAnswerOfKind (ExpectsRecords the_rule symbol entries) answer
 expects-order the_rule symbol entries finding answer formed found made = expects-found the_rule symbol entries finding answer (rw (formed, found) refl) made
 
 -- as before, of orders that are those of the records, for a symbol that is the history's own
 pub expects-named : (the_rule : Rule) (symbol own : List ℕ) (entries : List OrderRecord) (orders : List Order) (finding : Finding) (answer : Answer) → symbol ≡ own → WellFormed own entries
-    → orders ≡ order_list own entries → instant_order_finding the_rule orders ≡ Some finding → IsAnswerOfKind (IsVerdictAnswer (verdict.Rejected finding)) answer → IsAnswerOfKind (ExpectsRecords the_rule symbol entries) answer
+    → orders ≡ order_list own entries → instant_finding_of_rule the_rule orders ≡ Some finding → IsAnswerOfKind (IsVerdictAnswer (verdict.Rejected finding)) answer → IsAnswerOfKind (ExpectsRecords the_rule symbol entries) answer
 expects-named the_rule symbol own entries orders finding answer same formed listed found made =
     subst (λ (s : List ℕ). IsAnswerOfKind (ExpectsRecords the_rule s entries) answer) (sym same)
-    (expects-order the_rule own entries finding answer formed (subst (λ (l : List Order). instant_order_finding the_rule l ≡ Some finding) listed found) made)
+    (expects-order the_rule own entries finding answer formed (subst (λ (l : List Order). instant_finding_of_rule the_rule l ≡ Some finding) listed found) made)
 
-pub expects-done : (the_rule : Rule) (symbol : List ℕ) (entries : List OrderRecord) (answer : Answer) → WellFormed symbol entries → instant_order_finding the_rule (order_list symbol entries) ≡ None
+pub expects-done : (the_rule : Rule) (symbol : List ℕ) (entries : List OrderRecord) (answer : Answer) → WellFormed symbol entries → instant_finding_of_rule the_rule (order_list symbol entries) ≡ None
     → answer.status ≡ status.Accepted → IsExpectedLog the_rule symbol entries answer.text.items → IsAnswerOfKind (ExpectsRecords the_rule symbol entries) answer
 expects-done the_rule symbol entries answer formed admits done is = rw none (record { done = done; is = is })
   where

@@ -12,13 +12,13 @@ use Rattle.log_verdict.specs.declared.sources.Source.{Source}
 use Rattle.command_words.specs.declared.requests.Request.{Request}
 use Rattle.log_verdict.specs.declared.stops.Stop.{Stop}
 use Rattle.log_verdict.specs.declared.stops.Stop.TheVariants as stop
-use Rattle.log_verdict.specs.BothLogs.{source_of, IsAuditStop, IsStarted, ReadsAfterOrders, ReadsLogs}
+use Rattle.log_verdict.specs.BothLogs.{source_of, IsStopOfTwoLogs, IsLogInTurn, ReadsAfterOrders, ReadsLogs}
 use Rattle.audit_run.specs.Deciding.{ReadingStops, StartsBoth}
 use Rattle.audit_run.specs.OneLog.{IsStatusOfLogs}
 use Rattle.audit_run.specs.Requests.{log_read_at, next_log, IsAnswerTo}
 use Rattle.audit_run.specs.Runs.{IsAnswerToReadLogs, ReadingDecides, ReadsUpTo}
 use Rattle.log_verdict.specs.Collecting.{step_of}
-use Rattle.log_verdict.specs.LogVerdicts.{log_in, order_log, trade_log, OfLogs}
+use Rattle.log_verdict.specs.LogVerdicts.{log_in, records_of_order_log, trades_of_trade_log, OfLogs}
 use Rattle.log_verdict.specs.Steps.{Reading, LogStep, IsRead, StepsLead, FaultsNeverFall, with_slot}
 use Rattle.audit_run.proofs.AnswerLemmas.{text-of}
 
@@ -45,10 +45,10 @@ module _ (r : Reading) (later : FaultsNeverFall r) (orders trades : Source) (req
       ends Orders = refl
       ends Trades = refl
 
-  one_next : (bytes : List ℕ) (bad : BadPlace) → order_log orders.form bytes ≡ Err bad → next_log request (bytes ∷ []) ≡ None
+  one_next : (bytes : List ℕ) (bad : BadPlace) → records_of_order_log orders.form bytes ≡ Err bad → next_log request (bytes ∷ []) ≡ None
   one_next bytes bad e = starts.second bytes ∙ (rw e refl)
 
-  both_next : (bytes : List ℕ) (said : Result (List OrderRecord) BadPlace) → order_log orders.form bytes ≡ said → IsOk said → next_log request (bytes ∷ []) ≡ Some (Trades, trades.name.now)
+  both_next : (bytes : List ℕ) (said : Result (List OrderRecord) BadPlace) → records_of_order_log orders.form bytes ≡ said → IsOk said → next_log request (bytes ∷ []) ≡ Some (Trades, trades.name.now)
   both_next bytes (Ok entries) e good = starts.second bytes ∙ (rw e refl)
   both_next bytes (Err bad) e good = absurd (not_good good)
     where
@@ -58,9 +58,9 @@ module _ (r : Reading) (later : FaultsNeverFall r) (orders trades : Source) (req
   -- an answer on what was read of both logs, where the command needs no third log then
   module _ (of_records : List OrderRecord → Result (List TradeRecord) Finding → Type 0) (of_bad : Which → BadPlace → Type 0) (the_status : Status) (text : List ℕ)
       (reports : (logs : List (List ℕ)) → log_read_at logs 2 ≡ [] → OfLogs of_records of_bad (log_in orders.form (log_read_at logs 0)) (log_in trades.form (log_read_at logs 1)) → IsAnswerTo request logs the_status text)
-      (ends : (first second : List ℕ) (entries : List OrderRecord) → order_log orders.form first ≡ Ok entries → MatchResult (trade_log trades.form second) (of_records entries) (of_bad Trades)
+      (ends : (first second : List ℕ) (entries : List OrderRecord) → records_of_order_log orders.form first ≡ Ok entries → MatchResult (trades_of_trade_log trades.form second) (of_records entries) (of_bad Trades)
       → next_log request (first ∷ second ∷ []) ≡ None) where
-    both_answers : (bytes : List ℕ) → IsRead r first_step bytes → (said : Result (List OrderRecord) BadPlace) → order_log orders.form bytes ≡ said
+    both_answers : (bytes : List ℕ) → IsRead r first_step bytes → (said : Result (List OrderRecord) BadPlace) → records_of_order_log orders.form bytes ≡ said
         → ReadsAfterOrders r trades of_records of_bad said → IsAnswerToReadLogs r request the_status text
     both_answers bytes read (Err bad) e (is, untouched) = record {
       steps = first_step ∷ [];
@@ -81,11 +81,11 @@ module _ (r : Reading) (later : FaultsNeverFall r) (orders trades : Source) (req
 
     pub both_text : ((logs : List (List ℕ)) → IsAnswerTo request logs the_status text → IsStatusOfLogs the_status) → ReadsLogs r orders trades of_records of_bad → ReadingDecides r request the_status text
     both_text answers is =
-        let whole = both_answers is.bytes is.read (order_log orders.form is.bytes) refl is.holds in
+        let whole = both_answers is.bytes is.read (records_of_order_log orders.form is.bytes) refl is.holds in
         text-of r request the_status text (answers whole.logs whole.answer) whole
 
   -- the last log that was started is one of the two
-  reaches : (log : Which) → IsStarted r orders log → ReadsUpTo r request (step_of r log (source_of orders trades log).name.now)
+  reaches : (log : Which) → IsLogInTurn r orders log → ReadsUpTo r request (step_of r log (source_of orders trades log).name.now)
   reaches Orders untouched = record {
     steps = [];
     logs = [];
@@ -98,20 +98,20 @@ module _ (r : Reading) (later : FaultsNeverFall r) (orders trades : Source) (req
     logs = good.bytes ∷ [];
     lead = both_lead;
     read = (good.bytes, record { next = starts.first; read = good.read }, refl);
-    next = both_next good.bytes (order_log orders.form good.bytes) refl good.holds;
+    next = both_next good.bytes (records_of_order_log orders.form good.bytes) refl good.holds;
   }
 
   -- where reading stopped at one of them, the line says at which
-  pub both_stop : (the_stop : Stop) → IsAuditStop r orders trades the_stop → ReadingStops r request the_stop
+  pub both_stop : (the_stop : Stop) → IsStopOfTwoLogs r orders trades the_stop → ReadingStops r request the_stop
   both_stop (stop.ReadFault log) is = record {
     last = step_of r log (source_of orders trades log).name.now;
-    reached = reaches log is.is_started;
+    reached = reaches log is.in_turn;
     cause = is.fault;
     text_is = refl;
   }
   both_stop (stop.TooLong log) is = record {
     last = step_of r log (source_of orders trades log).name.now;
-    reached = reaches log is.is_started;
+    reached = reaches log is.in_turn;
     cause = is.long;
     text_is = refl;
   }

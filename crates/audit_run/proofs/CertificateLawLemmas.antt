@@ -10,9 +10,9 @@ use Rattle.audit_base.specs.declared.terms.Rule.{Rule}
 use Rattle.audit_base.specs.declared.terms.Rule.TheVariants as rule
 use Rattle.audit_base.specs.Histories.{history_finding, order_list}
 use Rattle.audit_base.specs.Least.{first_answer}
-use Rattle.audit_base.specs.Trades.{deals_of_symbol, unsound_trade}
-use Rattle.record_verdict.specs.Scopes.{call_scope, early_finding}
-use Rattle.audit_base.specs.Verdicts.{instant_order_finding, log_finding, paired_trades, pairing_finding, IsRuleVerdict}
+use Rattle.audit_base.specs.Trades.{deals_of_symbol, trades_finding}
+use Rattle.record_verdict.specs.Scopes.{call_scope, finding_before_rule_in_scope}
+use Rattle.audit_base.specs.Verdicts.{instant_finding_of_rule, finding_before_rule, paired_trades, pairing_finding, IsRuleFinding}
 use Rattle.audit_certificate.specs.Agreement.{AgreesUnder}
 use Rattle.audit_report.specs.declared.statuses.Status.{Status}
 use Rattle.audit_report.specs.declared.statuses.Status.TheVariants as status
@@ -22,11 +22,11 @@ use Rattle.audit_report.specs.declared.verdicts.Verdict.TheVariants as verdict
 use Rattle.record_verdict.specs.declared.questions.Question.{Question}
 use Rattle.audit_run.specs.Certificates.{IsCertificateOf, IsVerdictAnswerWith, VerifiesDeals, VerifiesRecords}
 use Rattle.audit_run.specs.Laws.{CertifiedIsVerified}
-use Rattle.record_verdict.specs.Judgements.{IsJudged, IsVerdictOfFinding}
+use Rattle.record_verdict.specs.Judgements.{IsRecordVerdict, IsVerdictOfFinding}
 use Rattle.log_verdict.specs.LogVerdicts.{IsLogVerdict, Log}
 
 -- the rules of certificates admit the same orders
-same_call : (the_rule : Rule) (symbol : List ℕ) (orders : List Order) (deals : List Deal) (text : List ℕ) → AgreesUnder the_rule symbol orders deals text → instant_order_finding the_rule orders ≡ instant_order_finding rule.Uniform orders
+same_call : (the_rule : Rule) (symbol : List ℕ) (orders : List Order) (deals : List Deal) (text : List ℕ) → AgreesUnder the_rule symbol orders deals text → instant_finding_of_rule the_rule orders ≡ instant_finding_of_rule rule.Uniform orders
 same_call rule.Uniform symbol orders deals text is = refl
 same_call rule.Maximum symbol orders deals text is = refl
 same_call rule.Matching symbol orders deals text is = absurd is
@@ -34,9 +34,9 @@ same_call rule.Fair symbol orders deals text is = absurd is
 same_call rule.Continuous symbol orders deals text is = absurd is
 
 -- where records are accepted, nothing is found before the rule
-none_before : (q : Question) (entries : List OrderRecord) (paired : Result (List TradeRecord) Finding) (a : Accepted) → IsJudged q entries paired (verdict.Accepted a)
-    → log_finding q.rule q.symbol entries paired ≡ None
-none_before q entries paired a is = of_before (log_finding q.rule q.symbol entries paired) is.found is.by_the_rules is.outcome
+none_before : (q : Question) (entries : List OrderRecord) (paired : Result (List TradeRecord) Finding) (a : Accepted) → IsRecordVerdict q entries paired (verdict.Accepted a)
+    → finding_before_rule q.rule q.symbol entries paired ≡ None
+none_before q entries paired a is = of_before (finding_before_rule q.rule q.symbol entries paired) is.found is.by_the_rules is.outcome
   where
     orders : List Order
     orders = order_list q.symbol entries
@@ -47,7 +47,7 @@ none_before q entries paired a is = of_before (log_finding q.rule q.symbol entri
     apart : (finding : Finding) → verdict.Accepted a ≡ verdict.Rejected finding → ⊥
     apart finding e = cc
 
-    of_before : (before found : Option Finding) → MatchOption before (IsRuleVerdict q.rule orders deals (length (paired_trades paired)) found) (λ finding. found ≡ Some finding)
+    of_before : (before found : Option Finding) → MatchOption before (IsRuleFinding q.rule orders deals (length (paired_trades paired)) found) (λ finding. found ≡ Some finding)
         → IsVerdictOfFinding q orders deals found (verdict.Accepted a) → before ≡ None
     of_before None found rules outcome = refl
     of_before (Some finding) found rules outcome =
@@ -58,11 +58,11 @@ module _ (q : Question) (orders trades : Log) (certificate text : List ℕ) (the
   agreed : (a : Accepted) → IsLogVerdict q orders trades (verdict.Accepted a) → (is : IsCertificateOf q orders trades certificate) → VerifiesRecords q.symbol certificate is.entries is.paired the_status text
       → the_status ≡ status.Accepted
   agreed a accepted is verified =
-      let judged : IsJudged q is.entries is.paired (verdict.Accepted a) = rw (is.logs.records, is.logs.trades_are) at accepted in
-      let none : log_finding q.rule q.symbol is.entries is.paired ≡ None = none_before q is.entries is.paired a judged in
+      let judged : IsRecordVerdict q is.entries is.paired (verdict.Accepted a) = rw (is.logs.records, is.logs.trades_are) at accepted in
+      let none : finding_before_rule q.rule q.symbol is.entries is.paired ≡ None = none_before q is.entries is.paired a judged in
       let admits = same_call q.rule q.symbol (order_list q.symbol is.entries) _ certificate is.agrees in
-      let same : early_finding (call_scope q.symbol) is.entries is.paired ≡ None =
-      ap (λ (i : Option Finding). first_answer (history_finding q.symbol is.entries ∷ i ∷ pairing_finding is.paired ∷ unsound_trade (order_list q.symbol is.entries) q.symbol (paired_trades is.paired) ∷ [])) (sym admits) ∙ none in
+      let same : finding_before_rule_in_scope (call_scope q.symbol) is.entries is.paired ≡ None =
+      ap (λ (i : Option Finding). first_answer (history_finding q.symbol is.entries ∷ i ∷ pairing_finding is.paired ∷ trades_finding (order_list q.symbol is.entries) q.symbol (paired_trades is.paired) ∷ [])) (sym admits) ∙ none in
       let came : VerifiesDeals q.symbol (order_list q.symbol is.entries) (deals_of_symbol (order_list q.symbol is.entries) q.symbol (paired_trades is.paired)) certificate the_status text = rw same at verified in
       ⊎_elim (λ verified. verified.status_is) (λ disproved. absurd (disproved.none q.rule is.agrees)) came
 

@@ -7,7 +7,7 @@ use Rattle.audit_base.specs.declared.records.OrderRecord.{OrderRecord}
 use Rattle.audit_base.specs.declared.records.TradeRecord.{TradeRecord}
 use Rattle.audit_base.specs.declared.terms.Which.{Which}
 use Rattle.audit_base.specs.declared.terms.Which.TheVariants.{Orders, Trades}
-use Rattle.log_source.specs.Sources.{Slot, Rose}
+use Rattle.log_source.specs.Sources.{Slot, RoseOrIsFull}
 use Rattle.record_verdict.specs.declared.before_rule.BeforeRule.{BeforeRule}
 use Rattle.record_verdict.specs.declared.before_rule.BeforeRule.TheVariants as upto
 use Rattle.record_verdict.specs.declared.scopes.Scope.{Scope}
@@ -25,7 +25,7 @@ use Rattle.audit_run.specs.OneLog.{DecidesBytes}
 use Rattle.audit_run.specs.Requests.{next_log}
 use Rattle.audit_run.specs.Runs.{ReadingDecides, ReadsOneByOne, ReadsUpTo}
 use Rattle.log_verdict.specs.Collecting.{step_of, IsReadAs, TouchesOnly}
-use Rattle.log_verdict.specs.LogVerdicts.{log_in, order_log, trade_log}
+use Rattle.log_verdict.specs.LogVerdicts.{log_in, records_of_order_log, trades_of_trade_log}
 use Rattle.log_verdict.specs.Steps.{Reading, LogStep, IsRead, IsReadFault, IsTooLong, StepsLead, FaultsNeverFall, with_slot}
 use Rattle.record_verdict.specs.BeforeRule.{is_malformed, IsBeforeRule}
 use Rattle.audit_run.proofs.AnswerLemmas.{text-of, verify-status}
@@ -53,18 +53,18 @@ pub record BothRead (r : Reading) (scope : Scope) (orders trades : Source) (reac
   pub paired : Result (List TradeRecord) Finding
   pub read_one : IsRead r (step_of r Orders orders.name.now) one
   pub read_two : IsRead r (step_of r Trades trades.name.now) two
-  pub orders_are : order_log orders.form one ≡ Ok entries
-  pub trades_are : trade_log trades.form two ≡ Ok paired
+  pub orders_are : records_of_order_log orders.form one ≡ Ok entries
+  pub trades_are : trades_of_trade_log trades.form two ≡ Ok paired
   pub come : IsBeforeRule scope entries paired reached
 
 pub both_read : (r : Reading) (scope : Scope) (orders trades : Source) (reached : BeforeRule) → is_malformed reached ≡ false → ReadsUpToRule r scope orders trades reached → BothRead r scope orders trades reached
-both_read r scope orders trades reached good is = of_orders (order_log orders.form is.bytes) refl is.holds
+both_read r scope orders trades reached good is = of_orders (records_of_order_log orders.form is.bytes) refl is.holds
   where
     no_bad : (log : Which) (bad : BadPlace) → reached ≡ upto.Malformed log bad → ⊥
     no_bad log bad e = not_both (rw e at good)
 
-    of_trades : (entries : List OrderRecord) → order_log orders.form is.bytes ≡ Ok entries → (after : IsAfterOrders r scope trades entries reached) → (said : Result (Result (List TradeRecord) Finding) BadPlace)
-        → trade_log trades.form after.bytes ≡ said → MatchResult said (λ paired. IsBeforeRule scope entries paired reached) (λ bad. reached ≡ upto.Malformed Trades bad) → BothRead r scope orders trades reached
+    of_trades : (entries : List OrderRecord) → records_of_order_log orders.form is.bytes ≡ Ok entries → (after : IsAfterOrders r scope trades entries reached) → (said : Result (Result (List TradeRecord) Finding) BadPlace)
+        → trades_of_trade_log trades.form after.bytes ≡ said → MatchResult said (λ paired. IsBeforeRule scope entries paired reached) (λ bad. reached ≡ upto.Malformed Trades bad) → BothRead r scope orders trades reached
     of_trades entries e after (Ok paired) f come = record {
       one = is.bytes;
       two = after.bytes;
@@ -78,8 +78,8 @@ both_read r scope orders trades reached good is = of_orders (order_log orders.fo
     }
     of_trades entries e after (Err bad) f come = absurd (no_bad Trades bad come)
 
-    of_orders : (said : Result (List OrderRecord) BadPlace) → order_log orders.form is.bytes ≡ said → ReadsAfterOrders r trades (λ es paired. IsBeforeRule scope es paired reached) (λ log bad. reached ≡ upto.Malformed log bad) said → BothRead r scope orders trades reached
-    of_orders (Ok entries) e after = of_trades entries e after (trade_log trades.form after.bytes) refl after.holds
+    of_orders : (said : Result (List OrderRecord) BadPlace) → records_of_order_log orders.form is.bytes ≡ said → ReadsAfterOrders r trades (λ es paired. IsBeforeRule scope es paired reached) (λ log bad. reached ≡ upto.Malformed log bad) said → BothRead r scope orders trades reached
+    of_orders (Ok entries) e after = of_trades entries e after (trades_of_trade_log trades.form after.bytes) refl after.holds
     of_orders (Err bad) e (same, untouched) = absurd (no_bad Orders bad same)
 
 -- The second reading goes on where the first ended, on the same shelf.
@@ -175,8 +175,8 @@ module _ (first second : Reading) (after : Continues first second) (later : Faul
     third_fault : IsReadFault second third_step → IsReadFault whole third_step
     third_fault is = record { once = is.once; cause = by_cause is.cause }
       where
-        by_cause : Rose third_step.before.faults third_step.after.faults ⊎ ((second.tells ≡ true) × (second.log_of Trades certificate ≡ None))
-            → Rose third_step.before.faults third_step.after.faults ⊎ ((whole.tells ≡ true) × (whole.log_of Trades certificate ≡ None))
+        by_cause : RoseOrIsFull third_step.before.faults third_step.after.faults ⊎ ((second.tells ≡ true) × (second.log_of Trades certificate ≡ None))
+            → RoseOrIsFull third_step.before.faults third_step.after.faults ⊎ ((whole.tells ≡ true) × (whole.log_of Trades certificate ≡ None))
         by_cause (inl rose) = inl rose
         by_cause (inr (t, none)) = inr (sym after.tells ∙ t, sym (after.logs Trades certificate) ∙ none)
 

@@ -15,8 +15,8 @@ use Rattle.audit_base.specs.Expected.{IsExpected, trades_of_deals}
 use Rattle.audit_base.specs.Histories.{order_list, Regular, WellFormed}
 use Rattle.audit_base.specs.Orders.{OrdersInRange, HaveOwnKeys, IsOrderList}
 use Rattle.audit_base.specs.Rules.{Conforms}
-use Rattle.audit_base.specs.Trades.{deals_of_symbol, unsound_trade}
-use Rattle.audit_base.specs.Verdicts.{instant_order_finding, log_finding}
+use Rattle.audit_base.specs.Trades.{deals_of_symbol, trades_finding}
+use Rattle.audit_base.specs.Verdicts.{instant_finding_of_rule, finding_before_rule}
 use Rattle.audit_base.proofs.TradeLemmas.{deals-ranges}
 use Rattle.audit_base.proofs.VerdictLemmas.{one-greatest}
 use Rattle.audit_report.specs.declared.verdicts.Accepted.{Accepted}
@@ -32,7 +32,7 @@ use Rattle.audit_run.specs.Expecting.{IsConformingLog, IsLogOfOrders}
 use Rattle.audit_run.specs.OtherTexts.{IsAcceptedBeside}
 use Rattle.record_verdict.specs.Judgements.{question, table_lines, AreOnlyQuantities, IsReportedBound}
 use Rattle.log_verdict.specs.LogVerdicts.{trades_without_pairing}
-use Rattle.record_verdict.specs.Stages.{IsJudgedDeals}
+use Rattle.record_verdict.specs.Stages.{VerdictFollowsDeals}
 use Rattle.record_verdict.specs.Laws.{SoundTradesAreJudged}
 
 -- the laws that the answer rests on
@@ -47,8 +47,8 @@ pub record Laws : Type 0 where
   pub judged : SoundTradesAreJudged
 
 -- well-formed records with sound trades have no finding before a rule that admits their orders
-none-before : (the_rule : Rule) (symbol : List ℕ) (entries : List OrderRecord) (trades : List TradeRecord) → WellFormed symbol entries → instant_order_finding the_rule (order_list symbol entries) ≡ None
-    → unsound_trade (order_list symbol entries) symbol trades ≡ None → log_finding the_rule symbol entries (Ok trades) ≡ None
+none-before : (the_rule : Rule) (symbol : List ℕ) (entries : List OrderRecord) (trades : List TradeRecord) → WellFormed symbol entries → instant_finding_of_rule the_rule (order_list symbol entries) ≡ None
+    → trades_finding (order_list symbol entries) symbol trades ≡ None → finding_before_rule the_rule symbol entries (Ok trades) ≡ None
 none-before the_rule symbol entries trades formed admits sound = rw (formed, admits, sound) refl
 
 module _ (laws : Laws) (orders : List Order) (list : IsOrderList orders) (regular : Regular orders) (numbers : OrdersInRange orders) where
@@ -94,7 +94,7 @@ module _ (laws : Laws) (orders : List Order) (list : IsOrderList orders) (regula
   }
 
   deals-accepted : (q : Question) (deals : List Deal) (count : ℕ) (bound : Option Cut) → DealsInRange deals → Conforms q.rule orders deals → IsReportedBound q.rule orders (volume deals) bound
-      → IsJudgedDeals q orders deals count (verdict.Accepted (acceptance_of q deals bound))
+      → VerdictFollowsDeals q orders deals count (verdict.Accepted (acceptance_of q deals bound))
   unfolding acceptance_of
   deals-accepted q deals count bound ranges conforms shown = record {
     found = None;
@@ -111,7 +111,7 @@ module _ (laws : Laws) (orders : List Order) (list : IsOrderList orders) (regula
     };
   }
 
-  module _ (keys : HaveOwnKeys orders) (the_rule : Rule) (symbol : List ℕ) (admits : instant_order_finding the_rule orders ≡ None) where
+  module _ (keys : HaveOwnKeys orders) (the_rule : Rule) (symbol : List ℕ) (admits : instant_finding_of_rule the_rule orders ≡ None) where
     -- the log of the Expected trades is one that an audit accepts
     pub log-accepted : (text : List ℕ) → IsConformingLog the_rule symbol orders text → IsLogOfOrders the_rule symbol orders text
     log-accepted text is entries formed same =
@@ -122,14 +122,14 @@ module _ (laws : Laws) (orders : List Order) (list : IsOrderList orders) (regula
         let shown = bound-shown the_rule is.deals ranges is.expected is.conforms in
         let accepted : (table : Bool) → IsAcceptedBeside (question the_rule symbol table) entries (trades_without_pairing (Ok trades)) = λ table.
         let q : Question = question the_rule symbol table in
-        let of_list : IsJudgedDeals q orders is.deals (length trades) (verdict.Accepted (acceptance_of q is.deals shown.0)) = deals-accepted q is.deals (length trades) shown.0 ranges is.conforms shown.1 in
-        let none : log_finding the_rule symbol entries (Ok trades) ≡ None = none-before the_rule symbol entries trades formed (ap (instant_order_finding the_rule) (sym same) ∙ admits) (subst (λ (os : List Order). unsound_trade os symbol trades ≡ None) same sound) in
+        let of_list : VerdictFollowsDeals q orders is.deals (length trades) (verdict.Accepted (acceptance_of q is.deals shown.0)) = deals-accepted q is.deals (length trades) shown.0 ranges is.conforms shown.1 in
+        let none : finding_before_rule the_rule symbol entries (Ok trades) ≡ None = none-before the_rule symbol entries trades formed (ap (instant_finding_of_rule the_rule) (sym same) ∙ admits) (subst (λ (os : List Order). trades_finding os symbol trades ≡ None) same sound) in
         record {
           trades = trades;
           says = refl;
           acceptance = acceptance_of q is.deals shown.0;
           judged = laws.judged q entries trades is.deals _ none (sym again ∙ ap (λ (os : List Order). deals_of_symbol os symbol trades) same) ranges
-              (subst (λ (os : List Order). IsJudgedDeals q os is.deals (length trades) (verdict.Accepted (acceptance_of q is.deals shown.0))) same of_list);
+              (subst (λ (os : List Order). VerdictFollowsDeals q os is.deals (length trades) (verdict.Accepted (acceptance_of q is.deals shown.0))) same of_list);
         } in
         record {
           deals = is.deals;

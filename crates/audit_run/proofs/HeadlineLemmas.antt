@@ -10,7 +10,7 @@ use Rattle.audit_report.specs.declared.verdicts.Verdict.TheVariants as verdict
 use Rattle.log_source.specs.Sinks.{SinkState}
 use Rattle.command_words.specs.declared.requests.Request.{Request}
 use Rattle.log_verdict.specs.Laws.{OneVerdict}
-use Rattle.log_verdict.specs.LogVerdicts.{Log, log_in, order_log, IsLogVerdict}
+use Rattle.log_verdict.specs.LogVerdicts.{Log, log_in, records_of_order_log, IsLogVerdict}
 use Rattle.log_verdict.specs.Steps.{Reading}
 use Rattle.record_verdict.specs.declared.questions.Question.{Question}
 use Rattle.audit_run.specs.Runs.{AnswersHeldLogs, HoldsLog, HoldsNeededLogs, HoldsNext, NothingFails, RunsOutOfMemory, WritesWhole}
@@ -37,11 +37,11 @@ module _ (one : OneVerdict) (r : Reading) (q : Question) (orders trades : Log) (
       }
 
   -- where the order log is out of its grammar, any trade log beside it gives the same verdict
-  whatever_trades : (bad : BadPlace) → order_log orders.form orders.bytes ≡ Err bad → (second : Log) (v : Verdict)
+  whatever_trades : (bad : BadPlace) → records_of_order_log orders.form orders.bytes ≡ Err bad → (second : Log) (v : Verdict)
       → IsLogVerdict q orders second v → IsLogVerdict q orders trades v
   whatever_trades bad e second v is = let same : v ≡ verdict.Malformed Orders bad = rw e at is in rw e same
 
-  by_orders : (said : Result (List OrderRecord) BadPlace) → order_log orders.form orders.bytes ≡ said
+  by_orders : (said : Result (List OrderRecord) BadPlace) → records_of_order_log orders.form orders.bytes ≡ said
       → AnswersHeldLogs (Some request) r old new status → WritesVerdict q orders trades old new status ⊎ RunsOutOfMemory old new status
   by_orders (Ok entries) e answers =
       let first : HoldsNext r request [] orders.bytes = record { log = Orders; name = orders_name; next = refl; holds = holds_orders } in
@@ -59,5 +59,5 @@ module _ (one : OneVerdict) (r : Reading) (q : Question) (orders trades : Log) (
 pub answers_verdict : OneVerdict → (asked : Option Request) (r : Reading) (old new : SinkState) (status : Status) → AnswersHeldLogs asked r old new status → AnswersVerdict asked r old new status
 answers_verdict one asked r old new status answers q orders trades to_audit nothing_fails =
     by_orders one r q orders trades to_audit.orders_name to_audit.trades_name to_audit.holds_orders to_audit.holds_trades old new nothing_fails status
-    (order_log orders.form orders.bytes) refl
+    (records_of_order_log orders.form orders.bytes) refl
     (subst (λ (x : Option Request). AnswersHeldLogs x r old new status) to_audit.words answers)

@@ -11,7 +11,7 @@ use Rattle.audit_base.specs.declared.terms.Which.{Which}
 use Rattle.audit_base.specs.declared.terms.Which.TheVariants.{Orders, Trades}
 use Rattle.audit_base.specs.Histories.{order_list}
 use Rattle.audit_base.specs.Rules.{Conforms}
-use Rattle.audit_base.specs.Verdicts.{IsRuleVerdict}
+use Rattle.audit_base.specs.Verdicts.{IsRuleFinding}
 use Rattle.audit_certificate.specs.Agreement.{AgreesUnder, IsCertificateUnder}
 use Rattle.audit_report.specs.declared.verdicts.Accepted.{Accepted}
 use Rattle.audit_report.specs.declared.verdicts.Verdict.{Verdict}
@@ -25,17 +25,17 @@ use Rattle.audit_run.specs.Certificates.{IsCertificateOf, IsVerdictAnswerWith}
 use Rattle.audit_run.specs.Deciding.{IsAnswerOfKind}
 use Rattle.audit_run.specs.JudgedAnswers.{IsCertifyAnswerOn, IsDealsCertificate, LogsReach}
 use Rattle.audit_run.specs.VerdictAnswers.{IsVerdictAnswer}
-use Rattle.record_verdict.specs.Judgements.{IsJudged, IsVerdictOfFinding}
-use Rattle.log_verdict.specs.LogVerdicts.{order_log, trade_log, HaveRecords, IsLogVerdict, Log, OfLogs}
+use Rattle.record_verdict.specs.Judgements.{IsRecordVerdict, IsVerdictOfFinding}
+use Rattle.log_verdict.specs.LogVerdicts.{records_of_order_log, trades_of_trade_log, HaveRecords, IsLogVerdict, Log, OfLogs}
 use Rattle.record_verdict.specs.Scopes.{scope_of}
-use Rattle.record_verdict.specs.Stages.{IsJudgedDeals, VerdictIs}
-use Rattle.record_verdict.specs.BeforeRule.{AreSound, IsBeforeRule}
+use Rattle.record_verdict.specs.Stages.{VerdictFollowsDeals, IsVerdictUpToRule}
+use Rattle.record_verdict.specs.BeforeRule.{IsResolvedWithoutFinding, IsBeforeRule}
 
 -- what follows of records and of a bad place follows of two logs
 pub of_logs : (P P' : List OrderRecord → Result (List TradeRecord) Finding → Type 0) (B B' : Which → BadPlace → Type 0)
     → ((entries : List OrderRecord) (paired : Result (List TradeRecord) Finding) → P entries paired → P' entries paired)
     → ((log : Which) (bad : BadPlace) → B log bad → B' log bad) → (orders trades : Log) → OfLogs P B orders trades → OfLogs P' B' orders trades
-of_logs P P' B B' records bads orders trades come = of_said (order_log orders.form orders.bytes) (trade_log trades.form trades.bytes) come
+of_logs P P' B B' records bads orders trades come = of_said (records_of_order_log orders.form orders.bytes) (trades_of_trade_log trades.form trades.bytes) come
   where
     of_said : (first : Result (List OrderRecord) BadPlace) (second : Result (Result (List TradeRecord) Finding) BadPlace)
         → MatchResult first (λ entries. MatchResult second (P entries) (B Trades)) (B Orders) → MatchResult first (λ entries. MatchResult second (P' entries) (B' Trades)) (B' Orders)
@@ -44,13 +44,13 @@ of_logs P P' B B' records bads orders trades come = of_said (order_log orders.fo
     of_said (Err bad) second is = bads Orders bad is
 
 -- the verdict by what is known of two logs is that of the logs
-pub verdict_of_logs : (q : Question) (reached : BeforeRule) (v : Verdict) (orders trades : Log) → VerdictIs q reached v → LogsReach (scope_of q) orders trades reached → IsLogVerdict q orders trades v
+pub verdict_of_logs : (q : Question) (reached : BeforeRule) (v : Verdict) (orders trades : Log) → IsVerdictUpToRule q reached v → LogsReach (scope_of q) orders trades reached → IsLogVerdict q orders trades v
 verdict_of_logs q reached v orders trades is come =
-    of_logs (λ entries paired. IsBeforeRule (scope_of q) entries paired reached) (λ entries paired. IsJudged q entries paired v)
+    of_logs (λ entries paired. IsBeforeRule (scope_of q) entries paired reached) (λ entries paired. IsRecordVerdict q entries paired v)
     (λ log bad. reached ≡ upto.Malformed log bad) (λ log bad. v ≡ verdict.Malformed log bad) is.of_records is.of_place orders trades come
 
 -- an answer of a bad place or of a finding is that of `certify`
-refused_certifies : (q : Question) (reached : BeforeRule) (v other : Verdict) (answer : Answer) → VerdictIs q reached v → v ≡ other → IsAnswerOfKind (IsVerdictAnswer v) answer
+refused_certifies : (q : Question) (reached : BeforeRule) (v other : Verdict) (answer : Answer) → IsVerdictUpToRule q reached v → v ≡ other → IsAnswerOfKind (IsVerdictAnswer v) answer
     → ((is_text : List ℕ → Type 0) → IsAnswerOfKind (IsVerdictAnswer other) answer → IsVerdictAnswerWith is_text other answer.status answer.text.items) → IsAnswerOfKind (IsCertifyAnswerOn q reached) answer
 refused_certifies q reached v other answer is same made reports orders trades come = record {
   verdict = v;
@@ -58,7 +58,7 @@ refused_certifies q reached v other answer is same made reports orders trades co
   answer = rw same (reports (IsCertificateOf q orders trades) (rw same at made));
 }
 
-pub answer_certifies : (q : Question) (reached : BeforeRule) (v : Verdict) (answer : Answer) → ((sound : ResolvedTrades) → reached ≡ upto.Sound sound → ⊥) → VerdictIs q reached v → IsAnswerOfKind (IsVerdictAnswer v) answer
+pub answer_certifies : (q : Question) (reached : BeforeRule) (v : Verdict) (answer : Answer) → ((sound : ResolvedTrades) → reached ≡ upto.Sound sound → ⊥) → IsVerdictUpToRule q reached v → IsAnswerOfKind (IsVerdictAnswer v) answer
     → IsAnswerOfKind (IsCertifyAnswerOn q reached) answer
 answer_certifies q (upto.Malformed log bad) v answer none is made =
     refused_certifies q (upto.Malformed log bad) v (verdict.Malformed log bad) answer is (is.of_place log bad refl) made
@@ -73,16 +73,16 @@ pub record HaveSoundRecords (q : Question) (orders trades : Log) (resolved : Res
   pub entries : List OrderRecord
   pub paired : Result (List TradeRecord) Finding
   pub logs : HaveRecords orders trades entries paired
-  pub sound : AreSound (scope_of q) entries paired resolved
+  pub sound : IsResolvedWithoutFinding (scope_of q) entries paired resolved
 
 pub sound_records : (q : Question) (orders trades : Log) (resolved : ResolvedTrades) → LogsReach (scope_of q) orders trades (upto.Sound resolved) → HaveSoundRecords q orders trades resolved
-sound_records q orders trades resolved come = of_said (order_log orders.form orders.bytes) (trade_log trades.form trades.bytes) refl refl come
+sound_records q orders trades resolved come = of_said (records_of_order_log orders.form orders.bytes) (trades_of_trade_log trades.form trades.bytes) refl refl come
   where
     apart : (other : Which) (place : BadPlace) → upto.Sound resolved ≡ upto.Malformed other place → ⊥
     apart other place e = cc
 
     of_said : (first : Result (List OrderRecord) BadPlace) (second : Result (Result (List TradeRecord) Finding) BadPlace)
-        → order_log orders.form orders.bytes ≡ first → trade_log trades.form trades.bytes ≡ second
+        → records_of_order_log orders.form orders.bytes ≡ first → trades_of_trade_log trades.form trades.bytes ≡ second
         → MatchResult first (λ entries. MatchResult second (λ paired. IsBeforeRule (scope_of q) entries paired (upto.Sound resolved)) (λ bad. upto.Sound resolved ≡ upto.Malformed Trades bad))
         (λ bad. upto.Sound resolved ≡ upto.Malformed Orders bad)
         → HaveSoundRecords q orders trades resolved
@@ -105,7 +105,7 @@ certificate_of q orders trades resolved text have is =
     }
 
 -- the answer of sound trades is that of `certify`
-pub sound_certifies : (q : Question) (resolved : ResolvedTrades) (v : Verdict) (answer : Answer) → VerdictIs q (upto.Sound resolved) v → IsAnswerOfKind (IsVerdictAnswerWith (IsDealsCertificate q resolved) v) answer → IsAnswerOfKind (IsCertifyAnswerOn q (upto.Sound resolved)) answer
+pub sound_certifies : (q : Question) (resolved : ResolvedTrades) (v : Verdict) (answer : Answer) → IsVerdictUpToRule q (upto.Sound resolved) v → IsAnswerOfKind (IsVerdictAnswerWith (IsDealsCertificate q resolved) v) answer → IsAnswerOfKind (IsCertifyAnswerOn q (upto.Sound resolved)) answer
 sound_certifies q resolved v answer is made orders trades come = record {
   verdict = v;
   is = verdict_of_logs q (upto.Sound resolved) v orders trades is come;
@@ -121,12 +121,12 @@ sound_certifies q resolved v answer is made orders trades come = record {
     of_verdict (verdict.Malformed log bad) reports = reports
 
 -- deals that are accepted conform
-pub accepted_conforms : (q : Question) (orders : List Order) (deals : List Deal) (count : ℕ) (a : Accepted) → IsJudgedDeals q orders deals count (verdict.Accepted a) → Conforms q.rule orders deals
+pub accepted_conforms : (q : Question) (orders : List Order) (deals : List Deal) (count : ℕ) (a : Accepted) → VerdictFollowsDeals q orders deals count (verdict.Accepted a) → Conforms q.rule orders deals
 accepted_conforms q orders deals count a is = by_finding is.found is.by_the_rule is.outcome
   where
     apart : (finding : Finding) → verdict.Accepted a ≡ verdict.Rejected finding → ⊥
     apart finding e = cc
 
-    by_finding : (found : Option Finding) → IsRuleVerdict q.rule orders deals count found → IsVerdictOfFinding q orders deals found (verdict.Accepted a) → Conforms q.rule orders deals
+    by_finding : (found : Option Finding) → IsRuleFinding q.rule orders deals count found → IsVerdictOfFinding q orders deals found (verdict.Accepted a) → Conforms q.rule orders deals
     by_finding None conforms outcome = conforms
     by_finding (Some finding) offence outcome = absurd (apart finding outcome)

@@ -8,7 +8,7 @@ use Rattle.log_source.specs.declared.quiet_shelf.QuietShelf.{QuietShelf}
 use Rattle.log_source.specs.MemorySinks.{sure_room}
 use Rattle.log_source.specs.QuietShelves.{quiet_log, quiet_slot}
 use Rattle.log_source.specs.Sinks.{SinkState, SinkStays}
-use Rattle.log_source.specs.Sources.{Rose, longest_log}
+use Rattle.log_source.specs.Sources.{RoseOrIsFull, longest_log}
 use Rattle.command_words.specs.declared.requests.Request.{Request}
 use Rattle.audit_run.specs.InMemory.{AnswersInRoom}
 use Rattle.audit_run.specs.Runs.{AnswersWithCause}
@@ -16,7 +16,7 @@ use Rattle.log_verdict.specs.Steps.{Reading}
 use Rattle.audit_run.proofs.ReadyLemmas.{answer_in_room}
 use Rattle.audit_run.proofs.StepLemmas.{rose-in}
 
-no_rise : Rose 0 0 → ⊥
+no_rise : RoseOrIsFull 0 0 → ⊥
 no_rise (inl lt) = omega arith
 no_rise (inr top) = omega arith
 
@@ -25,7 +25,7 @@ abbrev pub quiet_reading : QuietShelf → QuietShelf → Reading
 quiet_reading old new =
     record { limit = longest_log; tells = true; log_of = λ log _. Some (quiet_log old log); before = quiet_slot old; after = quiet_slot new }
 
-quiet : (old new : QuietShelf) (log : Which) → ¬ Rose (quiet_slot old log).faults (quiet_slot new log).faults
+quiet : (old new : QuietShelf) (log : Which) → ¬ RoseOrIsFull (quiet_slot old log).faults (quiet_slot new log).faults
 quiet old new Orders rose = no_rise rose
 quiet old new Trades rose = no_rise rose
 

@@ -21,7 +21,7 @@ use Rattle.audit_base.specs.Expected.{trades_of_deals}
 use Rattle.audit_base.specs.Histories.{history_finding, order_list}
 use Rattle.audit_base.specs.Least.{first_answer}
 use Rattle.audit_base.specs.RuleKinds.{rule_of_volume, volume_rule}
-use Rattle.audit_base.specs.Trades.{TradesInRange, deals_of_symbol, unsound_trade}
+use Rattle.audit_base.specs.Trades.{TradesInRange, deals_of_symbol, trades_finding}
 use Rattle.audit_base.specs.Verdicts.{paired_trades, pairing_finding}
 use Rattle.audit_base.proofs.HistoryLemmas.{order_list-rising}
 use Rattle.audit_base.proofs.LeastLemmas.{option_or-parts}
@@ -42,11 +42,11 @@ use Rattle.command_words.specs.declared.requests.Request.TheVariants.{Audit, Exp
 use Rattle.csv_logs.specs.Written.{csv_orders_text, csv_trades_text}
 use Rattle.log_maker.specs.Generator.{generated_records, generated_symbol}
 use Rattle.log_verdict.specs.Laws.{OneVerdict}
-use Rattle.log_verdict.specs.LogVerdicts.{HaveRecords, Log, OfLogs, log_in, order_log, trade_log}
+use Rattle.log_verdict.specs.LogVerdicts.{HaveRecords, Log, OfLogs, log_in, records_of_order_log, trades_of_trade_log}
 use Rattle.log_verdict.specs.Ranges.{TradeLogsAreInRange}
 use Rattle.record_verdict.specs.declared.questions.Question.{Question}
 use Rattle.record_verdict.specs.Judgements.{question}
-use Rattle.record_verdict.specs.Scopes.{call_scope, day_scope, early_finding, unadmitted_order}
+use Rattle.record_verdict.specs.Scopes.{call_scope, day_scope, finding_before_rule_in_scope, unadmitted_order_finding}
 use Rattle.session_audit.specs.declared.phases.Phase.{Phase}
 use Rattle.session_audit.specs.OneOffence.{DayOffenceIsOne}
 use Rattle.session_audit.specs.Texts.{day_text}
@@ -97,8 +97,8 @@ of-logs : (orders trades : Log) (P Q : List OrderRecord → Result (List TradeRe
     → ((entries : List OrderRecord) (paired : Result (List TradeRecord) Finding) → HaveRecords orders trades entries paired → P entries paired → Q entries paired → C)
     → ((log : Which) (bad : BadPlace) → S log bad → T log bad → C) → OfLogs P S orders trades → OfLogs Q T orders trades → C
 of-logs orders trades P Q S T C of_records of_bad x y =
-    let said = trade_log trades.form trades.bytes in
-    by-result (order_log orders.form orders.bytes) (λ entries. MatchResult said (P entries) (S Trades)) (λ entries. MatchResult said (Q entries) (T Trades)) (S Orders) (T Orders) C
+    let said = trades_of_trade_log trades.form trades.bytes in
+    by-result (records_of_order_log orders.form orders.bytes) (λ entries. MatchResult said (P entries) (S Trades)) (λ entries. MatchResult said (Q entries) (T Trades)) (S Orders) (T Orders) C
     (λ entries records p q. by-result said (P entries) (Q entries) (S Trades) (T Trades) C (λ paired trades_are. of_records entries paired (record { records = records; trades_are = trades_are })) (of_bad Trades) p q)
     (of_bad Orders) x y
 
@@ -121,11 +121,11 @@ with-one is_text one (Malformed log bad) s t a b x y = refused-one (Malformed lo
 -- `convert`
 convert-one : (which : Which) (log : Log) (s t : Status) (a b : List ℕ) → IsConvertAnswer which log s a → IsConvertAnswer which log t b → Same s t a b
 convert-one Orders log s t a b x y =
-    by-result (order_log log.form log.bytes) (λ entries. IsAnswerWith status.Accepted (csv_orders_text entries) s a) (λ entries. IsAnswerWith status.Accepted (csv_orders_text entries) t b)
+    by-result (records_of_order_log log.form log.bytes) (λ entries. IsAnswerWith status.Accepted (csv_orders_text entries) s a) (λ entries. IsAnswerWith status.Accepted (csv_orders_text entries) t b)
     (λ bad. IsVerdictAnswer (Malformed Orders bad) s a) (λ bad. IsVerdictAnswer (Malformed Orders bad) t b) (Same s t a b)
     (λ entries is. text-one status.Accepted (csv_orders_text entries) s t a b) (λ bad. refused-one (Malformed Orders bad) s t a b) x y
 convert-one Trades log s t a b x y =
-    by-result (trade_log log.form log.bytes) (λ paired. ConvertsTrades paired s a) (λ paired. ConvertsTrades paired t b)
+    by-result (trades_of_trade_log log.form log.bytes) (λ paired. ConvertsTrades paired s a) (λ paired. ConvertsTrades paired t b)
     (λ bad. IsVerdictAnswer (Malformed Trades bad) s a) (λ bad. IsVerdictAnswer (Malformed Trades bad) t b) (Same s t a b)
     (λ paired is p q. by-result paired (λ trades. IsAnswerWith status.Accepted (csv_trades_text trades) s a) (λ trades. IsAnswerWith status.Accepted (csv_trades_text trades) t b)
     (λ finding. IsVerdictAnswer (Rejected finding) s a) (λ finding. IsVerdictAnswer (Rejected finding) t b) (Same s t a b)
@@ -177,7 +177,7 @@ module _ (laws : Laws) where
       (λ entries paired have p q.
       let history : List Order = order_list symbol entries in
       let deals : List Deal = deals_of_symbol history symbol (paired_trades paired) in
-      by-option (early_finding (call_scope symbol) entries paired) (VerifiesDeals symbol history deals certificate s a) (VerifiesDeals symbol history deals certificate t b)
+      by-option (finding_before_rule_in_scope (call_scope symbol) entries paired) (VerifiesDeals symbol history deals certificate s a) (VerifiesDeals symbol history deals certificate t b)
       (λ finding. IsVerdictAnswer (Rejected finding) s a) (λ finding. IsVerdictAnswer (Rejected finding) t b) (Same s t a b)
       (λ none. verifies-one symbol history deals certificate s t a b) (λ finding. refused-one (Rejected finding) s t a b) p q)
       (λ log bad. refused-one (Malformed log bad) s t a b) x y
@@ -203,16 +203,16 @@ module _ (laws : Laws) where
     abbrev count : ℕ
     count = length (paired_trades paired)
 
-    sound : early_finding (day_scope symbol) entries paired ≡ None → unsound_trade history symbol (paired_trades paired) ≡ None
+    sound : finding_before_rule_in_scope (day_scope symbol) entries paired ≡ None → trades_finding history symbol (paired_trades paired) ≡ None
     sound none =
-        let last = unsound_trade history symbol (paired_trades paired) in
-        let admitted = unadmitted_order (day_scope symbol).admission history in
+        let last = trades_finding history symbol (paired_trades paired) in
+        let admitted = unadmitted_order_finding (day_scope symbol).admission history in
         let first = option_or-parts (history_finding symbol entries) (first_answer (admitted ∷ pairing_finding paired ∷ last ∷ [])) none in
         let second = option_or-parts admitted (first_answer (pairing_finding paired ∷ last ∷ [])) first.1 in
         let third = option_or-parts (pairing_finding paired) (first_answer (last ∷ [])) second.1 in
         (option_or-parts last None third.1).0
 
-    judged-one : early_finding (day_scope symbol) entries paired ≡ None → JudgesDayDeals symbol phases table history deals count s a → JudgesDayDeals symbol phases table history deals count t b → Same s t a b
+    judged-one : finding_before_rule_in_scope (day_scope symbol) entries paired ≡ None → JudgesDayDeals symbol phases table history deals count s a → JudgesDayDeals symbol phases table history deals count t b → Same s t a b
     judged-one none (inl x) (inl y) = done-one (IsDayText symbol phases table history deals) (day-text-one symbol phases table history deals) s t a b x y
     judged-one none (inl x) (inr y) = absurd (y.broken.fails x.is.conforms.conforms)
     judged-one none (inr x) (inl y) = absurd (x.broken.fails y.is.conforms.conforms)
@@ -222,7 +222,7 @@ module _ (laws : Laws) where
         refused-one (Rejected y.finding) s t a b (subst (λ (f : Finding). IsVerdictAnswer (Rejected f) s a) same x.answer) y.answer
 
     day-one : JudgesDayRecords symbol phases table entries paired s a → JudgesDayRecords symbol phases table entries paired t b → Same s t a b
-    day-one x y = by-option (early_finding (day_scope symbol) entries paired) (JudgesDayDeals symbol phases table history deals count s a) (JudgesDayDeals symbol phases table history deals count t b)
+    day-one x y = by-option (finding_before_rule_in_scope (day_scope symbol) entries paired) (JudgesDayDeals symbol phases table history deals count s a) (JudgesDayDeals symbol phases table history deals count t b)
         (λ finding. IsVerdictAnswer (Rejected finding) s a) (λ finding. IsVerdictAnswer (Rejected finding) t b) (Same s t a b)
         judged-one (λ finding. refused-one (Rejected finding) s t a b) x y
 
@@ -230,7 +230,7 @@ module _ (laws : Laws) where
   session-one symbol phases table orders trades s t a b x y =
       of-logs orders trades (λ entries paired. JudgesDayRecords symbol phases table entries paired s a) (λ entries paired. JudgesDayRecords symbol phases table entries paired t b)
       (λ log bad. IsVerdictAnswer (Malformed log bad) s a) (λ log bad. IsVerdictAnswer (Malformed log bad) t b) (Same s t a b)
-      (λ entries paired have. day-one symbol phases table entries paired (known (trade_log trades.form trades.bytes) (λ p. TradesInRange (paired_trades p)) paired (laws.ranges trades.form trades.bytes) have.trades_are) s t a b)
+      (λ entries paired have. day-one symbol phases table entries paired (known (trades_of_trade_log trades.form trades.bytes) (λ p. TradesInRange (paired_trades p)) paired (laws.ranges trades.form trades.bytes) have.trades_are) s t a b)
       (λ log bad. refused-one (Malformed log bad) s t a b) x y
 
   -- `expect`
@@ -241,7 +241,7 @@ module _ (laws : Laws) where
 
   expect-one : (the_rule : Rule) (symbol : List ℕ) (orders : Log) (s t : Status) (a b : List ℕ) → IsExpectAnswer the_rule symbol orders s a → IsExpectAnswer the_rule symbol orders t b → Same s t a b
   expect-one the_rule symbol orders s t a b x y =
-      by-result (order_log orders.form orders.bytes) (λ entries. ExpectsRecords the_rule symbol entries s a) (λ entries. ExpectsRecords the_rule symbol entries t b)
+      by-result (records_of_order_log orders.form orders.bytes) (λ entries. ExpectsRecords the_rule symbol entries s a) (λ entries. ExpectsRecords the_rule symbol entries t b)
       (λ bad. IsVerdictAnswer (Malformed Orders bad) s a) (λ bad. IsVerdictAnswer (Malformed Orders bad) t b) (Same s t a b)
       (λ entries is p q. by-option (orders_finding the_rule symbol entries) (IsDone (IsExpectedLog the_rule symbol entries) s a) (IsDone (IsExpectedLog the_rule symbol entries) t b)
       (λ finding. IsVerdictAnswer (Rejected finding) s a) (λ finding. IsVerdictAnswer (Rejected finding) t b) (Same s t a b)

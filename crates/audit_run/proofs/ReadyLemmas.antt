@@ -5,7 +5,7 @@ use Rattle.audit_base.specs.declared.terms.Which.{Which}
 use Rattle.audit_report.specs.declared.statuses.Status.{Status}
 use Rattle.audit_report.specs.declared.statuses.Status.TheVariants as status
 use Rattle.log_source.specs.Sinks.{SinkState, SinkStays}
-use Rattle.log_source.specs.Sources.{Rose}
+use Rattle.log_source.specs.Sources.{RoseOrIsFull}
 use Rattle.command_words.specs.declared.requests.Request.{Request}
 use Rattle.audit_run.specs.InMemory.{HasRoomForAnswer}
 use Rattle.audit_run.specs.Requests.{IsAnswerTo}
@@ -24,7 +24,7 @@ held_within limit log bytes held within long =
     let longer : limit < length bytes = rw held at long in omega arith
 
 -- it is known what the shelf holds, it holds these logs, and none of its faults rose
-module _ (r : Reading) (request : Request) (logs : List (List ℕ)) (tells : r.tells ≡ true) (held : HoldsNeededLogs r request [] logs) (quiet : (log : Which) → ¬ Rose (r.before log).faults (r.after log).faults) where
+module _ (r : Reading) (request : Request) (logs : List (List ℕ)) (tells : r.tells ≡ true) (held : HoldsNeededLogs r request [] logs) (quiet : (log : Which) → ¬ RoseOrIsFull (r.before log).faults (r.after log).faults) where
   -- the log that the reading reached is held
   last_held : (last : LogStep) → ReadsUpTo r request last → (bytes : List ℕ) × HoldsLog r last.log last.name bytes
   last_held last reached =
@@ -65,7 +65,7 @@ pub answer_written : (r : Reading) (request : Request) (logs : List (List ℕ)) 
 answer_written r request logs old new result ready is =
     answer_unless r request logs ready.nothing_fails.shelf_tells ready.held ready.nothing_fails.no_fault_of_shelf old new result (λ e part. ready.nothing_fails.no_fault_of_sink part.cause.rose) is
 
-module _ (r : Reading) (request : Request) (logs : List (List ℕ)) (tells : r.tells ≡ true) (quiet : (log : Which) → ¬ Rose (r.before log).faults (r.after log).faults) where
+module _ (r : Reading) (request : Request) (logs : List (List ℕ)) (tells : r.tells ≡ true) (quiet : (log : Which) → ¬ RoseOrIsFull (r.before log).faults (r.after log).faults) where
   -- every text that may be written has room
   fits : (written room : ℕ) (ready : HasRoomForAnswer r request logs written room) (the_status : Status) (text : List ℕ) → ReadingDecides r request the_status text → written + length text ≤ room
   fits written room ready status.Accepted text is = ready.room_left status.Accepted text (of_held r request logs tells ready.held quiet status.Accepted text is)

@@ -21,7 +21,7 @@ use Rattle.audit_run.specs.Deciding.{IsAnswerOfKind}
 use Rattle.audit_run.specs.JudgedAnswers.{IsSessionAnswerOn}
 use Rattle.audit_run.specs.Sessions.{JudgesDayDeals, JudgesDayRecords}
 use Rattle.audit_run.specs.VerdictAnswers.{IsVerdictAnswer}
-use Rattle.record_verdict.specs.BeforeRule.{AreSound, IsBeforeRule}
+use Rattle.record_verdict.specs.BeforeRule.{IsResolvedWithoutFinding, IsBeforeRule}
 use Rattle.audit_run.proofs.JudgedAnswerLemmas.{of_logs}
 
 module _ (symbol : List ℕ) (phases : List Phase) (table : Bool) (answer : Answer) where
@@ -59,7 +59,7 @@ module _ (symbol : List ℕ) (phases : List Phase) (table : Bool) (answer : Answ
       apart : (other : Which) (place : BadPlace) → upto.Sound resolved ≡ upto.Malformed other place → ⊥
       apart other place e = cc
 
-      of_sound : (entries : List OrderRecord) (paired : Result (List TradeRecord) Finding) → AreSound (day_scope symbol) entries paired resolved → JudgesDayRecords symbol phases table entries paired answer.status answer.text.items
+      of_sound : (entries : List OrderRecord) (paired : Result (List TradeRecord) Finding) → IsResolvedWithoutFinding (day_scope symbol) entries paired resolved → JudgesDayRecords symbol phases table entries paired answer.status answer.text.items
       of_sound entries paired sound =
           let history : List Order = order_list symbol entries in
           rw sound.none

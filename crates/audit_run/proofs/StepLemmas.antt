@@ -2,7 +2,7 @@
 use Rattle.std.proofs.Common.{◌≡◌, ◌∙◌, sym, ap, subst, refl, inl, inr, ℕ, ◌≤◌, List, [], ◌∷◌, ◌++◌, Option, None, Some, true, append_assoc, append-nil, arith}
 use Rattle.audit_base.specs.declared.terms.Which.{Which}
 use Rattle.audit_base.specs.declared.terms.Which.TheVariants.{Orders, Trades}
-use Rattle.log_source.specs.Sources.{Slot, Rose}
+use Rattle.log_source.specs.Sources.{Slot, RoseOrIsFull}
 use Rattle.command_words.specs.declared.requests.Request.{Request}
 use Rattle.audit_run.specs.Requests.{next_log}
 use Rattle.audit_run.specs.Runs.{HoldsLog, HoldsNeededLogs, HoldsNext, ReadsNext, ReadsOneByOne}
@@ -21,17 +21,17 @@ with_slot-later slots Orders slot Trades later = omega arith
 with_slot-later slots Trades slot Orders later = omega arith
 with_slot-later slots Trades slot Trades later = later
 
-rose-earlier : (a b c : ℕ) → a ≤ b → Rose b c → Rose a c
+rose-earlier : (a b c : ℕ) → a ≤ b → RoseOrIsFull b c → RoseOrIsFull a c
 rose-earlier a b c le (inl lt) = inl (omega arith)
 rose-earlier a b c le (inr top) = inr top
 
 -- faults that rise at the last step rise in the call
 pub rose-in : (slots : Which → Slot) (steps : List LogStep) (last : LogStep) (after : Which → Slot) → StepsLead slots (steps ++ last ∷ []) after
-    → Rose last.before.faults last.after.faults → Rose (slots last.log).faults (after last.log).faults
+    → RoseOrIsFull last.before.faults last.after.faults → RoseOrIsFull (slots last.log).faults (after last.log).faults
 rose-in slots [] last after lead rose =
     let ends : after last.log ≡ last.after = lead.1 last.log ∙ with_slot-same slots last.log last.after in
-    subst (λ (s : Slot). Rose (slots last.log).faults s.faults) (sym ends)
-    (subst (λ (s : Slot). Rose s.faults last.after.faults) lead.0.at rose)
+    subst (λ (s : Slot). RoseOrIsFull (slots last.log).faults s.faults) (sym ends)
+    (subst (λ (s : Slot). RoseOrIsFull s.faults last.after.faults) lead.0.at rose)
 rose-in slots (step ∷ steps) last after lead rose =
     let begins : (slots step.log).faults ≤ step.after.faults = subst (λ (s : Slot). s.faults ≤ step.after.faults) lead.0.at lead.0.later in
     rose-earlier (slots last.log).faults ((with_slot slots step.log step.after) last.log).faults (after last.log).faults

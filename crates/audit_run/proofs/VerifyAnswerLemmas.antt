@@ -18,7 +18,7 @@ use Rattle.audit_run.specs.Deciding.{IsAnswerOfKind}
 use Rattle.audit_run.specs.JudgedAnswers.{IsVerifyAnswerOn}
 use Rattle.audit_run.specs.VerdictAnswers.{IsVerdictAnswer}
 use Rattle.record_verdict.specs.Scopes.{call_scope}
-use Rattle.record_verdict.specs.BeforeRule.{AreSound, IsBeforeRule}
+use Rattle.record_verdict.specs.BeforeRule.{IsResolvedWithoutFinding, IsBeforeRule}
 use Rattle.audit_run.proofs.JudgedAnswerLemmas.{of_logs}
 
 module _ (symbol : List ℕ) (certificate : List ℕ) (answer : Answer) where
@@ -56,7 +56,7 @@ module _ (symbol : List ℕ) (certificate : List ℕ) (answer : Answer) where
       apart : (other : Which) (place : BadPlace) → upto.Sound resolved ≡ upto.Malformed other place → ⊥
       apart other place e = cc
 
-      of_sound : (entries : List OrderRecord) (paired : Result (List TradeRecord) Finding) → AreSound (call_scope symbol) entries paired resolved → VerifiesRecords symbol certificate entries paired answer.status answer.text.items
+      of_sound : (entries : List OrderRecord) (paired : Result (List TradeRecord) Finding) → IsResolvedWithoutFinding (call_scope symbol) entries paired resolved → VerifiesRecords symbol certificate entries paired answer.status answer.text.items
       of_sound entries paired sound =
           rw sound.none
           (subst (λ (ds : List Deal). VerifiesDeals symbol (order_list symbol entries) ds certificate answer.status answer.text.items) sound.deals

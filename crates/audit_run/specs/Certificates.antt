@@ -10,7 +10,7 @@ use Rattle.audit_base.specs.Deals.{volume}
 use Rattle.audit_base.specs.Histories.{order_list}
 use Rattle.audit_base.specs.Rules.{Conforms}
 use Rattle.audit_base.specs.Trades.{deals_of_symbol}
-use Rattle.record_verdict.specs.Scopes.{early_finding, call_scope}
+use Rattle.record_verdict.specs.Scopes.{finding_before_rule_in_scope, call_scope}
 use Rattle.audit_base.specs.Verdicts.{paired_trades}
 use Rattle.audit_certificate.specs.Agreement.{AgreesUnder, AgreesUnderNone, IsCertificateUnder, IsFirstRefused}
 use Rattle.audit_report.specs.declared.statuses.Status.{Status}
@@ -61,7 +61,7 @@ pub record IsVerified (symbol : List ℕ) (orders : List Order) (deals : List De
 
 -- The certificate agrees under no rule, and the line has the number of its
 -- first line that is refused.
-pub record IsDisproved (symbol : List ℕ) (orders : List Order) (deals : List Deal)
+pub record IsCertificateRefused (symbol : List ℕ) (orders : List Order) (deals : List Deal)
     (certificate : List ℕ) (the_status : Status) (text : List ℕ) : Type 0 where
   pub line : ℕ
   pub first : IsFirstRefused symbol orders deals certificate line
@@ -74,7 +74,7 @@ pub record IsDisproved (symbol : List ℕ) (orders : List Order) (deals : List D
 abbrev pub VerifiesDeals : List ℕ → List Order → List Deal → List ℕ → Status → List ℕ → Type 0
 VerifiesDeals symbol orders deals certificate the_status text =
     IsVerified symbol orders deals certificate the_status text
-    ⊎ IsDisproved symbol orders deals certificate the_status text
+    ⊎ IsCertificateRefused symbol orders deals certificate the_status text
 
 -- over records `verify` answers a finding that comes before any rule of a call, if there is one;
 -- else what it answers over their deals
@@ -82,7 +82,7 @@ abbrev pub VerifiesRecords : List ℕ → List ℕ → List OrderRecord
     → Result (List TradeRecord) Finding → Status → List ℕ → Type 0
 VerifiesRecords symbol certificate entries paired the_status text =
     let orders = order_list symbol entries in
-    MatchOption (early_finding (call_scope symbol) entries paired)
+    MatchOption (finding_before_rule_in_scope (call_scope symbol) entries paired)
     (VerifiesDeals symbol orders (deals_of_symbol orders symbol (paired_trades paired)) certificate
     the_status text)
     (λ finding. IsVerdictAnswer (Rejected finding) the_status text)

@@ -13,7 +13,7 @@ use Rattle.log_verdict.specs.declared.sources.Source.{Source}
 use Rattle.audit_run.specs.declared.answers.Answer.{Answer}
 use Rattle.command_words.specs.declared.requests.Request.{Request}
 use Rattle.command_words.specs.declared.requests.Request.TheVariants.{Audit, Certify, Verify, Session}
-use Rattle.log_verdict.specs.LogVerdicts.{order_log}
+use Rattle.log_verdict.specs.LogVerdicts.{records_of_order_log}
 use Rattle.audit_run.specs.Requests.{next_log}
 use Rattle.audit_run.specs.Runs.{ReadingDecides}
 use Rattle.session_audit.specs.declared.phases.Phase.{Phase}
@@ -41,7 +41,7 @@ DecidesAnswer r request result =
 pub record StartsBoth (request : Request) (orders trades : Source) : Type 0 where
   pub first : next_log request [] ≡ Some (Orders, orders.name.now)
   pub second : (bytes : List ℕ) → next_log request (bytes ∷ [])
-      ≡ only_if (is_ok (order_log orders.form bytes)) (Trades, trades.name.now)
+      ≡ only_if (is_ok (records_of_order_log orders.form bytes)) (Trades, trades.name.now)
 
 -- the request to audit these logs
 abbrev pub request_to_audit : Question → Source → Source → Request

@@ -9,7 +9,7 @@ use Rattle.audit_base.specs.Expected.{IsExpected, trades_of_deals}
 use Rattle.audit_base.specs.Histories.{order_list, WellFormed}
 use Rattle.audit_base.specs.Rules.{Conforms}
 use Rattle.audit_base.specs.Trades.{TradesInRange}
-use Rattle.csv_logs.specs.Logs.{csv_trade_log}
+use Rattle.csv_logs.specs.Logs.{csv_trade_records}
 use Rattle.csv_logs.specs.Written.{csv_trades_text}
 use Rattle.audit_run.specs.OtherTexts.{IsExpectedLog}
 
@@ -23,7 +23,7 @@ pub record IsConformingLog (the_rule : Rule) (symbol : List ℕ) (orders : List 
   pub deal_list : IsDealList orders deals
   pub ranges : TradesInRange (trades_of_deals orders symbol deals)
   pub text_is : text ≡ csv_trades_text (trades_of_deals orders symbol deals)
-  pub says : csv_trade_log text ≡ Ok (trades_of_deals orders symbol deals)
+  pub says : csv_trade_records text ≡ Ok (trades_of_deals orders symbol deals)
 
 -- the text is the log of the Expected trades of whatever well-formed records have these orders
 abbrev pub IsLogOfOrders : Rule → List ℕ → List Order → List ℕ → Type 0

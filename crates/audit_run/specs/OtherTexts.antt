@@ -20,7 +20,7 @@ use Rattle.audit_base.specs.Deals.{volume}
 use Rattle.audit_base.specs.Expected.{IsExpected, trades_of_deals}
 use Rattle.audit_base.specs.Histories.{history_finding, order_list}
 use Rattle.audit_base.specs.Least.{first_answer}
-use Rattle.audit_base.specs.Verdicts.{instant_order_finding}
+use Rattle.audit_base.specs.Verdicts.{instant_finding_of_rule}
 use Rattle.audit_report.specs.declared.statuses.Status.{Status}
 use Rattle.audit_report.specs.declared.statuses.Status.TheVariants.{Accepted}
 use Rattle.audit_report.specs.declared.verdicts.Accepted.{Accepted as AcceptedLog}
@@ -30,8 +30,8 @@ use Rattle.audit_report.specs.Summaries.{generated_line, call_line, continuous_l
 use Rattle.csv_logs.specs.Written.{csv_orders_text, csv_trades_text}
 use Rattle.log_maker.specs.Generator.{generated_orders, generated_records}
 use Rattle.record_verdict.specs.declared.questions.Question.{Question}
-use Rattle.record_verdict.specs.Judgements.{question, IsJudged}
-use Rattle.log_verdict.specs.LogVerdicts.{Log, order_log, trade_log}
+use Rattle.record_verdict.specs.Judgements.{question, IsRecordVerdict}
+use Rattle.log_verdict.specs.LogVerdicts.{Log, records_of_order_log, trades_of_trade_log}
 use Rattle.audit_run.specs.VerdictAnswers.{IsAnswerWith, IsDone, IsVerdictAnswer}
 
 -- what is found in an order log before any trade is looked at: the history's finding, or an order
@@ -39,7 +39,7 @@ use Rattle.audit_run.specs.VerdictAnswers.{IsAnswerWith, IsDone, IsVerdictAnswer
 abbrev pub orders_finding : Rule → List ℕ → List OrderRecord → Option Finding
 orders_finding the_rule symbol entries =
     first_answer (history_finding symbol entries
-    ∷ instant_order_finding the_rule (order_list symbol entries) ∷ [])
+    ∷ instant_finding_of_rule the_rule (order_list symbol entries) ∷ [])
 
 -- What a trade log says is accepted beside these records of orders.
 pub record IsAcceptedBeside (q : Question) (entries : List OrderRecord)
@@ -47,7 +47,7 @@ pub record IsAcceptedBeside (q : Question) (entries : List OrderRecord)
   pub trades : List TradeRecord
   pub says : said ≡ Ok (Ok trades)
   pub acceptance : AcceptedLog
-  pub judged : IsJudged q entries (Ok trades) (verdict.Accepted acceptance)
+  pub judged : IsRecordVerdict q entries (Ok trades) (verdict.Accepted acceptance)
 
 -- The text is the CSV log of the Expected trades of these records of orders. An
 -- audit accepts it beside them.
@@ -57,7 +57,7 @@ pub record IsExpectedLog (the_rule : Rule) (symbol : List ℕ) (entries : List O
   pub expected : IsExpected the_rule (order_list symbol entries) deals
   pub text_is : text ≡ csv_trades_text (trades_of_deals (order_list symbol entries) symbol deals)
   pub accepted : (table : Bool)
-      → IsAcceptedBeside (question the_rule symbol table) entries (trade_log Csv text)
+      → IsAcceptedBeside (question the_rule symbol table) entries (trades_of_trade_log Csv text)
 
 -- over the records of an order log `expect` answers a finding, if there is one; else the log of
 -- the Expected trades
@@ -71,7 +71,7 @@ ExpectsRecords the_rule symbol entries status text =
 -- over its records
 abbrev pub IsExpectAnswer : Rule → List ℕ → Log → Status → List ℕ → Type 0
 IsExpectAnswer the_rule symbol orders status text =
-    MatchResult (order_log orders.form orders.bytes)
+    MatchResult (records_of_order_log orders.form orders.bytes)
     (λ entries. ExpectsRecords the_rule symbol entries status text)
     (λ bad. IsVerdictAnswer (Malformed Orders bad) status text)
 
@@ -86,11 +86,11 @@ ConvertsTrades paired status text =
 -- log, or, of a trade log whose execution reports do not pair, the finding
 abbrev pub IsConvertAnswer : Which → Log → Status → List ℕ → Type 0
 IsConvertAnswer Orders log status text =
-    MatchResult (order_log log.form log.bytes)
+    MatchResult (records_of_order_log log.form log.bytes)
     (λ entries. IsAnswerWith Accepted (csv_orders_text entries) status text)
     (λ bad. IsVerdictAnswer (Malformed Orders bad) status text)
 IsConvertAnswer Trades log status text =
-    MatchResult (trade_log log.form log.bytes)
+    MatchResult (trades_of_trade_log log.form log.bytes)
     (λ paired. ConvertsTrades paired status text)
     (λ bad. IsVerdictAnswer (Malformed Trades bad) status text)
 

@@ -13,7 +13,7 @@ use Rattle.audit_run.specs.OtherTexts.{IsConvertAnswer, IsExpectAnswer, IsGenera
 use Rattle.audit_run.specs.Sessions.{IsSessionAnswer}
 use Rattle.audit_run.specs.VerdictAnswers.{IsAuditAnswer, IsDone}
 use Rattle.record_verdict.specs.Judgements.{question}
-use Rattle.log_verdict.specs.LogVerdicts.{order_log, trade_log, log_in}
+use Rattle.log_verdict.specs.LogVerdicts.{records_of_order_log, trades_of_trade_log, log_in}
 
 -- the next log of a command that needs one: it starts that first, and no other
 abbrev pub next_of_one_log : Which → List ℕ → List (List ℕ) → Option (Which × List ℕ)
@@ -25,7 +25,7 @@ next_of_one_log log name (first ∷ rest) = None
 abbrev pub next_of_both_logs : List ℕ → List ℕ → Form → List (List ℕ) → Option (Which × List ℕ)
 next_of_both_logs orders trades orders_form [] = Some (Orders, orders)
 next_of_both_logs orders trades orders_form (first ∷ []) =
-    only_if (is_ok (order_log orders_form first)) (Trades, trades)
+    only_if (is_ok (records_of_order_log orders_form first)) (Trades, trades)
 next_of_both_logs orders trades orders_form (first ∷ second ∷ rest) = None
 
 -- the next log of a command that needs both and a certificate: after both logs, where they are
@@ -35,9 +35,9 @@ abbrev pub next_with_certificate : List ℕ → List ℕ → List ℕ → Form �
 next_with_certificate orders trades certificate orders_form trades_form [] =
     Some (Orders, orders)
 next_with_certificate orders trades certificate orders_form trades_form (first ∷ []) =
-    only_if (is_ok (order_log orders_form first)) (Trades, trades)
+    only_if (is_ok (records_of_order_log orders_form first)) (Trades, trades)
 next_with_certificate orders trades certificate orders_form trades_form (first ∷ second ∷ []) =
-    only_if (is_ok (trade_log trades_form second)) (Trades, certificate)
+    only_if (is_ok (trades_of_trade_log trades_form second)) (Trades, certificate)
 next_with_certificate orders trades certificate orders_form trades_form
     (first ∷ second ∷ third ∷ rest) = None
 

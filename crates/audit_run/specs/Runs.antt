@@ -7,7 +7,7 @@ use Rattle.audit_report.specs.declared.statuses.Status.{Status}
 use Rattle.audit_report.specs.declared.statuses.Status.TheVariants.{Accepted, Rejected, Usage, Malformed, ReadFault, WriteFault, TooLong, Memory}
 use Rattle.audit_report.specs.Lines.{auditor_usage_line, read_fault_line, too_long_line}
 use Rattle.log_source.specs.Sinks.{SinkState, AppendsPart, HasFailureCause}
-use Rattle.log_source.specs.Sources.{Rose}
+use Rattle.log_source.specs.Sources.{RoseOrIsFull}
 use Rattle.command_words.specs.declared.requests.Request.{Request}
 use Rattle.audit_run.specs.Requests.{next_log, IsAnswerTo}
 use Rattle.log_verdict.specs.Steps.{Reading, LogStep, IsRead, IsReadFault, IsTooLong, StepsLead, BeginsWithin, EndsWithin}
@@ -37,8 +37,8 @@ HoldsNeededLogs r request earlier (bytes ∷ logs) =
 pub record NothingFails (r : Reading) (old new : SinkState) : Type 0 where
   pub shelf_tells : r.tells ≡ true
   pub sink_tells : IsSome old.wrote
-  pub no_fault_of_shelf : (log : Which) → ¬ Rose (r.before log).faults (r.after log).faults
-  pub no_fault_of_sink : ¬ Rose old.faults new.faults
+  pub no_fault_of_shelf : (log : Which) → ¬ RoseOrIsFull (r.before log).faults (r.after log).faults
+  pub no_fault_of_sink : ¬ RoseOrIsFull old.faults new.faults
 
 -- All is there for an answer on these logs: the shelf holds them, they are all that the command
 -- needs, and nothing fails.

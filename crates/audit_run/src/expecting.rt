@@ -95,7 +95,7 @@ fn expected_log(
     requires regular { Regular orders.now }
     requires numbers { OrdersInRange orders.now }
     requires keys { HaveOwnKeys orders.now }
-    requires admits { spec.instant_order_finding rule orders.now ≡ None }
+    requires admits { spec.instant_finding_of_rule rule orders.now ≡ None }
     ensures { IfOk result (λ text. IsLogOfOrders rule symbol.now orders.now text.items) }
 {
     // Laws that the answer rests on. They compute nothing.

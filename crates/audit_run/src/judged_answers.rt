@@ -5,8 +5,8 @@ ghost use Rattle.audit_run.specs.Certificates.{IsVerdictAnswerWith};
 ghost use Rattle.audit_run.specs.Deciding.{IsAnswerOfKind};
 ghost use Rattle.audit_run.specs.JudgedAnswers.{IsCertifyAnswerOn, IsDealsCertificate};
 ghost use Rattle.audit_report.specs.Texts.{IsVerdictInRange};
-ghost use Rattle.record_verdict.specs.Stages.{IsJudgedDeals};
-ghost use Rattle.record_verdict.specs.BeforeRule.{AreJudgeable, IsJudgeable};
+ghost use Rattle.record_verdict.specs.Stages.{VerdictFollowsDeals};
+ghost use Rattle.record_verdict.specs.BeforeRule.{AreResolvedTradesInRange, IsJudgeable};
 
 use super::answers::{Answer, done_answer, verdict_answer};
 use audit_base::faults::NoMemory;
@@ -26,9 +26,9 @@ fn certified_answer(
     verdict: &Verdict,
 ) -> Result<Answer, NoMemory>
     requires rule { IsTrue (asks_for_greatest question.now.rule) }
-    requires judgeable { AreJudgeable resolved.now }
+    requires judgeable { AreResolvedTradesInRange resolved.now }
     requires judged { let sound = resolved.now in
-        IsJudgedDeals question.now sound.history sound.deals.items sound.count verdict.now }
+        VerdictFollowsDeals question.now sound.history sound.deals.items sound.count verdict.now }
     requires in_range { IsVerdictInRange verdict.now }
     ensures { IfOk result (IsAnswerOfKind
         (IsVerdictAnswerWith (IsDealsCertificate question.now resolved.now) verdict.now)) }

@@ -8,7 +8,7 @@ ghost use Rattle.audit_run.specs.Deciding.{request_to_judge_day, DecidesAnswer, 
 ghost use Rattle.audit_run.specs.JudgedAnswers.{IsSessionAnswerOn};
 ghost use Rattle.audit_run.specs.Sessions.{AreOnlyOfDay, JudgesDayDeals};
 ghost use Rattle.log_verdict.specs.Steps.{reading_by, KeepsShelfLogs, FaultsNeverFall};
-ghost use Rattle.record_verdict.specs.BeforeRule.{AreJudgeable, IsJudgeable};
+ghost use Rattle.record_verdict.specs.BeforeRule.{AreResolvedTradesInRange, IsJudgeable};
 ghost use Rattle.session_audit.specs.Days.{ConformsDay};
 ghost use Rattle.session_audit.specs.Phases.{ArePhases};
 
@@ -51,7 +51,7 @@ fn answer_day(
     resolved: &ResolvedTrades,
 ) -> Result<Answer, NoMemory>
     requires phases { ArePhases phases.now }
-    requires judgeable { AreJudgeable resolved.now }
+    requires judgeable { AreResolvedTradesInRange resolved.now }
     ensures { IfOk result (IsAnswerOfKind (JudgesDayDeals symbol.now phases.now table
         resolved.now.history resolved.now.deals.items resolved.now.count)) }
 {

@@ -12,7 +12,7 @@ ghost use Rattle.audit_run.specs.OneLog.{DecidesBytes};
 ghost use Rattle.audit_run.specs.VerdictAnswers.{IsAnswerWith};
 ghost use Rattle.log_verdict.specs.Collecting.{TouchesOnly};
 ghost use Rattle.log_verdict.specs.Steps.{reading_by, reading_within, KeepsShelfLogs, FaultsNeverFall};
-ghost use Rattle.record_verdict.specs.BeforeRule.{AreJudgeable, IsJudgeable};
+ghost use Rattle.record_verdict.specs.BeforeRule.{AreResolvedTradesInRange, IsJudgeable};
 
 use super::answers::{Answer, done_answer, finding_answer, malformed_answer, unread_answer};
 use audit_base::faults::NoMemory;
@@ -68,7 +68,7 @@ fn answer_sound(
     resolved: &ResolvedTrades,
     certificate: &[u8],
 ) -> Result<Answer, NoMemory>
-    requires judgeable { AreJudgeable resolved.now }
+    requires judgeable { AreResolvedTradesInRange resolved.now }
     requires small { length certificate.now ≤ longest_log }
     ensures { IfOk result (IsAnswerOfKind (VerifiesDeals symbol.now resolved.now.history
         resolved.now.deals.items certificate.now)) }

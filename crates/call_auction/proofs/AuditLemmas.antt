@@ -25,7 +25,7 @@ use Rattle.call_laws.proofs.VolumeLemmas.{reached, due_order, below, early-offen
 use Rattle.matching_core.specs.declared.outcomes.Outcome.{Outcome}
 use Rattle.matching_core.specs.declared.outcomes.Outcome.TheVariants as outcome
 use Rattle.call_auction.specs.FairMatchings.{IsFairMatching, IsFairMatchingOffence}
-use Rattle.call_auction.specs.Audits.{IsGreatestOf, IsOffendingCall, IsAuditedCall}
+use Rattle.call_auction.specs.Audits.{IsGreatestOf, IsBrokenCall, IsCallOutcome}
 use Rattle.call_auction.specs.Dues.{order_with_due}
 use Rattle.call_auction.specs.Outcomes.{best_short_with_due, IsBestShortWithDue, IsVolumeFinding, IsVolumeOutcome}
 
@@ -41,12 +41,12 @@ module _ (orders : List Order) (known : List ℕ × ℕ) (count most : ℕ) wher
       is ∙ (λ j. finding_of orders (record { place = count + 1; evidence = Volume (record { reached = v_is j; greatest = most }) (first j) (second j) }))
 
 -- a first offence, which no deals that conform have
-broken : (r : VolumeRule) (orders : List Order) (deals : List Deal) (count : ℕ) (finding : Finding) → DealsInRange deals → IsCallOffence (call.Greatest r) orders deals count finding → IsOffendingCall r orders deals count finding
+broken : (r : VolumeRule) (orders : List Order) (deals : List Deal) (count : ℕ) (finding : Finding) → DealsInRange deals → IsCallOffence (call.Greatest r) orders deals count finding → IsBrokenCall r orders deals count finding
 broken r orders deals count finding ranges offence = record { offence = offence; fails = call_offence-fails (call.Greatest r) orders deals count finding ranges offence }
 
 -- a finding before the volume is the first offence
 pub broken_early : (r : VolumeRule) (orders : List Order) (deals : List Deal) (count : ℕ) (finding : Finding) → DealsInRange deals
-    → IsFairMatchingOffence (asks_one_price r) orders deals finding → IsOffendingCall r orders deals count finding
+    → IsFairMatchingOffence (asks_one_price r) orders deals finding → IsBrokenCall r orders deals count finding
 broken_early r orders deals count finding ranges some = broken r orders deals count finding ranges (early-offence (call.Greatest r) orders deals count finding some)
 
 -- the best short order of a side, with its due of the greatest volume
@@ -59,7 +59,7 @@ short-due orders deals totals side most v i are same e =
 
 -- what is said of the volume of a fair matching is the answer of the audit
 pub audited : (r : VolumeRule) (orders : List Order) (deals : List Deal) (count : ℕ) (most : Cut) (known : List ℕ × ℕ) (result : Outcome) → IsOrderList orders → All (NamesOrders orders) deals → DealsInRange deals
-    → IsGreatestOf r orders most → IsFairMatching (asks_one_price r) orders deals known → IsVolumeOutcome orders known count most result → IsAuditedCall r orders deals count result
+    → IsGreatestOf r orders most → IsFairMatching (asks_one_price r) orders deals known → IsVolumeOutcome orders known count most result → IsCallOutcome r orders deals count result
 audited r orders deals count most known (outcome.Broken finding) list named ranges g f (lt, is) =
     let less : volume deals < volume g.some = subst (λ v. v < volume g.some) f.volume_is (subst (λ v. known.1 < v) (sym g.reached) lt) in
     let n = (conforms-fair r orders g.some g.conforms).0 in

@@ -42,7 +42,7 @@ pub record IsConformingCall (the_rule : VolumeRule) (orders : List Order) (deals
       → Only (rule_of_volume the_rule) orders i (traded deals i)
 
 -- the deals don't conform, and this is the first offence
-pub record IsOffendingCall (the_rule : VolumeRule) (orders : List Order) (deals : List Deal)
+pub record IsBrokenCall (the_rule : VolumeRule) (orders : List Order) (deals : List Deal)
     (count : ℕ)
     (finding : Finding) : Type 0 where
   pub offence : IsCallOffence (call.Greatest the_rule) orders deals count finding
@@ -50,8 +50,8 @@ pub record IsOffendingCall (the_rule : VolumeRule) (orders : List Order) (deals 
 
 -- what an audit answers: that the deals conform, or their first offence. `count` is the number of
 -- trades of the whole log
-abbrev pub IsAuditedCall : VolumeRule → List Order → List Deal → ℕ → Outcome → Type 0
-IsAuditedCall the_rule orders deals count (outcome.Conforms reached) =
+abbrev pub IsCallOutcome : VolumeRule → List Order → List Deal → ℕ → Outcome → Type 0
+IsCallOutcome the_rule orders deals count (outcome.Conforms reached) =
     IsConformingCall the_rule orders deals reached
-IsAuditedCall the_rule orders deals count (outcome.Broken finding) =
-    IsOffendingCall the_rule orders deals count finding
+IsCallOutcome the_rule orders deals count (outcome.Broken finding) =
+    IsBrokenCall the_rule orders deals count finding

@@ -27,7 +27,7 @@ IsBestShortWithDue orders traded most side short =
     (deals : List Deal) → AreTotals orders deals traded
     → short ≡ best_short_with_due orders deals traded most side
 
--- whichever deals the totals are of: the finding of a volume below the greatest, behind the last
+-- whichever deals the totals are of: the finding of a volume below the greatest, after the last
 -- trade, with the best short order of each side
 abbrev pub IsVolumeFinding : List Order → List ℕ × ℕ → ℕ → ℕ → Finding → Type 0
 IsVolumeFinding orders totals count most finding =

@@ -3,7 +3,7 @@
 ghost use Rattle.std.specs.Prelude.{◌≡◌, ◌<◌, ◌-◌, ◌^◌, IfOk, IfSome, length};
 ghost use Rattle.audit_base.specs.Orders.{IsOrderList};
 ghost use Rattle.audit_base.specs.Deals.{IsDealList};
-ghost use Rattle.call_auction.specs.Audits.{IsGreatestOf, IsAuditedCall};
+ghost use Rattle.call_auction.specs.Audits.{IsGreatestOf, IsCallOutcome};
 ghost use Rattle.call_auction.specs.Outcomes.{IsBestShortWithDue, IsVolumeFinding, IsVolumeOutcome};
 
 use super::dues::due_of;
@@ -93,7 +93,7 @@ pub fn audit_call(
     requires deal_list { IsDealList orders.now deals.now }
     requires count { count < 2 ^ 32 - 1 }
     requires most { IsGreatestOf rule orders.now most }
-    ensures { IfOk result (IsAuditedCall rule orders.now deals.now count) }
+    ensures { IfOk result (IsCallOutcome rule orders.now deals.now count) }
 {
     match fair_matching(alloc, orders, deals, rule.asks_one_price()) {
         Ok(totals) => Ok(outcome_of(orders, totals, count, most)),

@@ -13,7 +13,7 @@ use Rattle.audit_base.specs.Orders.{IsOrderList, OrdersInRange}
 use Rattle.audit_base.specs.Deals.{NamesOrders, traded, volume}
 use Rattle.audit_base.specs.CallOffences.{matching_offence, fair_offence, offence_before_volume}
 use Rattle.audit_base.specs.Flaws.{finding_of}
-use Rattle.audit_base.specs.Verdicts.{IsRuleVerdict}
+use Rattle.audit_base.specs.Verdicts.{IsRuleFinding}
 use Rattle.audit_base.proofs.LeastLemmas.{cases_Option, option_or-parts}
 use Rattle.audit_base.proofs.OffenceLemmas.{no_offence-matching, no_offence-fair}
 use Rattle.call_laws.specs.Existence.{CallConformingListExists, ExpectedTradesExist, DuesExist, CallVerdictExists}
@@ -52,7 +52,7 @@ dues-exist the_rule orders list ranges i =
 
 -- where nothing is found before the volume, the deals conform or their volume is the first offence
 late_verdict : (r : CallRule) (orders : List Order) (deals : List Deal) (count : ℕ) → offence_before_volume r orders deals ≡ None → IsOrderList orders → OrdersInRange orders → All (NamesOrders orders) deals
-    → (v : Option Finding) × IsRuleVerdict (rule_of_call r) orders deals count v
+    → (v : Option Finding) × IsRuleFinding (rule_of_call r) orders deals count v
 late_verdict call.Matching orders deals count none list ranges named = (None, no_offence-matching false orders deals named none)
 late_verdict call.Fair orders deals count none list ranges named =
     let parts = option_or-parts (matching_offence false orders deals) (fair_offence orders deals) none in

@@ -13,7 +13,7 @@ use Rattle.audit_base.specs.Deals.{NamesOrders, DealsInRange}
 use Rattle.audit_base.specs.Bounds.{IsLeastCut, IsGreatestExecutableVolume}
 use Rattle.audit_base.specs.Rules.{Conforms, Only}
 use Rattle.audit_base.specs.Expected.{IsExpected}
-use Rattle.audit_base.specs.Verdicts.{IsRuleVerdict}
+use Rattle.audit_base.specs.Verdicts.{IsRuleFinding}
 
 -- each order list has a least cut over all prices
 abbrev pub LeastCutExists : Type 0
@@ -47,4 +47,4 @@ abbrev pub CallVerdictExists : Type 0
 CallVerdictExists = (the_rule : CallRule) (orders : List Order) (deals : List Deal) (count : ℕ)
     → IsOrderList orders → OrdersInRange orders → All (NamesOrders orders) deals
     → DealsInRange deals
-    → (verdict : Option Finding) × IsRuleVerdict (rule_of_call the_rule) orders deals count verdict
+    → (verdict : Option Finding) × IsRuleFinding (rule_of_call the_rule) orders deals count verdict

@@ -18,7 +18,7 @@ use Rattle.audit_base.specs.declared.orders.Order.{Order}
 use Rattle.audit_base.specs.declared.orders.Deal.{Deal}
 use Rattle.audit_base.specs.Orders.{order_at, side_at, same_name, same_side, same_key, order_on_side_with_key, order_past_end, HaveOwnKeys}
 use Rattle.audit_base.specs.Deals.{deal_at, deal_past_end, DealsInRange, IsDealList}
-use Rattle.audit_base.specs.Trades.{trades_of_symbol, trade_past_end, trade_at, TradeInRange, TradesInRange, duplicate_trade, unknown_order, unsound_trade, SoundTrades, deal_of_trade, deals_of_symbol}
+use Rattle.audit_base.specs.Trades.{trades_of_symbol, trade_past_end, trade_at, TradeInRange, TradesInRange, duplicate_trade_finding, unknown_order_finding, trades_finding, SoundTrades, deal_of_trade, deals_of_symbol}
 use Rattle.audit_base.specs.declared.terms.Rule.TheVariants as rule
 use Rattle.audit_base.specs.Expected.{pair_deals, trade_of_deal, trades_of_deals}
 use Rattle.audit_base.proofs.PairDealLemmas.{pair_deals-are}
@@ -101,8 +101,8 @@ module _ (orders : List Order) (symbol : List ℕ) (deals : List Deal) where
         found-own orders own Sell (deal_at deals k).ask _ n.ask_inside n.sells (ap (λ (e : ℕ × TradeRecord). e.1.sell) (listed-is k e lt))
 
     -- no trade fails
-    sound-listed : (l : List (ℕ × TradeRecord)) → l ≡ listed → (k : ℕ) → k < length l → option_or (duplicate_trade l k) (unknown_order orders l k) ≡ None
-    unfolding duplicate_trade unknown_order
+    sound-listed : (l : List (ℕ × TradeRecord)) → l ≡ listed → (k : ℕ) → k < length l → option_or (duplicate_trade_finding l k) (unknown_order_finding orders l k) ≡ None
+    unfolding duplicate_trade_finding unknown_order_finding
     sound-listed l is k lt =
         let inside : k < length deals = rw (← listed-length) (rw (← is) lt) in
         let none = with-none (λ j. same_name (trade_at l j).trade (trade_at l k).trade) k (λ j below. rw is (ids-differ j k below inside)) in
@@ -111,8 +111,8 @@ module _ (orders : List Order) (symbol : List ℕ) (deals : List Deal) where
         rw (none, bid, ask) refl
 
     pub trades-sound : SoundTrades orders symbol trades
-    unfolding unsound_trade
-    trades-sound = least-none (λ k. option_or (duplicate_trade (trades_of_symbol symbol trades) k) (unknown_order orders (trades_of_symbol symbol trades) k)) (length (trades_of_symbol symbol trades))
+    unfolding trades_finding
+    trades-sound = least-none (λ k. option_or (duplicate_trade_finding (trades_of_symbol symbol trades) k) (unknown_order_finding orders (trades_of_symbol symbol trades) k)) (length (trades_of_symbol symbol trades))
         (λ k lt. sound-listed (trades_of_symbol symbol trades) all-listed k lt)
 
     deal-same : (d : Deal) (p b a : ℕ) → p ≡ d.place → b ≡ d.bid → a ≡ d.ask → ◌≡◌ {A = Deal} (record { place = p; bid = b; ask = a; quantity = d.quantity; price = d.price }) d

@@ -8,8 +8,8 @@ use Rattle.case_keeper.specs.declared.casebook.Filed.{Filed}
 use Rattle.case_keeper.specs.declared.casebook.Filed.TheVariants.{Kept, Known}
 use Rattle.case_keeper.specs.declared.keeper.KeepFault.{KeepFault}
 
--- what filing a case over these cases answers: the case that is kept under its label, or that
--- it is now kept itself
+-- what filing a case over these cases answers: the case that was there under its label, or that
+-- there was none, so that the case itself is kept now
 abbrev pub filing : List Case → Case → Filed
 filing cases case = option_map_or Known (kept_case cases case.label) Kept
 

@@ -27,11 +27,11 @@ abbrev pub mark_of : Case → Mark
 mark_of case = option_map_or (λ offence. Broken offence.property) case.offence Accepted
 
 -- two audits ended alike: both accepted, or with one property broken
-abbrev pub same_property_broken : Mark → Mark → Bool
-same_property_broken Accepted Accepted = true
-same_property_broken Accepted (Broken _) = false
-same_property_broken (Broken _) Accepted = false
-same_property_broken (Broken p) (Broken q) = bytes_eq (property_word p) (property_word q)
+abbrev pub same_result : Mark → Mark → Bool
+same_result Accepted Accepted = true
+same_result Accepted (Broken _) = false
+same_result (Broken _) Accepted = false
+same_result (Broken p) (Broken q) = bytes_eq (property_word p) (property_word q)
 
 -- the case has the symbol that the filter names, if it names one
 abbrev pub passes_symbol : Filter → Case → Bool
@@ -39,7 +39,7 @@ passes_symbol wanted case = option_map_or (same_name case.symbol) wanted.symbol 
 
 -- the case has the mark that the filter names, if it names one
 abbrev pub passes_mark : Filter → Case → Bool
-passes_mark wanted case = option_map_or (same_property_broken (mark_of case)) wanted.mark true
+passes_mark wanted case = option_map_or (same_result (mark_of case)) wanted.mark true
 
 -- the filter lets the case through
 abbrev pub passes_filter : Filter → Case → Bool

@@ -1,7 +1,7 @@
 -- What a keeper holds before and after a find, an addition and a list.
 use Rattle.std.specs.Prelude.{◌≡◌, ℕ, ◌≤◌, List, [], ◌∷◌, ◌++◌, Option, None, IfSome, Result, IfOk, OnOk, OnErr, IsErrOf, All, IsTrue}
 use Rattle.std.specs.Option.{option_map}
-use Rattle.log_source.specs.Sources.{Rose}
+use Rattle.log_source.specs.Sources.{RoseOrIsFull}
 use Rattle.case_keeper.specs.Cases.{LabelsDiffer, kept_case, passes_filter, passing_cases}
 use Rattle.case_keeper.specs.declared.case.Case.{Case}
 use Rattle.case_keeper.specs.declared.case.Filter.{Filter}
@@ -27,7 +27,7 @@ LacksLabel state label = IfSome state.cases (λ cases. kept_case cases label ≡
 pub record CountsKeeperFaults {T : Type 0} (old new : KeeperState) (result : Result T KeepFault)
     : Type 0 where
   pub later : old.faults ≤ new.faults
-  pub cause : IsErrOf result fault.Failed → Rose old.faults new.faults
+  pub cause : IsErrOf result fault.Failed → RoseOrIsFull old.faults new.faults
   pub stays : OnErr result (new.cases ≡ old.cases)
 
 -- What finding a label does: a case that is given has it, and is the one kept under it where

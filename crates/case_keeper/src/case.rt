@@ -39,11 +39,11 @@ pub struct Filter {
 }
 
 impl Mark {
-    ghost use Rattle.case_keeper.specs.Cases.{same_property_broken};
+    ghost use Rattle.case_keeper.specs.Cases.{same_result};
 
     /// Whether two audits ended alike: both accepted, or with one property broken.
     fn is_same(self, other: Mark) -> bool
-        ensures { result ≡ same_property_broken self other }
+        ensures { result ≡ same_result self other }
     {
         match (self, other) {
             (Mark::Accepted, Mark::Accepted) => true,

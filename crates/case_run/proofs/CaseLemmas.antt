@@ -7,7 +7,7 @@ use Rattle.log_verdict.specs.Steps.{reading}
 use Rattle.case_keeper.specs.Keepers.{KeeperState}
 use Rattle.log_source.specs.declared.shelf.Shelf.{Ghosts as Shelf}
 use Rattle.log_source.specs.Sinks.{SinkState, SinkStays}
-use Rattle.log_source.specs.Sources.{Rose}
+use Rattle.log_source.specs.Sources.{RoseOrIsFull}
 use Rattle.case_run.specs.Commands.{all_or_none, command_of, commands_of, is_then, with_next}
 use Rattle.case_run.specs.Lines.{casebook_usage_line}
 use Rattle.case_run.specs.Runs.{AnswersWhereReady, EndsWithinOrTooLong, IsCaseRun, RunsAsked, RunsCommands, known_logs, run_state}
@@ -75,7 +75,7 @@ module _ {S : Type 0} (shelf : Shelf S) (asked : Option (List Command)) where
         logs = record { tells = refl; logs = λ log name. refl };
       }
     where
-      told : (Rose sink_old.faults sink_new.faults → ⊥) → WritesOrFails sink_old sink_new status.Usage casebook_usage_line answer → (answer ≡ status.Usage) ⊎ (answer ≡ status.Memory)
+      told : (RoseOrIsFull sink_old.faults sink_new.faults → ⊥) → WritesOrFails sink_old sink_new status.Usage casebook_usage_line answer → (answer ≡ status.Usage) ⊎ (answer ≡ status.Memory)
       told quiet (inl all) = inl all.answer_is
       told quiet (inr front) = absurd (quiet front.cause.rose)
 

@@ -7,9 +7,9 @@ use Rattle.audit_base.specs.declared.terms.Which.{Which}
 use Rattle.audit_base.specs.declared.terms.Which.TheVariants.{Orders, Trades}
 use Rattle.audit_report.specs.declared.verdicts.Verdict.{Verdict}
 use Rattle.audit_report.specs.declared.verdicts.Verdict.TheVariants as verdict
-use Rattle.record_verdict.specs.Judgements.{question, IsJudged}
+use Rattle.record_verdict.specs.Judgements.{question, IsRecordVerdict}
 use Rattle.log_verdict.specs.Laws.{OneVerdict}
-use Rattle.log_verdict.specs.LogVerdicts.{order_log, trade_log, log_in, IsLogVerdict}
+use Rattle.log_verdict.specs.LogVerdicts.{records_of_order_log, trades_of_trade_log, log_in, IsLogVerdict}
 use Rattle.case_keeper.specs.declared.case.Case.{Case}
 use Rattle.case_run.specs.Laws.{OnePlay}
 use Rattle.case_run.specs.Play.{AreTurns, IsTurn, IsVerdictOn, PlayTurn, play_result, verdict_turn}
@@ -25,14 +25,14 @@ one_log found a b x y = cc
 module _ (one_verdict : OneVerdict) (logs : Which → List ℕ → Option (List ℕ)) where
   module _ (wanted : Filing) where
     -- the verdict on an order log that is not in its grammar does not look at the trade log
-    by_other_trades : (orders : List ℕ) (trades others : List ℕ) (v : Verdict) → (IsOk (order_log wanted.form orders) → others ≡ trades)
+    by_other_trades : (orders : List ℕ) (trades others : List ℕ) (v : Verdict) → (IsOk (records_of_order_log wanted.form orders) → others ≡ trades)
         → IsLogVerdict (question wanted.rule wanted.symbol false) (log_in wanted.form orders) (log_in wanted.form others) v
         → IsLogVerdict (question wanted.rule wanted.symbol false) (log_in wanted.form orders) (log_in wanted.form trades) v
-    by_other_trades orders trades others v same is = by_said (order_log wanted.form orders) (λ ok. same ok) is
+    by_other_trades orders trades others v same is = by_said (records_of_order_log wanted.form orders) (λ ok. same ok) is
       where
         of_trades : List ℕ → List OrderRecord → Type 0
-        of_trades bytes entries = MatchResult (trade_log wanted.form bytes)
-            (λ paired. IsJudged (question wanted.rule wanted.symbol false) entries paired v) (λ bad. v ≡ verdict.Malformed Trades bad)
+        of_trades bytes entries = MatchResult (trades_of_trade_log wanted.form bytes)
+            (λ paired. IsRecordVerdict (question wanted.rule wanted.symbol false) entries paired v) (λ bad. v ≡ verdict.Malformed Trades bad)
 
         by_said : (said : Result (List OrderRecord) BadPlace) → (IsOk said → others ≡ trades)
             → MatchResult said (of_trades others) (λ bad. v ≡ verdict.Malformed Orders bad)
@@ -45,9 +45,9 @@ module _ (one_verdict : OneVerdict) (logs : Which → List ℕ → Option (List 
         let same_orders : y.orders ≡ x.orders = one_log (logs Orders wanted.orders) y.orders x.orders y.has_orders x.has_orders in
         let there : IsLogVerdict (question wanted.rule wanted.symbol false) (log_in wanted.form x.orders) (log_in wanted.form y.trades) b =
         subst (λ (o : List ℕ). IsLogVerdict (question wanted.rule wanted.symbol false) (log_in wanted.form o) (log_in wanted.form y.trades) b) same_orders y.is in
-        let has_trades : IsOk (order_log wanted.form x.orders) → y.trades ≡ x.trades =
+        let has_trades : IsOk (records_of_order_log wanted.form x.orders) → y.trades ≡ x.trades =
         λ ok. one_log (logs Trades wanted.trades) y.trades x.trades
-        (y.has_trades (subst (λ (o : List ℕ). IsOk (order_log wanted.form o)) (sym same_orders) ok)) (x.has_trades ok) in
+        (y.has_trades (subst (λ (o : List ℕ). IsOk (records_of_order_log wanted.form o)) (sym same_orders) ok)) (x.has_trades ok) in
         one_verdict _ _ _ a b x.is (by_other_trades x.orders x.trades y.trades b has_trades there)
 
   one_turn : (cases : List Case) (c : Command) (a b : PlayTurn) → IsTurn logs cases c a → IsTurn logs cases c b → a ≡ b

@@ -11,8 +11,8 @@ use Rattle.audit_base.specs.declared.terms.Which.{Which}
 use Rattle.audit_base.specs.declared.terms.Which.TheVariants.{Orders, Trades}
 use Rattle.audit_report.specs.declared.verdicts.Verdict.{Verdict}
 use Rattle.audit_report.specs.declared.verdicts.Verdict.TheVariants as verdict
-use Rattle.record_verdict.specs.Judgements.{question, IsJudged}
-use Rattle.log_verdict.specs.LogVerdicts.{order_log, trade_log}
+use Rattle.record_verdict.specs.Judgements.{question, IsRecordVerdict}
+use Rattle.log_verdict.specs.LogVerdicts.{records_of_order_log, trades_of_trade_log}
 use Rattle.case_keeper.specs.declared.case.Case.{Case}
 use Rattle.case_run.specs.Play.{AreTurns, IsTurn, IsVerdictOn, PlayTurn, cases_after, last_status, verdict_turn}
 use Rattle.case_run.specs.Runs.{HasFilingLogs, HasLogWithin, HasPlayLogs, WhereGood}
@@ -60,29 +60,29 @@ module _ (known : KnownLogs) where
 -- the logs of a filing whose verdict is no bad place are there, and so is what comes after them
 module _ (logs : Which → List ℕ → Option (List ℕ)) where
   held_next : (wanted : Filing) (next : Type 0) (v : Verdict) → IsVerdictOn logs wanted v → ((log : Which) (bad : BadPlace) → v ≡ verdict.Malformed log bad → ⊥) → HasFilingLogs logs wanted next → next
-  held_next wanted next v on sound held = by_orders (order_log wanted.form on.orders) refl on.is first.1
+  held_next wanted next v on sound held = by_orders (records_of_order_log wanted.form on.orders) refl on.is first.1
     where
       after_trades : List ℕ → Type 0
-      after_trades trades = WhereGood (trade_log wanted.form trades) next
+      after_trades trades = WhereGood (trades_of_trade_log wanted.form trades) next
 
       after_orders : List ℕ → Type 0
-      after_orders orders = WhereGood (order_log wanted.form orders) (HasLogWithin (logs Trades wanted.trades) after_trades)
+      after_orders orders = WhereGood (records_of_order_log wanted.form orders) (HasLogWithin (logs Trades wanted.trades) after_trades)
 
       first : HasLogWithin (Some on.orders) after_orders
       first = subst (λ (o : Option (List ℕ)). HasLogWithin o after_orders) on.has_orders held
 
       of_trades : List OrderRecord → Result (Result (List TradeRecord) Finding) BadPlace → Type 0
-      of_trades entries said = MatchResult said (λ paired. IsJudged (question wanted.rule wanted.symbol false) entries paired v) (λ bad. v ≡ verdict.Malformed Trades bad)
+      of_trades entries said = MatchResult said (λ paired. IsRecordVerdict (question wanted.rule wanted.symbol false) entries paired v) (λ bad. v ≡ verdict.Malformed Trades bad)
 
       by_trades : (entries : List OrderRecord) (said : Result (Result (List TradeRecord) Finding) BadPlace) → of_trades entries said → WhereGood said next → next
       by_trades entries (Ok paired) is there = there
       by_trades entries (Err bad) is there = absurd (sound Trades bad is)
 
-      by_orders : (said : Result (List OrderRecord) BadPlace) → order_log wanted.form on.orders ≡ said → MatchResult said (λ entries. of_trades entries (trade_log wanted.form on.trades)) (λ bad. v ≡ verdict.Malformed Orders bad)
+      by_orders : (said : Result (List OrderRecord) BadPlace) → records_of_order_log wanted.form on.orders ≡ said → MatchResult said (λ entries. of_trades entries (trades_of_trade_log wanted.form on.trades)) (λ bad. v ≡ verdict.Malformed Orders bad)
           → WhereGood said (HasLogWithin (logs Trades wanted.trades) after_trades) → next
       by_orders (Ok entries) says is there =
           let second : HasLogWithin (Some on.trades) after_trades = subst (λ (o : Option (List ℕ)). HasLogWithin o after_trades) (on.has_trades (rw says refl)) there in
-          by_trades entries (trade_log wanted.form on.trades) is second.1
+          by_trades entries (trades_of_trade_log wanted.form on.trades) is second.1
       by_orders (Err bad) says is there = absurd (sound Orders bad is)
 
   sound_verdict : (cases : List Case) (wanted : Filing) (v : Verdict) → ((verdict_turn cases wanted v).status ≡ status.Malformed → ⊥) → (log : Which) (bad : BadPlace) → v ≡ verdict.Malformed log bad → ⊥

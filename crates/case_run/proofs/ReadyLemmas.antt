@@ -6,12 +6,12 @@ use Rattle.audit_base.specs.declared.faults.BadPlace.{BadPlace}
 use Rattle.audit_base.specs.declared.records.OrderRecord.{OrderRecord}
 use Rattle.audit_base.specs.declared.terms.Which.{Which}
 use Rattle.audit_base.specs.declared.terms.Which.TheVariants.{Orders, Trades}
-use Rattle.log_verdict.specs.LogVerdicts.{order_log, trade_log}
+use Rattle.log_verdict.specs.LogVerdicts.{records_of_order_log, trades_of_trade_log}
 use Rattle.log_verdict.specs.Steps.{Reading, IsReadFault, IsTooLong}
 use Rattle.case_keeper.specs.Keepers.{KeeperState}
 use Rattle.case_keeper.specs.declared.case.Case.{Case}
-use Rattle.log_source.specs.Sources.{Rose, longest_log}
-use Rattle.case_run.specs.Causes.{IsFilingLogStarted, IsHaltCause, OfFilingLog, filing_log_name, halt_status}
+use Rattle.log_source.specs.Sources.{RoseOrIsFull, longest_log}
+use Rattle.case_run.specs.Causes.{IsFilingLogInTurn, IsHaltCause, OfFilingLog, filing_log_name, halt_status}
 use Rattle.case_run.specs.Runs.{AnswersPlay, HasFilingLogs, HasLogWithin, HasPlayLogs, IsPlayStatus, IsReadyToPlay, RunsCommands, WhereGood}
 use Rattle.case_run.specs.Statuses.{ends_run}
 use Rattle.case_run.specs.Traces.{AllDone, AreDone, BadLog, EndCause, EndedBy, Ending, IsLastTurn, Halted, IsRunEnding, KnownLogs, RunState, RunTurn, WriteFailed, end_status, ending_state, ending_status, reading_between, state_after, status_after, turn_commands}
@@ -44,36 +44,36 @@ held_within limit few log has long =
     let within = has.within in
     omega (arith, few, longer, within)
 
-module _ (r : Reading) (few : r.limit ≡ longest_log) (tells : r.tells ≡ true) (quiet : (log : Which) → ¬ Rose (r.before log).faults (r.after log).faults) (wanted : Filing) (next : Type 0) (held : HasFilingLogs r.log_of wanted next) where
+module _ (r : Reading) (few : r.limit ≡ longest_log) (tells : r.tells ≡ true) (quiet : (log : Which) → ¬ RoseOrIsFull (r.before log).faults (r.after log).faults) (wanted : Filing) (next : Type 0) (held : HasFilingLogs r.log_of wanted next) where
   -- a log that was started is held
-  started_held : (log : Which) → IsFilingLogStarted r wanted log → HasLog (r.log_of log (filing_log_name wanted log))
+  started_held : (log : Which) → IsFilingLogInTurn r wanted log → HasLog (r.log_of log (filing_log_name wanted log))
   started_held Orders started = has_log (r.log_of Orders wanted.orders) _ held
   started_held Trades started =
-      let there = subst (λ (o : Option (List ℕ)). HasLogWithin o (λ orders. WhereGood (order_log wanted.form orders) (HasLogWithin (r.log_of Trades wanted.trades) (λ trades. WhereGood (trade_log wanted.form trades) next)))) (started.read.known tells) held in
-      after_good (order_log wanted.form started.bytes) started.holds there.1
+      let there = subst (λ (o : Option (List ℕ)). HasLogWithin o (λ orders. WhereGood (records_of_order_log wanted.form orders) (HasLogWithin (r.log_of Trades wanted.trades) (λ trades. WhereGood (trades_of_trade_log wanted.form trades) next)))) (started.read.known tells) held in
+      after_good (records_of_order_log wanted.form started.bytes) started.holds there.1
     where
-      after_good : (said : Result (List OrderRecord) BadPlace) → IsOk said → WhereGood said (HasLogWithin (r.log_of Trades wanted.trades) (λ trades. WhereGood (trade_log wanted.form trades) next)) → HasLog (r.log_of Trades wanted.trades)
+      after_good : (said : Result (List OrderRecord) BadPlace) → IsOk said → WhereGood said (HasLogWithin (r.log_of Trades wanted.trades) (λ trades. WhereGood (trades_of_trade_log wanted.form trades) next)) → HasLog (r.log_of Trades wanted.trades)
       after_good (Ok entries) good there = has_log (r.log_of Trades wanted.trades) _ there
       after_good (Err bad) good there = absurd (cc)
 
   no_fault : (log : Which) → OfFilingLog IsReadFault r wanted log → ⊥
   no_fault log is = by_cause is.holds.cause
     where
-      by_cause : Rose (r.before log).faults (r.after log).faults ⊎ ((r.tells ≡ true) × (r.log_of log (filing_log_name wanted log) ≡ None)) → ⊥
+      by_cause : RoseOrIsFull (r.before log).faults (r.after log).faults ⊎ ((r.tells ≡ true) × (r.log_of log (filing_log_name wanted log) ≡ None)) → ⊥
       by_cause (inl rose) = quiet log rose
-      by_cause (inr (t, none)) = held_there (r.log_of log (filing_log_name wanted log)) (started_held log is.is_started) none
+      by_cause (inr (t, none)) = held_there (r.log_of log (filing_log_name wanted log)) (started_held log is.in_turn) none
 
   no_length : (log : Which) → OfFilingLog IsTooLong r wanted log → ⊥
-  no_length log is = held_within r.limit few (r.log_of log (filing_log_name wanted log)) (started_held log is.is_started) (is.holds.longer tells)
+  no_length log is = held_within r.limit few (r.log_of log (filing_log_name wanted log)) (started_held log is.in_turn) (is.holds.longer tells)
 
 -- No fault was counted of a reading of logs that are known.
 pub record IsQuiet (r : Reading) : Type 0 where
   pub few : r.limit ≡ longest_log
   pub tells : r.tells ≡ true
-  pub quiet : (log : Which) → ¬ Rose (r.before log).faults (r.after log).faults
+  pub quiet : (log : Which) → ¬ RoseOrIsFull (r.before log).faults (r.after log).faults
 
 -- where all is there no cause but out of memory holds
-no_cause : (r : Reading) (old new : KeeperState) → IsQuiet r → ¬ Rose old.faults new.faults → (last : Command) (rest : List Command) (why : Halt)
+no_cause : (r : Reading) (old new : KeeperState) → IsQuiet r → ¬ RoseOrIsFull old.faults new.faults → (last : Command) (rest : List Command) (why : Halt)
     → HasPlayLogs r.log_of (last ∷ rest) → IsHaltCause r old new last why → why ≡ halt.Memory
 no_cause r old new is still (command.File wanted) rest (halt.ReadFault log) held cause =
     absurd (no_fault r is.few is.tells is.quiet wanted (HasPlayLogs r.log_of rest) held log cause)
@@ -86,7 +86,7 @@ no_cause r old new is still (command.Show label) rest (halt.TooLong log) held ca
 no_cause r old new is still last rest halt.KeeperFault held cause = absurd (still cause.1)
 no_cause r old new is still last rest halt.Memory held cause = refl
 
-rose_earlier : (a b c : ℕ) → a ≤ b → Rose b c → Rose a c
+rose_earlier : (a b c : ℕ) → a ≤ b → RoseOrIsFull b c → RoseOrIsFull a c
 rose_earlier a b c le (inl lt) = inl (omega arith)
 rose_earlier a b c le (inr top) = inr top
 
@@ -116,10 +116,10 @@ module _ (known : KnownLogs) (few : known.limit ≡ longest_log) (from : RunStat
       quiet = λ log rose. ready.no_fault.slots log (rose_earlier _ _ _ ((later_turns known from turns done).slots log) rose);
     }
 
-    still_keeper : ¬ Rose (state_after from turns).keeper.faults to.keeper.faults
+    still_keeper : ¬ RoseOrIsFull (state_after from turns).keeper.faults to.keeper.faults
     still_keeper rose = ready.no_fault.keeper (rose_earlier _ _ _ (later_turns known from turns done).keeper rose)
 
-    still_sink : ¬ Rose (state_after from turns).sink.faults to.sink.faults
+    still_sink : ¬ RoseOrIsFull (state_after from turns).sink.faults to.sink.faults
     still_sink rose = ready.no_fault.sink (rose_earlier _ _ _ (later_turns known from turns done).sink rose)
 
   play_or_memory : (turn : RunTurn) (rest : List Command) → commands ≡ turn_commands turns ++ turn.command ∷ rest → IsReadyToPlay known from turn.left commands cases → AreDone known from turns

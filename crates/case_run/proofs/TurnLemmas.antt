@@ -7,7 +7,7 @@ use Rattle.case_run.specs.Causes.{halt_line, halt_status}
 use Rattle.case_run.specs.Play.{IsTurn}
 use Rattle.case_run.specs.Runs.{EndsWithinOrTooLong}
 use Rattle.case_run.specs.Traces.{KnownLogs, RunState, RunTurn, reading_between}
-use Rattle.case_run.specs.Turns.{EndsWithinOrHalts, IsAnswerTo, IsHaltOf, TakesTurn}
+use Rattle.case_run.specs.Turns.{EndsWithinOrHalts, IsAnswerToCommand, IsHaltOf, TakesTurn}
 use Rattle.case_run.specs.Writing.{WritesHaltLine, WritesOrFails}
 use Rattle.case_run.specs.declared.answers.Answer.{Answer}
 use Rattle.case_run.specs.declared.commands.Command.{Command}
@@ -21,7 +21,7 @@ module _ (known : KnownLogs) (from to : RunState) (c : Command) where
   answered_turn answer = record { command = c; status = answer.status; text = answer.text.items; left = to }
 
   -- an answer that was written, whole or in part
-  pub turn_of_answer : (answer : Answer) (result : CaseStatus) → IsAnswerTo (reading_between known from to) from.keeper to.keeper c answer → WritesOrFails from.sink to.sink answer.status answer.text.items result
+  pub turn_of_answer : (answer : Answer) (result : CaseStatus) → IsAnswerToCommand (reading_between known from to) from.keeper to.keeper c answer → WritesOrFails from.sink to.sink answer.status answer.text.items result
       → TakesTurn known from to c result
   turn_of_answer answer result is writes = record {
     turn = answered_turn answer;

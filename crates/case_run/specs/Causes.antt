@@ -5,10 +5,10 @@ use Rattle.audit_base.specs.declared.terms.Which.{Which}
 use Rattle.audit_base.specs.declared.terms.Which.TheVariants.{Orders, Trades}
 use Rattle.audit_report.specs.Lines.{read_fault_line, too_long_line}
 use Rattle.log_verdict.specs.Collecting.{step_of, IsReadAs}
-use Rattle.log_verdict.specs.LogVerdicts.{order_log, trade_log}
+use Rattle.log_verdict.specs.LogVerdicts.{records_of_order_log, trades_of_trade_log}
 use Rattle.log_verdict.specs.Steps.{Reading, LogStep, IsReadFault, IsTooLong}
 use Rattle.case_keeper.specs.Keepers.{KeeperState}
-use Rattle.log_source.specs.Sources.{Rose}
+use Rattle.log_source.specs.Sources.{RoseOrIsFull}
 use Rattle.case_run.specs.Lines.{keeper_fault_line}
 use Rattle.case_run.specs.declared.commands.Command.{Command}
 use Rattle.case_run.specs.declared.commands.Command.TheVariants as command
@@ -25,8 +25,8 @@ filing_log_name wanted Trades = wanted.trades
 
 -- a log of these bytes is not in its grammar
 abbrev pub IsBadLog : Which → Form → List ℕ → Type 0
-IsBadLog Orders form bytes = is_ok (order_log form bytes) ≡ false
-IsBadLog Trades form bytes = is_ok (trade_log form bytes) ≡ false
+IsBadLog Orders form bytes = is_ok (records_of_order_log form bytes) ≡ false
+IsBadLog Trades form bytes = is_ok (trades_of_trade_log form bytes) ≡ false
 
 -- no log was started
 abbrev pub StartsNoLog : Reading → Type 0
@@ -36,8 +36,8 @@ StartsNoLog r = (log : Which) → r.after log ≡ r.before log
 -- `show` name none, and start none
 abbrev pub ReadsGoodLogs : Reading → Command → Type 0
 ReadsGoodLogs r (command.File wanted) =
-    IsReadAs r Orders wanted.orders (λ bytes. IsOk (order_log wanted.form bytes))
-    × IsReadAs r Trades wanted.trades (λ bytes. IsOk (trade_log wanted.form bytes))
+    IsReadAs r Orders wanted.orders (λ bytes. IsOk (records_of_order_log wanted.form bytes))
+    × IsReadAs r Trades wanted.trades (λ bytes. IsOk (trades_of_trade_log wanted.form bytes))
 ReadsGoodLogs r (command.List filter) = StartsNoLog r
 ReadsGoodLogs r (command.Show label) = StartsNoLog r
 
@@ -63,15 +63,15 @@ ReadsLogsFor r the_command status.KeeperFault = ⊥
 
 -- the order log of a filing is started first, and the trade log only after an order log that was
 -- read to its end and is in its grammar
-abbrev pub IsFilingLogStarted : Reading → Filing → Which → Type 0
-IsFilingLogStarted r wanted Orders = Unit {0}
-IsFilingLogStarted r wanted Trades =
-    IsReadAs r Orders wanted.orders (λ bytes. IsOk (order_log wanted.form bytes))
+abbrev pub IsFilingLogInTurn : Reading → Filing → Which → Type 0
+IsFilingLogInTurn r wanted Orders = Unit {0}
+IsFilingLogInTurn r wanted Trades =
+    IsReadAs r Orders wanted.orders (λ bytes. IsOk (records_of_order_log wanted.form bytes))
 
 -- A log that the filing names was started, and this became of it.
 pub record OfFilingLog (is : Reading → LogStep → Type 0) (r : Reading) (wanted : Filing)
     (log : Which) : Type 0 where
-  pub is_started : IsFilingLogStarted r wanted log
+  pub in_turn : IsFilingLogInTurn r wanted log
   pub holds : is r (step_of r log (filing_log_name wanted log))
 
 -- the same of a log that the command names; `list` and `show` name none
@@ -86,7 +86,7 @@ abbrev pub IsHaltCause : Reading → KeeperState → KeeperState → Command →
 IsHaltCause r old new the_command (halt.ReadFault log) = OfCommandLog IsReadFault r the_command log
 IsHaltCause r old new the_command (halt.TooLong log) = OfCommandLog IsTooLong r the_command log
 IsHaltCause r old new the_command halt.KeeperFault =
-    ReadsGoodLogs r the_command × Rose old.faults new.faults
+    ReadsGoodLogs r the_command × RoseOrIsFull old.faults new.faults
 IsHaltCause r old new the_command halt.Memory = Unit {0}
 
 -- the status of a halt

@@ -19,7 +19,8 @@ failing_openings opener = opener.fails.items
 
 -- the next call is to fail
 abbrev pub opening_fails : MapOpener → Bool
-opening_fails opener = is_failing_number (count_after (openings_made opener)) (failing_openings opener)
+opening_fails opener =
+    is_failing_number (count_after (openings_made opener)) (failing_openings opener)
 
 -- one more call was made, and where it was to fail, a fault was counted
 pub record CountsOpening (old new : MapOpener) : Type 0 where

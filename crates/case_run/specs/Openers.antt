@@ -4,7 +4,7 @@ use Rattle.case_keeper.specs.Keepers.{KeeperState}
 use Rattle.case_keeper.specs.declared.case.Case.{Case}
 use Rattle.case_keeper.specs.declared.keeper.KeepFault.{KeepFault}
 use Rattle.case_keeper.specs.declared.keeper.KeepFault.TheVariants as fault
-use Rattle.log_source.specs.Sources.{Rose}
+use Rattle.log_source.specs.Sources.{RoseOrIsFull}
 
 -- What is known of an opener: whether it is known what it has, the cases under each path, where it
 -- has such, and how many faults were counted.
@@ -32,7 +32,7 @@ pub record IsCasebookOpened (opener : OpenerState) (path : List ℕ) (keeper : K
 -- under the path
 abbrev pub IsOpeningRefused : OpenerState → OpenerState → List ℕ → Type 0
 IsOpeningRefused old new path =
-    Rose old.faults new.faults ⊎ ((old.tells ≡ true) × (old.kept path ≡ None))
+    RoseOrIsFull old.faults new.faults ⊎ ((old.tells ≡ true) × (old.kept path ≡ None))
 
 -- What opening a path does.
 pub record OpensCasebook {B : Type 0} (state : B → KeeperState) (old new : OpenerState)

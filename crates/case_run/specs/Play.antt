@@ -10,7 +10,7 @@ use Rattle.audit_report.specs.Lines.{malformed_line}
 use Rattle.audit_report.specs.declared.verdicts.Verdict.{Verdict}
 use Rattle.audit_report.specs.declared.verdicts.Verdict.TheVariants as verdict
 use Rattle.record_verdict.specs.Judgements.{question}
-use Rattle.log_verdict.specs.LogVerdicts.{order_log, log_in, IsLogVerdict}
+use Rattle.log_verdict.specs.LogVerdicts.{records_of_order_log, log_in, IsLogVerdict}
 use Rattle.case_keeper.specs.Cases.{kept_case, passing_cases}
 use Rattle.case_keeper.specs.Casebooks.{filing, cases_after_filing}
 use Rattle.case_keeper.specs.declared.case.Case.{Case}
@@ -38,7 +38,8 @@ pub record IsVerdictOn (logs : Which → List ℕ → Option (List ℕ)) (wanted
   pub orders : List ℕ
   pub trades : List ℕ
   pub has_orders : logs Orders wanted.orders ≡ Some orders
-  pub has_trades : IsOk (order_log wanted.form orders) → logs Trades wanted.trades ≡ Some trades
+  pub has_trades : IsOk (records_of_order_log wanted.form orders) → logs Trades wanted.trades
+      ≡ Some trades
   pub is : IsLogVerdict (question wanted.rule wanted.symbol false) (log_in wanted.form orders)
       (log_in wanted.form trades) the_verdict
 

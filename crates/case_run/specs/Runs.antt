@@ -4,13 +4,13 @@ use Rattle.std.specs.Io.KnownBytes.{Appends}
 use Rattle.audit_base.specs.declared.faults.BadPlace.{BadPlace}
 use Rattle.audit_base.specs.declared.terms.Which.{Which}
 use Rattle.audit_base.specs.declared.terms.Which.TheVariants.{Orders, Trades}
-use Rattle.log_verdict.specs.LogVerdicts.{order_log, trade_log}
+use Rattle.log_verdict.specs.LogVerdicts.{records_of_order_log, trades_of_trade_log}
 use Rattle.log_verdict.specs.Steps.{Reading, BeginsWithin, EndsWithin, KeepsShelfLogs}
 use Rattle.case_keeper.specs.Keepers.{KeeperState}
 use Rattle.case_keeper.specs.declared.case.Case.{Case}
 use Rattle.log_source.specs.declared.shelf.Shelf.{Ghosts as Shelf}
 use Rattle.log_source.specs.Sinks.{SinkState, SinkStays}
-use Rattle.log_source.specs.Sources.{Rose, longest_log}
+use Rattle.log_source.specs.Sources.{RoseOrIsFull, longest_log}
 use Rattle.case_run.specs.Causes.{StartsNoLog}
 use Rattle.case_run.specs.Lines.{casebook_usage_line}
 use Rattle.case_run.specs.Play.{IsPlay, PlayResult}
@@ -91,8 +91,9 @@ WhereGood (Err bad) next = Unit {0}
 -- both are, `next` holds
 abbrev pub HasFilingLogs : (Which → List ℕ → Option (List ℕ)) → Filing → Type 0 → Type 0
 HasFilingLogs logs wanted next = HasLogWithin (logs Orders wanted.orders)
-    (λ orders. WhereGood (order_log wanted.form orders) (HasLogWithin (logs Trades wanted.trades)
-    (λ trades. WhereGood (trade_log wanted.form trades) next)))
+    (λ orders. WhereGood (records_of_order_log wanted.form orders)
+    (HasLogWithin (logs Trades wanted.trades)
+    (λ trades. WhereGood (trades_of_trade_log wanted.form trades) next)))
 
 -- the shelf has the logs that Play over the commands needs, the last of which is the first that is
 -- not in its grammar
@@ -105,9 +106,9 @@ HasPlayLogs logs (command.Show label ∷ commands) = HasPlayLogs logs commands
 
 -- No fault of shelf, sink or keeper was counted from one state to another.
 pub record HasNoFault (from to : RunState) : Type 0 where
-  pub slots : (log : Which) → ¬ Rose (from.slots log).faults (to.slots log).faults
-  pub sink : ¬ Rose from.sink.faults to.sink.faults
-  pub keeper : ¬ Rose from.keeper.faults to.keeper.faults
+  pub slots : (log : Which) → ¬ RoseOrIsFull (from.slots log).faults (to.slots log).faults
+  pub sink : ¬ RoseOrIsFull from.sink.faults to.sink.faults
+  pub keeper : ¬ RoseOrIsFull from.keeper.faults to.keeper.faults
 
 -- All that Play over the commands needs is there: the logs and the cases are known, the shelf has
 -- the logs, and no fault was counted.
@@ -124,7 +125,7 @@ abbrev pub AnswersWhereReady : KnownLogs → RunState → RunState → Option (L
 AnswersWhereReady known from to (Some commands) answer =
     (cases : List Case) → IsReadyToPlay known from to commands cases
     → AnswersPlay known from to commands answer cases ⊎ (answer ≡ status.Memory)
-AnswersWhereReady known from to None answer = ¬ Rose from.sink.faults to.sink.faults
+AnswersWhereReady known from to None answer = ¬ RoseOrIsFull from.sink.faults to.sink.faults
     → (answer ≡ status.Usage) ⊎ (answer ≡ status.Memory)
 
 -- where both slots begin within the longest log and one ends outside it, the answer is that a log

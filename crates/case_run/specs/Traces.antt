@@ -130,7 +130,7 @@ status_after before (turn ∷ turns) = status_after turn.status turns
 abbrev pub turn_commands : List RunTurn → List Command
 turn_commands turns = map (λ turn. turn.command) turns
 
--- the texts of turns, one behind the other
+-- the texts of turns, one after the other
 abbrev pub turn_texts : List RunTurn → List ℕ
 turn_texts turns = flat_map (λ turn. turn.text) turns
 
@@ -218,7 +218,7 @@ final_state from trace = ending_state (state_after from trace.turns) trace.endin
 abbrev pub final_status : Trace → CaseStatus
 final_status trace = ending_status (status_after status.Done trace.turns) trace.ending
 
--- what a run has written when it ends whose turns have these texts: the texts, and behind them that
+-- what a run has written when it ends whose turns have these texts: the texts, and after them that
 -- of the command that ended the run; where that could not be written whole, a proper prefix of both
 abbrev pub WritesTexts : Option (List ℕ) → Option (List ℕ) → List ℕ → Ending → Type 0
 WritesTexts old new texts AllDone = Appends old new texts
@@ -226,7 +226,7 @@ WritesTexts old new texts (EndedBy turn BadLog) = Appends old new (texts ++ turn
 WritesTexts old new texts (EndedBy turn (Halted why)) = Appends old new (texts ++ turn.text)
 WritesTexts old new texts (EndedBy turn WriteFailed) = AppendsPart old new (texts ++ turn.text)
 
--- what is on file when a run has ended, where these cases were on file behind its turns: the same
+-- what is on file when a run has ended, where these cases were on file after its turns: the same
 -- cases; where a text could not be written whole, the same or those that its command left
 abbrev pub FilesCases : KnownLogs → List Case → RunState → Ending → Type 0
 FilesCases known cases to AllDone = to.keeper.cases ≡ Some cases

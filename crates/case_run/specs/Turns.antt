@@ -13,7 +13,7 @@ use Rattle.case_keeper.specs.declared.keeper.KeepFault.{KeepFault}
 use Rattle.case_keeper.specs.declared.keeper.KeepFault.TheVariants as keeping
 use Rattle.log_source.specs.declared.shelf.Shelf.{Ghosts as Shelf}
 use Rattle.log_source.specs.Sinks.{SinkState, SinkStays}
-use Rattle.log_source.specs.Sources.{Rose}
+use Rattle.log_source.specs.Sources.{RoseOrIsFull}
 use Rattle.log_verdict.specs.Steps.{IsReadFault, IsTooLong}
 use Rattle.case_run.specs.Causes.{IsBadLog, IsHaltCause, OfFilingLog, ReadsGoodLogs, ReadsLogsFor, filing_log_name}
 use Rattle.case_run.specs.Play.{PlayTurn, IsTurn, IsVerdictOn, verdict_turn}
@@ -87,7 +87,7 @@ pub record AnswersAsTurn (turn : PlayTurn) (keeper : KeeperState) (answer : Answ
 abbrev pub IsKeeperCause : KeeperState → KeeperState → Halt → Type 0
 IsKeeperCause old new (halt.ReadFault log) = ⊥
 IsKeeperCause old new (halt.TooLong log) = ⊥
-IsKeeperCause old new halt.KeeperFault = Rose old.faults new.faults
+IsKeeperCause old new halt.KeeperFault = RoseOrIsFull old.faults new.faults
 IsKeeperCause old new halt.Memory = Unit {0}
 
 -- The answer has the status and the text of a turn, and the casebook has its cases, where these are
@@ -144,7 +144,8 @@ pub record AnswersSomeTurn (logs : Which → List ℕ → Option (List ℕ)) (ca
 
 -- The command was answered: its logs were read as its status says, and where the logs and the cases
 -- are known, the answer is that of its turn.
-pub record IsAnswerTo (r : Reading) (keeper_old keeper_new : KeeperState) (the_command : Command)
+pub record IsAnswerToCommand (r : Reading) (keeper_old keeper_new : KeeperState)
+    (the_command : Command)
     (answer : Answer) : Type 0 where
   pub read : ReadsLogsFor r the_command answer.status
   pub known : (cases : List Case) → r.tells ≡ true → keeper_old.cases ≡ Some cases
@@ -160,7 +161,7 @@ pub record IsHaltOf (r : Reading) (keeper_old keeper_new : KeeperState) (the_com
 abbrev pub AnswersCommand : Reading → KeeperState → KeeperState → Command → Result Answer Halt
     → Type 0
 AnswersCommand r keeper_old keeper_new the_command result =
-    MatchResult result (IsAnswerTo r keeper_old keeper_new the_command)
+    MatchResult result (IsAnswerToCommand r keeper_old keeper_new the_command)
     (IsHaltOf r keeper_old keeper_new the_command)
 
 -- What any call leaves: the shelf has what it had; no count of faults falls; the sink is of the

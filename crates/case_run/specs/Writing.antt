@@ -9,13 +9,14 @@ use Rattle.case_run.specs.declared.statuses.CaseStatus.{CaseStatus}
 use Rattle.case_run.specs.declared.statuses.CaseStatus.TheVariants as status
 
 -- The whole text was written, and its status is answered.
-pub record WritesWhole (old new : SinkState) (the_status : CaseStatus) (text : List ℕ)
+pub record WritesTextWhole (old new : SinkState) (the_status : CaseStatus) (text : List ℕ)
     (answer : CaseStatus) : Type 0 where
   pub answer_is : answer ≡ the_status
   pub wrote : Appends old.wrote new.wrote text
 
 -- The sink failed, a proper prefix of the text was written, and 5 is answered.
-pub record WritesPrefix (old new : SinkState) (text : List ℕ) (answer : CaseStatus) : Type 0 where
+pub record WritesTextPrefix (old new : SinkState) (text : List ℕ)
+    (answer : CaseStatus) : Type 0 where
   pub answer_is : answer ≡ status.WriteFault
   pub cause : HasFailureCause old new
   pub wrote : AppendsPart old.wrote new.wrote text
@@ -23,7 +24,7 @@ pub record WritesPrefix (old new : SinkState) (text : List ℕ) (answer : CaseSt
 -- a text was written whole and its status is answered, or the sink failed
 abbrev pub WritesOrFails : SinkState → SinkState → CaseStatus → List ℕ → CaseStatus → Type 0
 WritesOrFails old new the_status text answer =
-    WritesWhole old new the_status text answer ⊎ WritesPrefix old new text answer
+    WritesTextWhole old new the_status text answer ⊎ WritesTextPrefix old new text answer
 
 -- Memory ran out, and nothing was written.
 pub record WritesNoLine (old new : SinkState) (answer : CaseStatus) : Type 0 where

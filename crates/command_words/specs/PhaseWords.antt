@@ -9,10 +9,8 @@ use Rattle.session_audit.specs.declared.phases.PhaseKind.TheVariants as kind
 use Rattle.session_audit.specs.declared.phases.Phase.{Phase}
 use Rattle.session_audit.specs.Phases.{last_place}
 use Rattle.command_words.specs.WordForms.{word_equals, number_upto}
-
 -- the byte that joins parts
-abbrev pub is_comma : ℕ → Bool
-is_comma byte = byte == 44
+pub use Rattle.audit_base.specs.Names.{is_comma}
 
 -- the byte between KIND and FIRST
 abbrev pub is_at_sign : ℕ → Bool
@@ -37,7 +35,7 @@ abbrev pub phase_of_kind : Option PhaseKind → Option ℕ → Option Phase
 phase_of_kind the_kind the_first =
     option_and_then (λ k. option_map (λ f. record { kind = k; first = f }) the_first) the_kind
 
--- a text cut at its first such byte, into the bytes before it and those behind it; nothing
+-- a text cut at its first such byte, into the bytes before it and those after it; nothing
 -- where there is no such byte
 abbrev pub cut_at : (ℕ → Bool) → List ℕ → Option (List ℕ × List ℕ)
 cut_at is_mark text =
@@ -79,7 +77,7 @@ phases_within most before parts =
 abbrev pub phases_named : List ℕ → Option (List Phase)
 phases_named word = phases_within 64 0 (parts_of word)
 
--- the parts behind a first one, where any are
+-- the parts after a first one, where any are
 abbrev pub parts_after_first : Option (List ℕ) → List (List ℕ)
 parts_after_first None = []
 parts_after_first (Some rest) = parts_of rest

@@ -34,17 +34,17 @@ command_named word = first_answer (only_if (word_equals word (codes "audit")) co
     ∷ only_if (word_equals word (codes "verify")) command.Verify
     ∷ only_if (word_equals word (codes "session")) command.Session ∷ [])
 
--- ORDERS and TRADES, at a place and behind it
+-- ORDERS and TRADES, at a place and after it
 abbrev pub names_logs : List (List ℕ) → ℕ → Bool
 names_logs words place = is_path (nth_word words place) && is_path (nth_word words (place + 1))
 
--- SYMBOL, and what the words behind all others say as options
+-- SYMBOL, and what the words after all others say as options
 abbrev pub symbol_and_options : List ℕ → List (List ℕ) → Option (List ℕ × Options)
 symbol_and_options word behind =
     when_some (symbol_named word) (λ symbol.
     when_some (options_in behind) (λ options. Some (symbol, options)))
 
--- RULE and SYMBOL behind the command, and what the words behind all others say as options
+-- RULE and SYMBOL after the command, and what the words after all others say as options
 abbrev pub rule_words : List (List ℕ) → List (List ℕ) → Option RuleWords
 rule_words words behind =
     when_some (rule_named (nth_word words 1)) (λ the_rule.

@@ -21,13 +21,13 @@ use Rattle.continuous_audit.specs.declared.endings.Ending.{Ending}
 use Rattle.continuous_audit.specs.declared.market.Market.{Market}
 use Rattle.continuous_audit.specs.declared.state.State.{State}
 use Rattle.continuous_audit.specs.Markets.{IsMarket}
-use Rattle.continuous_audit.specs.Books.{AreEmptyBooks, AreBooksBefore, ready_place}
+use Rattle.continuous_audit.specs.Books.{AreEmptyBooks, AreBooksBefore, next_order_place}
 use Rattle.continuous_audit.specs.Causes.{AreCauses}
 use Rattle.continuous_audit.specs.Chains.{HaveChainsEnded}
 use Rattle.continuous_audit.specs.Endings.{AreEndings}
 use Rattle.continuous_audit.specs.Holding.{IsListOfAmounts, resting_left_before}
 use Rattle.continuous_audit.specs.Progress.{IsFirstState, IsReadyAt}
-use Rattle.continuous_audit.specs.Records.{AreBeforeNumbers, AreLeftBefore, AreSizes, ConformsAndIsApart}
+use Rattle.continuous_audit.specs.Records.{AreBeforeNumbers, AreLeftBefore, AreSizes, ConformsAndIsUncrossed}
 use Rattle.continuous_audit.specs.Scans.{AreRunningTotals, IsSplitAt, number_in}
 use Rattle.continuous_audit.proofs.NumberLemmas.{traded-at}
 use Rattle.continuous_audit.proofs.RestLemmas.{resting_left-future}
@@ -74,7 +74,7 @@ module _ (m : Market) (is : IsMarket m) where
   abbrev deals : List Deal
   deals = m.deals.now
 
-  pub ready-first : (state : State) → IsFirstState (length orders) state → IsReadyAt m 0 (ready_place orders 0) state
+  pub ready-first : (state : State) → IsFirstState (length orders) state → IsReadyAt m 0 (next_order_place orders 0) state
   ready-first state bare = record {
     calm = calm-first orders deals (place_at orders 0) is.deal_list.named (first-place orders is.list deals);
     known = record {
@@ -102,16 +102,16 @@ module _ (m : Market) (is : IsMarket m) where
   }
 
   -- all places are below that which follows the last order
-  below-ready : (last : ℕ) → last ≡ length orders → (k : ℕ) → k < length orders → place_at orders k < ready_place orders last
+  below-ready : (last : ℕ) → last ≡ length orders → (k : ℕ) → k < length orders → place_at orders k < next_order_place orders last
   below-ready zero e k lt = absurd (omega arith)
   below-ready (suc last) e k lt =
-      let here : ready_place orders (suc last) ≡ suc (place_at orders last) = cond-false (nat_lt (suc last) (length orders)) (place_at orders (suc last)) (suc (place_at orders last)) (le-ltb _ _ (omega arith)) in
+      let here : next_order_place orders (suc last) ≡ suc (place_at orders last) = cond-false (nat_lt (suc last) (length orders)) (place_at orders (suc last)) (suc (place_at orders last)) (le-ltb _ _ (omega arith)) in
       elim (cases_eq k last) [
         | inl same ↦ let f : place_at orders k ≡ place_at orders last = ap (place_at orders) same in omega arith
         | inr ne ↦ let up = place-rises orders is.list k last (omega (arith, ne)) (omega arith) in omega arith
       ]
 
-  pub end-conforms : (q : ℕ) → ((k : ℕ) → k < length orders → place_at orders k < q) → ConformsAndIsApart orders deals q → ConformsContinuous orders deals
+  pub end-conforms : (q : ℕ) → ((k : ℕ) → k < length orders → place_at orders k < q) → ConformsAndIsUncrossed orders deals q → ConformsContinuous orders deals
   end-conforms zero top calm = record { named = is.deal_list.named; each = λ i. (calm-first orders deals (suc i) is.deal_list.named (λ x lt. let t = top x lt in absurd (omega arith))).conforms i (omega arith) }
   end-conforms (suc last) top calm = record {
     named = is.deal_list.named;
@@ -136,9 +136,9 @@ module _ (m : Market) (is : IsMarket m) where
       and-always true = refl
       and-always false = refl
 
-  module _ (state : State) (ready : IsReadyAt m (length orders) (ready_place orders (length orders)) state) where
+  module _ (state : State) (ready : IsReadyAt m (length orders) (next_order_place orders (length orders)) state) where
     abbrev q : ℕ
-    q = ready_place orders (length orders)
+    q = next_order_place orders (length orders)
 
     pub last-conforms : ConformsContinuous orders deals
     last-conforms = end-conforms q (below-ready (length orders) refl) ready.calm

@@ -17,7 +17,7 @@ use Rattle.continuous_audit.specs.declared.endings.Ending.{Ending}
 use Rattle.continuous_audit.specs.declared.books.Books.{Books}
 use Rattle.continuous_audit.specs.Books.{AreBooksOfAmounts, AreBooksBelow, books_with_order, book_list, books_with_list}
 use Rattle.continuous_audit.specs.Endings.{AreEndings, amount_without, ending_place_at}
-use Rattle.continuous_audit.specs.Holding.{IsListOfAmounts, IsFilledInFront, IsRestingOn, resting_left_before, resting_left_after, resting_with}
+use Rattle.continuous_audit.specs.Holding.{IsListOfAmounts, IsFilledInFront, IsRestingOn, resting_left_before, resting_left_after_deals, resting_with}
 use Rattle.continuous_audit.proofs.HoldLemmas.{hold-same, hold-entered}
 use Rattle.continuous_laws.proofs.StepLemmas.{rests-parts}
 use Rattle.continuous_audit.proofs.RestLemmas.{resting_left-future, resting_left-parts}
@@ -61,12 +61,12 @@ module _ (orders : List Order) (list : IsOrderList orders) (deals : List Deal) (
 
   -- 1. The deals of the record: the book of the other side is settled, and no deal passes
   -- its first order over.
-  pub after-deals : (b : Books) → AreBooksOfAmounts orders (resting_left_before orders past p) b → (ys : List Resting) → IsFilledInFront orders (other_side s) (resting_left_before orders past p) (resting_left_after orders deals p) ys
+  pub after-deals : (b : Books) → AreBooksOfAmounts orders (resting_left_before orders past p) b → (ys : List Resting) → IsFilledInFront orders (other_side s) (resting_left_before orders past p) (resting_left_after_deals orders deals p) ys
       → ((h : Resting) (zs : List Resting) → ys ≡ h ∷ zs → (j : ℕ) → IsOfCause orders list deals named n n_inside j → better (order_at orders h.index) (order_at orders (resting_order orders (deal_at deals j))) ≡ false)
-      → AreBooksOfAmounts orders (resting_left_after orders deals p) (books_with_list (other_side s) ys b)
-  after-deals b hold [] settled_now clear = both-hold orders (resting_left_after orders deals p) s b [] hold.bid_side hold.ask_side
+      → AreBooksOfAmounts orders (resting_left_after_deals orders deals p) (books_with_list (other_side s) ys b)
+  after-deals b hold [] settled_now clear = both-hold orders (resting_left_after_deals orders deals p) s b [] hold.bid_side hold.ask_side
       (own-holds orders list deals named n n_inside (book_list s b) (side-holds orders (resting_left_before orders past p) s b hold)) (other-empty orders list deals named n n_inside settled_now)
-  after-deals b hold (h ∷ zs) settled_now clear = both-hold orders (resting_left_after orders deals p) s b (h ∷ zs) hold.bid_side hold.ask_side
+  after-deals b hold (h ∷ zs) settled_now clear = both-hold orders (resting_left_after_deals orders deals p) s b (h ∷ zs) hold.bid_side hold.ask_side
       (own-holds orders list deals named n n_inside (book_list s b) (side-holds orders (resting_left_before orders past p) s b hold)) (other-holds orders list deals named n n_inside h zs settled_now (clear h zs refl))
 
   -- what rests after the record, without its own order
@@ -82,13 +82,13 @@ module _ (orders : List Order) (list : IsOrderList orders) (deals : List Deal) (
   -- 2. The endings up to the record.
   module _ (endings : List Ending) (are : AreEndings orders endings) (from at : ℕ) (early : (i : ℕ) → i < from → i < length endings → ending_place_at endings i < p) (between : (i : ℕ) → from ≤ i → i < at → ending_place_at endings i < suc p)
       (whole : at ≤ length endings) (next : at < length endings → suc p ≤ ending_place_at endings at) where
-    pub after-endings : (b : Books) → AreBooksOfAmounts orders (amount_without endings from at (resting_left_after orders deals p)) b → AreBooksOfAmounts orders others b
-    after-endings b hold = hold-amounts orders (amount_without endings from at (resting_left_after orders deals p)) others b (λ k inside.
-        let is = standing-is orders endings are from at p (suc p) (resting_left_after orders deals p) early between whole next (λ k lt f. let z = gone-before p k f in omega arith) k inside in
+    pub after-endings : (b : Books) → AreBooksOfAmounts orders (amount_without endings from at (resting_left_after_deals orders deals p)) b → AreBooksOfAmounts orders others b
+    after-endings b hold = hold-amounts orders (amount_without endings from at (resting_left_after_deals orders deals p)) others b (λ k inside.
+        let is = standing-is orders endings are from at p (suc p) (resting_left_after_deals orders deals p) early between whole next (λ k lt f. let z = gone-before p k f in omega arith) k inside in
         elim (cases_eq k n) [
           | inl e ↦
               let z : resting_left_before orders past p k ≡ 0 = ap (resting_left_before orders past p) e ∙ resting_left-future orders past p n (omega arith) in
-              let zero_still : resting_left_after orders deals p k ≡ 0 = omega arith in
+              let zero_still : resting_left_after_deals orders deals p k ≡ 0 = omega arith in
               cond-true (k == n) 0 (resting_left_before orders past (suc p) k) (eq-eqb k n e) ∙ sym (is ∙ ap (λ (m : ℕ). cond (uncancelled_before (order_at orders k).cancelled (suc p)) m 0) zero_still ∙ nothing (uncancelled_before (order_at orders k).cancelled (suc p)))
           | inr ne ↦ cond-false (k == n) 0 (resting_left_before orders past (suc p) k) (ne_eqb k n ne) ∙ resting_left-after orders list deals named n n_inside k inside ne ∙ sym is
         ]) hold

@@ -18,7 +18,7 @@ use Rattle.continuous_audit.specs.declared.pairs.FillPair.{FillPair}
 use Rattle.continuous_audit.specs.declared.matching.TradesSoFar.{TradesSoFar}
 use Rattle.continuous_audit.specs.Holding.{resting_left_before}
 use Rattle.continuous_audit.specs.Matching.{AreTradesAtStart, AreExpectedDeals, IsMatchedUnder}
-use Rattle.continuous_audit.specs.Pairs.{AreFillPairDeals, AreSharedPairs, IsFillPairDealt, IsSharedPair, FillPairBefore, fill_pair_deal, fill_pair_orders, fill_pair_past_end, fill_pair_at, fill_pair_cmp}
+use Rattle.continuous_audit.specs.Pairs.{AreFillPairDeals, AreSharedPairs, IsFillPairInRange, IsSharedPair, FillPairBefore, fill_pair_deal, fill_pair_orders, fill_pair_past_end, fill_pair_at, fill_pair_cmp}
 use Rattle.continuous_audit.specs.Scans.{number_in}
 use Rattle.continuous_audit.proofs.AuditLemmas.{empty-hold, first-place, zero-in}
 use Rattle.continuous_audit.proofs.MatchLemmas.{some-expected}
@@ -40,9 +40,9 @@ matched-first orders list t bare deals = record {
 
 module _ (orders : List Order) (list : IsOrderList orders) (regular : Regular orders) (pairs sorted : List FillPair) (moved : IsPermutation pairs sorted)
     (in_order : IsSorted fill_pair_cmp sorted)
-    (matched : (deals : List Deal) → AreExpectedDeals orders deals → AreSharedPairs orders deals (length orders) pairs) (dealt : All (IsFillPairDealt (length orders)) pairs) where
-  pub sorted-dealt : All (IsFillPairDealt (length orders)) sorted
-  sorted-dealt = All-permutation (IsFillPairDealt (length orders)) pairs sorted moved dealt
+    (matched : (deals : List Deal) → AreExpectedDeals orders deals → AreSharedPairs orders deals (length orders) pairs) (dealt : All (IsFillPairInRange (length orders)) pairs) where
+  pub sorted-dealt : All (IsFillPairInRange (length orders)) sorted
+  sorted-dealt = All-permutation (IsFillPairInRange (length orders)) pairs sorted moved dealt
 
   pub sorted-length : length sorted ≡ length pairs
   sorted-length = length_permutation pairs sorted moved

@@ -10,7 +10,7 @@ use Rattle.audit_base.specs.declared.orders.Deal.{Deal}
 use Rattle.audit_base.specs.Least.{any_below}
 use Rattle.audit_base.specs.Orders.{order_at, side_at, IsOrderList}
 use Rattle.audit_base.specs.Priority.{better, better_limit, outranks, Better, best_order}
-use Rattle.audit_base.specs.Continuous.{traded_before, traded_at, rests_before_by_past, left_before_by_past}
+use Rattle.audit_base.specs.Continuous.{traded_before, traded_at, rests_before_in_ledger, left_before_in_ledger}
 use Rattle.audit_base.specs.ContinuousOffences.{waits_ahead}
 use Rattle.audit_base.proofs.SumLemmas.{AllPairs-head, Contains-cases}
 use Rattle.audit_base.proofs.OrderLemmas.{place-rises}
@@ -24,14 +24,14 @@ use Rattle.continuous_audit.proofs.HoldLemmas.{hold-taken, hold-same}
 use Rattle.continuous_audit.proofs.RestLemmas.{resting_left-parts, resting_left-is}
 
 -- settled to this list: what is left now, which is what rests after of what rested before
-pub record IsLeftOf (orders : List Order) (left_before_by_past before after : ℕ → ℕ) : Type 0 where
+pub record IsLeftOf (orders : List Order) (left_before_in_ledger before after : ℕ → ℕ) : Type 0 where
   pub less : (k : ℕ) → after k ≤ before k
-  pub is : (k : ℕ) → k < length orders → 0 < before k → left_before_by_past k ≡ after k
+  pub is : (k : ℕ) → k < length orders → 0 < before k → left_before_in_ledger k ≡ after k
 
 module _ (orders : List Order) (side : Side) where
-  pub after_fills-holds : (left_before_by_past before after : ℕ → ℕ) (xs : List Resting) → IsLeftOf orders left_before_by_past before after → IsListOfAmounts orders side before xs → IsFilledInFront orders side before after (after_fills left_before_by_past xs)
-  after_fills-holds left_before_by_past before after [] is holds = record { amount = before; holds = holds; either = λ k. inr refl; first_now = λ y e. absurd (cc) }
-  after_fills-holds left_before_by_past before after (x ∷ xs) is holds =
+  pub after_fills-holds : (left_before_in_ledger before after : ℕ → ℕ) (xs : List Resting) → IsLeftOf orders left_before_in_ledger before after → IsListOfAmounts orders side before xs → IsFilledInFront orders side before after (after_fills left_before_in_ledger xs)
+  after_fills-holds left_before_in_ledger before after [] is holds = record { amount = before; holds = holds; either = λ k. inr refl; first_now = λ y e. absurd (cc) }
+  after_fills-holds left_before_in_ledger before after (x ∷ xs) is holds =
       let j = x.index in
       let quantity = before j - after j in
       let now : ℕ → ℕ = λ k. cond (k == j) (after k) (before k) in
@@ -47,34 +47,34 @@ module _ (orders : List Order) (side : Side) where
         | inl e ↦ inl (cond-true (k == j) (after k) (before k) (eq-eqb k j e))
         | inr ne ↦ inr (away k ne)
       ] in
-      elim (cases_lt 0 (left_before_by_past j)) [
+      elim (cases_lt 0 (left_before_in_ledger j)) [
         | inl more ↦
-            let rest : x.left - quantity ≡ left_before_by_past j = omega arith in
-            let shown : after_take quantity (x ∷ xs) ≡ after_fills left_before_by_past (x ∷ xs) =
+            let rest : x.left - quantity ≡ left_before_in_ledger j = omega arith in
+            let shown : after_take quantity (x ∷ xs) ≡ after_fills left_before_in_ledger (x ∷ xs) =
             cond-true (nat_lt quantity x.left) (record x { left = x.left - quantity } ∷ xs) xs (lt-ltb quantity x.left (omega arith))
             ∙ ap (λ (n : ℕ). record x { left = n } ∷ xs) rest
-            ∙ sym (cond-true (nat_lt 0 (left_before_by_past j)) (record x { left = left_before_by_past j } ∷ xs) (after_fills left_before_by_past xs) (lt-ltb 0 (left_before_by_past j) more)) in
+            ∙ sym (cond-true (nat_lt 0 (left_before_in_ledger j)) (record x { left = left_before_in_ledger j } ∷ xs) (after_fills left_before_in_ledger xs) (lt-ltb 0 (left_before_in_ledger j) more)) in
             record {
               amount = now;
               holds = subst (IsListOfAmounts orders side now) shown held;
               either = either_now;
               first_now = λ y e.
-                  let top : best_resting (after_fills left_before_by_past (x ∷ xs)) ≡ Some (record x { left = left_before_by_past j }) = ap best_resting (cond-true (nat_lt 0 (left_before_by_past j)) (record x { left = left_before_by_past j } ∷ xs) (after_fills left_before_by_past xs) (lt-ltb 0 (left_before_by_past j) more)) in
-                  let same : y ≡ record x { left = left_before_by_past j } = cc in
+                  let top : best_resting (after_fills left_before_in_ledger (x ∷ xs)) ≡ Some (record x { left = left_before_in_ledger j }) = ap best_resting (cond-true (nat_lt 0 (left_before_in_ledger j)) (record x { left = left_before_in_ledger j } ∷ xs) (after_fills left_before_in_ledger xs) (lt-ltb 0 (left_before_in_ledger j) more)) in
+                  let same : y ≡ record x { left = left_before_in_ledger j } = cc in
                   ap (λ (r : Resting). now r.index) same ∙ at ∙ ap (λ (r : Resting). after r.index) (sym same);
             }
         | inr none ↦
             let gone : after j ≡ 0 = omega arith in
             let shown : after_take quantity (x ∷ xs) ≡ xs = cond-false (nat_lt quantity x.left) (record x { left = x.left - quantity } ∷ xs) xs (le-ltb quantity x.left (omega arith)) in
-            let skipped : after_fills left_before_by_past (x ∷ xs) ≡ after_fills left_before_by_past xs = cond-false (nat_lt 0 (left_before_by_past j)) (record x { left = left_before_by_past j } ∷ xs) (after_fills left_before_by_past xs) (le-ltb 0 (left_before_by_past j) none) in
-            let resting_left_after : IsLeftOf orders left_before_by_past now after = record {
+            let skipped : after_fills left_before_in_ledger (x ∷ xs) ≡ after_fills left_before_in_ledger xs = cond-false (nat_lt 0 (left_before_in_ledger j)) (record x { left = left_before_in_ledger j } ∷ xs) (after_fills left_before_in_ledger xs) (le-ltb 0 (left_before_in_ledger j) none) in
+            let resting_left_after : IsLeftOf orders left_before_in_ledger now after = record {
               less = λ k. elim (either_now k) [ inl e ↦ omega arith | inr e ↦ let l = is.less k in omega arith ];
               is = λ k inside lt. elim (cases_eq k j) [
                 | inl e ↦ let z : now k ≡ 0 = ap now e ∙ at ∙ gone in absurd (omega arith)
                 | inr ne ↦ is.is k inside (let w = away k ne in omega arith)
               ];
             } in
-            let later = after_fills-holds left_before_by_past now after xs resting_left_after (subst (IsListOfAmounts orders side now) shown held) in
+            let later = after_fills-holds left_before_in_ledger now after xs resting_left_after (subst (IsListOfAmounts orders side now) shown held) in
             record {
               amount = later.amount;
               holds = subst (IsListOfAmounts orders side later.amount) (sym skipped) later.holds;
@@ -169,9 +169,9 @@ module _ (orders : List Order) (list : IsOrderList orders) (deals : List Deal) (
   -- what passes an order over is what has something left still, and is better
   over-parts : (r x : ℕ) → waits_ahead orders deals p r x ≡ true → (0 < rested_still x) × Better orders x r
   over-parts r x t =
-      let outer = and_parts (rests_before_by_past orders past p x && nat_lt 0 (left_before_by_past orders past (suc p) x)) (better (order_at orders x) (order_at orders r)) t in
-      let inner = and_parts (rests_before_by_past orders past p x) (nat_lt 0 (left_before_by_past orders past (suc p) x)) outer.0 in
-      let some = ltb-true 0 (left_before_by_past orders past (suc p) x) inner.1 in
+      let outer = and_parts (rests_before_in_ledger orders past p x && nat_lt 0 (left_before_in_ledger orders past (suc p) x)) (better (order_at orders x) (order_at orders r)) t in
+      let inner = and_parts (rests_before_in_ledger orders past p x) (nat_lt 0 (left_before_in_ledger orders past (suc p) x)) outer.0 in
+      let some = ltb-true 0 (left_before_in_ledger orders past (suc p) x) inner.1 in
       let is = (resting_left-is orders past p x inner.0).0 in
       (omega (arith, traded-more orders deals p x), outer.1)
 

@@ -9,7 +9,7 @@ use Rattle.audit_base.specs.declared.terms.Side.{Side}
 use Rattle.audit_base.specs.declared.terms.Side.TheVariants.{Buy, Sell}
 use Rattle.audit_base.specs.Orders.{order_at, place_at, side_at, other_side, IsOrderList}
 use Rattle.audit_base.specs.Deals.{names_order, NamesOrders}
-use Rattle.audit_base.specs.Continuous.{cause, chain, chain_within, before_quantity_by_past, resting_order, traded_before, before_quantity, rests_before_by_past, uncancelled_before}
+use Rattle.audit_base.specs.Continuous.{cause, chain, chain_within, chain_traded_in_ledger, resting_order, traded_before, chain_traded_quantity, rests_before_in_ledger, uncancelled_before}
 use Rattle.audit_base.specs.ContinuousRules.{ConformsAt}
 use Rattle.audit_base.proofs.SumLemmas.{sum_by-same}
 use Rattle.audit_base.proofs.OrderLemmas.{place-rises}
@@ -97,7 +97,7 @@ module _ (orders : List Order) (list : IsOrderList orders) where
               let b_is : d.bid ≡ u = eqb-true d.bid u b in
               let place_is : place_at orders d.bid ≡ place_at orders u = ap (place_at orders) b_is in
               let r_is : resting_order orders d ≡ d.bid = cond-true (nat_lt (place_at orders d.bid) (place_at orders d.ask)) d.bid d.ask (lt-ltb _ _ (omega arith)) in
-              let at = rests-parts orders past (cause orders d) u (subst (λ (r : ℕ). rests_before_by_past orders past (cause orders d) r ≡ true) (r_is ∙ b_is) rest) in
+              let at = rests-parts orders past (cause orders d) u (subst (λ (r : ℕ). rests_before_in_ledger orders past (cause orders d) r ≡ true) (r_is ∙ b_is) rest) in
               let late = ended-late (order_at orders u).cancelled (place_at orders t) (cause orders d) ended at.stands_yet in
               let end = ends orders list deals named t inside d is (omega arith) in
               let side_is : side_at orders (resting_order orders d) ≡ other_side (side_at orders t) = ap (side_at orders) end.1.resting_is ∙ end.1.of_side in
@@ -106,7 +106,7 @@ module _ (orders : List Order) (list : IsOrderList orders) where
               let a_is : d.ask ≡ u = eqb-true d.ask u a in
               let place_is : place_at orders d.ask ≡ place_at orders u = ap (place_at orders) a_is in
               let r_is : resting_order orders d ≡ d.ask = cond-false (nat_lt (place_at orders d.bid) (place_at orders d.ask)) d.bid d.ask (le-ltb _ _ (omega arith)) in
-              let at = rests-parts orders past (cause orders d) u (subst (λ (r : ℕ). rests_before_by_past orders past (cause orders d) r ≡ true) (r_is ∙ a_is) rest) in
+              let at = rests-parts orders past (cause orders d) u (subst (λ (r : ℕ). rests_before_in_ledger orders past (cause orders d) r ≡ true) (r_is ∙ a_is) rest) in
               let late = ended-late (order_at orders u).cancelled (place_at orders t) (cause orders d) ended at.stands_yet in
               let end = ends orders list deals named t inside d is (omega arith) in
               let side_is : side_at orders (resting_order orders d) ≡ other_side (side_at orders t) = ap (side_at orders) end.1.resting_is ∙ end.1.of_side in
@@ -135,7 +135,7 @@ module _ (orders : List Order) (list : IsOrderList orders) where
 
     -- Before, where the chain of the target is closed
     pub before-kept : (n t : ℕ) → n < length orders → (order_at orders n).target ≡ Some t → HasChainEnded orders t → ((i : ℕ) → i < place_at orders n → ConformsAt orders deals i)
-        → before_quantity orders deals n ≡ past (place_at orders n) t + before_quantity orders deals t
+        → chain_traded_quantity orders deals n ≡ past (place_at orders n) t + chain_traded_quantity orders deals t
     before-kept n t inside e closed conforms =
         let lower = target-below orders list n inside t e in
         let up = place-rises orders list t n lower inside in
@@ -144,7 +144,7 @@ module _ (orders : List Order) (list : IsOrderList orders) where
         trades-no-more (place_at orders n) t (get_or (chain orders t) k d) t_in (omega arith) (chain-ahead t t_in k d lt) (closed k d lt) conforms) ∙ sym (before-is orders list past t))
 
     -- Before, by going along the chain
-    pub before-walked : (n : ℕ) (traded : List ℕ) → n < length orders → ((x : ℕ) → x < length orders → number_in traded x ≡ past (place_at orders n) x) → sum_by (number_in traded) (chain orders n) ≡ before_quantity orders deals n
-    unfolding before_quantity_by_past
+    pub before-walked : (n : ℕ) (traded : List ℕ) → n < length orders → ((x : ℕ) → x < length orders → number_in traded x ≡ past (place_at orders n) x) → sum_by (number_in traded) (chain orders n) ≡ chain_traded_quantity orders deals n
+    unfolding chain_traded_in_ledger
     before-walked n traded inside is = sum_by-same (number_in traded) (past (place_at orders n)) (chain orders n) (λ k d lt.
         let ahead = chain-ahead n inside k d lt in let low : get_or (chain orders n) k d < n = ahead.0 in is (get_or (chain orders n) k d) (omega arith))

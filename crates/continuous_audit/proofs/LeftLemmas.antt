@@ -8,12 +8,12 @@ use Rattle.audit_base.specs.declared.orders.Order.{Order}
 use Rattle.audit_base.specs.declared.orders.Deal.{Deal}
 use Rattle.audit_base.specs.Orders.{place_at, IsOrderList}
 use Rattle.audit_base.specs.Deals.{names_order, deal_at}
-use Rattle.audit_base.specs.Continuous.{traded_before, size_by_past, left_after}
+use Rattle.audit_base.specs.Continuous.{traded_before, size_in_ledger, left_after}
 use Rattle.audit_base.proofs.OrderLemmas.{place-rises}
 use Rattle.audit_base.proofs.ContinuousOffenceLemmas.{traded-more}
 use Rattle.order_book.specs.declared.books.Resting.{Resting}
 use Rattle.continuous_audit.specs.declared.causes.Cause.{Cause}
-use Rattle.continuous_audit.specs.Holding.{IsListOfAmounts, IsFilledInFront, IsRestingOn, IsWithinBook, after_fills, resting_left_before, resting_left_after}
+use Rattle.continuous_audit.specs.Holding.{IsListOfAmounts, IsFilledInFront, IsRestingOn, IsWithinBook, after_fills, resting_left_before, resting_left_after_deals}
 use Rattle.continuous_audit.specs.Scans.{IsLeftRefreshed, cause_deal_at, number_in}
 use Rattle.continuous_laws.proofs.StepLemmas.{rests-parts}
 use Rattle.continuous_audit.proofs.RestLemmas.{resting_left-parts}
@@ -58,7 +58,7 @@ module _ (orders : List Order) (list : IsOrderList orders) (deals : List Deal) (
   abbrev past : ℕ → ℕ → ℕ
   past = traded_before orders deals
 
-  pub older : (k : ℕ) → k < length orders → 0 < resting_left_before orders past p k → (k < n) × (resting_left_before orders past p k ≡ size_by_past orders past k - past p k)
+  pub older : (k : ℕ) → k < length orders → 0 < resting_left_before orders past p k → (k < n) × (resting_left_before orders past p k ≡ size_in_ledger orders past k - past p k)
   older k inside some =
       let parts = resting_left-parts orders past p k some in
       let earlier = (rests-parts orders past p k parts.0).earlier in (
@@ -72,7 +72,7 @@ module _ (orders : List Order) (list : IsOrderList orders) (deals : List Deal) (
         parts.1,
       )
 
-  left-still : (k : ℕ) → k < length orders → 0 < resting_left_before orders past p k → number_in left k ≡ resting_left_after orders deals p k
+  left-still : (k : ℕ) → k < length orders → 0 < resting_left_before orders past p k → number_in left k ≡ resting_left_after_deals orders deals p k
   left-still k inside some =
       let o = older k inside some in
       let l = is k o.0 in
@@ -88,5 +88,5 @@ module _ (orders : List Order) (list : IsOrderList orders) (deals : List Deal) (
       record { inside = let w = part.inside in omega arith; most = omega arith }
 
   -- so a book that is settled by these numbers is settled to what rests after the deals
-  pub after_fills-left : (side : Side) (xs : List Resting) → IsListOfAmounts orders side (resting_left_before orders past p) xs → IsFilledInFront orders side (resting_left_before orders past p) (resting_left_after orders deals p) (after_fills (number_in left) xs)
-  after_fills-left side xs holds = after_fills-holds orders side (number_in left) (resting_left_before orders past p) (resting_left_after orders deals p) xs (record { less = λ k. omega arith; is = left-still }) holds
+  pub after_fills-left : (side : Side) (xs : List Resting) → IsListOfAmounts orders side (resting_left_before orders past p) xs → IsFilledInFront orders side (resting_left_before orders past p) (resting_left_after_deals orders deals p) (after_fills (number_in left) xs)
+  after_fills-left side xs holds = after_fills-holds orders side (number_in left) (resting_left_before orders past p) (resting_left_after_deals orders deals p) xs (record { less = λ k. omega arith; is = left-still }) holds

@@ -11,7 +11,7 @@ use Rattle.audit_base.specs.declared.orders.Deal.{Deal}
 use Rattle.audit_base.specs.Orders.{order_at, side_at, limit_at, place_at, other_side, IsOrderList}
 use Rattle.audit_base.specs.Histories.{Regular}
 use Rattle.audit_base.specs.Priority.{better}
-use Rattle.audit_base.specs.Continuous.{traded_before, traded_at, before_quantity, size_of_order, left_before_by_past, left_before, rests_before_by_past}
+use Rattle.audit_base.specs.Continuous.{traded_before, traded_at, chain_traded_quantity, size_of_order, left_before_in_ledger, left_before, rests_before_in_ledger}
 use Rattle.audit_base.specs.Expected.{available_quantity, available_quantity_ahead, incoming_share, pair_share, orders_meet}
 use Rattle.audit_base.proofs.SumLemmas.{AllPairs-head, AllPairs-tail, AllPairs-cons, below-same}
 use Rattle.audit_base.proofs.OrderLemmas.{is-same_side, not_both_sides, place-rises, side-other}
@@ -26,7 +26,7 @@ use Rattle.continuous_audit.specs.declared.pairs.FillPair.{FillPair}
 use Rattle.continuous_audit.specs.Books.{AreBooksOfAmounts, book_list, books_with_list}
 use Rattle.continuous_audit.specs.Chains.{IsKnownBeforeOpening}
 use Rattle.continuous_audit.specs.Fills.{quantity_filled, fills_of, resting_after_fills, total_filled}
-use Rattle.continuous_audit.specs.Holding.{IsListOfAmounts, resting_left_before, resting_left_after}
+use Rattle.continuous_audit.specs.Holding.{IsListOfAmounts, resting_left_before, resting_left_after_deals}
 use Rattle.continuous_audit.specs.Matching.{AreExpectedDeals}
 use Rattle.continuous_audit.specs.Pairs.{AreSharedPairs, IsSharedPair, FillPairsDiffer, fill_pair_orders, fill_pair}
 use Rattle.continuous_audit.specs.Scans.{number_in}
@@ -104,10 +104,10 @@ module _ (orders : List Order) (list : IsOrderList orders) (n : ℕ) (n_inside :
 
   available-is : (k : ℕ) → found_of orders list n rested k ≡ available_quantity orders past n k
   unfolding available_quantity resting_left_before
-  available-is k = nested (orders_meet (order_at orders n) (order_at orders k)) (rests_before_by_past orders past p k) (left_before_by_past orders past p k)
+  available-is k = nested (orders_meet (order_at orders n) (order_at orders k)) (rests_before_in_ledger orders past p k) (left_before_in_ledger orders past p k)
 
   -- what is known of the orders when the order at n comes
-  pub opening-is : (traded : List ℕ) (sheet : Sheet) → ((x : ℕ) → x < length orders → number_in traded x ≡ past p x) → ((x : ℕ) → x < n → number_in sheet.before.items x ≡ before_quantity orders deals x)
+  pub opening-is : (traded : List ℕ) (sheet : Sheet) → ((x : ℕ) → x < length orders → number_in traded x ≡ past p x) → ((x : ℕ) → x < n → number_in sheet.before.items x ≡ chain_traded_quantity orders deals x)
       → ((x : ℕ) → x < n → number_in sheet.left.items x ≡ left_before orders deals p x) → IsKnownBeforeOpening orders deals n traded sheet
   opening-is traded sheet traded_is before_is left_is = record { conforms = λ i lt. is.conforms.each i; named = is.conforms.named; traded_is = traded_is; before_is = before_is; left_is = left_is }
 
@@ -175,10 +175,10 @@ module _ (orders : List Order) (list : IsOrderList orders) (n : ℕ) (n_inside :
         omega (arith, traded-more orders deals p n)
 
     -- what both books hold afterwards
-    pub books-after : AreBooksOfAmounts orders (resting_left_after orders deals p) (books_with_list t (resting_after_fills s (limit_at orders n) q ys) b)
-    books-after = both-hold orders (resting_left_after orders deals p) s b (resting_after_fills s (limit_at orders n) q ys) hold.bid_side hold.ask_side
+    pub books-after : AreBooksOfAmounts orders (resting_left_after_deals orders deals p) (books_with_list t (resting_after_fills s (limit_at orders n) q ys) b)
+    books-after = both-hold orders (resting_left_after_deals orders deals p) s b (resting_after_fills s (limit_at orders n) q ys) hold.bid_side hold.ask_side
         (own-holds orders list deals is.conforms.named n n_inside (book_list s b) (side-holds orders rested s b hold))
-        (hold-same orders t (λ k. rested k - quantity_filled fills k) (resting_left_after orders deals p) (resting_after_fills s (limit_at orders n) q ys)
+        (hold-same orders t (λ k. rested k - quantity_filled fills k) (resting_left_after_deals orders deals p) (resting_after_fills s (limit_at orders n) q ys)
         (λ k inside of.
         let ne : k ≢ n = λ e. side-other s (sym (ap (side_at orders) e) ∙ of) in
         ap (λ (m : ℕ). rested k - m) (expected-traded orders list deals is.expected n n_inside k inside ne ∙ sym (filled-share k inside)))

@@ -8,7 +8,7 @@ use Rattle.audit_base.specs.declared.orders.Order.{Order}
 use Rattle.audit_base.specs.declared.orders.Deal.{Deal}
 use Rattle.audit_base.specs.Orders.{place_at, IsOrderList}
 use Rattle.audit_base.specs.Deals.{IsDealList}
-use Rattle.audit_base.specs.Continuous.{traded_before, before_quantity, size_of_order, left_after}
+use Rattle.audit_base.specs.Continuous.{traded_before, chain_traded_quantity, size_of_order, left_after}
 use Rattle.audit_base.proofs.OrderLemmas.{place-rises}
 use Rattle.audit_base.proofs.OffenceLemmas.{get_or-default}
 use Rattle.continuous_audit.specs.declared.causes.Cause.{Cause}
@@ -33,11 +33,11 @@ ones-upto orders deals (suc n) = omega (arith, ones-upto orders deals n, ones (c
 
 -- one number more
 module _ (orders : List Order) (deals : List Deal) (n : ℕ) (n_inside : n < length orders) where
-  pub before-more : (before ys : List ℕ) (b : ℕ) → AreBeforeNumbers orders deals n before → b ≡ before_quantity orders deals n → b ≤ n * 2 ^ 72 → length orders < 2 ^ 32 → ys ≡ slice_set before n b → AreBeforeNumbers orders deals (suc n) ys
+  pub before-more : (before ys : List ℕ) (b : ℕ) → AreBeforeNumbers orders deals n before → b ≡ chain_traded_quantity orders deals n → b ≤ n * 2 ^ 72 → length orders < 2 ^ 32 → ys ≡ slice_set before n b → AreBeforeNumbers orders deals (suc n) ys
   before-more before ys b old is most few made = subst (AreBeforeNumbers orders deals (suc n)) (sym made) (record {
     count = length-set {A = ℕ} before n b ∙ old.count;
     is = λ x lt. elim (cases_eq x n) [
-      | inl e ↦ subst (λ (y : ℕ). number_in (slice_set before n b) y ≡ before_quantity orders deals y) (sym e) (get_or-set_same {A = ℕ} before n b 0 (omega (arith, old.count)) ∙ is)
+      | inl e ↦ subst (λ (y : ℕ). number_in (slice_set before n b) y ≡ chain_traded_quantity orders deals y) (sym e) (get_or-set_same {A = ℕ} before n b 0 (omega (arith, old.count)) ∙ is)
       | inr ne ↦ get_or-set_other {A = ℕ} before n x b 0 ne ∙ old.is x (omega (arith, ne))
     ];
     fits = λ x. elim (cases_eq x n) [

@@ -4,7 +4,7 @@ use Rattle.std.specs.Prelude.{◌&&◌, not}
 use Rattle.audit_base.specs.declared.orders.Order.{Order}
 use Rattle.audit_base.specs.declared.orders.Deal.{Deal}
 use Rattle.audit_base.specs.Orders.{order_at, place_at, IsOrderList}
-use Rattle.audit_base.specs.Continuous.{rests_before_by_past, traded_before, before_quantity, has_entered, is_cancelled_at_place}
+use Rattle.audit_base.specs.Continuous.{rests_before_in_ledger, traded_before, chain_traded_quantity, has_entered, is_cancelled_at_place}
 use Rattle.audit_base.proofs.OrderLemmas.{place-rises}
 use Rattle.audit_base.proofs.LeastLemmas.{cases_Option}
 use Rattle.audit_base.proofs.ContinuousLemmas.{target-below, entered-none, entered-some, size-is}
@@ -32,13 +32,13 @@ module _ (orders : List Order) (list : IsOrderList orders) (deals : List Deal) (
         let t = found.0 in
         let e : (order_at orders n).target ≡ Some t = found.1 in
         let lower = target-below orders list n n_inside t e in
-        let waits : by_deal.waits_in orders sheet.left.items (place_at orders n) t ≡ rests_before_by_past orders past (place_at orders n) t = waits-is orders past (place_at orders n) t (number_in sheet.left.items t) (place-rises orders list t n lower n_inside) (is.left_is t lower) in
+        let waits : by_deal.waits_in orders sheet.left.items (place_at orders n) t ≡ rests_before_in_ledger orders past (place_at orders n) t = waits-is orders past (place_at orders n) t (number_in sheet.left.items t) (place-rises orders list t n lower n_inside) (is.left_is t lower) in
         ap (λ (b : Bool). not (is_cancelled_at_place (order_at orders n).cancelled (place_at orders n)) && b) (some t e ∙ waits) ∙ sym (entered-some orders list past n t n_inside e)
   ]
 
   -- the same, in the words of the code: the order that it reads
   pub opened : (o : Order) → o ≡ order_at orders n → (r : Bool) → (o.target ≡ None → r ≡ true) → ((t : ℕ) → o.target ≡ Some t → r ≡ by_deal.waits_in orders sheet.left.items o.place t)
-      → (opening : Opening) → opening.entered ≡ by_deal.enters o r → opening.before ≡ before_quantity orders deals n → opening.size ≡ by_deal.size_left opening.entered o.quantity opening.before
+      → (opening : Opening) → opening.entered ≡ by_deal.enters o r → opening.before ≡ chain_traded_quantity orders deals n → opening.size ≡ by_deal.size_left opening.entered o.quantity opening.before
       → IsOpeningOfOrder orders deals n opening
   opened o o_is r none some opening e_is b_is z_is =
       let target_is = ap (λ (x : Order). x.target) o_is in

@@ -17,7 +17,7 @@ use Rattle.order_book.specs.Books.{best_resting}
 use Rattle.continuous_audit.specs.declared.causes.Cause.{Cause}
 use Rattle.continuous_audit.specs.Causes.{AreCauses, cause_of}
 use Rattle.continuous_audit.specs.Flaws.{priority_flaw}
-use Rattle.continuous_audit.specs.Holding.{IsFilledInFront, resting_left_before, resting_left_after}
+use Rattle.continuous_audit.specs.Holding.{IsFilledInFront, resting_left_before, resting_left_after_deals}
 use Rattle.continuous_audit.specs.Scans.{IsSplitAt, cause_deal_at, cause_past_end, cause_order_at}
 use Rattle.continuous_audit.proofs.CauseLemmas.{incoming-cause}
 use Rattle.continuous_audit.proofs.FlawLemmas.{upto-n}
@@ -68,7 +68,7 @@ module _ (orders : List Order) (list : IsOrderList orders) (deals : List Deal) (
       let same = e.1.resting_is in
       omega arith
 
-  module _ (h : Resting) (zs : List Resting) (s : IsFilledInFront orders (other_side (side_at orders n)) (resting_left_before orders (traded_before orders deals) p) (resting_left_after orders deals p) (h ∷ zs)) where
+  module _ (h : Resting) (zs : List Resting) (s : IsFilledInFront orders (other_side (side_at orders n)) (resting_left_before orders (traded_before orders deals) p) (resting_left_after_deals orders deals p) (h ∷ zs)) where
     clear-at : (at : ℕ) → at ≤ end → ((i : ℕ) → start ≤ i → i < at → better (order_at orders h.index) (order_at orders (resting_order orders (deal_at deals (cause_deal_at causes i)))) ≡ false)
         → (j : ℕ) → j < length deals → ((i : ℕ) → start ≤ i → i < end → cause_deal_at causes i ≡ j → i < at) → resting_priority_finding orders deals p j ≡ None
     clear-at at le under j lt early = elim (cases_eq (cause orders (deal_at deals j)) p) [
@@ -105,7 +105,7 @@ module _ (orders : List Order) (list : IsOrderList orders) (deals : List Deal) (
 -- the same of a list with this first order
 pub pass-none-first : (orders : List Order) (list : IsOrderList orders) (deals : List Deal) (deal_list : IsDealList orders deals) (causes : List Cause) (are : AreCauses orders deals causes) (n : ℕ) (n_inside : n < length orders)
     (start end : ℕ) (within : end ≤ length causes) (split : IsSplitAt causes n start) (later : IsSplitAt causes (suc n) end) (best : Resting) (ys : List Resting) → best_resting ys ≡ Some best
-    → IsFilledInFront orders (other_side (side_at orders n)) (resting_left_before orders (traded_before orders deals) (place_at orders n)) (resting_left_after orders deals (place_at orders n)) ys
+    → IsFilledInFront orders (other_side (side_at orders n)) (resting_left_before orders (traded_before orders deals) (place_at orders n)) (resting_left_after_deals orders deals (place_at orders n)) ys
     → ((i : ℕ) → start ≤ i → i < end → better (order_at orders best.index) (order_at orders (resting_order orders (deal_at deals (cause_deal_at causes i)))) ≡ false)
     → least_answer (resting_priority_finding orders deals (place_at orders n)) (length deals) ≡ None
 pass-none-first orders list deals deal_list causes are n n_inside start end within split later best [] e s under = absurd (cc)
@@ -116,7 +116,7 @@ pass-none-first orders list deals deal_list causes are n n_inside start end with
 
 pub pass-found-first : (orders : List Order) (list : IsOrderList orders) (deals : List Deal) (deal_list : IsDealList orders deals) (causes : List Cause) (are : AreCauses orders deals causes) (n : ℕ) (n_inside : n < length orders)
     (start end : ℕ) (within : end ≤ length causes) (split : IsSplitAt causes n start) (later : IsSplitAt causes (suc n) end) (best : Resting) (ys : List Resting) → best_resting ys ≡ Some best
-    → IsFilledInFront orders (other_side (side_at orders n)) (resting_left_before orders (traded_before orders deals) (place_at orders n)) (resting_left_after orders deals (place_at orders n)) ys
+    → IsFilledInFront orders (other_side (side_at orders n)) (resting_left_before orders (traded_before orders deals) (place_at orders n)) (resting_left_after_deals orders deals (place_at orders n)) ys
     → (at : ℕ) → start ≤ at → at < end → ((i : ℕ) → start ≤ i → i < at → better (order_at orders best.index) (order_at orders (resting_order orders (deal_at deals (cause_deal_at causes i)))) ≡ false)
     → better (order_at orders best.index) (order_at orders (resting_order orders (deal_at deals (cause_deal_at causes at)))) ≡ true
     → least_answer (resting_priority_finding orders deals (place_at orders n)) (length deals) ≡ Some (finding_of orders (priority_flaw orders (traded_shown_after orders deals (place_at orders n)) (deal_at deals (cause_deal_at causes at)) best.index))

@@ -6,19 +6,19 @@ use Rattle.audit_base.specs.declared.orders.Order.{Order}
 use Rattle.audit_base.specs.declared.orders.Deal.{Deal}
 use Rattle.audit_base.specs.Orders.{place_at, IsOrderList}
 use Rattle.audit_base.specs.Deals.{NamesOrders}
-use Rattle.audit_base.specs.Continuous.{traded_before, size_by_past}
+use Rattle.audit_base.specs.Continuous.{traded_before, size_in_ledger}
 use Rattle.audit_base.proofs.OrderLemmas.{place-rises}
 use Rattle.continuous_audit.specs.declared.endings.Ending.{Ending}
 use Rattle.continuous_audit.specs.declared.books.Books.{Books}
-use Rattle.continuous_audit.specs.Books.{AreBooksOfAmounts, ready_place, rest_without_own}
+use Rattle.continuous_audit.specs.Books.{AreBooksOfAmounts, next_order_place, resting_left_without_own}
 use Rattle.continuous_audit.specs.Endings.{AreEndingsDropped, AreEndingsBelow, AreEndings, amount_without}
-use Rattle.continuous_audit.specs.Holding.{resting_left_before, resting_left_after}
+use Rattle.continuous_audit.specs.Holding.{resting_left_before, resting_left_after_deals}
 use Rattle.continuous_audit.specs.Records.{AreLeftBefore}
 use Rattle.continuous_audit.proofs.BooksLemmas.{after-endings, before-next}
 use Rattle.continuous_audit.proofs.RestLemmas.{traded-gap}
 use Rattle.continuous_audit.proofs.RecordLemmas.{no-cause}
 
-pub ready-here : (orders : List Order) (n : ℕ) → n < length orders → ready_place orders n ≡ place_at orders n
+pub ready-here : (orders : List Order) (n : ℕ) → n < length orders → next_order_place orders n ≡ place_at orders n
 ready-here orders zero lt = refl
 ready-here orders (suc n) lt = cond-true (nat_lt (suc n) (length orders)) (place_at orders (suc n)) (suc (place_at orders n)) (lt-ltb _ _ lt)
 
@@ -36,7 +36,7 @@ module _ (orders : List Order) (list : IsOrderList orders) (n : ℕ) (n_inside :
   p = place_at orders n
 
   abbrev q : ℕ
-  q = ready_place orders (suc n)
+  q = next_order_place orders (suc n)
 
   pub next-above : suc p ≤ q
   next-above = elim (cases_lt (suc n) (length orders)) [
@@ -60,16 +60,16 @@ module _ (orders : List Order) (list : IsOrderList orders) (deals : List Deal) (
   after = suc (place_at orders n)
 
   abbrev next : ℕ
-  next = ready_place orders (suc n)
+  next = next_order_place orders (suc n)
 
   pub left-next : (left : List ℕ) → AreLeftBefore orders deals (suc n) after left → AreLeftBefore orders deals (suc n) next left
   left-next left l = record {
     count = l.count;
-    is = λ x lt. l.is x lt ∙ ap (λ (m : ℕ). size_by_past orders (traded_before orders deals) x - m) (sym (traded-gap orders deals after next x (next-above orders list n n_inside) (no-cause orders list deals named n n_inside next (next-above orders list n n_inside) (next-first orders list n n_inside))));
+    is = λ x lt. l.is x lt ∙ ap (λ (m : ℕ). size_in_ledger orders (traded_before orders deals) x - m) (sym (traded-gap orders deals after next x (next-above orders list n n_inside) (no-cause orders list deals named n n_inside next (next-above orders list n n_inside) (next-first orders list n n_inside))));
   }
 
   module _ (endings : List Ending) (are : AreEndings orders endings) (start at upto : ℕ) (ended : AreEndingsBelow endings start at upto) where
-    pub others-hold : upto ≡ after → AreEndingsDropped endings start (place_at orders n) → (b : Books) → AreBooksOfAmounts orders (amount_without endings start at (resting_left_after orders deals (place_at orders n))) b → AreBooksOfAmounts orders (rest_without_own orders deals n) b
+    pub others-hold : upto ≡ after → AreEndingsDropped endings start (place_at orders n) → (b : Books) → AreBooksOfAmounts orders (amount_without endings start at (resting_left_after_deals orders deals (place_at orders n))) b → AreBooksOfAmounts orders (resting_left_without_own orders deals n) b
     others-hold e old b hold = after-endings orders list deals named n n_inside endings are start at old.early (λ i le lt. let l = ended.early i le lt in omega arith) ended.inside (λ lt. let l = ended.next lt in omega arith) b hold
 
     pub next-holds : upto ≡ next → AreEndingsDropped endings start after → (b : Books) → AreBooksOfAmounts orders (amount_without endings start at (resting_left_before orders (traded_before orders deals) after)) b → AreBooksOfAmounts orders (resting_left_before orders (traded_before orders deals) next) b

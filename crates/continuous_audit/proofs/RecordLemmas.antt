@@ -11,7 +11,7 @@ use Rattle.audit_base.specs.Least.{any_below, least_answer}
 use Rattle.audit_base.specs.Orders.{order_at, side_at, place_at, other_side, may_rest, IsOrderList}
 use Rattle.audit_base.specs.Priority.{better, best_order}
 use Rattle.audit_base.specs.Deals.{names_order, deal_at, deal_past_end, NamesOrders}
-use Rattle.audit_base.specs.Continuous.{cause, resting_order, incoming_order, traded_before, traded_at, uncancelled_before, size_by_past}
+use Rattle.audit_base.specs.Continuous.{cause, resting_order, incoming_order, traded_before, traded_at, uncancelled_before, size_in_ledger}
 use Rattle.audit_base.specs.ContinuousRules.{ConformsAt}
 use Rattle.audit_base.specs.ContinuousOffences.{conservation_finding, waits_ahead, resting_priority_finding, spread_finding, traded_shown_after, finding_at_place}
 use Rattle.audit_base.specs.Shows.{priority_property}
@@ -223,7 +223,7 @@ module _ (orders : List Order) (list : IsOrderList orders) (deals : List Deal) (
       nothing true = refl
       nothing false = refl
 
-  pub resting_left-own : resting_left_before orders past (suc p) n ≡ cond (may_rest (order_at orders n).life && uncancelled_before (order_at orders n).cancelled (suc p)) (size_by_past orders past n - past (suc p) n) 0
+  pub resting_left-own : resting_left_before orders past (suc p) n ≡ cond (may_rest (order_at orders n).life && uncancelled_before (order_at orders n).cancelled (suc p)) (size_in_ledger orders past n - past (suc p) n) 0
   resting_left-own = resting_left-newest orders past (suc p) n (past (suc p) n) (omega arith) refl
 
   -- up to a place q before which no other order comes

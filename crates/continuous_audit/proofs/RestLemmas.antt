@@ -7,32 +7,32 @@ use Rattle.audit_base.specs.declared.orders.Order.{Order}
 use Rattle.audit_base.specs.declared.orders.Deal.{Deal}
 use Rattle.audit_base.specs.Orders.{order_at, place_at, may_rest}
 use Rattle.audit_base.specs.Deals.{names_order}
-use Rattle.audit_base.specs.Continuous.{cause, traded_before, uncancelled_before, rests_before_by_past, size_by_past, left_before_by_past}
+use Rattle.audit_base.specs.Continuous.{cause, traded_before, uncancelled_before, rests_before_in_ledger, size_in_ledger, left_before_in_ledger}
 use Rattle.audit_base.proofs.SumLemmas.{sum_by-same}
 use Rattle.continuous_laws.proofs.StepLemmas.{rests-parts}
 use Rattle.continuous_audit.specs.Holding.{resting_left_before}
 
 -- what rests of it
-pub resting_left-parts : (orders : List Order) (past : ℕ → ℕ → ℕ) (p k : ℕ) → 0 < resting_left_before orders past p k → (rests_before_by_past orders past p k ≡ true) × (resting_left_before orders past p k ≡ left_before_by_past orders past p k)
+pub resting_left-parts : (orders : List Order) (past : ℕ → ℕ → ℕ) (p k : ℕ) → 0 < resting_left_before orders past p k → (rests_before_in_ledger orders past p k ≡ true) × (resting_left_before orders past p k ≡ left_before_in_ledger orders past p k)
 unfolding resting_left_before
-resting_left-parts orders past p k some = elim (cases_Bool (rests_before_by_past orders past p k)) [
-  | inl t ↦ (t, cond-true _ (left_before_by_past orders past p k) 0 t)
-  | inr f ↦ let none : cond (rests_before_by_past orders past p k) (left_before_by_past orders past p k) 0 ≡ 0 = cond-false _ (left_before_by_past orders past p k) 0 f in absurd (omega arith)
+resting_left-parts orders past p k some = elim (cases_Bool (rests_before_in_ledger orders past p k)) [
+  | inl t ↦ (t, cond-true _ (left_before_in_ledger orders past p k) 0 t)
+  | inr f ↦ let none : cond (rests_before_in_ledger orders past p k) (left_before_in_ledger orders past p k) 0 ≡ 0 = cond-false _ (left_before_in_ledger orders past p k) 0 f in absurd (omega arith)
 ]
 
-pub resting_left-is : (orders : List Order) (past : ℕ → ℕ → ℕ) (p k : ℕ) → rests_before_by_past orders past p k ≡ true → (resting_left_before orders past p k ≡ left_before_by_past orders past p k) × (0 < resting_left_before orders past p k)
+pub resting_left-is : (orders : List Order) (past : ℕ → ℕ → ℕ) (p k : ℕ) → rests_before_in_ledger orders past p k ≡ true → (resting_left_before orders past p k ≡ left_before_in_ledger orders past p k) × (0 < resting_left_before orders past p k)
 unfolding resting_left_before
 resting_left-is orders past p k t =
-    let e : cond (rests_before_by_past orders past p k) (left_before_by_past orders past p k) 0 ≡ left_before_by_past orders past p k = cond-true _ (left_before_by_past orders past p k) 0 t in
+    let e : cond (rests_before_in_ledger orders past p k) (left_before_in_ledger orders past p k) 0 ≡ left_before_in_ledger orders past p k = cond-true _ (left_before_in_ledger orders past p k) 0 t in
     let more = (rests-parts orders past p k t).has_left in
     (e, omega arith)
 
-pub resting_left-none : (orders : List Order) (past : ℕ → ℕ → ℕ) (p k : ℕ) → rests_before_by_past orders past p k ≡ false → resting_left_before orders past p k ≡ 0
+pub resting_left-none : (orders : List Order) (past : ℕ → ℕ → ℕ) (p k : ℕ) → rests_before_in_ledger orders past p k ≡ false → resting_left_before orders past p k ≡ 0
 unfolding resting_left_before
-resting_left-none orders past p k f = cond-false _ (left_before_by_past orders past p k) 0 f
+resting_left-none orders past p k f = cond-false _ (left_before_in_ledger orders past p k) 0 f
 
 pub resting_left-future : (orders : List Order) (past : ℕ → ℕ → ℕ) (p k : ℕ) → p ≤ place_at orders k → resting_left_before orders past p k ≡ 0
-resting_left-future orders past p k later = elim (cases_Bool (rests_before_by_past orders past p k)) [
+resting_left-future orders past p k later = elim (cases_Bool (rests_before_in_ledger orders past p k)) [
   | inr f ↦ resting_left-none orders past p k f
   | inl t ↦ let l = (rests-parts orders past p k t).earlier in absurd (omega arith)
 ]
@@ -53,10 +53,10 @@ older true true true true s a t h = grind (arith, nat_tests)
 -- from p to q, where an older order trades t
 pub resting_left-older : (orders : List Order) (past : ℕ → ℕ → ℕ) (p q k t : ℕ) → p ≤ q → place_at orders k < p → past q k ≡ past p k + t
     → resting_left_before orders past q k ≡ cond (uncancelled_before (order_at orders k).cancelled q) (resting_left_before orders past p k - t) 0
-unfolding resting_left_before rests_before_by_past size_by_past
+unfolding resting_left_before rests_before_in_ledger size_in_ledger
 resting_left-older orders past p q k t le earlier e =
     let o = order_at orders k in
-    let s = size_by_past orders past k in
+    let s = size_in_ledger orders past k in
     let now : nat_lt o.place p ≡ true = lt-ltb o.place p earlier in
     let then_on : nat_lt o.place q ≡ true = lt-ltb o.place q (omega arith) in
     rw (now, then_on, e) (older (may_rest o.life) true (uncancelled_before o.cancelled p) (uncancelled_before o.cancelled q) s (past p k) t (uncancelled-back o.cancelled p q le))
@@ -68,12 +68,12 @@ newest true true s t = grind (arith, nat_tests)
 
 -- at q, of the order of an earlier place that has traded nothing before
 pub resting_left-newest : (orders : List Order) (past : ℕ → ℕ → ℕ) (q n t : ℕ) → place_at orders n < q → past q n ≡ t
-    → resting_left_before orders past q n ≡ cond (may_rest (order_at orders n).life && uncancelled_before (order_at orders n).cancelled q) (size_by_past orders past n - t) 0
-unfolding resting_left_before rests_before_by_past size_by_past
+    → resting_left_before orders past q n ≡ cond (may_rest (order_at orders n).life && uncancelled_before (order_at orders n).cancelled q) (size_in_ledger orders past n - t) 0
+unfolding resting_left_before rests_before_in_ledger size_in_ledger
 resting_left-newest orders past q n t earlier e =
     let o = order_at orders n in
     let now : nat_lt o.place q ≡ true = lt-ltb o.place q earlier in
-    rw (now, e) (newest (may_rest o.life) (uncancelled_before o.cancelled q) (size_by_past orders past n) t)
+    rw (now, e) (newest (may_rest o.life) (uncancelled_before o.cancelled q) (size_in_ledger orders past n) t)
 
 -- where no deal has a cause from p on and below q, nothing is traded in between
 pub traded-gap : (orders : List Order) (deals : List Deal) (p q k : ℕ) → p ≤ q → All (λ d. cause orders d < p ⊎ q ≤ cause orders d) deals → traded_before orders deals q k ≡ traded_before orders deals p k

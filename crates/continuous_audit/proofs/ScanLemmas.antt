@@ -15,7 +15,7 @@ use Rattle.audit_base.specs.declared.terms.Side.TheVariants.{Buy, Sell}
 use Rattle.audit_base.specs.Least.{least_answer, first_answer, only_if}
 use Rattle.audit_base.specs.Orders.{order_at, place_at, side_at, may_rest, IsOrderList}
 use Rattle.audit_base.specs.Deals.{is_price_within, names_order, deal_at, deal_past_end, quantity_traded_by, NamesOrders, IsDealList}
-use Rattle.audit_base.specs.Continuous.{cause, resting_order, incoming_order, traded_before, traded_at, has_entered, size_of_order, rests_before_by_past, size_by_past, uncancelled_before}
+use Rattle.audit_base.specs.Continuous.{cause, resting_order, incoming_order, traded_before, traded_at, has_entered, size_of_order, rests_before_in_ledger, size_in_ledger, uncancelled_before}
 use Rattle.audit_base.specs.CallOffences.{keeps_limits}
 use Rattle.audit_base.specs.Flaws.{IsEvidenceInside, finding_of}
 use Rattle.audit_base.specs.ContinuousOffences.{continuous_inactive_finding, continuous_limit_finding, size_finding, traded_upto, traded_shown_upto, conservation_finding}
@@ -43,11 +43,11 @@ wait-bools true false s a = refl
 wait-bools false true s a = refl
 wait-bools false false s a = refl
 
-pub waits-is : (orders : List Order) (past : ℕ → ℕ → ℕ) (p r left : ℕ) → place_at orders r < p → left ≡ size_by_past orders past r - past p r → by_deal.waits (order_at orders r) p left ≡ rests_before_by_past orders past p r
-unfolding rests_before_by_past size_by_past
+pub waits-is : (orders : List Order) (past : ℕ → ℕ → ℕ) (p r left : ℕ) → place_at orders r < p → left ≡ size_in_ledger orders past r - past p r → by_deal.waits (order_at orders r) p left ≡ rests_before_in_ledger orders past p r
+unfolding rests_before_in_ledger size_in_ledger
 waits-is orders past p r left earlier e =
     let now : nat_lt (place_at orders r) p ≡ true = lt-ltb _ _ earlier in
-    rw (e, now) (wait-bools (may_rest (order_at orders r).life) (uncancelled_before (order_at orders r).cancelled p) (size_by_past orders past r) (past p r))
+    rw (e, now) (wait-bools (may_rest (order_at orders r).life) (uncancelled_before (order_at orders r).cancelled p) (size_in_ledger orders past r) (past p r))
 
 -- the first property that a deal does not keep, and its finding
 abbrev first_broken : TradedOrder → TradedOrder → TradedOrder → TradedOrder → Bool → Bool → Bool → Bool → Bool → Option Evidence
@@ -104,13 +104,13 @@ module _ (orders : List Order) (list : IsOrderList orders) (deals : List Deal) (
   finding-is : (k : ℕ) → cause orders (deal_at deals k) ≡ p → conservation_finding orders deals p k
       ≡ option_map (finding_by (deal_at deals k)) (first_broken (order_with_shown (traded_shown_upto orders deals p k) (resting_order orders (deal_at deals k))) (order_with_shown (traded_shown_upto orders deals p k) (incoming_order orders (deal_at deals k)))
       (order_with_shown (traded_shown_upto orders deals p k) (deal_at deals k).bid) (order_with_shown (traded_shown_upto orders deals p k) (deal_at deals k).ask)
-      (rests_before_by_past orders past p (resting_order orders (deal_at deals k))) (has_entered orders deals (incoming_order orders (deal_at deals k))) (keeps_limits orders (deal_at deals k))
+      (rests_before_in_ledger orders past p (resting_order orders (deal_at deals k))) (has_entered orders deals (incoming_order orders (deal_at deals k))) (keeps_limits orders (deal_at deals k))
       (nat_lt (size_of_order orders deals (deal_at deals k).bid) (traded_upto orders deals p k (deal_at deals k).bid)) (nat_lt (size_of_order orders deals (deal_at deals k).ask) (traded_upto orders deals p k (deal_at deals k).ask)))
   unfolding continuous_inactive_finding continuous_limit_finding size_finding
   finding-is k at = cond-true (cause orders (deal_at deals k) == p) _ None (eq-eqb _ _ at)
       ∙ first-broken (finding_by (deal_at deals k)) (order_with_shown (traded_shown_upto orders deals p k) (resting_order orders (deal_at deals k))) (order_with_shown (traded_shown_upto orders deals p k) (incoming_order orders (deal_at deals k)))
       (order_with_shown (traded_shown_upto orders deals p k) (deal_at deals k).bid) (order_with_shown (traded_shown_upto orders deals p k) (deal_at deals k).ask)
-      (rests_before_by_past orders past p (resting_order orders (deal_at deals k))) (has_entered orders deals (incoming_order orders (deal_at deals k))) (keeps_limits orders (deal_at deals k))
+      (rests_before_in_ledger orders past p (resting_order orders (deal_at deals k))) (has_entered orders deals (incoming_order orders (deal_at deals k))) (keeps_limits orders (deal_at deals k))
       (nat_lt (size_of_order orders deals (deal_at deals k).bid) (traded_upto orders deals p k (deal_at deals k).bid)) (nat_lt (size_of_order orders deals (deal_at deals k).ask) (traded_upto orders deals p k (deal_at deals k).ask))
 
   module _ (entered : Bool) (sheet : Sheet) (known : IsKnownBeforeDeals orders deals n entered sheet) (at : ℕ) (lt : at < length causes) (of : cause_order_at causes at ≡ n) where
@@ -150,7 +150,7 @@ module _ (orders : List Order) (list : IsOrderList orders) (deals : List Deal) (
     accounts bt at' = record { bid = by_deal.account_of sheet d.bid bt; ask = by_deal.account_of sheet d.ask at' }
 
     -- whether its resting order rests
-    waits-here : (bt at' : ℕ) → by_deal.resting_waits (order_at orders d.bid) (order_at orders d.ask) p (accounts bt at') ≡ rests_before_by_past orders past p (resting_order orders d)
+    waits-here : (bt at' : ℕ) → by_deal.resting_waits (order_at orders d.bid) (order_at orders d.ask) p (accounts bt at') ≡ rests_before_in_ledger orders past p (resting_order orders d)
     waits-here bt at' =
         let e = ends orders list deals deal_list.named n n_inside d named_here cause_here in
         elim (cases_lt (place_at orders d.bid) (place_at orders d.ask)) [
@@ -158,12 +158,12 @@ module _ (orders : List Order) (list : IsOrderList orders) (deals : List Deal) (
               let t : nat_lt (place_at orders d.bid) (place_at orders d.ask) ≡ true = lt-ltb _ _ less in
               let r_is : d.bid ≡ resting_order orders d = sym (cond-true _ d.bid d.ask t) in
               let earlier : place_at orders d.bid < p = omega (arith, cause_here) in
-              cond-true _ _ _ t ∙ waits-is orders past p d.bid (number_in sheet.left.items d.bid) earlier (known.left.is d.bid (below-n d.bid named_here.bid_inside earlier)) ∙ ap (rests_before_by_past orders past p) r_is
+              cond-true _ _ _ t ∙ waits-is orders past p d.bid (number_in sheet.left.items d.bid) earlier (known.left.is d.bid (below-n d.bid named_here.bid_inside earlier)) ∙ ap (rests_before_in_ledger orders past p) r_is
           | inr le ↦
               let f : nat_lt (place_at orders d.bid) (place_at orders d.ask) ≡ false = le-ltb _ _ le in
               let r_is : d.ask ≡ resting_order orders d = sym (cond-false _ d.bid d.ask f) in
               let earlier : place_at orders d.ask < p = subst (λ x. place_at orders x < p) (sym (r_is ∙ e.1.resting_is)) e.1.earlier in
-              cond-false _ _ _ f ∙ waits-is orders past p d.ask (number_in sheet.left.items d.ask) earlier (known.left.is d.ask (below-n d.ask named_here.ask_inside earlier)) ∙ ap (rests_before_by_past orders past p) r_is
+              cond-false _ _ _ f ∙ waits-is orders past p d.ask (number_in sheet.left.items d.ask) earlier (known.left.is d.ask (below-n d.ask named_here.ask_inside earlier)) ∙ ap (rests_before_in_ledger orders past p) r_is
         ]
 
     checked : (bt at' : ℕ) → bt ≡ running_total deals causes (at + 1) d.bid → at' ≡ running_total deals causes (at + 1) d.ask

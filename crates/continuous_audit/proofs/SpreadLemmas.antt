@@ -13,7 +13,7 @@ use Rattle.audit_base.specs.Least.{any_below}
 use Rattle.audit_base.specs.Orders.{order_at, side_at, limit_at, place_at, same_side, other_side, IsOrderList}
 use Rattle.audit_base.specs.Priority.{better, outranks, Better, best_order}
 use Rattle.audit_base.specs.Expected.{limits_meet}
-use Rattle.audit_base.specs.Continuous.{traded_before, uncancelled_before, rests_before_by_past, left_before_by_past, active_after_by_past}
+use Rattle.audit_base.specs.Continuous.{traded_before, uncancelled_before, rests_before_in_ledger, left_before_in_ledger, active_after_in_ledger}
 use Rattle.audit_base.specs.ContinuousOffences.{active_after_on_side, active_orders_meet, spread_finding, traded_shown_after}
 use Rattle.audit_base.specs.Shows.{finding_at_record, show_if_found}
 use Rattle.audit_base.proofs.SumLemmas.{AllPairs-head, Contains-cases}
@@ -24,7 +24,7 @@ use Rattle.audit_base.proofs.PriorityLemmas.{better-outranks, bid-outranks, ask-
 use Rattle.audit_base.proofs.ContinuousOffenceLemmas.{traded-more}
 use Rattle.order_book.specs.declared.books.Resting.{Resting}
 use Rattle.order_book.specs.Books.{IsAheadInBook, best_resting}
-use Rattle.continuous_audit.specs.Holding.{IsListOfAmounts, AreApartBefore, IsRestingOn, ask_of_two, bid_of_two, is_active_after_own, meets_first, resting_left_before, resting_with_amount}
+use Rattle.continuous_audit.specs.Holding.{IsListOfAmounts, IsUncrossedBefore, IsRestingOn, ask_of_two, bid_of_two, is_active_after_own, meets_first, resting_left_before, resting_with_amount}
 use Rattle.continuous_laws.proofs.StepLemmas.{rests-parts}
 use Rattle.continuous_laws.proofs.ExistLemmas.{rests-from}
 use Rattle.continuous_audit.proofs.RestLemmas.{resting_left-parts, resting_left-is, uncancelled-back}
@@ -50,12 +50,12 @@ meets-twice Buy a b m = m
 meets-twice Sell a b m = m
 
 -- an active order is at the place or before it
-pub active-place : (orders : List Order) (deals : List Deal) (i x : ℕ) → active_after_by_past orders (traded_before orders deals) i x ≡ true → place_at orders x ≤ i
-unfolding active_after_by_past
-active-place orders deals i x t = elim (or_cases (rests_before_by_past orders (traded_before orders deals) (suc i) x) ((place_at orders x == i) && uncancelled_before (order_at orders x).cancelled (suc i) && nat_lt 0 (left_before_by_past orders (traded_before orders deals) (suc i) x)) t) [
+pub active-place : (orders : List Order) (deals : List Deal) (i x : ℕ) → active_after_in_ledger orders (traded_before orders deals) i x ≡ true → place_at orders x ≤ i
+unfolding active_after_in_ledger
+active-place orders deals i x t = elim (or_cases (rests_before_in_ledger orders (traded_before orders deals) (suc i) x) ((place_at orders x == i) && uncancelled_before (order_at orders x).cancelled (suc i) && nat_lt 0 (left_before_in_ledger orders (traded_before orders deals) (suc i) x)) t) [
   | inl r ↦ let at = (rests-parts orders (traded_before orders deals) (suc i) x r).earlier in omega arith
   | inr here ↦
-      let outer = and_parts ((place_at orders x == i) && uncancelled_before (order_at orders x).cancelled (suc i)) (nat_lt 0 (left_before_by_past orders (traded_before orders deals) (suc i) x)) here in
+      let outer = and_parts ((place_at orders x == i) && uncancelled_before (order_at orders x).cancelled (suc i)) (nat_lt 0 (left_before_in_ledger orders (traded_before orders deals) (suc i) x)) here in
       let inner = and_parts (place_at orders x == i) (uncancelled_before (order_at orders x).cancelled (suc i)) outer.0 in
       let e : place_at orders x ≡ i = eqb-true _ _ inner.0 in
       omega arith
@@ -71,8 +71,8 @@ module _ (orders : List Order) (list : IsOrderList orders) (deals : List Deal) (
     pub ask_inside : a < length orders
     pub buys : side_at orders b ≡ Buy
     pub sells : side_at orders a ≡ Sell
-    pub bid_active : active_after_by_past orders past p b ≡ true
-    pub ask_active : active_after_by_past orders past p a ≡ true
+    pub bid_active : active_after_in_ledger orders past p b ≡ true
+    pub ask_active : active_after_in_ledger orders past p a ≡ true
     pub meet : limit_at orders a ≤ limit_at orders b
 
   crossing-found : active_orders_meet orders deals p ≡ true → (b : ℕ) × (a : ℕ) × Crossing b a
@@ -84,8 +84,8 @@ module _ (orders : List Order) (list : IsOrderList orders) (deals : List Deal) (
       let a = cell.0 in
       let outer = and_parts (active_after_on_side orders deals p Buy b && active_after_on_side orders deals p Sell a) (nat_le (limit_at orders a) (limit_at orders b)) cell.2 in
       let both = and_parts (active_after_on_side orders deals p Buy b) (active_after_on_side orders deals p Sell a) outer.0 in
-      let on_b = and_parts (same_side Buy (side_at orders b)) (active_after_by_past orders past p b) both.0 in
-      let on_a = and_parts (same_side Sell (side_at orders a)) (active_after_by_past orders past p a) both.1 in (
+      let on_b = and_parts (same_side Buy (side_at orders b)) (active_after_in_ledger orders past p b) both.0 in
+      let on_a = and_parts (same_side Sell (side_at orders a)) (active_after_in_ledger orders past p a) both.1 in (
         b,
         a,
         record {
@@ -106,36 +106,36 @@ module _ (orders : List Order) (list : IsOrderList orders) (deals : List Deal) (
       (any-at (λ a. active_after_on_side orders deals p Buy b && active_after_on_side orders deals p Sell a && nat_le (limit_at orders a) (limit_at orders b)) (length orders) a c.ask_inside
       (and_from _ _ (and_from _ _ (and_from _ _ (is-same_side Buy _ (sym c.buys)) c.bid_active) (and_from _ _ (is-same_side Sell _ (sym c.sells)) c.ask_active)) (le-leb _ _ c.meet)))
 
-  rests-active : (x : ℕ) → rests_before_by_past orders past (suc p) x ≡ true → active_after_by_past orders past p x ≡ true
-  unfolding active_after_by_past
+  rests-active : (x : ℕ) → rests_before_in_ledger orders past (suc p) x ≡ true → active_after_in_ledger orders past p x ≡ true
+  unfolding active_after_in_ledger
   rests-active x t = or_left _ _ t
 
   module _ (n : ℕ) (n_inside : n < length orders) (n_place : place_at orders n ≡ p) where
-    active-now : is_active_after_own orders past n ≡ true → active_after_by_past orders past p n ≡ true
-    unfolding active_after_by_past
+    active-now : is_active_after_own orders past n ≡ true → active_after_in_ledger orders past p n ≡ true
+    unfolding active_after_in_ledger
     active-now t =
-        let parts = and_parts (uncancelled_before (order_at orders n).cancelled (suc (place_at orders n))) (nat_lt 0 (left_before_by_past orders past (suc (place_at orders n)) n)) t in
-        or_right (rests_before_by_past orders past (suc p) n) _ (and_from _ _ (and_from _ _ (eq-eqb _ _ n_place) (subst (λ q. uncancelled_before (order_at orders n).cancelled (suc q) ≡ true) n_place parts.0))
-        (subst (λ q. nat_lt 0 (left_before_by_past orders past (suc q) n) ≡ true) n_place parts.1))
+        let parts = and_parts (uncancelled_before (order_at orders n).cancelled (suc (place_at orders n))) (nat_lt 0 (left_before_in_ledger orders past (suc (place_at orders n)) n)) t in
+        or_right (rests_before_in_ledger orders past (suc p) n) _ (and_from _ _ (and_from _ _ (eq-eqb _ _ n_place) (subst (λ q. uncancelled_before (order_at orders n).cancelled (suc q) ≡ true) n_place parts.0))
+        (subst (λ q. nat_lt 0 (left_before_in_ledger orders past (suc q) n) ≡ true) n_place parts.1))
 
-    now-active : active_after_by_past orders past p n ≡ true → is_active_after_own orders past n ≡ true
-    unfolding active_after_by_past
-    now-active t = elim (or_cases (rests_before_by_past orders past (suc p) n) ((place_at orders n == p) && uncancelled_before (order_at orders n).cancelled (suc p) && nat_lt 0 (left_before_by_past orders past (suc p) n)) t) [
+    now-active : active_after_in_ledger orders past p n ≡ true → is_active_after_own orders past n ≡ true
+    unfolding active_after_in_ledger
+    now-active t = elim (or_cases (rests_before_in_ledger orders past (suc p) n) ((place_at orders n == p) && uncancelled_before (order_at orders n).cancelled (suc p) && nat_lt 0 (left_before_in_ledger orders past (suc p) n)) t) [
       | inl r ↦
           let at = rests-parts orders past (suc p) n r in
           let more = at.has_left in
           and_from _ _ (subst (λ q. uncancelled_before (order_at orders n).cancelled (suc q) ≡ true) (sym n_place) at.stands_yet)
-          (subst (λ q. nat_lt 0 (left_before_by_past orders past (suc q) n) ≡ true) (sym n_place) (lt-ltb 0 (left_before_by_past orders past (suc p) n) (omega arith)))
+          (subst (λ q. nat_lt 0 (left_before_in_ledger orders past (suc q) n) ≡ true) (sym n_place) (lt-ltb 0 (left_before_in_ledger orders past (suc p) n) (omega arith)))
       | inr here ↦
-          let outer = and_parts ((place_at orders n == p) && uncancelled_before (order_at orders n).cancelled (suc p)) (nat_lt 0 (left_before_by_past orders past (suc p) n)) here in
+          let outer = and_parts ((place_at orders n == p) && uncancelled_before (order_at orders n).cancelled (suc p)) (nat_lt 0 (left_before_in_ledger orders past (suc p) n)) here in
           let inner = and_parts (place_at orders n == p) (uncancelled_before (order_at orders n).cancelled (suc p)) outer.0 in
-          and_from _ _ (subst (λ q. uncancelled_before (order_at orders n).cancelled (suc q) ≡ true) (sym n_place) inner.1) (subst (λ q. nat_lt 0 (left_before_by_past orders past (suc q) n) ≡ true) (sym n_place) outer.1)
+          and_from _ _ (subst (λ q. uncancelled_before (order_at orders n).cancelled (suc q) ≡ true) (sym n_place) inner.1) (subst (λ q. nat_lt 0 (left_before_in_ledger orders past (suc q) n) ≡ true) (sym n_place) outer.1)
     ]
 
     -- any other active order rests, before the record and after it
-    others-rest : (x : ℕ) → x < length orders → x ≢ n → active_after_by_past orders past p x ≡ true → (rests_before_by_past orders past (suc p) x ≡ true) × (rests_before_by_past orders past p x ≡ true)
-    unfolding active_after_by_past
-    others-rest x lt ne t = elim (or_cases (rests_before_by_past orders past (suc p) x) ((place_at orders x == p) && uncancelled_before (order_at orders x).cancelled (suc p) && nat_lt 0 (left_before_by_past orders past (suc p) x)) t) [
+    others-rest : (x : ℕ) → x < length orders → x ≢ n → active_after_in_ledger orders past p x ≡ true → (rests_before_in_ledger orders past (suc p) x ≡ true) × (rests_before_in_ledger orders past p x ≡ true)
+    unfolding active_after_in_ledger
+    others-rest x lt ne t = elim (or_cases (rests_before_in_ledger orders past (suc p) x) ((place_at orders x == p) && uncancelled_before (order_at orders x).cancelled (suc p) && nat_lt 0 (left_before_in_ledger orders past (suc p) x)) t) [
       | inl r ↦
           let at = rests-parts orders past (suc p) x r in
           let away : place_at orders x ≢ p = λ e. ne (same_place orders list x n lt n_inside (e ∙ sym n_place)) in
@@ -150,14 +150,14 @@ module _ (orders : List Order) (list : IsOrderList orders) (deals : List Deal) (
             }),
           )
       | inr here ↦
-          let outer = and_parts ((place_at orders x == p) && uncancelled_before (order_at orders x).cancelled (suc p)) (nat_lt 0 (left_before_by_past orders past (suc p) x)) here in
+          let outer = and_parts ((place_at orders x == p) && uncancelled_before (order_at orders x).cancelled (suc p)) (nat_lt 0 (left_before_in_ledger orders past (suc p) x)) here in
           let inner = and_parts (place_at orders x == p) (uncancelled_before (order_at orders x).cancelled (suc p)) outer.0 in
           absurd (ne (same_place orders list x n lt n_inside (eqb-true _ _ inner.0 ∙ sym n_place)))
     ]
 
-    module _ (apart : AreApartBefore orders past p) where
+    module _ (apart : IsUncrossedBefore orders past p) where
       -- orders of both sides that meet and are active: one is that of the record
-      rest-apart : (x y : ℕ) (s : Side) → x < length orders → y < length orders → side_at orders x ≡ s → side_at orders y ≡ other_side s → rests_before_by_past orders past p x ≡ true → rests_before_by_past orders past p y ≡ true
+      rest-apart : (x y : ℕ) (s : Side) → x < length orders → y < length orders → side_at orders x ≡ s → side_at orders y ≡ other_side s → rests_before_in_ledger orders past p x ≡ true → rests_before_in_ledger orders past p y ≡ true
           → limits_meet s (limit_at orders x) (limit_at orders y) ≡ true → ⊥
       rest-apart x y Buy hx hy sx sy rx ry m = let lt = apart x y hx hy sx sy rx ry in let le = leb-true (limit_at orders y) (limit_at orders x) m in omega arith
       rest-apart x y Sell hx hy sx sy rx ry m = let lt = apart y x hy hx sy sx ry rx in let le = leb-true (limit_at orders x) (limit_at orders y) m in omega arith
@@ -168,8 +168,8 @@ module _ (orders : List Order) (list : IsOrderList orders) (deals : List Deal) (
         y_inside : y < length orders
         x_side : side_at orders x ≡ s
         y_side : side_at orders y ≡ other_side s
-        x_active : active_after_by_past orders past p x ≡ true
-        y_active : active_after_by_past orders past p y ≡ true
+        x_active : active_after_in_ledger orders past p x ≡ true
+        y_active : active_after_in_ledger orders past p y ≡ true
         meet : limits_meet s (limit_at orders x) (limit_at orders y) ≡ true
 
       to-met : (s : Side) (b a : ℕ) → Crossing b a → Met s (bid_of_two s b a) (ask_of_two s b a)
@@ -188,7 +188,7 @@ module _ (orders : List Order) (list : IsOrderList orders) (deals : List Deal) (
         other-apart y of e = side-other s (sym n_side ∙ sym (ap (side_at orders) e) ∙ of)
 
         -- of two that meet, the one of the side of the record is its order
-        met-here : (x y : ℕ) → Met s x y → (x ≡ n) × (rests_before_by_past orders past (suc p) y ≡ true)
+        met-here : (x y : ℕ) → Met s x y → (x ≡ n) × (rests_before_in_ledger orders past (suc p) y ≡ true)
         met-here x y m =
             let y_rests = others-rest y m.y_inside (other-apart y m.y_side) m.y_active in
             elim (cases_eq x n) [
@@ -201,8 +201,8 @@ module _ (orders : List Order) (list : IsOrderList orders) (deals : List Deal) (
           inside : h.index < length orders
           of_side : side_at orders h.index ≡ other_side s
           limit_is : h.limit ≡ limit_at orders h.index
-          rests_on : rests_before_by_past orders past (suc p) h.index ≡ true
-          others : (y : ℕ) → y < length orders → side_at orders y ≡ other_side s → rests_before_by_past orders past (suc p) y ≡ true → y ≢ h.index → Better orders h.index y
+          rests_on : rests_before_in_ledger orders past (suc p) h.index ≡ true
+          others : (y : ℕ) → y < length orders → side_at orders y ≡ other_side s → rests_before_in_ledger orders past (suc p) y ≡ true → y ≢ h.index → Better orders h.index y
 
         first-is : (h : Resting) (zs : List Resting) → IsListOfAmounts orders (other_side s) amount (h ∷ zs) → IsFirst h
         first-is h zs held =
@@ -222,7 +222,7 @@ module _ (orders : List Order) (list : IsOrderList orders) (deals : List Deal) (
                   ];
             }
 
-        first-of : (zs : List Resting) → ys ≡ zs → (y : ℕ) → y < length orders → side_at orders y ≡ other_side s → rests_before_by_past orders past (suc p) y ≡ true → limits_meet s (limit_at orders n) (limit_at orders y) ≡ true
+        first-of : (zs : List Resting) → ys ≡ zs → (y : ℕ) → y < length orders → side_at orders y ≡ other_side s → rests_before_in_ledger orders past (suc p) y ≡ true → limits_meet s (limit_at orders n) (limit_at orders y) ≡ true
             → meets_first s (limit_at orders n) (best_resting zs) ≡ true
         first-of [] e y inside of r m =
             let held : IsListOfAmounts orders (other_side s) amount [] = subst (IsListOfAmounts orders (other_side s) amount) e holds in
@@ -253,8 +253,8 @@ module _ (orders : List Order) (list : IsOrderList orders) (deals : List Deal) (
             meet = subst (λ l. limits_meet s (limit_at orders n) l ≡ true) f.limit_is m;
           }
 
-          on-side : (side : Side) (x : ℕ) → active_after_on_side orders deals p side x ≡ true → (side_at orders x ≡ side) × (active_after_by_past orders past p x ≡ true)
-          on-side side x u = let parts = and_parts (same_side side (side_at orders x)) (active_after_by_past orders past p x) u in (same_side-is side _ parts.0, parts.1)
+          on-side : (side : Side) (x : ℕ) → active_after_on_side orders deals p side x ≡ true → (side_at orders x ≡ side) × (active_after_in_ledger orders past p x ≡ true)
+          on-side side x u = let parts = and_parts (same_side side (side_at orders x)) (active_after_in_ledger orders past p x) u in (same_side-is side _ parts.0, parts.1)
 
           best-own : best_order orders (active_after_on_side orders deals p s) ≡ Some n
           best-own = is-best orders list (active_after_on_side orders deals p s) s (λ x lt u. (on-side s x u).0) n (record {
@@ -296,7 +296,7 @@ module _ (orders : List Order) (list : IsOrderList orders) (deals : List Deal) (
           none-met : (x y : ℕ) → Met s x y → ⊥
           none-met x y m =
               let here = met-here x y m in
-              let t : is_active_after_own orders past n ≡ true = now-active (subst (λ k. active_after_by_past orders past p k ≡ true) here.0 m.x_active) in
+              let t : is_active_after_own orders past n ≡ true = now-active (subst (λ k. active_after_in_ledger orders past p k ≡ true) here.0 m.x_active) in
               let meet = first-of ys refl y m.y_inside m.y_side here.1 (subst (λ k. limits_meet s (limit_at orders k) (limit_at orders y) ≡ true) here.0 m.meet) in
               both_ways _ clear (and_from _ _ t meet)
 
@@ -304,7 +304,7 @@ module _ (orders : List Order) (list : IsOrderList orders) (deals : List Deal) (
           unfolding spread_finding
           spread-clear = none-only _ _ (false_from_ne_true _ (λ u. let c = crossing-found u in none-met (bid_of_two s c.0 c.1) (ask_of_two s c.0 c.1) (to-met s c.0 c.1 c.2)))
 
-          pub apart-after : AreApartBefore orders past (suc p)
+          pub apart-after : IsUncrossedBefore orders past (suc p)
           apart-after b a hb ha buys sells rb ra = elim (cases_lt (limit_at orders b) (limit_at orders a)) [
             | inl lt ↦ lt
             | inr le ↦ absurd (none-met (bid_of_two s b a) (ask_of_two s b a) (to-met s b a (record { bid_inside = hb; ask_inside = ha; buys = buys; sells = sells; bid_active = rests-active b rb; ask_active = rests-active a ra; meet = le })))

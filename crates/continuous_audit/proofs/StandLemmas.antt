@@ -22,8 +22,8 @@ use Rattle.audit_base.proofs.OrderLemmas.{side-other}
 use Rattle.order_book.specs.declared.books.Resting.{Resting}
 use Rattle.order_book.specs.Books.{best_resting}
 use Rattle.continuous_audit.specs.declared.books.Books.{Books}
-use Rattle.continuous_audit.specs.Books.{AreBooksOfAmounts, AreBooksBelow, books_with_order, book_list, rest_without_own}
-use Rattle.continuous_audit.specs.Holding.{IsListOfAmounts, AreApartBefore, ask_of_two, bid_of_two, is_active_after_own, meets_first, resting_left_before}
+use Rattle.continuous_audit.specs.Books.{AreBooksOfAmounts, AreBooksBelow, books_with_order, book_list, resting_left_without_own}
+use Rattle.continuous_audit.specs.Holding.{IsListOfAmounts, IsUncrossedBefore, ask_of_two, bid_of_two, is_active_after_own, meets_first, resting_left_before}
 use Rattle.continuous_audit.specs.Flaws.{spread_flaw_after, spread_evidence, order_with_shown}
 use Rattle.continuous_audit.specs.Spreads.{is_active_after_with, rests_after_with}
 use Rattle.continuous_audit.proofs.HoldLemmas.{hold-same}
@@ -31,7 +31,7 @@ use Rattle.continuous_audit.proofs.BooksLemmas.{side-holds, after-entry, no-entr
 use Rattle.continuous_audit.proofs.RecordLemmas.{resting_left-own}
 use Rattle.continuous_audit.proofs.SpreadLemmas.{spread-shown, spread-clear, apart-after}
 
-module _ (orders : List Order) (list : IsOrderList orders) (deals : List Deal) (n : ℕ) (n_inside : n < length orders) (b : Books) (hold : AreBooksOfAmounts orders (rest_without_own orders deals n) b) where
+module _ (orders : List Order) (list : IsOrderList orders) (deals : List Deal) (n : ℕ) (n_inside : n < length orders) (b : Books) (hold : AreBooksOfAmounts orders (resting_left_without_own orders deals n) b) where
   abbrev p : ℕ
   p = place_at orders n
 
@@ -45,11 +45,11 @@ module _ (orders : List Order) (list : IsOrderList orders) (deals : List Deal) (
   ys = book_list (other_side s) b
 
   other-holds : IsListOfAmounts orders (other_side s) (resting_left_before orders past (suc p)) ys
-  other-holds = hold-same orders (other_side s) (rest_without_own orders deals n) (resting_left_before orders past (suc p)) ys
+  other-holds = hold-same orders (other_side s) (resting_left_without_own orders deals n) (resting_left_before orders past (suc p)) ys
       (λ k lt of. sym (cond-false (k == n) 0 (resting_left_before orders past (suc p) k) (ne_eqb k n (λ e. side-other s (sym (ap (side_at orders) e) ∙ of)))))
-      (side-holds orders (rest_without_own orders deals n) (other_side s) b hold)
+      (side-holds orders (resting_left_without_own orders deals n) (other_side s) b hold)
 
-  module _ (apart : AreApartBefore orders past p) where
+  module _ (apart : IsUncrossedBefore orders past p) where
     clear-test : (is_active_after_own orders past n && meets_first s (limit_at orders n) (best_resting ys)) ≡ false → spread_finding orders deals p ≡ None
     clear-test f = spread-clear orders list deals p n n_inside refl apart s refl ys other-holds f
 
@@ -70,7 +70,7 @@ module _ (orders : List Order) (list : IsOrderList orders) (deals : List Deal) (
     shown-by Sell j = refl
 
     -- where there is no finding, none meet after the record
-    pub quiet-apart : spread_finding orders deals p ≡ None → AreApartBefore orders past (suc p)
+    pub quiet-apart : spread_finding orders deals p ≡ None → IsUncrossedBefore orders past (suc p)
     quiet-apart none = elim (cases_Bool (is_active_after_own orders past n && meets_first s (limit_at orders n) (best_resting ys))) [
       | inr f ↦ apart-after orders list deals p n n_inside refl apart s refl ys other-holds f
       | inl t ↦ let parts = and_parts (is_active_after_own orders past n) (meets_first s (limit_at orders n) (best_resting ys)) t in absurd (met ys refl parts.0 parts.1)
@@ -107,7 +107,7 @@ module _ (orders : List Order) (list : IsOrderList orders) (deals : List Deal) (
             let meet : limits_meet s (limit_at orders n) h.limit ≡ true = sym (λ i. limits_meet (own_is i).side (own_is i).limit h.limit) ∙ parts.1 in
             found-first ys h refl head-is now meet ∙ sym (ap Some (shown-by s h.index))
 
-module _ (orders : List Order) (list : IsOrderList orders) (deals : List Deal) (named : All (NamesOrders orders) deals) (n : ℕ) (n_inside : n < length orders) (b : Books) (hold : AreBooksOfAmounts orders (rest_without_own orders deals n) b)
+module _ (orders : List Order) (list : IsOrderList orders) (deals : List Deal) (named : All (NamesOrders orders) deals) (n : ℕ) (n_inside : n < length orders) (b : Books) (hold : AreBooksOfAmounts orders (resting_left_without_own orders deals n) b)
     (own : Order) (own_is : own ≡ order_at orders n) (l : ℕ) (l_is : l ≡ left_after orders deals (place_at orders n) n) where
   abbrev q : ℕ
   q = suc (place_at orders n)

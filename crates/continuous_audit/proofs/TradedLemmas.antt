@@ -9,7 +9,7 @@ use Rattle.audit_base.specs.declared.terms.Side.TheVariants.{Buy, Sell}
 use Rattle.audit_base.specs.declared.orders.Order.{Order}
 use Rattle.audit_base.specs.declared.orders.Deal.{Deal}
 use Rattle.audit_base.specs.Orders.{order_at, side_at, limit_at, place_at, other_side, IsOrderList}
-use Rattle.audit_base.specs.Continuous.{traded_before, before_quantity, size_by_past, size_of_order, left_before}
+use Rattle.audit_base.specs.Continuous.{traded_before, chain_traded_quantity, size_in_ledger, size_of_order, left_before}
 use Rattle.order_book.specs.declared.books.Resting.{Resting}
 use Rattle.continuous_audit.specs.declared.books.Books.{Books}
 use Rattle.continuous_audit.specs.declared.fills.Fill.{Fill}
@@ -18,9 +18,9 @@ use Rattle.continuous_audit.specs.declared.matching.TradesSoFar.{TradesSoFar}
 use Rattle.continuous_audit.specs.Books.{AreBooksOfAmounts, book_list, resting_count, books_with_list}
 use Rattle.continuous_audit.specs.Chains.{HasChainEnded, IsKnownBeforeOpening}
 use Rattle.continuous_audit.specs.Fills.{quantity_filled, fills_of, resting_after_fills, total_filled}
-use Rattle.continuous_audit.specs.Holding.{resting_left_before, resting_left_after}
+use Rattle.continuous_audit.specs.Holding.{resting_left_before, resting_left_after_deals}
 use Rattle.continuous_audit.specs.Matching.{AreFillsApplied, AreExpectedDeals, AreTradesSoFar, IsMatchedUnder}
-use Rattle.continuous_audit.specs.Pairs.{IsFillPairDealt, fill_pair}
+use Rattle.continuous_audit.specs.Pairs.{IsFillPairInRange, fill_pair}
 use Rattle.continuous_audit.specs.Scans.{number_in}
 use Rattle.continuous_audit.proofs.FilledLemmas.{filled-le, walk-count}
 use Rattle.continuous_audit.proofs.MatchLemmas.{set-at, set-other, set-length, traded-other, traded-own, books-after, pairs-after, fills-inside, fills-inside-any, fills-sized, opening-is}
@@ -53,7 +53,7 @@ module _ (orders : List Order) (list : IsOrderList orders) (n : ℕ) (n_inside :
   abbrev all_fills : List Fill
   all_fills = fills_of s (limit_at orders n) q (book_list (other_side s) old.standing.books)
 
-  module _ (deals : List Deal) (is : AreExpectedDeals orders deals) (old_is : IsMatchedUnder orders deals n p (resting_left_before orders (traded_before orders deals) p) old) (q_is : q ≡ size_of_order orders deals n) (b_is : b ≡ before_quantity orders deals n) where
+  module _ (deals : List Deal) (is : AreExpectedDeals orders deals) (old_is : IsMatchedUnder orders deals n p (resting_left_before orders (traded_before orders deals) p) old) (q_is : q ≡ size_of_order orders deals n) (b_is : b ≡ chain_traded_quantity orders deals n) where
     abbrev past : ℕ → ℕ → ℕ
     past = traded_before orders deals
 
@@ -78,39 +78,39 @@ module _ (orders : List Order) (list : IsOrderList orders) (n : ℕ) (n_inside :
           let long : n < length h.mid_left = let c = h.applied.left_count in let d = counted.sheet.left_count in omega arith in
           let sum = h.rest_is in
           let all : total_filled fills ≡ total_filled all_fills = ap total_filled h.fills_are in
-          set-at h.mid_left new.sheet.left.items n rest x long h.left e ∙ (let v : rest ≡ size_by_past orders past n - past (suc p) n = omega arith in v) ∙ ap (λ (k : ℕ). size_by_past orders past k - past (suc p) k) (sym e)
+          set-at h.mid_left new.sheet.left.items n rest x long h.left e ∙ (let v : rest ≡ size_in_ledger orders past n - past (suc p) n = omega arith in v) ∙ ap (λ (k : ℕ). size_in_ledger orders past k - past (suc p) k) (sym e)
       | inr ne ↦
           let less : x < n = omega (arith, ne) in
           let was = old_is.left_is x less in
           let more = traded-other orders list n n_inside deals is old.standing.books old_is.books q q_is x (omega arith) ne in
           let all : quantity_filled fills x ≡ quantity_filled all_fills x = ap (λ (fs : List Fill). quantity_filled fs x) h.fills_are in
           let taken = h.applied.left_is x in
-          set-other h.mid_left new.sheet.left.items n rest x h.left ne ∙ (let v : number_in h.mid_left x ≡ size_by_past orders past x - past (suc p) x = omega arith in v)
+          set-other h.mid_left new.sheet.left.items n rest x h.left ne ∙ (let v : number_in h.mid_left x ≡ size_in_ledger orders past x - past (suc p) x = omega arith in v)
     ]
 
-    before-now : (x : ℕ) → x < suc n → number_in new.sheet.before.items x ≡ before_quantity orders deals x
+    before-now : (x : ℕ) → x < suc n → number_in new.sheet.before.items x ≡ chain_traded_quantity orders deals x
     before-now x lt = elim (cases_eq x n) [
-      | inl e ↦ let long = counted.sheet.before_count in set-at old.sheet.before.items new.sheet.before.items n b x (omega arith) h.before e ∙ b_is ∙ ap (before_quantity orders deals) (sym e)
+      | inl e ↦ let long = counted.sheet.before_count in set-at old.sheet.before.items new.sheet.before.items n b x (omega arith) h.before e ∙ b_is ∙ ap (chain_traded_quantity orders deals) (sym e)
       | inr ne ↦ set-other old.sheet.before.items new.sheet.before.items n b x h.before ne ∙ old_is.before_is x (omega (arith, ne))
     ]
 
-    pub traded-matched : IsMatchedUnder orders deals (suc n) (suc p) (resting_left_after orders deals p) new
+    pub traded-matched : IsMatchedUnder orders deals (suc n) (suc p) (resting_left_after_deals orders deals p) new
     traded-matched = record {
       traded_is = traded-now;
       before_is = before-now;
       left_is = left-now;
-      books = subst (AreBooksOfAmounts orders (resting_left_after orders deals p)) (sym h.books) (books-after orders list n n_inside deals is old.standing.books old_is.books q q_is);
+      books = subst (AreBooksOfAmounts orders (resting_left_after_deals orders deals p)) (sym h.books) (books-after orders list n n_inside deals is old.standing.books old_is.books q q_is);
       pairs = pairs-after orders list n n_inside deals is old.standing.books old_is.books q q_is old.pairs.items new.pairs.items old_is.pairs (h.pairs ∙ ap (λ (fs : List Fill). old.pairs.items ++ map (fill_pair s n) fs) h.fills_are);
     }
 
-    dealt-new : q ≤ 10 ^ 12 → All (IsFillPairDealt (length orders)) (map (fill_pair s n) fills)
-    dealt-new fits = subst (λ (fs : List Fill). All (IsFillPairDealt (length orders)) (map (fill_pair s n) fs)) (sym h.fills_are)
-        (All-map (IsFillPairDealt (length orders)) (fill_pair s n) all_fills (λ k d lt.
+    dealt-new : q ≤ 10 ^ 12 → All (IsFillPairInRange (length orders)) (map (fill_pair s n) fills)
+    dealt-new fits = subst (λ (fs : List Fill). All (IsFillPairInRange (length orders)) (map (fill_pair s n) fs)) (sym h.fills_are)
+        (All-map (IsFillPairInRange (length orders)) (fill_pair s n) all_fills (λ k d lt.
         let sized = fills-sized orders list n n_inside deals is old.standing.books old_is.books q q_is k d lt in
         let most = sized.most in
         dealt-by s (get_or all_fills k d) (fills-inside orders list n n_inside deals is old.standing.books old_is.books q q_is k d lt) sized.some (omega arith)))
       where
-        dealt-by : (side : Side) (f : Fill) → f.index < length orders → 0 < f.quantity → f.quantity ≤ 10 ^ 12 → IsFillPairDealt (length orders) (fill_pair side n f)
+        dealt-by : (side : Side) (f : Fill) → f.index < length orders → 0 < f.quantity → f.quantity ≤ 10 ^ 12 → IsFillPairInRange (length orders) (fill_pair side n f)
         dealt-by Buy f lt some most = record { bid_inside = n_inside; ask_inside = lt; some = some; most = most }
         dealt-by Sell f lt some most = record { bid_inside = lt; ask_inside = n_inside; some = some; most = most }
 
@@ -139,7 +139,7 @@ module _ (orders : List Order) (list : IsOrderList orders) (n : ℕ) (n_inside :
                 let was = counted.traded_fits x in
                 omega (arith, filled-le fills x)
           ];
-          dealt = subst (All (IsFillPairDealt (length orders))) (sym h.pairs) (All-append (IsFillPairDealt (length orders)) old.pairs.items (map (fill_pair s n) fills) counted.dealt (dealt-new fits));
+          dealt = subst (All (IsFillPairInRange (length orders))) (sym h.pairs) (All-append (IsFillPairInRange (length orders)) old.pairs.items (map (fill_pair s n) fills) counted.dealt (dealt-new fits));
           few =
               let ys = book_list (other_side s) old.standing.books in
               let zs = resting_after_fills s (limit_at orders n) q ys in

@@ -6,13 +6,13 @@ use Rattle.audit_base.specs.declared.orders.Deal.{Deal}
 use Rattle.audit_base.specs.declared.findings.Finding.{Finding}
 use Rattle.audit_base.specs.Orders.{place_at, IsOrderList}
 use Rattle.audit_base.specs.Deals.{NamesOrders}
-use Rattle.audit_base.specs.Continuous.{traded_before, rests_before_by_past}
+use Rattle.audit_base.specs.Continuous.{traded_before, rests_before_in_ledger}
 use Rattle.audit_base.specs.ContinuousRules.{ConformsAt}
 use Rattle.audit_base.specs.ContinuousOffences.{finding_at_place, IsContinuousOffence}
 use Rattle.audit_base.proofs.OrderLemmas.{place-rises}
 use Rattle.audit_base.proofs.ContinuousOffenceLemmas.{no_fault-conforms}
-use Rattle.continuous_audit.specs.Holding.{AreApartBefore}
-use Rattle.continuous_audit.specs.Records.{ConformsAndIsApart}
+use Rattle.continuous_audit.specs.Holding.{IsUncrossedBefore}
+use Rattle.continuous_audit.specs.Records.{ConformsAndIsUncrossed}
 use Rattle.continuous_laws.proofs.StepLemmas.{rests-parts}
 use Rattle.continuous_laws.proofs.ExistLemmas.{rests-from}
 use Rattle.continuous_laws.proofs.PlaceLemmas.{traded-none}
@@ -21,11 +21,11 @@ use Rattle.continuous_audit.proofs.SpreadLemmas.{active-place}
 use Rattle.continuous_audit.proofs.RecordLemmas.{quiet-until, no-cause}
 
 -- a finding at the next place is the first offence
-pub offence : (orders : List Order) (deals : List Deal) (p : ℕ) (f : Finding) → ConformsAndIsApart orders deals p → finding_at_place orders deals p ≡ Some f → IsContinuousOffence orders deals f
+pub offence : (orders : List Order) (deals : List Deal) (p : ℕ) (f : Finding) → ConformsAndIsUncrossed orders deals p → finding_at_place orders deals p ≡ Some f → IsContinuousOffence orders deals f
 offence orders deals p f calm e = record { place = p; before = calm.conforms; here = e }
 
 -- before the first order
-pub calm-first : (orders : List Order) (deals : List Deal) (q : ℕ) → All (NamesOrders orders) deals → ((x : ℕ) → x < length orders → q ≤ place_at orders x) → ConformsAndIsApart orders deals q
+pub calm-first : (orders : List Order) (deals : List Deal) (q : ℕ) → All (NamesOrders orders) deals → ((x : ℕ) → x < length orders → q ≤ place_at orders x) → ConformsAndIsUncrossed orders deals q
 calm-first orders deals q named none = record {
   conforms = λ i lt. record {
     conservation = record {
@@ -44,10 +44,10 @@ module _ (orders : List Order) (list : IsOrderList orders) (deals : List Deal) (
   abbrev p : ℕ
   p = place_at orders n
 
-  pub here-conforms : ConformsAndIsApart orders deals p → finding_at_place orders deals p ≡ None → ConformsAt orders deals p
+  pub here-conforms : ConformsAndIsUncrossed orders deals p → finding_at_place orders deals p ≡ None → ConformsAt orders deals p
   here-conforms calm none = no_fault-conforms orders deals p calm.conforms none
 
-  pub calm-next : (q : ℕ) → suc p ≤ q → ((k : ℕ) → k < length orders → n < k → q ≤ place_at orders k) → ConformsAndIsApart orders deals p → finding_at_place orders deals p ≡ None → AreApartBefore orders (traded_before orders deals) (suc p) → ConformsAndIsApart orders deals q
+  pub calm-next : (q : ℕ) → suc p ≤ q → ((k : ℕ) → k < length orders → n < k → q ≤ place_at orders k) → ConformsAndIsUncrossed orders deals p → finding_at_place orders deals p ≡ None → IsUncrossedBefore orders (traded_before orders deals) (suc p) → ConformsAndIsUncrossed orders deals q
   calm-next q le next calm none apart = record {
     conforms = λ i lt. elim (cases_lt i p) [
       | inl earlier ↦ calm.conforms i earlier
@@ -56,7 +56,7 @@ module _ (orders : List Order) (list : IsOrderList orders) (deals : List Deal) (
     apart = λ b a hb ha sb sa rb ra. apart b a hb ha sb sa (back b hb rb) (back a ha ra);
   }
     where
-      back : (x : ℕ) → x < length orders → rests_before_by_past orders (traded_before orders deals) q x ≡ true → rests_before_by_past orders (traded_before orders deals) (suc p) x ≡ true
+      back : (x : ℕ) → x < length orders → rests_before_in_ledger orders (traded_before orders deals) q x ≡ true → rests_before_in_ledger orders (traded_before orders deals) (suc p) x ≡ true
       back x inside t =
           let at = rests-parts orders (traded_before orders deals) q x t in
           let earlier = at.earlier in

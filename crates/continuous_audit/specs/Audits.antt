@@ -25,14 +25,14 @@ pub record IsConformingContinuous (orders : List Order) (deals : List Deal)
       → OnlyPair rule.Continuous orders bid ask (pair deals bid ask)
 
 -- the deals don't conform, and this is the first offence
-pub record IsOffendingContinuous (orders : List Order) (deals : List Deal)
+pub record IsBrokenContinuous (orders : List Order) (deals : List Deal)
     (finding : Finding) : Type 0 where
   pub offence : IsContinuousOffence orders deals finding
   pub fails : ConformsContinuous orders deals → ⊥
 
 -- what the audit answers: that the deals conform, or their first offence
-abbrev pub IsAuditedContinuous : List Order → List Deal → Outcome → Type 0
-IsAuditedContinuous orders deals (outcome.Conforms reached) =
+abbrev pub IsContinuousOutcome : List Order → List Deal → Outcome → Type 0
+IsContinuousOutcome orders deals (outcome.Conforms reached) =
     IsConformingContinuous orders deals reached
-IsAuditedContinuous orders deals (outcome.Broken finding) =
-    IsOffendingContinuous orders deals finding
+IsContinuousOutcome orders deals (outcome.Broken finding) =
+    IsBrokenContinuous orders deals finding

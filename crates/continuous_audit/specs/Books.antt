@@ -10,7 +10,7 @@ use Rattle.order_book.specs.declared.books.Resting.{Resting}
 use Rattle.order_book.specs.Books.{without_order, with_order}
 use Rattle.continuous_audit.specs.declared.books.Books.{Books}
 use Rattle.continuous_audit.specs.declared.books.BooksSoFar.{BooksSoFar}
-use Rattle.continuous_audit.specs.Holding.{IsListOfAmounts, after_fills, resting_left_before, resting_left_after}
+use Rattle.continuous_audit.specs.Holding.{IsListOfAmounts, after_fills, resting_left_before, resting_left_after_deals}
 use Rattle.continuous_audit.specs.Scans.{number_in}
 
 -- the list of the book of a side
@@ -64,29 +64,30 @@ AreBooksBefore orders deals q b =
 -- both books hold what rests of the orders before that at n, after its deals
 abbrev pub AreBooksAfterDeals : List Order → List Deal → ℕ → Books → Type 0
 AreBooksAfterDeals orders deals n b = AreBooksOfAmounts orders
-    (resting_left_after orders deals (place_at orders n)) b
+    (resting_left_after_deals orders deals (place_at orders n)) b
 
 -- what rests after the record of the order at n, without this order
-abbrev pub rest_without_own : List Order → List Deal → ℕ → ℕ → ℕ
-rest_without_own orders deals n k = if k == n then 0
+abbrev pub resting_left_without_own : List Order → List Deal → ℕ → ℕ → ℕ
+resting_left_without_own orders deals n k = if k == n then 0
     else resting_left_before orders (traded_before orders deals) (suc (place_at orders n)) k
 
 abbrev pub AreBooksWithoutOwn : List Order → List Deal → ℕ → Books → Type 0
-AreBooksWithoutOwn orders deals n b = AreBooksOfAmounts orders (rest_without_own orders deals n) b
+AreBooksWithoutOwn orders deals n b =
+    AreBooksOfAmounts orders (resting_left_without_own orders deals n) b
 
 -- both books hold what rests after the record of the order at n
 abbrev pub AreBooksAfter : List Order → List Deal → ℕ → Books → Type 0
 AreBooksAfter orders deals n b = AreBooksBefore orders deals (suc (place_at orders n)) b
 
 -- where the order at n comes, or one past the last place if there is none
-abbrev pub ready_place : List Order → ℕ → ℕ
-ready_place orders zero = place_at orders 0
-ready_place orders (suc n) = if nat_lt (suc n) (length orders) then place_at orders (suc n)
+abbrev pub next_order_place : List Order → ℕ → ℕ
+next_order_place orders zero = place_at orders 0
+next_order_place orders (suc n) = if nat_lt (suc n) (length orders) then place_at orders (suc n)
     else suc (place_at orders n)
 
 -- both books hold what rests when the order at n comes
 abbrev pub AreBooksForNext : List Order → List Deal → ℕ → Books → Type 0
-AreBooksForNext orders deals n b = AreBooksBefore orders deals (ready_place orders n) b
+AreBooksForNext orders deals n b = AreBooksBefore orders deals (next_order_place orders n) b
 
 -- empty books, before the first order
 pub record AreEmptyBooks (standing : BooksSoFar) : Type 0 where

@@ -3,7 +3,7 @@ use Rattle.std.specs.Prelude.{◌≡◌, ◌<◌, ◌≤◌, ◌*◌, ◌^◌, �
 use Rattle.audit_base.specs.declared.orders.Order.{Order}
 use Rattle.audit_base.specs.declared.orders.Deal.{Deal}
 use Rattle.audit_base.specs.Orders.{order_at, place_at}
-use Rattle.audit_base.specs.Continuous.{chain, traded_before, before_quantity, left_before}
+use Rattle.audit_base.specs.Continuous.{chain, traded_before, chain_traded_quantity, left_before}
 use Rattle.audit_base.specs.Deals.{NamesOrders}
 use Rattle.audit_base.specs.ContinuousRules.{ConformsAt}
 use Rattle.continuous_audit.specs.declared.sheet.Sheet.{Sheet}
@@ -49,6 +49,7 @@ pub record IsKnownBeforeOpening (orders : List Order) (deals : List Deal) (n : �
   pub named : All (NamesOrders orders) deals
   pub traded_is : (x : ℕ) → x < length orders
       → number_in traded x ≡ traded_before orders deals (place_at orders n) x
-  pub before_is : (x : ℕ) → x < n → number_in sheet.before.items x ≡ before_quantity orders deals x
+  pub before_is : (x : ℕ) → x < n → number_in sheet.before.items x
+      ≡ chain_traded_quantity orders deals x
   pub left_is : (x : ℕ) → x < n
       → number_in sheet.left.items x ≡ left_before orders deals (place_at orders n) x

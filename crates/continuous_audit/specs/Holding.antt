@@ -5,7 +5,7 @@ use Rattle.audit_base.specs.declared.terms.Side.TheVariants.{Buy, Sell}
 use Rattle.audit_base.specs.declared.orders.Order.{Order}
 use Rattle.audit_base.specs.declared.orders.Deal.{Deal}
 use Rattle.audit_base.specs.Orders.{order_at, place_at, side_at, limit_at}
-use Rattle.audit_base.specs.Continuous.{traded_before, traded_at, rests_before_by_past, left_before_by_past, uncancelled_before}
+use Rattle.audit_base.specs.Continuous.{traded_before, traded_at, rests_before_in_ledger, left_before_in_ledger, uncancelled_before}
 use Rattle.audit_base.specs.Expected.{limits_meet}
 use Rattle.order_book.specs.declared.books.Resting.{Resting}
 use Rattle.order_book.specs.Books.{IsAheadInBook, best_resting}
@@ -37,8 +37,8 @@ pub record IsListOfAmounts (orders : List Order) (side : Side) (amount : ℕ →
 
 -- what rests of an order before place p: its Left where it rests, else nothing
 unfoldable pub resting_left_before : List Order → (ℕ → ℕ → ℕ) → ℕ → ℕ → ℕ
-resting_left_before orders past p i =
-    if rests_before_by_past orders past p i then left_before_by_past orders past p i else 0
+resting_left_before orders ledger p i =
+    if rests_before_in_ledger orders ledger p i then left_before_in_ledger orders ledger p i else 0
 
 -- with this much left of the first, which is taken out where this is nothing
 abbrev pub with_best_left : ℕ → List Resting → List Resting
@@ -57,18 +57,19 @@ pub record IsWithinBook (left : List ℕ) (r : Resting) : Type 0 where
   pub most : number_in left r.index ≤ r.left
 
 -- of the orders that rest before place p, no bid meets an ask
-abbrev pub AreApartBefore : List Order → (ℕ → ℕ → ℕ) → ℕ → Type 0
-AreApartBefore orders past p = (b a : ℕ) → b < length orders → a < length orders
+abbrev pub IsUncrossedBefore : List Order → (ℕ → ℕ → ℕ) → ℕ → Type 0
+IsUncrossedBefore orders ledger p = (b a : ℕ) → b < length orders → a < length orders
     → side_at orders b ≡ Buy → side_at orders a ≡ Sell
-    → rests_before_by_past orders past p b ≡ true → rests_before_by_past orders past p a ≡ true
+    → rests_before_in_ledger orders ledger p b ≡ true → rests_before_in_ledger orders ledger p a
+    ≡ true
     → limit_at orders b < limit_at orders a
 
 -- the order at n is active after its own record: no record up to it cancels it,
 -- and something is left
 abbrev pub is_active_after_own : List Order → (ℕ → ℕ → ℕ) → ℕ → Bool
-is_active_after_own orders past n =
+is_active_after_own orders ledger n =
     uncancelled_before (order_at orders n).cancelled (suc (place_at orders n))
-    && nat_lt 0 (left_before_by_past orders past (suc (place_at orders n)) n)
+    && nat_lt 0 (left_before_in_ledger orders ledger (suc (place_at orders n)) n)
 
 -- a limit of a side meets that of the first order of a book of the other side
 abbrev pub meets_first : Side → ℕ → Option Resting → Bool
@@ -93,6 +94,6 @@ pub record IsFilledInFront (orders : List Order) (side : Side) (before after : �
   pub first_now : (y : Resting) → best_resting ys ≡ Some y → amount y.index ≡ after y.index
 
 -- what rests of an order before place p, less what it trades in the deals of cause p
-abbrev pub resting_left_after : List Order → List Deal → ℕ → ℕ → ℕ
-resting_left_after orders deals p k =
+abbrev pub resting_left_after_deals : List Order → List Deal → ℕ → ℕ → ℕ
+resting_left_after_deals orders deals p k =
     resting_left_before orders (traded_before orders deals) p k - traded_at orders deals p k

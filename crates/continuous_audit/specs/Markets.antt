@@ -9,7 +9,7 @@ use Rattle.continuous_audit.specs.declared.market.Market.{Market}
 use Rattle.continuous_audit.specs.declared.scanning.RunningTotals.{RunningTotals}
 use Rattle.continuous_audit.specs.Causes.{AreCauses}
 use Rattle.continuous_audit.specs.Endings.{AreEndings}
-use Rattle.continuous_audit.specs.Holding.{IsFilledInFront, resting_left_before, resting_left_after}
+use Rattle.continuous_audit.specs.Holding.{IsFilledInFront, resting_left_before, resting_left_after_deals}
 use Rattle.continuous_audit.specs.Records.{ConformsBelow, conservation_at}
 use Rattle.continuous_audit.specs.Scans.{AreRunningTotals, IsLeftRefreshed, IsSplitAt, cause_deal_at}
 
@@ -59,4 +59,4 @@ abbrev pub IsFilledAgainst : Market → ℕ → List Resting → Type 0
 IsFilledAgainst m n ys = IsFilledInFront m.orders.now (other_side (side_at m.orders.now n))
     (resting_left_before m.orders.now (traded_before m.orders.now m.deals.now)
     (place_at m.orders.now n))
-    (resting_left_after m.orders.now m.deals.now (place_at m.orders.now n)) ys
+    (resting_left_after_deals m.orders.now m.deals.now (place_at m.orders.now n)) ys

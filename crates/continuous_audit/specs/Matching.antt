@@ -3,15 +3,15 @@ use Rattle.std.specs.Prelude.{◌≡◌, ◌<◌, ◌≤◌, ◌+◌, ◌-◌, �
 use Rattle.audit_base.specs.declared.orders.Order.{Order}
 use Rattle.audit_base.specs.declared.orders.Deal.{Deal}
 use Rattle.audit_base.specs.Orders.{place_at}
-use Rattle.audit_base.specs.Continuous.{traded_before, before_quantity, left_before}
+use Rattle.audit_base.specs.Continuous.{traded_before, chain_traded_quantity, left_before}
 use Rattle.audit_base.specs.ContinuousRules.{ConformsContinuous}
 use Rattle.audit_base.specs.Expected.{IsExpectedContinuous}
 use Rattle.continuous_audit.specs.declared.matching.TradesSoFar.{TradesSoFar}
-use Rattle.continuous_audit.specs.Holding.{resting_left_before, resting_left_after}
+use Rattle.continuous_audit.specs.Holding.{resting_left_before, resting_left_after_deals}
 use Rattle.continuous_audit.specs.Books.{AreEmptyBooks, AreBooksOfAmounts, resting_count}
 use Rattle.continuous_audit.specs.Chains.{IsOpenSheet}
 use Rattle.continuous_audit.specs.Fills.{quantity_filled}
-use Rattle.continuous_audit.specs.Pairs.{AreSharedPairs, IsFillPairDealt}
+use Rattle.continuous_audit.specs.Pairs.{AreSharedPairs, IsFillPairInRange}
 use Rattle.continuous_audit.specs.Scans.{number_in}
 use Rattle.continuous_audit.specs.Sheets.{IsBlankSheet}
 use Rattle.continuous_audit.specs.declared.fills.Fill.{Fill}
@@ -35,7 +35,7 @@ pub record AreTradesSoFar (orders : List Order) (n waiting : ℕ) (t : TradesSoF
   pub traded_count : length t.traded.items ≡ length orders
   pub sheet : IsOpenSheet orders n t.sheet
   pub traded_fits : (x : ℕ) → number_in t.traded.items x ≤ n * 10 ^ 12
-  pub dealt : All (IsFillPairDealt (length orders)) t.pairs.items
+  pub dealt : All (IsFillPairInRange (length orders)) t.pairs.items
   pub few : length t.pairs.items + resting_count t.standing.books + waiting ≤ n
 
 -- under these deals, of the first n orders before place q, where the books hold these amounts
@@ -43,7 +43,8 @@ pub record IsMatchedUnder (orders : List Order) (deals : List Deal) (n q : ℕ) 
     (t : TradesSoFar) : Type 0 where
   pub traded_is : (x : ℕ) → x < length orders
       → number_in t.traded.items x ≡ traded_before orders deals q x
-  pub before_is : (x : ℕ) → x < n → number_in t.sheet.before.items x ≡ before_quantity orders deals x
+  pub before_is : (x : ℕ) → x < n → number_in t.sheet.before.items x
+      ≡ chain_traded_quantity orders deals x
   pub left_is : (x : ℕ) → x < n → number_in t.sheet.left.items x ≡ left_before orders deals q x
   pub books : AreBooksOfAmounts orders amount t.standing.books
   pub pairs : AreSharedPairs orders deals n t.pairs.items
@@ -57,7 +58,7 @@ MatchedBefore orders n q t = (deals : List Deal) → AreExpectedDeals orders dea
 abbrev pub MatchedAfter : List Order → ℕ → TradesSoFar → Type 0
 MatchedAfter orders n t = (deals : List Deal) → AreExpectedDeals orders deals
     → IsMatchedUnder orders deals (suc n) (suc (place_at orders n))
-    (resting_left_after orders deals (place_at orders n)) t
+    (resting_left_after_deals orders deals (place_at orders n)) t
 
 -- before the first of this many orders
 pub record AreTradesAtStart (count : ℕ) (t : TradesSoFar) : Type 0 where

@@ -58,7 +58,7 @@ pub record AreSharedPairs (orders : List Order) (deals : List Deal) (n : ℕ)
   pub apart : AllPairs FillPairsDiffer pairs
 
 -- a pair of orders below a count, of a quantity that a deal may have
-pub record IsFillPairDealt (count : ℕ) (p : FillPair) : Type 0 where
+pub record IsFillPairInRange (count : ℕ) (p : FillPair) : Type 0 where
   pub bid_inside : p.bid < count
   pub ask_inside : p.ask < count
   pub some : 0 < p.quantity

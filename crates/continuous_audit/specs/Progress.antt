@@ -4,11 +4,11 @@ use Rattle.audit_base.specs.Orders.{place_at}
 use Rattle.continuous_audit.specs.declared.market.Market.{Market}
 use Rattle.continuous_audit.specs.declared.numbers.Numbers.{Numbers}
 use Rattle.continuous_audit.specs.declared.state.State.{State}
-use Rattle.continuous_audit.specs.Books.{AreEmptyBooks, AreBooksAfterDeals, AreBooksBefore, ready_place}
+use Rattle.continuous_audit.specs.Books.{AreEmptyBooks, AreBooksAfterDeals, AreBooksBefore, next_order_place}
 use Rattle.continuous_audit.specs.Chains.{HaveChainsEnded}
 use Rattle.continuous_audit.specs.Endings.{AreEndingsDropped}
 use Rattle.continuous_audit.specs.Markets.{HaveTraded, IsConserved}
-use Rattle.continuous_audit.specs.Records.{AreBeforeNumbers, AreLeftBefore, AreSizes, AreTradedBefore, ConformsAndIsApart, priority_at}
+use Rattle.continuous_audit.specs.Records.{AreBeforeNumbers, AreLeftBefore, AreSizes, AreTradedBefore, ConformsAndIsUncrossed, priority_at}
 use Rattle.continuous_audit.specs.Scans.{IsSplitAt}
 use Rattle.continuous_audit.specs.Sheets.{IsBlankSheet}
 
@@ -38,7 +38,7 @@ pub record HasDealt (m : Market) (n : ℕ) (numbers : Numbers) : Type 0 where
 
 -- before the order at n comes, at place q
 pub record IsReadyAt (m : Market) (n q : ℕ) (state : State) : Type 0 where
-  pub calm : ConformsAndIsApart m.orders.now m.deals.now q
+  pub calm : ConformsAndIsUncrossed m.orders.now m.deals.now q
   pub known : AreNumbers m n q state.numbers
   pub books : AreBooksBefore m.orders.now m.deals.now q state.standing.books
   pub dropped : AreEndingsDropped m.endings.now state.standing.start q
@@ -55,7 +55,7 @@ abbrev pub IsReadyFor : Market → ℕ → State → Type 0
 IsReadyFor m n state = IsReadyAt m n (place_at m.orders.now n) state
 
 abbrev pub IsReadyNext : Market → ℕ → State → Type 0
-IsReadyNext m n state = IsReadyAt m n (ready_place m.orders.now n) state
+IsReadyNext m n state = IsReadyAt m n (next_order_place m.orders.now n) state
 
 -- before the first of this many orders
 pub record AreNumbersAtStart (count : ℕ) (numbers : Numbers) : Type 0 where

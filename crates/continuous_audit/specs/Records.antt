@@ -4,12 +4,12 @@ use Rattle.audit_base.specs.declared.orders.Order.{Order}
 use Rattle.audit_base.specs.declared.orders.Deal.{Deal}
 use Rattle.audit_base.specs.declared.findings.Finding.{Finding}
 use Rattle.audit_base.specs.Orders.{place_at}
-use Rattle.audit_base.specs.Continuous.{traded_before, before_quantity, has_entered, size_of_order, left_before}
+use Rattle.audit_base.specs.Continuous.{traded_before, chain_traded_quantity, has_entered, size_of_order, left_before}
 use Rattle.audit_base.specs.ContinuousRules.{ConformsAt}
 use Rattle.audit_base.specs.Least.{least_answer}
 use Rattle.audit_base.specs.ContinuousOffences.{conservation_finding, resting_priority_finding}
 use Rattle.continuous_audit.specs.declared.sheet.Sheet.{Sheet}
-use Rattle.continuous_audit.specs.Holding.{AreApartBefore}
+use Rattle.continuous_audit.specs.Holding.{IsUncrossedBefore}
 use Rattle.continuous_audit.specs.Chains.{IsBeforeBounded}
 use Rattle.continuous_audit.specs.Scans.{AreTotalsSmall, number_in}
 
@@ -18,15 +18,15 @@ abbrev pub ConformsBelow : List Order → List Deal → ℕ → Type 0
 ConformsBelow orders deals q = (i : ℕ) → i < q → ConformsAt orders deals i
 
 -- the rule holds at each place below q, and of the orders that rest before q none meet
-pub record ConformsAndIsApart (orders : List Order) (deals : List Deal) (q : ℕ) : Type 0 where
+pub record ConformsAndIsUncrossed (orders : List Order) (deals : List Deal) (q : ℕ) : Type 0 where
   pub conforms : ConformsBelow orders deals q
-  pub apart : AreApartBefore orders (traded_before orders deals) q
+  pub apart : IsUncrossedBefore orders (traded_before orders deals) q
 
 -- Before of each of the first m orders
 pub record AreBeforeNumbers (orders : List Order) (deals : List Deal) (m : ℕ)
     (before : List ℕ) : Type 0 where
   pub count : length before ≡ length orders
-  pub is : (x : ℕ) → x < m → number_in before x ≡ before_quantity orders deals x
+  pub is : (x : ℕ) → x < m → number_in before x ≡ chain_traded_quantity orders deals x
   pub fits : (x : ℕ) → number_in before x ≤ 2 ^ 126
   pub bounded : IsBeforeBounded before
 
@@ -63,5 +63,6 @@ conservation_at orders deals n = least_answer
     (conservation_finding orders deals (place_at orders n)) (length deals)
 
 abbrev pub priority_at : List Order → List Deal → ℕ → Option Finding
-priority_at orders deals n = least_answer (resting_priority_finding orders deals (place_at orders n))
+priority_at orders deals n =
+    least_answer (resting_priority_finding orders deals (place_at orders n))
     (length deals)

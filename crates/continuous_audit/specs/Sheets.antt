@@ -2,7 +2,7 @@
 use Rattle.std.specs.Prelude.{◌≡◌, ◌≤◌, ◌*◌, ◌^◌, ℕ, List, true, false, replicate, slice_set}
 use Rattle.audit_base.specs.declared.orders.Order.{Order}
 use Rattle.audit_base.specs.declared.orders.Deal.{Deal}
-use Rattle.audit_base.specs.Continuous.{before_quantity, has_entered, size_of_order}
+use Rattle.audit_base.specs.Continuous.{chain_traded_quantity, has_entered, size_of_order}
 use Rattle.continuous_audit.specs.declared.opening.Opening.{Opening}
 use Rattle.continuous_audit.specs.declared.sheet.Sheet.{Sheet}
 use Rattle.continuous_audit.specs.Chains.{HasChainEnded}
@@ -18,7 +18,7 @@ pub record IsBlankSheet (count : ℕ) (sheet : Sheet) : Type 0 where
 pub record IsOpeningOfOrder (orders : List Order) (deals : List Deal) (n : ℕ)
     (opening : Opening) : Type 0 where
   pub entered_is : opening.entered ≡ has_entered orders deals n
-  pub before_is : opening.before ≡ before_quantity orders deals n
+  pub before_is : opening.before ≡ chain_traded_quantity orders deals n
   pub size_is : opening.size ≡ size_of_order orders deals n
 
 -- whatever the deals are, its Before and its Size are not too great, and where its flag is set

@@ -2,7 +2,7 @@
 ghost use Rattle.std.specs.Prelude.{IfOk};
 ghost use Rattle.audit_base.specs.Orders.{IsOrderList};
 ghost use Rattle.audit_base.specs.Deals.{IsDealList};
-ghost use Rattle.continuous_audit.specs.Audits.{IsAuditedContinuous};
+ghost use Rattle.continuous_audit.specs.Audits.{IsContinuousOutcome};
 
 use super::causes::sort_causes;
 use super::endings::sort_endings;
@@ -27,7 +27,7 @@ pub fn audit_continuous(
 ) -> Result<Outcome, NoMemory>
     requires order_list { IsOrderList orders.now }
     requires deal_list { IsDealList orders.now deals.now }
-    ensures { IfOk result (IsAuditedContinuous orders.now deals.now) }
+    ensures { IfOk result (IsContinuousOutcome orders.now deals.now) }
 {
     // A law and the ranges that the answer rests on. They compute nothing.
     continuous_uniqueness();

@@ -6,7 +6,7 @@ ghost use Rattle.audit_base.specs.Deals.{NamesOrders};
 ghost use Rattle.order_book.specs.Books.{best_resting};
 ghost use Rattle.continuous_audit.specs.Endings.{AreEndingsDropped, AreEndingsBelow, AreEndings, IsEnding, amount_without};
 ghost use Rattle.continuous_audit.specs.Books.{AreEmptyBooks, AreBooksOfAmounts, AreBooksBelow, books_with_order, books_without_order, book_list};
-ghost use Rattle.continuous_audit.specs.Books.{AreBooksAfter, AreBooksAfterDeals, AreBooksForNext, AreBooksWithoutOwn, ready_place};
+ghost use Rattle.continuous_audit.specs.Books.{AreBooksAfter, AreBooksAfterDeals, AreBooksForNext, AreBooksWithoutOwn, next_order_place};
 ghost use Rattle.continuous_audit.specs.Books.{resting_count, books_with_fills};
 ghost use Rattle.continuous_audit.specs.Holding.{IsWithinBook};
 
@@ -97,7 +97,7 @@ pub struct BooksSoFar {
 /// The place of the order after the one at `order`, or one past its place if it is the last.
 fn next_place(orders: &OrderList<'_>, order: usize) -> u64
     requires { order < length orders.now }
-    ensures { result ≡ ready_place orders.now (suc order) }
+    ensures { result ≡ next_order_place orders.now (suc order) }
 {
     let count = orders.len();
     if order + 1 < count {
@@ -170,7 +170,7 @@ impl BooksSoFar {
         requires dropped { AreEndingsDropped endings.now self.old.start
             (suc (place_at orders.now order)) }
         ensures dropped { AreEndingsDropped endings.now self.new.start
-            (ready_place orders.now (suc order)) }
+            (next_order_place orders.now (suc order)) }
         ensures holds { (deals : List ADeal) → All (NamesOrders orders.now) deals
             → AreBooksAfter orders.now deals order self.old.books
             → AreBooksForNext orders.now deals (suc order) self.new.books }

@@ -2,7 +2,7 @@
 ghost use Rattle.std.specs.Prelude.{◌≡◌, ◌<◌, ◌≤◌, ◌*◌, ◌^◌, ℕ, List, true, length, sum_by};
 ghost use Rattle.audit_base.specs.declared.orders.Deal.{Deal as ADeal};
 ghost use Rattle.audit_base.specs.Orders.{IsOrderList};
-ghost use Rattle.audit_base.specs.Continuous.{before_quantity, chain};
+ghost use Rattle.audit_base.specs.Continuous.{chain_traded_quantity, chain};
 ghost use Rattle.continuous_audit.specs.Chains.{HasChainEnded, IsOpenSheet, IsKnownBeforeOpening, ends_by};
 ghost use Rattle.continuous_audit.specs.Scans.{AreTotalsSmall, number_in};
 
@@ -36,7 +36,7 @@ pub fn chain_before(orders: &OrderList<'_>, traded: &[u128], sheet: &Sheet, orde
     requires sheet { IsOpenSheet orders.now order sheet.now }
     ensures before { (deals : List ADeal)
         → IsKnownBeforeOpening orders.now deals order traded.now sheet.now
-        → result ≡ before_quantity orders.now deals order }
+        → result ≡ chain_traded_quantity orders.now deals order }
     ensures bounded { result ≤ order * 2 ^ 72 }
 {
     if let Some(target) = orders.at(order).target() {

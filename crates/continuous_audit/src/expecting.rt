@@ -5,7 +5,7 @@ ghost use Rattle.audit_base.specs.Deals.{DealsInRange, IsDealList};
 ghost use Rattle.audit_base.specs.Histories.{Regular};
 ghost use Rattle.audit_base.specs.ContinuousRules.{ConformsContinuous};
 ghost use Rattle.audit_base.specs.Expected.{IsExpectedContinuous};
-ghost use Rattle.continuous_audit.specs.Books.{ready_place};
+ghost use Rattle.continuous_audit.specs.Books.{next_order_place};
 ghost use Rattle.continuous_audit.specs.Endings.{AreEndingsDropped, AreEndings};
 ghost use Rattle.continuous_audit.specs.Matching.{AreTradesAtStart, AreTradesSoFar, MatchedBefore};
 
@@ -45,12 +45,12 @@ fn match_records(
     requires regular { Regular orders.now }
     requires endings { AreEndings orders.now endings.now }
     requires dropped { AreEndingsDropped endings.now so_far.old.standing.start
-        (ready_place orders.now 0) }
+        (next_order_place orders.now 0) }
     requires counted { AreTradesSoFar orders.now 0 0 so_far.old }
-    requires matched { MatchedBefore orders.now 0 (ready_place orders.now 0) so_far.old }
+    requires matched { MatchedBefore orders.now 0 (next_order_place orders.now 0) so_far.old }
     ensures counted { OnOk result (AreTradesSoFar orders.now (length orders.now) 0 so_far.new) }
     ensures matched { OnOk result (MatchedBefore orders.now (length orders.now)
-        (ready_place orders.now (length orders.now)) so_far.new) }
+        (next_order_place orders.now (length orders.now)) so_far.new) }
 {
     for order in 0..orders.len() {
         match_record(orders, endings, order, so_far)?;

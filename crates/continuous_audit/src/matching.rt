@@ -2,7 +2,7 @@
 ghost use Rattle.std.specs.Prelude.{◌≡◌, ◌<◌, ◌≤◌, ◌+◌, ◌-◌, ◌*◌, ◌^◌, ◌∷◌, [], ℕ, suc, min, All, IfOk, OnOk, length, slice_set, vec_len};
 ghost use Rattle.audit_base.specs.Orders.{IsOrderList, limit_at, other_side, place_at, side_at};
 ghost use Rattle.audit_base.specs.Histories.{Regular};
-ghost use Rattle.continuous_audit.specs.Books.{book_list, ready_place, books_with_list};
+ghost use Rattle.continuous_audit.specs.Books.{book_list, next_order_place, books_with_list};
 ghost use Rattle.continuous_audit.specs.Endings.{AreEndingsDropped, AreEndings};
 ghost use Rattle.continuous_audit.specs.Fills.{fills_of, resting_after_fills, total_filled};
 ghost use Rattle.continuous_audit.specs.Matching.{AreFillsApplied, AreTradesSoFar, MatchedAfter, MatchedBefore};
@@ -137,10 +137,10 @@ pub fn match_record(
     requires counted { AreTradesSoFar orders.now order 0 so_far.old }
     requires matched { MatchedBefore orders.now order (place_at orders.now order) so_far.old }
     ensures dropped { OnOk result (AreEndingsDropped endings.now so_far.new.standing.start
-        (ready_place orders.now (suc order))) }
+        (next_order_place orders.now (suc order))) }
     ensures counted { OnOk result (AreTradesSoFar orders.now (suc order) 0 so_far.new) }
     ensures matched { OnOk result
-        (MatchedBefore orders.now (suc order) (ready_place orders.now (suc order)) so_far.new) }
+        (MatchedBefore orders.now (suc order) (next_order_place orders.now (suc order)) so_far.new) }
 {
     trade_order(orders, order, so_far)?;
     let standing = &mut so_far.standing;

@@ -3,7 +3,7 @@ ghost use Rattle.std.specs.Prelude.{◌≡◌, ◌<◌, ◌≤◌, ◌++◌, ◌
 ghost use Rattle.audit_base.specs.Orders.{order_at};
 ghost use Rattle.audit_base.specs.Deals.{DealsInRange};
 ghost use Rattle.audit_base.specs.Expected.{resting_limit};
-ghost use Rattle.continuous_audit.specs.Pairs.{AreFillPairDeals, IsFillPairDealt, fill_pair_cmp, fill_pair};
+ghost use Rattle.continuous_audit.specs.Pairs.{AreFillPairDeals, IsFillPairInRange, fill_pair_cmp, fill_pair};
 
 use super::fills::Fill;
 use audit_base::faults::NoMemory;
@@ -96,7 +96,7 @@ pub fn number_pairs(
     pairs: &[FillPair],
 ) -> Result<Vec<Deal>, NoMemory>
     requires few { length pairs.now < 2 ^ 32 }
-    requires dealt { All (IsFillPairDealt (length orders.now)) pairs.now }
+    requires dealt { All (IsFillPairInRange (length orders.now)) pairs.now }
     ensures numbered { IfOk result (λ deals. AreFillPairDeals orders.now pairs.now deals.items) }
     ensures ranges { IfOk result (λ deals. DealsInRange deals.items) }
 {

@@ -8,7 +8,7 @@ ghost use Rattle.audit_base.specs.ContinuousOffences.{spread_finding};
 ghost use Rattle.audit_base.specs.Flaws.{finding_of};
 ghost use Rattle.continuous_audit.specs.Books.{AreBooksAfter, AreBooksBelow, resting_count};
 ghost use Rattle.continuous_audit.specs.Flaws.{HasShownNumber, shown_number, spread_flaw_after, spread_evidence, spread_flaw};
-ghost use Rattle.continuous_audit.specs.Holding.{AreApartBefore};
+ghost use Rattle.continuous_audit.specs.Holding.{IsUncrossedBefore};
 ghost use Rattle.continuous_audit.specs.Spreads.{IsAfterOwn, is_active_after_with, rests_after_with};
 
 use super::books::Books;
@@ -64,7 +64,7 @@ pub fn spread_of(orders: &OrderList<'_>, order: usize, left: u64, books: &Books)
     requires order { order < length orders.now }
     requires earlier { AreBooksBelow order books.now }
     ensures finding { (deals : List ADeal) → IsAfterOwn orders.now deals order left books.now
-        → AreApartBefore orders.now (traded_before orders.now deals) (place_at orders.now order)
+        → IsUncrossedBefore orders.now (traded_before orders.now deals) (place_at orders.now order)
         → spread_finding orders.now deals (place_at orders.now order)
         ≡ option_map (λ other. finding_of orders.now (spread_flaw_after orders.now deals order other))
         result }

@@ -8,16 +8,16 @@ use Rattle.audit_base.specs.declared.orders.Deal.{Deal}
 use Rattle.audit_base.specs.Orders.{order_at, place_at, other_side}
 use Rattle.audit_base.specs.Priority.{outranks}
 use Rattle.audit_base.specs.Deals.{names_order}
-use Rattle.audit_base.specs.Continuous.{cause, traded_before, traded_at, uncancelled_before, size_by_past, rests_before_by_past, left_before_by_past}
+use Rattle.audit_base.specs.Continuous.{cause, traded_before, traded_at, uncancelled_before, size_in_ledger, rests_before_in_ledger, left_before_in_ledger}
 use Rattle.audit_base.specs.ContinuousRules.{KeepsLimits}
 use Rattle.continuous_laws.specs.Fills.{share_by_rank}
 
 -- after the record at a place
-pub record IsActive (orders : List Order) (past : ℕ → ℕ → ℕ) (i k : ℕ) : Type 0 where
+pub record IsActive (orders : List Order) (ledger : ℕ → ℕ → ℕ) (i k : ℕ) : Type 0 where
   pub here : (place_at orders k ≡ i) ⊎ (((order_at orders k).life ≡ Rests)
       × (place_at orders k < i))
   pub stands_yet : uncancelled_before (order_at orders k).cancelled (suc i) ≡ true
-  pub has_left : past (suc i) k < size_by_past orders past k
+  pub has_left : ledger (suc i) k < size_in_ledger orders ledger k
 
 abbrev pub sides_and_limits_meet : Side → Side → ℕ → ℕ → Bool
 sides_and_limits_meet Buy Buy a b = false
@@ -45,14 +45,14 @@ IsRestingOrderOf orders d k = (names_order k d ≡ true) × (place_at orders k <
 pub record RuleHoldsAt (orders : List Order) (deals : List Deal) (i : ℕ) : Type 0 where
   pub limits : All (λ d. cause orders d ≡ i → KeepsLimits orders d) deals
   pub resting : All (λ d. cause orders d ≡ i → (k : ℕ) → IsRestingOrderOf orders d k
-      → rests_before_by_past orders (traded_before orders deals) i k ≡ true) deals
+      → rests_before_in_ledger orders (traded_before orders deals) i k ≡ true) deals
   pub within : (k : ℕ) → k < length orders
-      → traded_before orders deals (suc i) k ≤ size_by_past orders (traded_before orders deals) k
+      → traded_before orders deals (suc i) k ≤ size_in_ledger orders (traded_before orders deals) k
   pub priority : All (λ d. cause orders d ≡ i → (j k : ℕ) → IsRestingOrderOf orders d j
-      → k < length orders → rests_before_by_past orders (traded_before orders deals) i k ≡ true
+      → k < length orders → rests_before_in_ledger orders (traded_before orders deals) i k ≡ true
       → (order_at orders k).side ≡ (order_at orders j).side
       → outranks (order_at orders j).side (order_at orders k) (order_at orders j) ≡ true
-      → size_by_past orders (traded_before orders deals) k
+      → size_in_ledger orders (traded_before orders deals) k
       ≤ traded_before orders deals (suc i) k) deals
   pub spread : (j k : ℕ) → j < length orders → k < length orders
       → IsActive orders (traded_before orders deals) i j
@@ -65,10 +65,10 @@ pub record RuleHoldsEverywhere (orders : List Order) (deals : List Deal) : Type 
 
 -- what an incoming order can take of one that rests
 unfoldable pub available_to_incoming : List Order → (ℕ → ℕ → ℕ) → ℕ → ℕ → ℕ
-available_to_incoming orders past n k =
+available_to_incoming orders ledger n k =
     if orders_meet_by_sides (order_at orders n) (order_at orders k)
-    && rests_before_by_past orders past (place_at orders n) k
-    then left_before_by_past orders past (place_at orders n) k else 0
+    && rests_before_in_ledger orders ledger (place_at orders n) k
+    then left_before_in_ledger orders ledger (place_at orders n) k else 0
 
 abbrev pub ranks_ahead_against : List Order → ℕ → ℕ → ℕ → Bool
 ranks_ahead_against orders n k j =
@@ -89,7 +89,7 @@ pub record TradesAreShares (orders : List Order) (deals : List Deal) : Type 0 wh
       → traded_with_incoming orders deals n k
       ≡ share_by_rank (length orders) (ranks_ahead_against orders n)
       (available_to_incoming orders (traded_before orders deals) n)
-      (size_by_past orders (traded_before orders deals) n) k
+      (size_in_ledger orders (traded_before orders deals) n) k
 
 -- The expected trades, one incoming order after another.
 abbrev pub deal_by_side : Side → ℕ → ℕ → ℕ → ℕ → Deal
@@ -111,7 +111,7 @@ deals_with_resting orders n shares (suc k) =
 abbrev pub share_with_incoming : List Order → List Deal → ℕ → ℕ → ℕ
 share_with_incoming orders deals n k = share_by_rank (length orders) (ranks_ahead_against orders n)
     (available_to_incoming orders (traded_before orders deals) n)
-    (size_by_past orders (traded_before orders deals) n) k
+    (size_in_ledger orders (traded_before orders deals) n) k
 
 abbrev pub deals_with_next_order : List Order → List Deal → ℕ → List Deal
 deals_with_next_order orders deals n =

@@ -8,7 +8,7 @@ use Rattle.csv.specs.Reading.{default_config}
 use Rattle.csv.specs.declared.parser.State.{State}
 use Rattle.csv.specs.declared.parser.State.TheVariants as st
 use Rattle.csv.specs.declared.parser.Terminator.TheVariants as term
-use Rattle.csv_logs.specs.Columns.{is_broken, is_printable, is_quote, is_unquoted_byte, line_fields}
+use Rattle.csv_logs.specs.Columns.{has_bad_byte_or_open_quote, is_printable, is_quote, is_unquoted_byte, line_fields}
 use Rattle.csv_logs.specs.Readers.{is_closed, is_quoted, state_behind}
 use Rattle.csv_logs.proofs.UnquotedLemmas.{printable-bom, unquoted-unbroken}
 
@@ -16,17 +16,17 @@ use Rattle.csv_logs.proofs.UnquotedLemmas.{printable-bom, unquoted-unbroken}
 abbrev pub IsEnd : ℕ → Type 0
 IsEnd byte = (byte ≡ 10) ⊎ (byte ≡ 13)
 
-pub closed-unbroken : (line : List ℕ) → is_closed line ≡ true → is_broken line ≡ false
-closed-unbroken line closed = not-true (is_broken line) (and_parts (not (is_broken line)) (not (is_quoted (state_behind st.StartField line))) closed).0
+pub closed-unbroken : (line : List ℕ) → is_closed line ≡ true → has_bad_byte_or_open_quote line ≡ false
+closed-unbroken line closed = not-true (has_bad_byte_or_open_quote line) (and_parts (not (has_bad_byte_or_open_quote line)) (not (is_quoted (state_behind st.StartField line))) closed).0
 
 closed-outside : (line : List ℕ) → is_closed line ≡ true → is_quoted (state_behind st.StartField line) ≡ false
-closed-outside line closed = not-true (is_quoted (state_behind st.StartField line)) (and_parts (not (is_broken line)) (not (is_quoted (state_behind st.StartField line))) closed).1
+closed-outside line closed = not-true (is_quoted (state_behind st.StartField line)) (and_parts (not (has_bad_byte_or_open_quote line)) (not (is_quoted (state_behind st.StartField line))) closed).1
 
 not-not : (b : Bool) → not b ≡ false → b ≡ true
 not-not true e = refl
 not-not false e = absurd (cc e)
 
-pub unbroken-printable : (line : List ℕ) → is_broken line ≡ false → list_all is_printable line ≡ true
+pub unbroken-printable : (line : List ℕ) → has_bad_byte_or_open_quote line ≡ false → list_all is_printable line ≡ true
 unbroken-printable line unbroken = not-not (list_all is_printable line) (or_parts (not (list_all is_printable line)) (count_by is_quote line % 2 == 1) unbroken).0
 
 pub closed-printable : (line : List ℕ) → is_closed line ≡ true → list_all is_printable line ≡ true
@@ -184,7 +184,7 @@ behind-plain s (byte ∷ rest) p unquoted =
 
 pub unquoted-closed : (line : List ℕ) → list_all is_unquoted_byte line ≡ true → is_closed line ≡ true
 unquoted-closed line unquoted =
-    and_from (not (is_broken line)) (not (is_quoted (state_behind st.StartField line))) (ap not (unquoted-unbroken line unquoted)) (ap not (behind-plain st.StartField line refl unquoted))
+    and_from (not (has_bad_byte_or_open_quote line)) (not (is_quoted (state_behind st.StartField line))) (ap not (unquoted-unbroken line unquoted)) (ap not (behind-plain st.StartField line refl unquoted))
 
 -- one byte more
 pub behind-more : (s : State) (line : List ℕ) (i : ℕ) → i < length line → state_behind s (take (i + 1) line) ≡ (step default_config (state_behind s (take i line)) (get_or line i 0)).0

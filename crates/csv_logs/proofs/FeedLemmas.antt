@@ -19,7 +19,7 @@ use Rattle.csv_logs.specs.Steps.{EndsLine, EndsLines, TakesPiece, HasLine, HasLi
 use Rattle.csv_logs.specs.Logs.{is_header, line_entry, read_lines, read_csv_log}
 use Rattle.csv_logs.specs.Feeds.{AnswersCollected, AreGoodLines, HasNoBadLine, AnswersLogRecords, HasLogRecords, StopsAtBadLine, AreCsvFeedFields, IsCsvFeedOf, HasCsvFeedFields, is_lf, are_whole_lines}
 use Rattle.csv_logs.specs.declared.feeds.CsvFeed.{CsvFeed}
-use Rattle.csv_logs.specs.Columns.{line_fields, is_broken}
+use Rattle.csv_logs.specs.Columns.{line_fields, has_bad_byte_or_open_quote}
 use Rattle.csv_logs.specs.Readers.{is_closed}
 use Rattle.csv_logs.proofs.ClosedLemmas.{closed-unbroken}
 use Rattle.csv_logs.proofs.LineLemmas.{mark_size-le, whole-line, no-lf-drop, after-some, full_lines-line, full_lines-last}
@@ -338,7 +338,7 @@ module _ {R : Type 0} (names : List (List ℕ)) (entry : List (List ℕ) → Res
       }
 
   -- what a line that is not broken says, by its fields
-  pub unbroken-says : (header : Bool) (text : List ℕ) → is_broken text ≡ false → line_says names entry header text ≡ fields_say names entry header (line_fields text)
+  pub unbroken-says : (header : Bool) (text : List ℕ) → has_bad_byte_or_open_quote text ≡ false → line_says names entry header text ≡ fields_say names entry header (line_fields text)
   unfolding is_header line_entry
   unbroken-says true text unbroken = rw unbroken refl
   unbroken-says false text unbroken = rw unbroken refl

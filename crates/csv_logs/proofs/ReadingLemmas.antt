@@ -5,7 +5,7 @@ use Rattle.audit_base.specs.declared.faults.Reason.{Reason}
 use Rattle.audit_base.specs.declared.faults.Reason.TheVariants as reason
 use Rattle.audit_base.specs.declared.faults.BadPlace.{BadPlace}
 use Rattle.std.specs.Prelude.{All, IfOk}
-use Rattle.csv_logs.specs.Columns.{is_broken, line_fields}
+use Rattle.csv_logs.specs.Columns.{has_bad_byte_or_open_quote, line_fields}
 use Rattle.csv_logs.specs.Lines.{Line, nonempty_lines}
 use Rattle.csv_logs.specs.Logs.{is_header, line_entry, read_entries, read_lines, read_csv_log, IsGoodCsvLog, IsBadCsvLog, IsOnlyCsvReading}
 use Rattle.csv_logs.proofs.LogLemmas.{after_line-ok, after_line-err, read_entries-bad}
@@ -141,7 +141,7 @@ module _ {R : Type 0} (names : List (List ℕ)) (entry : List (List ℕ) → Res
 module _ {R : Type 0} (entry : List (List ℕ) → Result R Reason) (P : R → Type 0) (each : (fields : List (List ℕ)) (new : R) → entry fields ≡ Ok new → P new) where
   line-has : (line : List ℕ) (new : R) → line_entry entry line ≡ Ok new → P new
   unfolding line_entry
-  line-has line new e = elim (cases_Bool (is_broken line)) [
+  line-has line new e = elim (cases_Bool (has_bad_byte_or_open_quote line)) [
     | inl broken ↦ absurd (cc (rw broken at e))
     | inr sound ↦ elim (cases_Bool (length (line_fields line) == 9)) [
       | inl nine ↦ each (line_fields line) new (rw (sound, nine) at e)

@@ -14,7 +14,7 @@ use Rattle.csv.specs.declared.parser.Action.{Action}
 use Rattle.csv.specs.declared.parser.Action.TheVariants as act
 use Rattle.log_source.specs.Collectors.{HasNineBytesEach, HasPlace}
 use Rattle.log_source.specs.Sources.{longest_read}
-use Rattle.csv_logs.specs.Columns.{is_broken, is_printable, line_fields}
+use Rattle.csv_logs.specs.Columns.{has_bad_byte_or_open_quote, is_printable, line_fields}
 use Rattle.csv_logs.specs.Feeds.{HasLogRecords, AreGoodLines}
 use Rattle.csv_logs.specs.Lines.{Line, cut_lines, nonempty_lines, is_nonempty_line, join_first, mark_size, lines_with_offsets, without_cr}
 use Rattle.csv_logs.specs.Logs.{fields_entry, is_header, line_entry, read_entries, read_lines, read_csv_log}
@@ -124,7 +124,7 @@ module _ {R : Type 0} (entry : List (List ℕ) → Result R Reason) where
   -- nine fields have eight commas
   pub record-size : (line : List ℕ) (new : R) → line_entry entry line ≡ Ok new → 8 ≤ length line
   unfolding line_entry
-  record-size line new e = elim (cases_Bool (is_broken line)) [
+  record-size line new e = elim (cases_Bool (has_bad_byte_or_open_quote line)) [
     | inl broken ↦ absurd (cc (rw broken at e))
     | inr unbroken ↦
         let nine = nine-fields (line_fields line) new (rw unbroken at e) in

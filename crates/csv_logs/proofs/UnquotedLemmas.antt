@@ -4,7 +4,7 @@ use Rattle.std.specs.Prelude.{count_by}
 use Rattle.std.specs.List.{list_all, list_any, starts_with, ends_with}
 use Rattle.std.proofs.lemmas.Bool.{and_parts, and_from, or_from, or_parts, both_ways, not-true, leb-true, ne_eqb, false_from_ne_true}
 use Rattle.csv.specs.Reading.{is_bom, strip_bom}
-use Rattle.csv_logs.specs.Columns.{is_printable, is_quote, is_broken, is_unquoted_byte}
+use Rattle.csv_logs.specs.Columns.{is_printable, is_quote, has_bad_byte_or_open_quote, is_unquoted_byte}
 use Rattle.csv_logs.specs.Lines.{Line, byte_order_mark, mark_size, without_cr}
 use Rattle.csv_logs.specs.Steps.{line_at}
 use Rattle.csv_logs.specs.Feeds.{is_lf}
@@ -24,7 +24,7 @@ unquoted-quotes (byte ∷ rest) unquoted =
     let none = not-true (is_quote byte) (and_parts (is_printable byte) (not (is_quote byte)) p.0).1 in
     rw (none, unquoted-quotes rest p.1) refl
 
-pub unquoted-unbroken : (line : List ℕ) → list_all is_unquoted_byte line ≡ true → is_broken line ≡ false
+pub unquoted-unbroken : (line : List ℕ) → list_all is_unquoted_byte line ≡ true → has_bad_byte_or_open_quote line ≡ false
 unquoted-unbroken line unquoted = rw (unquoted-printable line unquoted, unquoted-quotes line unquoted) refl
 
 pub unquoted-low : (byte : ℕ) → is_unquoted_byte byte ≡ true → 32 ≤ byte

@@ -43,8 +43,9 @@ abbrev pub is_unquoted_byte : ℕ → Bool
 is_unquoted_byte byte = is_printable byte && not (is_quote byte)
 
 -- a byte that no line may hold, or an odd number of quotes
-abbrev pub is_broken : List ℕ → Bool
-is_broken line = not (list_all is_printable line) || (count_by is_quote line % 2 == 1)
+abbrev pub has_bad_byte_or_open_quote : List ℕ → Bool
+has_bad_byte_or_open_quote line =
+    not (list_all is_printable line) || (count_by is_quote line % 2 == 1)
 
 -- the text of a column, from 1 on
 abbrev pub column_text : ℕ → Row → List ℕ

@@ -7,7 +7,7 @@ use Rattle.audit_base.specs.declared.faults.Reason.TheVariants as reason
 use Rattle.audit_base.specs.declared.faults.BadPlace.{BadPlace}
 use Rattle.audit_base.specs.declared.records.OrderRecord.{OrderRecord}
 use Rattle.audit_base.specs.declared.records.TradeRecord.{TradeRecord}
-use Rattle.csv_logs.specs.Columns.{RowMeaning, Row, is_broken, line_fields}
+use Rattle.csv_logs.specs.Columns.{RowMeaning, Row, has_bad_byte_or_open_quote, line_fields}
 use Rattle.csv_logs.specs.Lines.{Line, nonempty_lines}
 use Rattle.audit_base.specs.Columns.{order_columns, trade_columns}
 use Rattle.csv_logs.specs.OrderLines.{order_of_row}
@@ -21,7 +21,8 @@ fields_entry entry fields = if length fields == 9 then entry fields else Err rea
 -- its nine fields, each column in turn
 unfoldable pub line_entry : {R : Type 0} → RowMeaning R → List ℕ → Result R Reason
 line_entry entry line =
-    if is_broken line then Err reason.Break else fields_entry entry (line_fields line)
+    if has_bad_byte_or_open_quote line then Err reason.Break
+    else fields_entry entry (line_fields line)
 
 -- this is the symbol of the record that was read, if one was
 abbrev pub IsSymbolOf : {R : Type 0} → (R → List ℕ) → Result R Reason → List ℕ → Type 0
@@ -34,7 +35,7 @@ same_fields = pointwise (pointwise ◌==◌)
 
 -- a header's fields are the nine names
 unfoldable pub is_header : Row → List ℕ → Bool
-is_header names line = not (is_broken line) && same_fields (line_fields line) names
+is_header names line = not (has_bad_byte_or_open_quote line) && same_fields (line_fields line) names
 
 -- what a log says: its records, or its first bad line
 abbrev pub LogResult : Type 0 → Type 0
@@ -70,11 +71,11 @@ read_lines names entry size (header ∷ lines) =
 unfoldable pub read_csv_log : {R : Type 0} → Row → RowMeaning R → List ℕ → LogResult R
 read_csv_log names entry log = read_lines names entry (length log) (nonempty_lines log)
 
-abbrev pub csv_order_log : List ℕ → Result (List OrderRecord) BadPlace
-csv_order_log log = read_csv_log order_columns order_of_row log
+abbrev pub csv_order_records : List ℕ → Result (List OrderRecord) BadPlace
+csv_order_records log = read_csv_log order_columns order_of_row log
 
-abbrev pub csv_trade_log : List ℕ → Result (List TradeRecord) BadPlace
-csv_trade_log log = read_csv_log trade_columns trade_of_row log
+abbrev pub csv_trade_records : List ℕ → Result (List TradeRecord) BadPlace
+csv_trade_records log = read_csv_log trade_columns trade_of_row log
 
 -- The log is good with these records: its first line that is not empty is the header, and each
 -- further one is a record.

@@ -10,7 +10,7 @@ use Rattle.csv.specs.declared.reader.Reader.{Reader}
 use Rattle.csv.specs.declared.reader.Trim.TheVariants as trim
 use Rattle.csv_logs.specs.declared.lines.Place.{Place}
 use Rattle.csv_logs.specs.declared.lines.Place.TheVariants as place
-use Rattle.csv_logs.specs.Columns.{Row, is_broken, is_unquoted_byte, line_fields}
+use Rattle.csv_logs.specs.Columns.{Row, has_bad_byte_or_open_quote, is_unquoted_byte, line_fields}
 use Rattle.csv_logs.specs.Lines.{without_cr}
 
 -- what a reader underneath has left, where that is known
@@ -25,7 +25,7 @@ record_from state text = next_record default_config state [] [] text
 abbrev pub is_plain_byte : ℕ → Bool
 is_plain_byte byte = is_unquoted_byte byte || byte == 10
 
--- the state of `csv`'s machine behind these bytes of a line, none of which ends the line
+-- the state of `csv`'s machine after these bytes of a line, none of which ends the line
 unfoldable pub state_behind : State → List ℕ → State
 state_behind state [] = state
 state_behind state (byte ∷ rest) = state_behind (step default_config state byte).0 rest
@@ -51,7 +51,8 @@ state_of place.AfterQuote = st.AfterQuote
 -- a line whose fields do not depend on what follows it: it isn't broken,
 -- and its quotes close before its end
 abbrev pub is_closed : List ℕ → Bool
-is_closed line = not (is_broken line) && not (is_quoted (state_behind st.StartField line))
+is_closed line =
+    not (has_bad_byte_or_open_quote line) && not (is_quoted (state_behind st.StartField line))
 
 -- The reader reads by `csv`'s defaults with no header row, records of any length.
 pub record IsSetUp {R : Type 0} (reader : Reader R) : Type 0 where

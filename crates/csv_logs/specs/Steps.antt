@@ -54,7 +54,7 @@ TakesFields (Ok new) before after outcome =
     HandsOnMore before after (option_to_list new) × (outcome ≡ Ok tt)
 TakesFields (Err why) before after outcome = HandsOnMore before after [] × (outcome ≡ Err why)
 
--- the feed has gone behind a line of `size` bytes that starts at `start`, whose result was this
+-- the feed has gone past a line of `size` bytes that starts at `start`, whose result was this
 abbrev pub MovesPastLine : {R : Type 0} → LineResult → ℕ → ℕ → TakenRecords R → ℕ → ℕ → Bool
     → Option BadPlace → Type 0
 MovesPastLine (Ok done) start size has_taken offset offset' header' bad' =
@@ -80,7 +80,7 @@ pub record HasLine {R : Type 0} (names : Row) (entry : RowMeaning R) (has_taken 
   pub stands : HasNoBadLine names entry entries line offset header log
   pub room : length log ≤ longest_read
 
--- Some log that ends with this line, not ended, is with the line's LF and the text behind it no
+-- Some log that ends with this line, not ended, is with the line's LF and the text after it no
 -- longer than a log that is read may be.
 pub record HasLines {R : Type 0} (names : Row) (entry : RowMeaning R) (has_taken : TakenRecords R)
     (line : List ℕ) (offset : ℕ) (header : Bool) (text : List ℕ) : Type 0 where
@@ -91,7 +91,7 @@ pub record HasLines {R : Type 0} (names : Row) (entry : RowMeaning R) (has_taken
   pub room : length log + length (10 ∷ text) ≤ longest_read
 
 -- What stood for a log with a line that has not ended stands for it with that line ended, and
--- with the text behind it up to what is left of that.
+-- with the text after it up to what is left of that.
 pub record EndsLines {R : Type 0} (names : Row) (entry : RowMeaning R) (before : TakenRecords R)
     (line : List ℕ) (offset : ℕ) (header : Bool) (new : List ℕ → Type 0) (text left : List ℕ)
     : Type 0 where
@@ -108,7 +108,7 @@ pub record TakesPiece (old new : List ℕ → Type 0) (piece left : List ℕ) : 
 
 -- The same, said of a feed before and after, where `has_taken` is its collector's meaning.
 
--- the feed has gone behind a line of `size` bytes that starts at `start`, whose result was this
+-- the feed has gone past a line of `size` bytes that starts at `start`, whose result was this
 abbrev pub FeedMovesPastLine : {K R : Type 0} → TakenRecordsBy K R → LineResult → ℕ → ℕ → CsvFeed K
     → CsvFeed K → Type 0
 FeedMovesPastLine has_taken outcome start size old new =
@@ -136,7 +136,7 @@ abbrev pub FeedHasLines : {K R : Type 0} → TakenRecordsBy K R → Row → RowM
 FeedHasLines has_taken names entry feed line text =
     HasLines names entry (has_taken feed.entries) line feed.offset feed.header text
 
--- the feed has taken the end of this line and the text behind it up to what is left
+-- the feed has taken the end of this line and the text after it up to what is left
 abbrev pub FeedEndsLines : {K R : Type 0} → TakenRecordsBy K R → Row → RowMeaning R → CsvFeed K
     → CsvFeed K → List ℕ → List ℕ → List ℕ → Type 0
 FeedEndsLines has_taken names entry old new line text left =

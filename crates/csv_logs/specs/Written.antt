@@ -14,7 +14,7 @@ use Rattle.audit_base.specs.declared.terms.Side.TheVariants as side
 use Rattle.audit_base.specs.Columns.{order_columns, trade_columns}
 use Rattle.audit_base.specs.Histories.{HasMarketPrice}
 use Rattle.csv_logs.specs.Columns.{RowMeaning, Row}
-use Rattle.csv_logs.specs.Logs.{csv_order_log, read_csv_log}
+use Rattle.csv_logs.specs.Logs.{csv_order_records, read_csv_log}
 
 -- fields joined by commas, and an LF
 abbrev pub csv_line_text : Row → List ℕ
@@ -65,13 +65,13 @@ abbrev pub csv_trades_text : List TradeRecord → List ℕ
 csv_trades_text trades = log_text trade_columns trade_row trades
 
 -- the log that is written of these records says these records, where each of them is sound
-abbrev pub IsReadAgain : {R : Type 0} → Row → RowMeaning R → (R → Type 0) → (R → Row) → List R
+abbrev pub IsReadBack : {R : Type 0} → Row → RowMeaning R → (R → Type 0) → (R → Row) → List R
     → Type 0
-IsReadAgain names entry sound fields records =
+IsReadBack names entry sound fields records =
     All sound records → read_csv_log names entry (log_text names fields records) ≡ Ok records
 
 -- the canonical order log of these records says these records, where those
 -- of life Market have the market price
 abbrev pub AreOrdersReadAgain : List OrderRecord → Type 0
 AreOrdersReadAgain records =
-    All HasMarketPrice records → csv_order_log (csv_orders_text records) ≡ Ok records
+    All HasMarketPrice records → csv_order_records (csv_orders_text records) ≡ Ok records

@@ -2,7 +2,7 @@
 ghost use Rattle.std.specs.Prelude.{◌≡◌, ◌==◌, ◌%◌, ◌+◌, ◌<◌, ◌^◌, ◌++◌, ◌∷◌, false, not, IfOk, IsTrue, MatchOption, drop, count_by};
 ghost use Rattle.std.specs.List.{list_all, list_any};
 ghost use Rattle.csv.specs.Reading.{default_config};
-ghost use Rattle.csv_logs.specs.Columns.{is_broken, is_printable, is_quote, is_unquoted_byte, line_fields};
+ghost use Rattle.csv_logs.specs.Columns.{has_bad_byte_or_open_quote, is_printable, is_quote, is_unquoted_byte, line_fields};
 ghost use Rattle.csv_logs.specs.Feeds.{is_lf};
 ghost use Rattle.csv_logs.specs.Steps.{line_at};
 ghost use Rattle.csv_logs.specs.Lines.{mark_size, without_cr};
@@ -95,7 +95,7 @@ fn has_odd_quotes(line: &[u8]) -> bool
 
 /// Whether a line has a byte outside 0x20 to 0x7E, or an odd number of quotes.
 pub(crate) fn is_broken(line: &[u8]) -> bool
-    ensures { result ≡ is_broken line.now }
+    ensures { result ≡ has_bad_byte_or_open_quote line.now }
 {
     !is_printable(line) || has_odd_quotes(line)
 }

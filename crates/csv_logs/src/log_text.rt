@@ -1,7 +1,7 @@
 //! The text of a log, which grows by a line with each record.
 ghost use Rattle.std.specs.Prelude.{◌≡◌, ◌∷◌, [], List, IfOk, OnOk};
 ghost use Rattle.log_source.specs.Handing.{HandsOnMore};
-ghost use Rattle.csv_logs.specs.Written.{IsReadAgain, log_text};
+ghost use Rattle.csv_logs.specs.Written.{IsReadBack, log_text};
 ghost use Rattle.csv_logs.specs.WrittenLines.{IsAtLine, IsConvertedLog, IsLogText};
 
 use crate::written_lines::LogLine;
@@ -49,7 +49,7 @@ impl<R: LogLine> LogText<R> {
             → IfOk result (λ text. text.items ≡ log_text R.names R.fields entries) }
         ensures again { (entries : List R)
             → IsLogText R.names R.meaning R.sound R.fields self entries
-            → IsReadAgain R.names R.meaning R.sound R.fields entries }
+            → IsReadBack R.names R.meaning R.sound R.fields entries }
     {
         match self.writer.into_inner() {
             Ok(text) => Ok(text),

@@ -1,7 +1,7 @@
 //! Reading a log that is there as a whole.
 ghost use Rattle.std.specs.Prelude.{◌-◌, ◌<◌, ◌≤◌, ◌^◌, All, IfOk, length, vec_len};
 ghost use Rattle.audit_base.specs.Columns.{order_columns, trade_columns};
-ghost use Rattle.csv_logs.specs.Logs.{read_csv_log, csv_order_log, csv_trade_log, IsOnlyCsvReading};
+ghost use Rattle.csv_logs.specs.Logs.{read_csv_log, csv_order_records, csv_trade_records, IsOnlyCsvReading};
 ghost use Rattle.csv_logs.specs.OrderLines.{order_of_row};
 ghost use Rattle.csv_logs.specs.TradeLines.{trade_of_row};
 ghost use Rattle.csv_logs.specs.Feeds.{AnswersLogRecords};
@@ -41,12 +41,12 @@ fn entries_of<R: CsvRecord>(alloc: Global, bytes: &[u8]) -> Result<Vec<R>, LogFa
 /// places of all records fit 32 bits.
 pub fn csv_orders_of(alloc: Global, bytes: &[u8]) -> Result<Vec<OrderRecord>, LogFault>
     requires { length bytes.now ≤ longest_read }
-    ensures reads { AnswersLogRecords (csv_order_log bytes.now) result }
+    ensures reads { AnswersLogRecords (csv_order_records bytes.now) result }
     ensures priced { IfOk result (λ entries. All HasMarketPrice entries.items) }
     ensures few { IfOk result (λ entries. vec_len entries < 2 ^ 32 - 1) }
     ensures nine { IfOk result (λ entries. HasNineBytesEach entries.items bytes.now) }
     ensures unique { IsOnlyCsvReading order_columns order_of_row bytes.now
-        (csv_order_log bytes.now) }
+        (csv_order_records bytes.now) }
 {
     entries_of(alloc, bytes)
 }
@@ -55,11 +55,11 @@ pub fn csv_orders_of(alloc: Global, bytes: &[u8]) -> Result<Vec<OrderRecord>, Lo
 /// as for an order log, and each record has at least nine bytes as there.
 pub fn csv_trades_of(alloc: Global, bytes: &[u8]) -> Result<Vec<TradeRecord>, LogFault>
     requires { length bytes.now ≤ longest_read }
-    ensures reads { AnswersLogRecords (csv_trade_log bytes.now) result }
+    ensures reads { AnswersLogRecords (csv_trade_records bytes.now) result }
     ensures few { IfOk result (λ entries. vec_len entries < 2 ^ 32 - 1) }
     ensures nine { IfOk result (λ entries. HasNineBytesEach entries.items bytes.now) }
     ensures unique { IsOnlyCsvReading trade_columns trade_of_row bytes.now
-        (csv_trade_log bytes.now) }
+        (csv_trade_records bytes.now) }
 {
     entries_of(alloc, bytes)
 }

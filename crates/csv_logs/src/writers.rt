@@ -1,7 +1,7 @@
 //! Writing logs: the header, then one line for each record, of canonical texts.
 ghost use Rattle.std.specs.Prelude.{◌≡◌, ◌++◌, IfOk, Ok, OnErr, OnOk};
-ghost use Rattle.csv_logs.specs.Logs.{csv_trade_log};
-ghost use Rattle.csv_logs.specs.Written.{AreOrdersReadAgain, IsReadAgain, log_text, csv_orders_text, csv_trades_text};
+ghost use Rattle.csv_logs.specs.Logs.{csv_trade_records};
+ghost use Rattle.csv_logs.specs.Written.{AreOrdersReadAgain, IsReadBack, log_text, csv_orders_text, csv_trades_text};
 
 use crate::log_text::LogText;
 use crate::written_lines::LogLine;
@@ -12,7 +12,7 @@ use std::alloc::Global;
 /// The text of a log.
 fn text_of<R: LogLine>(alloc: Global, entries: &[R]) -> Result<Vec<u8>, NoMemory>
     ensures text { IfOk result (λ text. text.items ≡ log_text R.names R.fields entries.now) }
-    ensures again { OnOk result (IsReadAgain R.names R.meaning R.sound R.fields entries.now) }
+    ensures again { OnOk result (IsReadBack R.names R.meaning R.sound R.fields entries.now) }
 {
     let mut text = LogText::new(alloc)?;
     for entry in entries {
@@ -25,7 +25,7 @@ fn append<R: LogLine>(alloc: Global, entries: &[R], out: &mut Vec<u8>) -> Result
     ensures appended { let text = log_text R.names R.fields entries.now in
         OnOk result (out.new.items ≡ out.old.items ++ text) }
     ensures unchanged { OnErr result (out.new.items ≡ out.old.items) }
-    ensures again { OnOk result (IsReadAgain R.names R.meaning R.sound R.fields entries.now) }
+    ensures again { OnOk result (IsReadBack R.names R.meaning R.sound R.fields entries.now) }
 {
     let text = text_of(alloc, entries)?;
     out.extend_from_slice(&text)?;
@@ -56,7 +56,7 @@ pub fn write_trades(
 ) -> Result<(), NoMemory>
     ensures appended { OnOk result (out.new.items ≡ out.old.items ++ csv_trades_text trades.now) }
     ensures unchanged { OnErr result (out.new.items ≡ out.old.items) }
-    ensures again { OnOk result (csv_trade_log (csv_trades_text trades.now) ≡ Ok trades.now) }
+    ensures again { OnOk result (csv_trade_records (csv_trades_text trades.now) ≡ Ok trades.now) }
 {
     append(alloc, trades, out)
 }

@@ -13,7 +13,7 @@ day_line counts judged_by =
 abbrev pub byte_in_line : List ℕ → Bool → ℕ → List ℕ
 byte_in_line front begins byte = (if begins then front else []) ++ byte ∷ []
 
--- a text with this front before each of its lines, given whether it begins one: a byte behind
+-- a text with this front before each of its lines, given whether it begins one: a byte after
 -- LF does
 abbrev pub with_line_fronts : List ℕ → Bool → List ℕ → List ℕ
 with_line_fronts front begins [] = []

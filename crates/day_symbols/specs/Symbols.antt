@@ -17,7 +17,7 @@ abbrev pub symbols_of_logs : List OrderRecord → List TradeRecord → List (Lis
 symbols_of_logs entries trades = map symbol_of entries ++ map (λ trade. trade.symbol) trades
 
 -- the symbols of a day: those of the order records, in the order in which each appears first,
--- and behind them those of the trades that no order record has, in the order in which each
+-- and after them those of the trades that no order record has, in the order in which each
 -- appears first
 abbrev pub symbols_of_day : List OrderRecord → List TradeRecord → List (List ℕ)
 symbols_of_day entries trades = distinct_names (symbols_of_logs entries trades)

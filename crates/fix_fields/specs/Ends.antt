@@ -19,7 +19,7 @@ abbrev pub EndsWithSoh : List ℕ → Type 0
 EndsWithSoh body = (0 < length body) × IsEnd body (length body - 1)
 
 -- these are the same from a place on that is no later than this one, of the body, or of a text
--- that goes on behind it where its last byte is SOH
+-- that goes on after it where its last byte is SOH
 pub record HoldsEnds (body : List ℕ) (at : ℕ) (ends : List ℕ) : Type 0 where
   pub more : List ℕ
   pub closed : (more ≡ []) ⊎ EndsWithSoh body

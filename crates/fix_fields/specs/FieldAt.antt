@@ -17,12 +17,12 @@ pub record IsTagAt (bytes : List ℕ) (tag size : ℕ) : Type 0 where
   pub split : bytes ≡ decimal tag ++ 61 ∷ drop size bytes
   pub counted : size ≡ length (decimal tag) + 1
 
--- a value of n bytes is at the front, and SOH behind it
+-- a value of n bytes is at the front, and SOH after it
 pub record EndsAt (bytes : List ℕ) (n : ℕ) : Type 0 where
   pub within : n < length bytes
   pub split : bytes ≡ take n bytes ++ soh ∷ drop (n + 1) bytes
 
--- no value that meets the condition is at the front with SOH behind it
+-- no value that meets the condition is at the front with SOH after it
 abbrev pub NoValue : (List ℕ → Type 0) → List ℕ → Type 0
 NoValue IsWanted bytes =
     (value more : List ℕ) → IsWanted value → bytes ≢ value ++ soh ∷ more
@@ -35,7 +35,7 @@ pub record IsFieldAt (body : List ℕ) (at : ℕ) (before : Option TagValue) (fi
   pub range : field ≡ range_of at (tag_value_of body field)
   pub within : HasRangeIn body field
 
--- the field right before, where its value may count the one behind it
+-- the field right before, where its value may count the one after it
 abbrev pub counter_of : Option Field → Option Field
 counter_of None = None
 counter_of (Some field) = if is_length_tag field.tag then Some field else None

@@ -30,7 +30,7 @@ pub record IsDelimited (value : List ℕ) : Type 0 where
   pub no_end : All (λ b. b ≢ soh) value
 
 -- The form of the value of a field with this tag, where `before` is the field right before it: that
--- of a data field right behind its length field has as many bytes as that field says, whatever they
+-- of a data field right after its length field has as many bytes as that field says, whatever they
 -- are; any other value is ended by the next SOH.
 abbrev pub HasForm : Option TagValue → ℕ → List ℕ → Type 0
 HasForm None tag value = IsDelimited value

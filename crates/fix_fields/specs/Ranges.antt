@@ -12,7 +12,7 @@ tag_value_of body field = record { tag = field.tag; value = slice_range body fie
 abbrev pub tag_values_of : List ℕ → List Field → List TagValue
 tag_values_of body fields = map (tag_value_of body) fields
 
--- the range of the value of a field that begins at byte `at`: it is behind the tag and the `=`
+-- the range of the value of a field that begins at byte `at`: it is after the tag and the `=`
 abbrev pub range_of : ℕ → TagValue → Field
 range_of at field =
     let start = at + length (decimal field.tag) + 1 in
@@ -24,7 +24,7 @@ ranges_of at [] = []
 ranges_of at (field ∷ fields) =
     range_of at field ∷ ranges_of (at + length (field_bytes field)) fields
 
--- the range of the field lies within the body, and a byte is behind it
+-- the range of the field lies within the body, and a byte is after it
 pub record HasRangeIn (body : List ℕ) (field : Field) : Type 0 where
   pub order : field.from ≤ field.to
   pub high : field.to < length body

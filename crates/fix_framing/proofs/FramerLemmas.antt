@@ -11,36 +11,36 @@ use Rattle.std.proofs.lemmas.Option.{slice_get-get_or}
 use Rattle.fix_framing.specs.declared.framer.Framer.{Framer}
 use Rattle.fix_framing.specs.declared.frames.Frame.{Frame}
 use Rattle.fix_framing.specs.declared.frames.FrameFault.TheVariants.{Truncated}
-use Rattle.fix_framing.specs.Breaks.{is_break, after_breaks}
+use Rattle.fix_framing.specs.Breaks.{is_line_end_byte, after_breaks}
 use Rattle.fix_framing.specs.Frames.{header, IsFrame, IsFrameAt, frame_fault}
 use Rattle.fix_framing.specs.Framing.{bytes_held, count_framed, bytes_unframed, next_text, IsFramed, IsFramerOf, IsNextOffset, GivesFrame, Waits, IsUnfinished}
 use Rattle.fix_framing.proofs.StayLemmas.{Truncated-bound}
 
 -- CR and LF alone are passed over whole, and what is behind them stays
-pub breaks-none : (r : List ℕ) → list_all is_break r ≡ true → after_breaks r ≡ []
+pub breaks-none : (r : List ℕ) → list_all is_line_end_byte r ≡ true → after_breaks r ≡ []
 breaks-none [] h = refl
 breaks-none (x ∷ xs) h =
-    let both = and_parts (is_break x) (list_all is_break xs) h in rw both.0 (breaks-none xs both.1)
+    let both = and_parts (is_line_end_byte x) (list_all is_line_end_byte xs) h in rw both.0 (breaks-none xs both.1)
 
-again-step : (x : ℕ) (xs : List ℕ) (b : Bool) → is_break x ≡ b → after_breaks (after_breaks xs) ≡ after_breaks xs → after_breaks (cond b (after_breaks xs) (x ∷ xs)) ≡ cond b (after_breaks xs) (x ∷ xs)
+again-step : (x : ℕ) (xs : List ℕ) (b : Bool) → is_line_end_byte x ≡ b → after_breaks (after_breaks xs) ≡ after_breaks xs → after_breaks (cond b (after_breaks xs) (x ∷ xs)) ≡ cond b (after_breaks xs) (x ∷ xs)
 again-step x xs true e again = again
 again-step x xs false e again = rw e refl
 
 after_breaks-again : (r : List ℕ) → after_breaks (after_breaks r) ≡ after_breaks r
 after_breaks-again [] = refl
-after_breaks-again (x ∷ xs) = again-step x xs (is_break x) refl (after_breaks-again xs)
+after_breaks-again (x ∷ xs) = again-step x xs (is_line_end_byte x) refl (after_breaks-again xs)
 
 -- no bytes are less than a message
 nothing-cut : frame_fault [] ≡ Some Truncated
 unfolding frame_fault header
 nothing-cut = refl
 
-pub breaks-cut : (r : List ℕ) → list_all is_break r ≡ true → frame_fault (after_breaks r) ≡ Some Truncated
+pub breaks-cut : (r : List ℕ) → list_all is_line_end_byte r ≡ true → frame_fault (after_breaks r) ≡ Some Truncated
 breaks-cut r h = rw (breaks-none r h) nothing-cut
 
 -- one frame more, or CR and LF more
-pub IsFramed-breaks : (text gap : List ℕ) (frames : List (List ℕ)) → IsFramed text frames → list_all is_break gap ≡ true → IsFramed (text ++ gap) frames
-IsFramed-breaks text gap [] framed breaks = rw (list_all-append is_break text gap) (and_from (list_all is_break text) (list_all is_break gap) framed breaks)
+pub IsFramed-breaks : (text gap : List ℕ) (frames : List (List ℕ)) → IsFramed text frames → list_all is_line_end_byte gap ≡ true → IsFramed (text ++ gap) frames
+IsFramed-breaks text gap [] framed breaks = rw (list_all-append is_line_end_byte text gap) (and_from (list_all is_line_end_byte text) (list_all is_line_end_byte gap) framed breaks)
 IsFramed-breaks text gap (f ∷ fs) framed breaks = (
   framed.0,
   framed.1,
@@ -51,9 +51,9 @@ IsFramed-breaks text gap (f ∷ fs) framed breaks = (
   IsFramed-breaks framed.2 gap fs framed.6 breaks,
 )
 
-pub IsFramed-frame : (text gap f b : List ℕ) (frames : List (List ℕ)) → IsFramed text frames → list_all is_break gap ≡ true → IsFrame f b → IsFramed (text ++ (gap ++ f)) (frames ++ f ∷ [])
+pub IsFramed-frame : (text gap f b : List ℕ) (frames : List (List ℕ)) → IsFramed text frames → list_all is_line_end_byte gap ≡ true → IsFrame f b → IsFramed (text ++ (gap ++ f)) (frames ++ f ∷ [])
 IsFramed-frame text gap f b [] framed breaks frame =
-    let both : list_all is_break (text ++ gap) ≡ true = rw (list_all-append is_break text gap) (and_from (list_all is_break text) (list_all is_break gap) framed breaks) in
+    let both : list_all is_line_end_byte (text ++ gap) ≡ true = rw (list_all-append is_line_end_byte text gap) (and_from (list_all is_line_end_byte text) (list_all is_line_end_byte gap) framed breaks) in
     (text ++ gap, b, [], both, frame, simp (append_assoc, append-nil), refl)
 IsFramed-frame text gap f b (g ∷ gs) framed breaks frame = (
   framed.0,
@@ -89,7 +89,7 @@ fed-range before items fed base i k dropped whole =
     ap (λ (m : ℕ). take k (drop (m + i) fed)) (sym dropped) ∙ (ap (λ xs. take k (drop (length before + i) xs)) whole ∙ ap (λ xs. take k xs) (drop-append-add before items i))
 
 -- what stands for the bytes up to a place behind CR and LF
-framed-to : (framer : Framer) (fed : List ℕ) (frames : List (List ℕ)) (stands : IsFramerOf framer fed frames) (at : ℕ) → framer.next ≤ at → list_all is_break (slice_range (bytes_held framer) framer.next at) ≡ true → IsFramed (stands.before ++ take at (bytes_held framer)) frames
+framed-to : (framer : Framer) (fed : List ℕ) (frames : List (List ℕ)) (stands : IsFramerOf framer fed frames) (at : ℕ) → framer.next ≤ at → list_all is_line_end_byte (slice_range (bytes_held framer) framer.next at) ≡ true → IsFramed (stands.before ++ take at (bytes_held framer)) frames
 framed-to framer fed frames stands at low breaks =
     let front = fed-front stands.before (bytes_held framer) fed framer.base framer.next stands.dropped stands.whole in
     let framed = rw front at stands.framed in
@@ -106,7 +106,7 @@ slice_get-end xs ys some =
     sym (slice_get-get_or ys (length ys - 1) 0 (omega arith)))
 
 -- Wait
-pub waits-so : (old new : Framer) (at : ℕ) → old.next ≤ at → at ≤ length (bytes_held old) → list_all is_break (slice_range (bytes_held old) old.next at) ≡ true → drop at (bytes_held old) ≡ next_text old → frame_fault (drop at (bytes_held old)) ≡ Some Truncated → bytes_held new ≡ drop at (bytes_held old) → new.base ≡ old.base + at → new.next ≡ 0 → Waits old new
+pub waits-so : (old new : Framer) (at : ℕ) → old.next ≤ at → at ≤ length (bytes_held old) → list_all is_line_end_byte (slice_range (bytes_held old) old.next at) ≡ true → drop at (bytes_held old) ≡ next_text old → frame_fault (drop at (bytes_held old)) ≡ Some Truncated → bytes_held new ≡ drop at (bytes_held old) → new.base ≡ old.base + at → new.next ≡ 0 → Waits old new
 waits-so old new at low high breaks rest cut items base next =
     let none : bytes_unframed new ≡ bytes_held new = ap (λ (k : ℕ). drop k (bytes_held new)) next in
     let gone = length-drop at (bytes_held old) in
@@ -140,7 +140,7 @@ waits-so old new at low high breaks rest cut items base next =
     }
 
 -- Whole
-pub gives-so : (old new : Framer) (at : ℕ) (f : Frame) → old.next ≤ at → at ≤ length (bytes_held old) → list_all is_break (slice_range (bytes_held old) old.next at) ≡ true → IsFrameAt (bytes_held old) at f → bytes_held new ≡ bytes_held old → new.base ≡ old.base → new.next ≡ f.end → GivesFrame old new (old.base + f.start) f.body (f.end - 7)
+pub gives-so : (old new : Framer) (at : ℕ) (f : Frame) → old.next ≤ at → at ≤ length (bytes_held old) → list_all is_line_end_byte (slice_range (bytes_held old) old.next at) ≡ true → IsFrameAt (bytes_held old) at f → bytes_held new ≡ bytes_held old → new.base ≡ old.base → new.next ≡ f.end → GivesFrame old new (old.base + f.start) f.body (f.end - 7)
 gives-so old new at f low high breaks found items base next =
     let start = found.begins in
     let within = found.within in
@@ -194,12 +194,12 @@ unfinished-cut framer (inl breaks) = breaks-cut (bytes_unframed framer) breaks
 unfinished-cut framer (inr cut) = cut
 
 -- a byte behind CR and LF is left where a text isn't these alone
-pub others-left : (xs : List ℕ) (i at : ℕ) → i ≤ at → at < length xs → is_break (get_or xs at 0) ≡ false → list_all is_break (drop i xs) ≡ true → ⊥
+pub others-left : (xs : List ℕ) (i at : ℕ) → i ≤ at → at < length xs → is_line_end_byte (get_or xs at 0) ≡ false → list_all is_line_end_byte (drop i xs) ≡ true → ⊥
 others-left xs i at low inside other breaks =
-    let pass = AllPass-from_list_all is_break (drop i xs) breaks (at - i) 0 (omega (arith, length-drop i xs)) in
+    let pass = AllPass-from_list_all is_line_end_byte (drop i xs) breaks (at - i) 0 (omega (arith, length-drop i xs)) in
     let place : i + (at - i) ≡ at = omega arith in
     let here = get_or-drop i xs (at - i) 0 ∙ ap (λ (k : ℕ). get_or xs k 0) place in
-    false≢true (sym other ∙ (ap is_break (sym here) ∙ pass))
+    false≢true (sym other ∙ (ap is_line_end_byte (sym here) ∙ pass))
 
 -- the offset of the next text
 pub next-offset-so : (framer : Framer) (at : ℕ) → at ≤ length (bytes_held framer) → drop at (bytes_held framer) ≡ next_text framer → IsNextOffset framer (framer.base + at)

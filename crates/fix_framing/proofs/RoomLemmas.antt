@@ -5,7 +5,7 @@ use Rattle.std.proofs.lemmas.List.{length-append, length-replicate, take_at}
 use Rattle.fix_framing.specs.declared.framer.Framer.{Framer}
 use Rattle.fix_framing.specs.declared.framer.Step.{Step}
 use Rattle.fix_framing.specs.declared.framer.Step.TheVariants.{Whole, Wait, Fault}
-use Rattle.fix_framing.specs.Breaks.{is_break}
+use Rattle.fix_framing.specs.Breaks.{is_line_end_byte}
 use Rattle.fix_framing.specs.Framing.{bytes_held, count_framed, FramerHasRoom, FeedsPiece, KeepsFraming, StepSays}
 
 -- room for a text is room for its front
@@ -37,7 +37,7 @@ room-answered old new (Fault at fault) piece room answer = rw answer.again room
 abbrev line_ends : ℕ → List ℕ
 line_ends n = replicate n 10
 
-are-breaks : (n : ℕ) → list_all is_break (line_ends n) ≡ true
+are-breaks : (n : ℕ) → list_all is_line_end_byte (line_ends n) ≡ true
 are-breaks zero = refl
 are-breaks (suc n) = are-breaks n
 

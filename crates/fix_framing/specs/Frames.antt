@@ -50,15 +50,15 @@ length_digits r = take_while is_ascii_digit (drop 12 r)
 abbrev pub body_size : List ℕ → ℕ
 body_size r = digits_value 10 (length_digits r)
 
--- the place of the body: behind the header, the digits and SOH
+-- the place of the body: after the header, the digits and SOH
 abbrev pub body_place : List ℕ → ℕ
 body_place r = 12 + length (length_digits r) + 1
 
--- the place of the checksum field, behind the body
+-- the place of the checksum field, after the body
 abbrev pub trailer_place : List ℕ → ℕ
 trailer_place r = body_place r + body_size r
 
--- the place behind the whole message
+-- the place after the whole message
 abbrev pub frame_size : List ℕ → ℕ
 frame_size r = trailer_place r + 7
 
@@ -66,7 +66,7 @@ frame_size r = trailer_place r + 7
 abbrev pub body_of : List ℕ → List ℕ
 body_of r = take (body_size r) (drop (body_place r) r)
 
--- the seven bytes behind the body
+-- the seven bytes after the body
 abbrev pub trailer_of : List ℕ → List ℕ
 trailer_of r = take 7 (drop (trailer_place r) r)
 

@@ -6,7 +6,7 @@ use Rattle.fix_framing.specs.declared.framer.Step.{Step}
 use Rattle.fix_framing.specs.declared.framer.Step.TheVariants.{Whole, Wait, Fault}
 use Rattle.fix_framing.specs.declared.frames.FrameFault.{FrameFault}
 use Rattle.fix_framing.specs.declared.frames.FrameFault.TheVariants.{Truncated}
-use Rattle.fix_framing.specs.Breaks.{is_break, after_breaks}
+use Rattle.fix_framing.specs.Breaks.{is_line_end_byte, after_breaks}
 use Rattle.fix_framing.specs.Frames.{IsFrame, frame_fault, longest_frame}
 
 -- the bytes that the framer holds
@@ -31,10 +31,10 @@ next_offset framer = framer.base + length (bytes_held framer) - length (next_tex
 
 -- the text is these frames in order, with only CR and LF bytes around them
 abbrev pub IsFramed : List ℕ → List (List ℕ) → Type 0
-IsFramed text [] = IsTrue (list_all is_break text)
+IsFramed text [] = IsTrue (list_all is_line_end_byte text)
 IsFramed text (frame ∷ more) =
     (gap : List ℕ) × (body : List ℕ) × (rest : List ℕ)
-    × IsTrue (list_all is_break gap) × IsFrame frame body
+    × IsTrue (list_all is_line_end_byte gap) × IsFrame frame body
     × (text ≡ gap ++ (frame ++ rest)) × IsFramed rest more
 
 -- The framer stands for these bytes fed and these frames: the bytes fed are some
@@ -61,7 +61,7 @@ pub record FramerHasRoom (framer : Framer) (piece : List ℕ) : Type 0 where
   pub stands : IsFramerOf framer fed frames
   pub most : length fed + length piece < 2 ^ 64
 
--- what the old framer stands for, the new one stands for with the piece behind it
+-- what the old framer stands for, the new one stands for with the piece after it
 abbrev pub FeedsPiece : Framer → Framer → List ℕ → Type 0
 FeedsPiece old new piece =
     (fed : List ℕ) (frames : List (List ℕ))
@@ -78,14 +78,14 @@ KeepsFraming old new =
     (fed : List ℕ) (frames : List (List ℕ)) → IsFramerOf old fed frames
     → IsFramerOf new fed frames
 
--- Whole: behind CR and LF alone is the next frame of the bytes fed, from start on.
+-- Whole: after CR and LF alone is the next frame of the bytes fed, from start on.
 -- Its body runs from `body` to `to` in the bytes held, and it ends at `to + 7`
 -- there. It is appended to the frames
 pub record GivesFrame (old new : Framer) (start body to : ℕ) : Type 0 where
   pub gap : List ℕ
   pub frame : List ℕ
   pub next : bytes_unframed old ≡ gap ++ (frame ++ bytes_unframed new)
-  pub breaks : IsTrue (list_all is_break gap)
+  pub breaks : IsTrue (list_all is_line_end_byte gap)
   pub message : IsFrame frame (slice_range (bytes_held new) body to)
   pub begins : start ≡ count_framed old + length gap
   pub ordered : body ≤ to
@@ -99,7 +99,7 @@ pub record GivesFrame (old new : Framer) (start body to : ℕ) : Type 0 where
 -- Wait: the unframed bytes are CR and LF alone, or end within a message
 abbrev pub IsUnfinished : Framer → Type 0
 IsUnfinished framer =
-    IsTrue (list_all is_break (bytes_unframed framer))
+    IsTrue (list_all is_line_end_byte (bytes_unframed framer))
     ⊎ (frame_fault (next_text framer) ≡ Some Truncated)
 
 -- After it the framer holds fewer bytes than the longest message has, and they end with the last
@@ -110,10 +110,10 @@ pub record Waits (old new : Framer) : Type 0 where
   pub bound : length (bytes_held new) < longest_frame
   pub text : next_text new ≡ next_text old
   pub last : (fed : List ℕ) (frames : List (List ℕ)) → IsFramerOf old fed frames
-      → ¬ IsTrue (list_all is_break (bytes_unframed old)) → (0 < length (bytes_held new))
+      → ¬ IsTrue (list_all is_line_end_byte (bytes_unframed old)) → (0 < length (bytes_held new))
       × (slice_get (bytes_held new) (length (bytes_held new) - 1) ≡ slice_get fed (length fed - 1))
 
--- Fault: from `at` on, the first byte behind CR and LF, the bytes fail a test,
+-- Fault: from `at` on, the first byte after CR and LF, the bytes fail a test,
 -- whatever follows them. Nothing changes
 pub record RefusesFrame (old new : Framer) (at : ℕ) (fault : FrameFault) : Type 0 where
   pub failing : frame_fault (next_text old) ≡ Some fault

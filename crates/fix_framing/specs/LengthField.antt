@@ -1,4 +1,4 @@
--- The digits of the body's length, and the SOH behind them.
+-- The digits of the body's length, and the SOH after them.
 use Rattle.std.specs.Prelude.{◌≡◌, ℕ, ◌≤◌, ◌<◌, List, length, take, slice_index, IsTrue}
 use Rattle.std.specs.List.{list_all}
 use Rattle.std.specs.Char.{is_ascii_digit}

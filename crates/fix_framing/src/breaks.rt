@@ -2,11 +2,11 @@
 //! number of CR and LF bytes, which mean nothing.
 ghost use Rattle.std.specs.Prelude.{◌≡◌, ◌<◌, ◌≤◌, false, length, drop, slice_index, IsTrue};
 ghost use Rattle.std.specs.List.{slice_range, list_all};
-ghost use Rattle.fix_framing.specs.Breaks.{is_break, after_breaks};
+ghost use Rattle.fix_framing.specs.Breaks.{is_line_end_byte, after_breaks};
 
 /// Whether the byte is CR or LF.
 fn is_line_end(byte: u8) -> bool
-    ensures { result ≡ is_break byte }
+    ensures { result ≡ is_line_end_byte byte }
 {
     byte == b'\r' || byte == b'\n'
 }
@@ -16,9 +16,9 @@ pub fn skip_breaks(bytes: &[u8], at: usize) -> usize
     requires { at ≤ length bytes.now }
     ensures low { at ≤ result }
     ensures high { result ≤ length bytes.now }
-    ensures passed { IsTrue (list_all is_break (slice_range bytes.now at result)) }
+    ensures passed { IsTrue (list_all is_line_end_byte (slice_range bytes.now at result)) }
     ensures stops { result < length bytes.now
-        → is_break (slice_index bytes.now result) ≡ false }
+        → is_line_end_byte (slice_index bytes.now result) ≡ false }
     ensures rest { drop result bytes.now ≡ after_breaks (drop at bytes.now) }
 {
     let mut place = at;

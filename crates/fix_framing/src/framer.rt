@@ -6,7 +6,7 @@
 //! the front then, and they move no second time before it is given.
 ghost use Rattle.std.specs.Prelude.{◌≡◌, ◌≢◌, ℕ, ◌+◌, ◌<◌, ◌≤◌, ◌^◌, ◌↔◌, List, [], length, drop, Some, None, IsTrue, IsOk, IfErr, OnOk, OnErr, vec_len};
 ghost use Rattle.std.specs.List.{list_all};
-ghost use Rattle.fix_framing.specs.Breaks.{is_break};
+ghost use Rattle.fix_framing.specs.Breaks.{is_line_end_byte};
 
 use crate::breaks::skip_breaks;
 use crate::frames::{FrameFault, TRAILER, frame_at};
@@ -118,7 +118,7 @@ impl Framer {
     /// Whether all bytes fed are framed, but for CR and LF bytes: else the offset of the first byte
     /// of the unfinished message, behind these.
     pub fn finish(&self) -> Result<(), u64>
-        ensures ok { IsOk result ↔ IsTrue (list_all is_break (bytes_unframed self.now)) }
+        ensures ok { IsOk result ↔ IsTrue (list_all is_line_end_byte (bytes_unframed self.now)) }
         ensures err { IfErr result (IsNextOffset self.now) }
     {
         let at = skip_breaks(&self.bytes, self.next);

@@ -15,7 +15,7 @@ use Rattle.trade_reports.specs.declared.reports.Report.{Report}
 use Rattle.fix_messages.specs.Bodies.{body_says, with_reason}
 use Rattle.fix_messages.specs.OrderTables.{order_of_message}
 use Rattle.fix_messages.specs.ReportTable.{report_of_message}
-use Rattle.fix_messages.specs.Logs.{AreMessages, fix_order_log, read_fix_log, report_log}
+use Rattle.fix_messages.specs.Logs.{AreMessages, fix_order_records, read_fix_log, fix_report_records}
 use Rattle.trade_reports.specs.Reports.{report_to, reports_of}
 use Rattle.fix_messages.specs.Written.{IsReportInForm, IsTradeInForm, IsWritable, order_fields, fix_orders_text, report_fields, report_message, trade_message_pair, fix_trades_text}
 use Rattle.fix_messages.proofs.BodyLemmas.{fields-say}
@@ -63,7 +63,7 @@ IsOrderAgain entry = IsAgain order_of_message order_fields entry
 order-is : (entry : OrderRecord) → IsWritable entry → IsOrderAgain entry
 order-is entry is = record { body = order-body entry is.form; means = order-again entry is }
 
-pub orders-again : (orders : List OrderRecord) → All IsWritable orders → fix_order_log (fix_orders_text orders) ≡ Ok orders
+pub orders-again : (orders : List OrderRecord) → All IsWritable orders → fix_order_records (fix_orders_text orders) ≡ Ok orders
 orders-again orders are = log-again order_of_message order_fields orders (All-weaker IsWritable IsOrderAgain order-is orders are)
 
 report-is : (entry : Report) → IsReportInForm entry → IsAgain report_of_message report_fields entry
@@ -86,7 +86,7 @@ reports-in-form (trade ∷ trades) are =
     All-cons IsReportInForm (report_to side.Buy trade) (report_to side.Sell trade ∷ flat_map reports_of trades) this.buyer
     (All-cons IsReportInForm (report_to side.Sell trade) (flat_map reports_of trades) this.seller (reports-in-form trades (All-tail IsTradeInForm trade trades are)))
 
-pub trades-again : (trades : List TradeRecord) → All IsTradeInForm trades → report_log (fix_trades_text trades) ≡ Ok (flat_map reports_of trades)
+pub trades-again : (trades : List TradeRecord) → All IsTradeInForm trades → fix_report_records (fix_trades_text trades) ≡ Ok (flat_map reports_of trades)
 trades-again trades are =
-    ap report_log (messages-of trades)
+    ap fix_report_records (messages-of trades)
     ∙ log-again report_of_message report_fields (flat_map reports_of trades) (All-weaker IsReportInForm (IsAgain report_of_message report_fields) report-is (flat_map reports_of trades) (reports-in-form trades are))

@@ -14,7 +14,7 @@ use Rattle.audit_base.specs.declared.faults.LogFault.{LogFault}
 use Rattle.log_source.specs.Collectors.{HasPlace}
 use Rattle.log_source.specs.Feeds.{HasRoom}
 use Rattle.fix_fields.specs.Grammar.{TagValue}
-use Rattle.fix_framing.specs.Breaks.{is_break}
+use Rattle.fix_framing.specs.Breaks.{is_line_end_byte}
 use Rattle.fix_framing.specs.Frames.{frame_fault, body_of}
 use Rattle.fix_framing.specs.Framing as framing
 use Rattle.fix_framing.specs.Framing.{bytes_held, count_framed, bytes_unframed, next_text, next_offset, GivesFrame, IsNextOffset, RefusesFrame, Waits}
@@ -117,7 +117,7 @@ module _ {R : Type 0} (meaning : List TagValue → Result (Option R) MessageFaul
       ∙ ap (λ (k : ℕ). Err (place_after entries k why)) (sym gives.begins)
 
   -- no message begins at the next place
-  pub bad-frame : (entries : List R) (framer : Framer) (at : ℕ) (fault : FrameFault) (more : List ℕ) → list_all is_break (bytes_unframed framer) ≡ false → IsNextOffset framer at
+  pub bad-frame : (entries : List R) (framer : Framer) (at : ℕ) (fault : FrameFault) (more : List ℕ) → list_all is_line_end_byte (bytes_unframed framer) ≡ false → IsNextOffset framer at
       → frame_fault (next_text framer ++ more) ≡ Some fault → (log : List ℕ) (frames : List (List ℕ)) → framing.IsFramerOf framer log frames → read_frames meaning frames ≡ Ok entries
       → read_fix_log meaning (log ++ more) ≡ Err (place_after entries at (frame_reason fault))
   bad-frame entries framer at fault more some place fails log frames stands good =
@@ -135,8 +135,8 @@ module _ {R : Type 0} (meaning : List TagValue → Result (Option R) MessageFaul
       ∙ ap (λ (k : ℕ). Err (place_after entries k (frame_reason fault))) same
 
 -- where a fault is none of a message that isn't all there, something is left but CR and LF
-pub some-left : (framer : Framer) (fault : FrameFault) → frame_fault (next_text framer) ≡ Some fault → fault ≢ Truncated → list_all is_break (bytes_unframed framer) ≡ false
-some-left framer fault fails other = elim (cases_Bool (list_all is_break (bytes_unframed framer))) [
+pub some-left : (framer : Framer) (fault : FrameFault) → frame_fault (next_text framer) ≡ Some fault → fault ≢ Truncated → list_all is_line_end_byte (bytes_unframed framer) ≡ false
+some-left framer fault fails other = elim (cases_Bool (list_all is_line_end_byte (bytes_unframed framer))) [
   | inl all ↦
       let cut = breaks-cut (bytes_unframed framer) all in
       let same : fault ≡ Truncated = cc in absurd (other same)
@@ -242,7 +242,7 @@ module _ {K R : Type 0} (has_taken : K → List R → Type 0) (meaning : List Ta
     pub ends-bad : (bad : BadPlace) (log : List ℕ) → new.bad ≡ Some bad → IsFixFeedOf has_taken meaning old log → read_fix_log meaning log ≡ Err bad
     ends-bad bad log is stood = shut-reads new bad log is (ends.stands log (open-reads old log none stood))
 
-    pub ends-good : (log : List ℕ) → new.bad ≡ None → IsTrue (list_all is_break (bytes_unframed new.framer)) → IsFixFeedOf has_taken meaning old log → HasMessageRecords (has_taken new.entries) (read_fix_log meaning log)
+    pub ends-good : (log : List ℕ) → new.bad ≡ None → IsTrue (list_all is_line_end_byte (bytes_unframed new.framer)) → IsFixFeedOf has_taken meaning old log → HasMessageRecords (has_taken new.entries) (read_fix_log meaning log)
     ends-good log good all stood =
         let r = ended log good stood in
         record {
@@ -263,11 +263,11 @@ module _ {K R : Type 0} (has_taken : K → List R → Type 0) (meaning : List Ta
         let few = few-records meaning r.entries new.framer within.log r.frames r.stands r.good in
         record { entries = r.entries; has = r.has; few = omega (arith, few, within.within) }
 
-    pub ends-cut : (at : ℕ) (bad : BadPlace) (log : List ℕ) → new.bad ≡ None → IsNextOffset new.framer at → ¬ IsTrue (list_all is_break (bytes_unframed new.framer))
+    pub ends-cut : (at : ℕ) (bad : BadPlace) (log : List ℕ) → new.bad ≡ None → IsNextOffset new.framer at → ¬ IsTrue (list_all is_line_end_byte (bytes_unframed new.framer))
         → IsBadMessagePlace (has_taken new.entries) at reason.Truncated bad → IsFixFeedOf has_taken meaning old log → read_fix_log meaning log ≡ Err bad
     ends-cut at bad log good next some place stood =
         let r = ended log good stood in
-        let left : list_all is_break (bytes_unframed new.framer) ≡ false = not-all (list_all is_break (bytes_unframed new.framer)) some in
+        let left : list_all is_line_end_byte (bytes_unframed new.framer) ≡ false = not-all (list_all is_line_end_byte (bytes_unframed new.framer)) some in
         let cut : frame_fault (next_text new.framer ++ []) ≡ Some Truncated = ap frame_fault (append-nil (next_text new.framer)) ∙ ends.cut good in
         ap (read_fix_log meaning) (sym (append-nil log)) ∙ bad-frame meaning r.entries new.framer at Truncated [] left next cut log r.frames r.stands r.good ∙ ap Err (sym (place r.entries r.has))
       where

@@ -7,7 +7,7 @@ use Rattle.std.proofs.lemmas.List.{append-nil, drop_at, length-append}
 use Rattle.audit_base.specs.declared.faults.Reason.{Reason}
 use Rattle.audit_base.specs.declared.faults.BadPlace.{BadPlace}
 use Rattle.fix_fields.specs.Grammar.{TagValue}
-use Rattle.fix_framing.specs.Breaks.{is_break, after_breaks}
+use Rattle.fix_framing.specs.Breaks.{is_line_end_byte, after_breaks}
 use Rattle.fix_framing.specs.Frames.{before_checksum, checksum_field, header, IsFrame, frame_fault, frame_size, body_of}
 use Rattle.fix_framing.specs.Framing.{IsFramed}
 use Rattle.fix_framing.specs.declared.frames.FrameFault.{FrameFault}
@@ -27,16 +27,16 @@ items-inside (suc n) at (byte ∷ rest) h =
     items-inside n (at + 1) rest (omega (arith, h)) ∙ ap (λ (k : ℕ). items_from 0 k (drop n rest)) place
 
 -- CR and LF are passed over
-pub items-breaks : (at : ℕ) (gap rest : List ℕ) → list_all is_break gap ≡ true → items_from 0 at (gap ++ rest) ≡ items_from 0 (at + length gap) rest
+pub items-breaks : (at : ℕ) (gap rest : List ℕ) → list_all is_line_end_byte gap ≡ true → items_from 0 at (gap ++ rest) ≡ items_from 0 (at + length gap) rest
 items-breaks at [] rest h = ap (λ (k : ℕ). items_from 0 k rest) (omega arith)
 items-breaks at (byte ∷ gap) rest h =
-    let both = and_parts (is_break byte) (list_all is_break gap) h in
+    let both = and_parts (is_line_end_byte byte) (list_all is_line_end_byte gap) h in
     let place : at + 1 + length gap ≡ at + length (byte ∷ gap) = omega arith in
     ap (λ (b : Bool). cond {A = List MessageItem} b (items_from 0 (at + 1) (gap ++ rest)) (item_and at (byte ∷ (gap ++ rest)) (frame_fault (byte ∷ (gap ++ rest))) (items_from (frame_size (byte ∷ (gap ++ rest)) - 1) (at + 1) (gap ++ rest)))) both.0
     ∙ items-breaks (at + 1) gap rest both.1 ∙ ap (λ (k : ℕ). items_from 0 k rest) place
 
 -- what begins with another byte is an item
-items-other : (at byte : ℕ) (rest : List ℕ) → is_break byte ≡ false
+items-other : (at byte : ℕ) (rest : List ℕ) → is_line_end_byte byte ≡ false
     → items_from 0 at (byte ∷ rest) ≡ item_and at (byte ∷ rest) (frame_fault (byte ∷ rest)) (items_from (frame_size (byte ∷ rest) - 1) (at + 1) rest)
 items-other at byte rest other =
     ap (λ (b : Bool). cond {A = List MessageItem} b (items_from 0 (at + 1) rest) (item_and at (byte ∷ rest) (frame_fault (byte ∷ rest)) (items_from (frame_size (byte ∷ rest) - 1) (at + 1) rest))) other
@@ -72,12 +72,12 @@ items-frame at frame rest body is =
     subst (λ (f : List ℕ). items_from 0 at (f ++ rest) ≡ record { start = at; body = Ok body } ∷ items_from 0 (at + length f) rest) (sym cut) (items-message at tail rest body message)
 
 -- a place where no message begins is the last item
-pub items-fault : (at : ℕ) (text more : List ℕ) (fault : FrameFault) → list_all is_break text ≡ false → frame_fault (after_breaks text ++ more) ≡ Some fault
+pub items-fault : (at : ℕ) (text more : List ℕ) (fault : FrameFault) → list_all is_line_end_byte text ≡ false → frame_fault (after_breaks text ++ more) ≡ Some fault
     → items_from 0 at (text ++ more) ≡ record { start = at + length text - length (after_breaks text); body = Err fault } ∷ []
 items-fault at [] more fault h fails = absurd (cc h)
-items-fault at (byte ∷ rest) more fault h fails = elim (cases_Bool (is_break byte)) [
+items-fault at (byte ∷ rest) more fault h fails = elim (cases_Bool (is_line_end_byte byte)) [
   | inl same ↦
-      let left : list_all is_break rest ≡ false = rw same at h in
+      let left : list_all is_line_end_byte rest ≡ false = rw same at h in
       let next : frame_fault (after_breaks rest ++ more) ≡ Some fault = rw same at fails in
       let place : at + 1 + length rest ≡ at + length (byte ∷ rest) = omega arith in
       rw same (items-fault (at + 1) rest more fault left next ∙ ap (λ (k : ℕ). record { start = k - length (after_breaks rest); body = Err fault } ∷ []) place)

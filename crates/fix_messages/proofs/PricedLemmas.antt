@@ -19,7 +19,7 @@ use Rattle.fix_messages.specs.declared.meanings.MessageFault.{MessageFault}
 use Rattle.fix_messages.specs.declared.orders.OrderType.{OrderType}
 use Rattle.fix_messages.specs.declared.orders.OrderType.TheVariants as limits
 use Rattle.fix_messages.specs.Rows.{◌>>=◌, message_head, is_copy, is_value_word, message_name, only_value, message_price, message_quantity, message_side, supported_value, message_type_row, type_of}
-use Rattle.fix_messages.specs.OrderTables.{message_cancel, some_order, message_life, life_by, life_form, life_if, message_limit_type, message_order_type, message_new_order, order_by_type, order_of_message, price_by, message_replacement, message_resting_life, no_quantity_condition}
+use Rattle.fix_messages.specs.OrderTables.{message_cancel, some_order, message_life, life_of_order_type, life_form, life_or_default, message_limit_type, message_order_type, message_new_order, order_by_type, order_of_message, price_of_order_type, message_replacement, message_resting_life, no_quantity_condition}
 use Rattle.fix_messages.specs.Bodies.{body_says, with_reason, says_of}
 use Rattle.fix_messages.specs.BodyFields.{split_of}
 use Rattle.fix_messages.specs.Logs.{MessageItem, after_item, item_says, items_from, read_items, read_fix_log, with_record_of_message}
@@ -46,12 +46,12 @@ form-no_market tag text = elim (cases_Bool (is_value_word (codes "0") text || is
   ]
 ]
 
-if-no_market : (tag : ℕ) (value : Option (List ℕ)) → IfOk (life_if tag value) IsNoMarket
+if-no_market : (tag : ℕ) (value : Option (List ℕ)) → IfOk (life_or_default tag value) IsNoMarket
 if-no_market tag None = λ e. cc
 if-no_market tag (Some text) = form-no_market tag text
 
 life-no_market : (tag : ℕ) (fields : List TagValue) → IfOk (message_life tag fields) IsNoMarket
-life-no_market tag fields = behind IsNoMarket (only_value tag fields) (life_if tag) (if-no_market tag)
+life-no_market tag fields = behind IsNoMarket (only_value tag fields) (life_or_default tag) (if-no_market tag)
 
 new-priced : (fields : List TagValue) → IfOk (message_new_order fields) HasMarketPrice
 unfolding message_new_order
@@ -63,14 +63,14 @@ new-priced fields =
     by-limits chosen head side quantity fields)))))
   where
     by-limits : (chosen : OrderType) (head : Head) (side : Side) (quantity : ℕ) (fields : List TagValue)
-        → IfOk (price_by chosen side 44 fields >>= (λ price. message_life 59 fields >>= (λ l. no_quantity_condition fields >>= (λ _. Ok (record_of.New head.key head.time head.symbol side quantity price (life_by chosen l)))))) HasMarketPrice
+        → IfOk (price_of_order_type chosen side 44 fields >>= (λ price. message_life 59 fields >>= (λ l. no_quantity_condition fields >>= (λ _. Ok (record_of.New head.key head.time head.symbol side quantity price (life_of_order_type chosen l)))))) HasMarketPrice
     by-limits limits.Limit head side quantity fields =
         behind HasMarketPrice (message_price 44 fields) _ (λ price.
         behind-known IsNoMarket HasMarketPrice (message_life 59 fields) _ (life-no_market 59 fields) (λ l other.
         behind HasMarketPrice (no_quantity_condition fields) _ (λ _. (λ e. absurd (other e)))))
     by-limits limits.Market head side quantity fields =
         let IsMarket : ℕ → Type 0 = λ price. price ≡ market_price side in
-        behind-known IsMarket HasMarketPrice (price_by limits.Market side 44 fields) _ (behind IsMarket (only_value 44 fields) (λ _. Ok (market_price side)) (λ _. refl)) (λ price is.
+        behind-known IsMarket HasMarketPrice (price_of_order_type limits.Market side 44 fields) _ (behind IsMarket (only_value 44 fields) (λ _. Ok (market_price side)) (λ _. refl)) (λ price is.
         behind HasMarketPrice (message_life 59 fields) _ (λ l.
         behind HasMarketPrice (no_quantity_condition fields) _ (λ _. (λ e. is))))
 

@@ -14,11 +14,11 @@ use Rattle.fix_messages.specs.declared.meanings.MessageFault.{MessageFault}
 use Rattle.fix_messages.specs.declared.orders.OrderType.{OrderType}
 use Rattle.fix_messages.specs.declared.orders.OrderType.TheVariants as limits
 use Rattle.fix_messages.specs.Laws.{FixOrdersAreInRange, ReportsAreInRange, FixTradesAreInRange}
-use Rattle.fix_messages.specs.Logs.{report_log}
+use Rattle.fix_messages.specs.Logs.{fix_report_records}
 use Rattle.fix_messages.specs.OrderTables as table
-use Rattle.fix_messages.specs.OrderTables.{message_cancel, message_life, message_limit_type, message_order_type, message_new_order, order_by_type, order_of_message, price_by, message_replacement, message_resting_life, no_quantity_condition}
+use Rattle.fix_messages.specs.OrderTables.{message_cancel, message_life, message_limit_type, message_order_type, message_new_order, order_by_type, order_of_message, price_of_order_type, message_replacement, message_resting_life, no_quantity_condition}
 use Rattle.fix_messages.specs.ReportTable as report_table
-use Rattle.fix_messages.specs.ReportTable.{is_passed_over, report_of_message, trade_report}
+use Rattle.fix_messages.specs.ReportTable.{is_skipped_message, report_of_message, trade_report}
 use Rattle.fix_messages.specs.Rows.{message_head, in_form, is_copy, is_value_word, message_name, only_value, message_price, message_quantity, required_value, message_side, message_type_row, type_of, message_word}
 use Rattle.fix_messages.proofs.PricedLemmas.{behind, behind-known, log_sound}
 use Rattle.trade_reports.specs.declared.reports.Report.{Report}
@@ -38,7 +38,7 @@ quantity-known tag fields = behind IsQuantity (required_value tag fields) _ (λ 
 price-known : (tag : ℕ) (fields : List TagValue) → IfOk (message_price tag fields) IsPrice
 price-known tag fields = behind IsPrice (required_value tag fields) _ (λ text. form-known IsPrice tag (price_form text) (price-range text))
 
-by-limits : (chosen : OrderType) (side : Side) (tag : ℕ) (fields : List TagValue) → IfOk (price_by chosen side tag fields) IsPrice
+by-limits : (chosen : OrderType) (side : Side) (tag : ℕ) (fields : List TagValue) → IfOk (price_of_order_type chosen side tag fields) IsPrice
 by-limits limits.Limit side tag fields = price-known tag fields
 by-limits limits.Market side tag fields = behind IsPrice (only_value tag fields) (λ _. Ok (market_price side)) (λ _. market-range side)
 
@@ -48,7 +48,7 @@ new-known fields =
     behind RecordInRange (message_type_row (codes "D") fields) _ (λ _. behind RecordInRange (message_head 49 fields) _ (λ _. behind RecordInRange (message_side 54 fields) _ (λ side.
     behind-known IsQuantity RecordInRange (message_quantity 38 fields) _ (quantity-known 38 fields) (λ quantity is.
     behind RecordInRange (message_order_type 40 fields) _ (λ chosen.
-    behind-known IsPrice RecordInRange (price_by chosen side 44 fields) _ (by-limits chosen side 44 fields) (λ price priced.
+    behind-known IsPrice RecordInRange (price_of_order_type chosen side 44 fields) _ (by-limits chosen side 44 fields) (λ price priced.
     behind RecordInRange (message_life 59 fields) _ (λ _. behind RecordInRange (no_quantity_condition fields) _ (λ _. record { some = is.some; most = is.most; priced = priced }))))))))
 
 cancel-known : (fields : List TagValue) → IfOk (message_cancel fields) RecordInRange
@@ -106,7 +106,7 @@ report-entry-known (Err why) is = tt
 
 report-known : (fields : List TagValue) → IfOk (report_of_message fields) (λ found. IfSome found IsReport)
 unfolding report_of_message
-report-known fields = elim (cases_Bool (is_passed_over fields)) [
+report-known fields = elim (cases_Bool (is_skipped_message fields)) [
   | inl passed ↦ rw passed tt
   | inr other ↦ rw other (report-entry-known (trade_report fields) (trade-known fields))
 ]
@@ -118,7 +118,7 @@ pub reports-range : ReportsAreInRange
 reports-range log = log_sound report_of_message IsReport report-known log
 
 pub trades-range : PairedTradesAreInRange → FixTradesAreInRange
-trades-range paired log = of-reports (report_log log) (reports-range log)
+trades-range paired log = of-reports (fix_report_records log) (reports-range log)
   where
     of-reports : (read : Result (List Report) BadPlace) → IfOk read ReportsInRange → IfOk read (λ reports. IfOk (pairing reports) TradesInRange)
     of-reports (Ok reports) are = paired reports are

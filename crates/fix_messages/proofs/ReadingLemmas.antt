@@ -8,7 +8,7 @@ use Rattle.std.proofs.lemmas.List.{append-nil, length-append, take-append-drop}
 use Rattle.audit_base.specs.declared.faults.Reason.{Reason}
 use Rattle.audit_base.specs.declared.faults.BadPlace.{BadPlace}
 use Rattle.fix_fields.specs.Grammar.{TagValue}
-use Rattle.fix_framing.specs.Breaks.{is_break, after_breaks}
+use Rattle.fix_framing.specs.Breaks.{is_line_end_byte, after_breaks}
 use Rattle.fix_framing.specs.Frames.{IsFrame, frame_fault, frame_size, body_of}
 use Rattle.fix_framing.proofs.TestLemmas.{NoFault-from_none}
 use Rattle.fix_framing.proofs.MessageLemmas.{NoFault-IsFrame}
@@ -29,26 +29,26 @@ item-before {R} (Ok (Some other)) (Some entry) entries start later e =
 item-before (Err why) new entries start later e = absurd (cc e)
 
 -- every text is CR and LF bytes, and then nothing or a byte that is neither
-break-split : (text : List ℕ) → (gap : List ℕ) × (text ≡ gap ++ after_breaks text) × (list_all is_break gap ≡ true)
+break-split : (text : List ℕ) → (gap : List ℕ) × (text ≡ gap ++ after_breaks text) × (list_all is_line_end_byte gap ≡ true)
 break-split [] = ([], refl, refl)
 break-split (byte ∷ rest) =
     let later = break-split rest in
-    elim (cases_Bool (is_break byte)) [
-      | inl same ↦ (byte ∷ later.0, rw same (ap (λ (t : List ℕ). byte ∷ t) later.1), and_from (is_break byte) (list_all is_break later.0) same later.2)
+    elim (cases_Bool (is_line_end_byte byte)) [
+      | inl same ↦ (byte ∷ later.0, rw same (ap (λ (t : List ℕ). byte ∷ t) later.1), and_from (is_line_end_byte byte) (list_all is_line_end_byte later.0) same later.2)
       | inr other ↦ ([], rw other refl, refl)
     ]
 
 breaks-left : (text : List ℕ) → (after_breaks text ≡ []) ⊎ (begins_past_breaks (after_breaks text) ≡ true)
 breaks-left [] = inl refl
-breaks-left (byte ∷ rest) = elim (cases_Bool (is_break byte)) [
+breaks-left (byte ∷ rest) = elim (cases_Bool (is_line_end_byte byte)) [
   | inl same ↦ rw same (breaks-left rest)
   | inr other ↦ rw other (inr (ap not other))
 ]
 
 -- such a byte is no CR and no LF
-other-first : (text : List ℕ) → begins_past_breaks text ≡ true → (after_breaks text ≡ text) × (list_all is_break text ≡ false)
+other-first : (text : List ℕ) → begins_past_breaks text ≡ true → (after_breaks text ≡ text) × (list_all is_line_end_byte text ≡ false)
 other-first [] h = absurd (cc h)
-other-first (byte ∷ rest) h = elim (cases_Bool (is_break byte)) [
+other-first (byte ∷ rest) h = elim (cases_Bool (is_line_end_byte byte)) [
   | inl same ↦ absurd (cc (h, ap not same))
   | inr other ↦ (rw other refl, rw other refl)
 ]
@@ -130,7 +130,7 @@ module _ {R : Type 0} (meaning : List TagValue → Result (Option R) MessageFaul
   Outcome log = ((entries : List R) × IsGoodFixLog meaning log entries) ⊎ ((bad : BadPlace) × IsBadFixLog meaning log bad)
 
   -- one message more before what is read
-  good-more : (log gap frame body rest : List ℕ) (new : Option R) (entries : List R) → log ≡ gap ++ (frame ++ rest) → list_all is_break gap ≡ true → IsFrame frame body
+  good-more : (log gap frame body rest : List ℕ) (new : Option R) (entries : List R) → log ≡ gap ++ (frame ++ rest) → list_all is_line_end_byte gap ≡ true → IsFrame frame body
       → body_says meaning body ≡ Ok new → HasRecords meaning rest entries → HasRecords meaning log (option_to_list new ++ entries)
   good-more log gap frame body rest new entries cut breaks message says is = record {
     bodies = body ∷ is.bodies;
@@ -140,7 +140,7 @@ module _ {R : Type 0} (meaning : List TagValue → Result (Option R) MessageFaul
     records = ap (λ (l : List R). option_to_list new ++ l) is.records;
   }
 
-  outcome-more : (log gap frame body rest : List ℕ) (new : Option R) → log ≡ gap ++ (frame ++ rest) → list_all is_break gap ≡ true → IsFrame frame body
+  outcome-more : (log gap frame body rest : List ℕ) (new : Option R) → log ≡ gap ++ (frame ++ rest) → list_all is_line_end_byte gap ≡ true → IsFrame frame body
       → body_says meaning body ≡ Ok new → Outcome rest → Outcome log
   outcome-more log gap frame body rest new cut breaks message says (inl good) =
       inl (option_to_list new ++ good.0, good-more log gap frame body rest new good.0 cut breaks message says good.1)
@@ -162,16 +162,16 @@ module _ {R : Type 0} (meaning : List TagValue → Result (Option R) MessageFaul
       )
 
   -- CR and LF bytes alone are a good text
-  breaks-good : (gap : List ℕ) → list_all is_break gap ≡ true → HasRecords meaning gap []
+  breaks-good : (gap : List ℕ) → list_all is_line_end_byte gap ≡ true → HasRecords meaning gap []
   breaks-good gap breaks = record { bodies = []; messages = breaks; meanings = []; good = tt; records = refl }
 
-  outcome-bad : (log gap left : List ℕ) (why : Reason) → log ≡ gap ++ left → list_all is_break gap ≡ true → LacksFrame left why ⊎ HasBadBody meaning left why → Outcome log
+  outcome-bad : (log gap left : List ℕ) (why : Reason) → log ≡ gap ++ left → list_all is_line_end_byte gap ≡ true → LacksFrame left why ⊎ HasBadBody meaning left why → Outcome log
   outcome-bad log gap left why cut breaks fails =
       let none : List R = [] in
       inr (record { place = length none + 1; offset = length gap; reason = why }, record { front = gap; left = left; cut = cut; entries = []; good = breaks-good gap breaks; why = why; fails = fails; place = refl })
 
   -- a text that begins with a message, and what is read behind it
-  outcome-message : (log gap left : List ℕ) → log ≡ gap ++ left → list_all is_break gap ≡ true → begins_past_breaks left ≡ true → frame_fault left ≡ None
+  outcome-message : (log gap left : List ℕ) → log ≡ gap ++ left → list_all is_line_end_byte gap ≡ true → begins_past_breaks left ≡ true → frame_fault left ≡ None
       → ((rest : List ℕ) → length rest + 1 ≤ length left → Outcome rest) → Outcome log
   outcome-message log gap left cut breaks begins none later =
       let frame = take (frame_size left) left in
@@ -187,7 +187,7 @@ module _ {R : Type 0} (meaning : List TagValue → Result (Option R) MessageFaul
         | inr bad ↦ outcome-bad log gap left bad.0 cut breaks (inr (record { frame = frame; body = body_of left; rest = rest; cut = split; message = message; fails = of-says meaning (body_of left) (Err bad.0) bad.1 }))
       ]
 
-  outcome-left : (log gap left : List ℕ) → log ≡ gap ++ left → list_all is_break gap ≡ true → begins_past_breaks left ≡ true
+  outcome-left : (log gap left : List ℕ) → log ≡ gap ++ left → list_all is_line_end_byte gap ≡ true → begins_past_breaks left ≡ true
       → ((rest : List ℕ) → length rest + 1 ≤ length left → Outcome rest) → Outcome log
   outcome-left log gap left cut breaks begins later = elim (cases-option (frame_fault left)) [
     | inl none ↦ outcome-message log gap left cut breaks begins none later

@@ -55,7 +55,7 @@ BodiesSay meaning (body ∷ bodies) [] = ⊥
 BodiesSay meaning (body ∷ bodies) (said ∷ others) =
     BodySays meaning body (Ok said) × BodiesSay meaning bodies others
 
--- what fields say behind which these bytes are left
+-- what fields say after which these bytes are left
 abbrev pub says_of : {R : Type 0} → MessageMeaning R → List TagValue → List ℕ
     → Result (Option R) Reason
 says_of meaning fields [] =

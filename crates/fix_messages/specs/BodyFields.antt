@@ -28,7 +28,7 @@ value_size before tag bytes =
     if is_counted before tag then counted_size before
     else some_size (position_or_len is_end bytes)
 
--- the field with this tag, whose value has this many bytes, with SOH behind them
+-- the field with this tag, whose value has this many bytes, with SOH after them
 abbrev pub ended_field : ℕ → List ℕ → Option ℕ → Option TagValue
 ended_field tag bytes None = None
 ended_field tag bytes (Some size) =
@@ -46,7 +46,7 @@ next_field before bytes =
     tagged_field before (tag_form (before_first is_equals bytes))
     (after_first is_equals bytes)
 
--- fields from the front, and the bytes that are left behind them
+-- fields from the front, and the bytes that are left after them
 pub record FieldSplit : Type 0 where
   pub fields : List TagValue
   pub left : List ℕ

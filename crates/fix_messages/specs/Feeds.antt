@@ -90,4 +90,5 @@ AnswersMessageRecords reading result =
 abbrev pub AnswersFixCollected : {K R : Type 0} → (K → List R → Type 0) → Result (List R) BadPlace
     → Result K LogFault → Type 0
 AnswersFixCollected has_taken reading result =
-    MatchResult result (λ collector. HasMessageRecords (has_taken collector) reading) (IsFixLogFaultOf reading)
+    MatchResult result (λ collector. HasMessageRecords (has_taken collector) reading)
+    (IsFixLogFaultOf reading)

@@ -4,7 +4,7 @@ use Rattle.audit_base.specs.declared.faults.Reason.{Reason}
 use Rattle.audit_base.specs.RecordRanges.{RecordsInRange}
 use Rattle.audit_base.specs.Trades.{TradesInRange}
 use Rattle.fix_messages.specs.Bodies.{MessageMeaning, BodySays, body_says}
-use Rattle.fix_messages.specs.Logs.{IsOnlyFixReading, fix_order_log, read_fix_log, report_log}
+use Rattle.fix_messages.specs.Logs.{IsOnlyFixReading, fix_order_records, read_fix_log, fix_report_records}
 use Rattle.log_source.specs.Collectors.{HasNineBytesEach}
 use Rattle.trade_reports.specs.Pairings.{pairing}
 use Rattle.trade_reports.specs.Ranges.{ReportsInRange}
@@ -22,23 +22,23 @@ FixLogsAreReadOnce meaning =
 
 -- the numbers of each record of a good order log are in range
 abbrev pub FixOrdersAreInRange : Type 0
-FixOrdersAreInRange = (log : List ℕ) → IfOk (fix_order_log log) RecordsInRange
+FixOrdersAreInRange = (log : List ℕ) → IfOk (fix_order_records log) RecordsInRange
 
 -- the numbers of each report of a good log of trade reports are in range
 abbrev pub ReportsAreInRange : Type 0
-ReportsAreInRange = (log : List ℕ) → IfOk (report_log log) ReportsInRange
+ReportsAreInRange = (log : List ℕ) → IfOk (fix_report_records log) ReportsInRange
 
 -- and so are those of each trade that they pair into
 abbrev pub FixTradesAreInRange : Type 0
 FixTradesAreInRange = (log : List ℕ)
-    → IfOk (report_log log) (λ reports. IfOk (pairing reports) TradesInRange)
+    → IfOk (fix_report_records log) (λ reports. IfOk (pairing reports) TradesInRange)
 
 -- each record of a good order log, and each report of a good log of reports,
 -- has at least nine bytes of the log
 abbrev pub FixOrdersHaveNineBytes : Type 0
 FixOrdersHaveNineBytes = (log : List ℕ)
-    → IfOk (fix_order_log log) (λ entries. HasNineBytesEach entries log)
+    → IfOk (fix_order_records log) (λ entries. HasNineBytesEach entries log)
 
 abbrev pub ReportsHaveNineBytes : Type 0
 ReportsHaveNineBytes = (log : List ℕ)
-    → IfOk (report_log log) (λ reports. HasNineBytesEach reports log)
+    → IfOk (fix_report_records log) (λ reports. HasNineBytesEach reports log)

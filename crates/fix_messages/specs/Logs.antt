@@ -7,7 +7,7 @@ use Rattle.audit_base.specs.declared.faults.Reason.{Reason}
 use Rattle.audit_base.specs.declared.faults.Reason.TheVariants as reason
 use Rattle.audit_base.specs.declared.faults.BadPlace.{BadPlace}
 use Rattle.audit_base.specs.declared.records.OrderRecord.{OrderRecord}
-use Rattle.fix_framing.specs.Breaks.{is_break}
+use Rattle.fix_framing.specs.Breaks.{is_line_end_byte}
 use Rattle.fix_framing.specs.Frames.{IsFrame, frame_fault, frame_size, body_of}
 use Rattle.fix_framing.specs.declared.frames.FrameFault.{FrameFault}
 use Rattle.fix_framing.specs.declared.frames.FrameFault.TheVariants.{Begin, Length, Truncated, Trailer, Checksum}
@@ -31,18 +31,18 @@ pub record MessageItem : Type 0 where
   pub body : Result (List ℕ) FrameFault
 
 -- the item at a text that does not begin with CR or LF, and the items
--- behind its message, if there is one
+-- after its message, if there is one
 abbrev pub item_and : ℕ → List ℕ → Option FrameFault → List MessageItem → List MessageItem
 item_and at text None later = record { start = at; body = Ok (body_of text) } ∷ later
 item_and at text (Some fault) later = record { start = at; body = Err fault } ∷ []
 
 -- The items of a log from byte `at` on, whose first `inside` bytes belong to the message before:
--- CR and LF bytes are passed over, a message begins at any other byte, and behind a place where
+-- CR and LF bytes are passed over, a message begins at any other byte, and after a place where
 -- none begins nothing is read.
 abbrev pub items_from : ℕ → ℕ → List ℕ → List MessageItem
 items_from inside at [] = []
 items_from zero at (byte ∷ rest) =
-    if is_break byte then items_from zero (at + 1) rest
+    if is_line_end_byte byte then items_from zero (at + 1) rest
     else item_and at (byte ∷ rest) (frame_fault (byte ∷ rest))
     (items_from (frame_size (byte ∷ rest) - 1) (at + 1) rest)
 items_from (suc inside) at (byte ∷ rest) = items_from inside (at + 1) rest
@@ -53,7 +53,7 @@ abbrev pub item_says : {R : Type 0} → (List ℕ → Result (Option R) Reason)
 item_says says (Ok body) = says body
 item_says says (Err fault) = Err (frame_reason fault)
 
--- one record before others: it counts for the place of what is bad behind it
+-- one record before others: it counts for the place of what is bad after it
 abbrev pub with_record_of_message : {R : Type 0} → R → Result (List R) BadPlace
     → Result (List R) BadPlace
 with_record_of_message entry (Ok entries) = Ok (entry ∷ entries)
@@ -78,17 +78,17 @@ read_items says (item ∷ items) =
 unfoldable pub read_fix_log : {R : Type 0} → MessageMeaning R → List ℕ → Result (List R) BadPlace
 read_fix_log meaning log = read_items (body_says meaning) (items_from 0 0 log)
 
-abbrev pub fix_order_log : List ℕ → Result (List OrderRecord) BadPlace
-fix_order_log log = read_fix_log order_of_message log
+abbrev pub fix_order_records : List ℕ → Result (List OrderRecord) BadPlace
+fix_order_records log = read_fix_log order_of_message log
 
-abbrev pub report_log : List ℕ → Result (List Report) BadPlace
-report_log log = read_fix_log report_of_message log
+abbrev pub fix_report_records : List ℕ → Result (List Report) BadPlace
+fix_report_records log = read_fix_log report_of_message log
 
 -- the text is messages with these bodies in order, with only CR and LF bytes around them
 abbrev pub AreMessages : List ℕ → List (List ℕ) → Type 0
-AreMessages text [] = IsTrue (list_all is_break text)
+AreMessages text [] = IsTrue (list_all is_line_end_byte text)
 AreMessages text (body ∷ bodies) =
-    (gap : List ℕ) × (frame : List ℕ) × (rest : List ℕ) × IsTrue (list_all is_break gap)
+    (gap : List ℕ) × (frame : List ℕ) × (rest : List ℕ) × IsTrue (list_all is_line_end_byte gap)
     × IsFrame frame body × (text ≡ gap ++ (frame ++ rest)) × AreMessages rest bodies
 
 -- The text is messages each of which means a record or nothing,
@@ -108,7 +108,7 @@ IsGoodFixLog meaning log entries = HasRecords meaning log entries
 -- the text begins with a byte that is neither CR nor LF
 abbrev pub begins_past_breaks : List ℕ → Bool
 begins_past_breaks [] = false
-begins_past_breaks (byte ∷ rest) = not (is_break byte)
+begins_past_breaks (byte ∷ rest) = not (is_line_end_byte byte)
 
 -- No message begins where one has to: the first test of frames that fails there is the reason.
 pub record LacksFrame (text : List ℕ) (why : Reason) : Type 0 where
@@ -127,7 +127,7 @@ pub record HasBadBody {R : Type 0} (meaning : MessageMeaning R) (text : List ℕ
   pub message : IsFrame frame body
   pub fails : BodySays meaning body (Err why)
 
--- The log is bad there: behind messages that are good, and CR and LF bytes, no message begins, or
+-- The log is bad there: after messages that are good, and CR and LF bytes, no message begins, or
 -- one that fails a test. The place is one more than the number of records before it, and the
 -- offset that of its first byte.
 pub record IsBadFixLog {R : Type 0} (meaning : MessageMeaning R) (log : List ℕ) (bad : BadPlace)

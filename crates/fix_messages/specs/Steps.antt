@@ -54,7 +54,7 @@ pub record TakesNoMessage {K R : Type 0} (has_taken : K → List R → Type 0)
       → AreFixFeedFields (has_taken new.entries) meaning new.framer new.bad log
   pub cut : new.bad ≡ None → frame_fault (next_text new.framer) ≡ Some Truncated
 
--- the place of a bad message behind the records that were handed on
+-- the place of a bad message after the records that were handed on
 abbrev pub IsBadMessagePlace : {R : Type 0} → (List R → Type 0) → ℕ → Reason → BadPlace → Type 0
 IsBadMessagePlace has_taken start why bad =
     (entries : List _) → has_taken entries

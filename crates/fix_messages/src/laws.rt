@@ -5,7 +5,7 @@ ghost use Rattle.std.specs.List.{flat_map};
 ghost use Rattle.audit_base.specs.declared.records.OrderRecord.{OrderRecord};
 ghost use Rattle.audit_base.specs.declared.records.TradeRecord.{TradeRecord};
 ghost use Rattle.fix_fields.specs.Grammar.{Fields, bytes_of};
-ghost use Rattle.fix_messages.specs.Logs.{fix_order_log, report_log};
+ghost use Rattle.fix_messages.specs.Logs.{fix_order_records, fix_report_records};
 ghost use Rattle.fix_messages.specs.OrderTables.{order_meaning};
 ghost use Rattle.trade_reports.specs.Pairings.{pairing};
 ghost use Rattle.fix_messages.specs.ReportTable.{report_meaning};
@@ -36,9 +36,9 @@ pub fn written_reports_mean_themselves()
 /// orders, and the trade log two reports for each trade, which pair into these trades.
 pub fn written_logs_are_read_again()
     ensures orders { (orders : List OrderRecord) → All IsWritable orders
-        → fix_order_log (fix_orders_text orders) ≡ Ok orders }
+        → fix_order_records (fix_orders_text orders) ≡ Ok orders }
     ensures reports { (trades : List TradeRecord) → All IsTradeInForm trades
-        → report_log (fix_trades_text trades) ≡ Ok (flat_map reports_of trades) }
+        → fix_report_records (fix_trades_text trades) ≡ Ok (flat_map reports_of trades) }
     ensures pairs { (trades : List TradeRecord) → pairing (flat_map reports_of trades) ≡ Ok trades }
 {
     reports_are_paired_again();

@@ -4,7 +4,7 @@ ghost use Rattle.audit_base.specs.Histories.{HasMarketPrice};
 ghost use Rattle.fix_messages.specs.OrderTables.{order_of_message};
 ghost use Rattle.fix_messages.specs.ReportTable.{report_of_message};
 ghost use Rattle.fix_messages.specs.Feeds.{AnswersMessageRecords};
-ghost use Rattle.fix_messages.specs.Logs.{read_fix_log, fix_order_log, report_log, IsOnlyFixReading};
+ghost use Rattle.fix_messages.specs.Logs.{read_fix_log, fix_order_records, fix_report_records, IsOnlyFixReading};
 ghost use Rattle.log_source.specs.Collectors.{HasNineBytesEach};
 ghost use Rattle.log_source.specs.Sources.{longest_read};
 
@@ -42,11 +42,11 @@ fn entries_of<R: FixRecord>(alloc: Global, bytes: &[u8]) -> Result<Vec<R>, LogFa
 /// so the places of all records fit 32 bits.
 pub fn fix_orders_of(alloc: Global, bytes: &[u8]) -> Result<Vec<OrderRecord>, LogFault>
     requires { length bytes.now ≤ longest_read }
-    ensures reads { AnswersMessageRecords (fix_order_log bytes.now) result }
+    ensures reads { AnswersMessageRecords (fix_order_records bytes.now) result }
     ensures priced { IfOk result (λ entries. All HasMarketPrice entries.items) }
     ensures few { IfOk result (λ entries. vec_len entries < 2 ^ 32 - 1) }
     ensures nine { IfOk result (λ entries. HasNineBytesEach entries.items bytes.now) }
-    ensures unique { IsOnlyFixReading order_of_message bytes.now (fix_order_log bytes.now) }
+    ensures unique { IsOnlyFixReading order_of_message bytes.now (fix_order_records bytes.now) }
 {
     entries_of(alloc, bytes)
 }
@@ -57,10 +57,10 @@ pub fn fix_orders_of(alloc: Global, bytes: &[u8]) -> Result<Vec<OrderRecord>, Lo
 /// has at least nine bytes as there.
 pub fn fix_reports_of(alloc: Global, bytes: &[u8]) -> Result<Vec<Report>, LogFault>
     requires { length bytes.now ≤ longest_read }
-    ensures reads { AnswersMessageRecords (report_log bytes.now) result }
+    ensures reads { AnswersMessageRecords (fix_report_records bytes.now) result }
     ensures few { IfOk result (λ reports. vec_len reports < 2 ^ 32 - 1) }
     ensures nine { IfOk result (λ reports. HasNineBytesEach reports.items bytes.now) }
-    ensures unique { IsOnlyFixReading report_of_message bytes.now (report_log bytes.now) }
+    ensures unique { IsOnlyFixReading report_of_message bytes.now (fix_report_records bytes.now) }
 {
     entries_of(alloc, bytes)
 }

@@ -2,7 +2,7 @@
 ghost use Rattle.std.specs.Prelude.{◌≡◌};
 ghost use Rattle.fix_fields.specs.Ranges.{AreFieldsOf, tag_values_of};
 ghost use Rattle.fix_fields.specs.TagNotes.{IsNotedTag};
-ghost use Rattle.fix_messages.specs.OrderTables.{order_type_form, message_order_type, price_by, life_form, message_life, life_by, limit_type_form, message_limit_type, resting_form, message_resting_life, no_quantity_condition, message_new_order, message_cancel, message_replacement, order_by_type, order_of_message, order_meaning};
+ghost use Rattle.fix_messages.specs.OrderTables.{order_type_form, message_order_type, price_of_order_type, life_form, message_life, life_of_order_type, limit_type_form, message_limit_type, resting_form, message_resting_life, no_quantity_condition, message_new_order, message_cancel, message_replacement, order_by_type, order_of_message, order_meaning};
 
 use crate::meanings::{MessageFault, OrderMeaning};
 use crate::message::Message;
@@ -52,7 +52,7 @@ fn price_by(
     message: &Message<'_>,
 ) -> Result<Price, MessageFault>
     requires { IsNotedTag tag }
-    ensures { result ≡ price_by limits side tag message.now }
+    ensures { result ≡ price_of_order_type limits side tag message.now }
 {
     match limits {
         OrderType::Limit => price_at(tag, message),
@@ -87,7 +87,7 @@ fn life_at(tag: u32, message: &Message<'_>) -> Result<Life, MessageFault>
 }
 
 fn life_by(limits: OrderType, life: Life) -> Life
-    ensures { result ≡ life_by limits life }
+    ensures { result ≡ life_of_order_type limits life }
 {
     match limits {
         OrderType::Limit => life,

@@ -1,7 +1,7 @@
 //! The messages of a trade log: execution reports of a trade.
 ghost use Rattle.std.specs.Prelude.{◌≡◌};
 ghost use Rattle.fix_fields.specs.Ranges.{AreFieldsOf, tag_values_of};
-ghost use Rattle.fix_messages.specs.ReportTable.{trade_report, is_other, is_passed_over, report_of_message, report_meaning};
+ghost use Rattle.fix_messages.specs.ReportTable.{trade_report, is_other, is_skipped_message, report_of_message, report_meaning};
 
 use crate::heads::{Head, HeadText};
 use crate::meanings::{MessageFault, Report, ReportMeaning};
@@ -102,7 +102,7 @@ fn is_other(message: &Message<'_>) -> bool
 }
 
 fn is_passed_over(message: &Message<'_>) -> bool
-    ensures { result ≡ is_passed_over message.now }
+    ensures { result ≡ is_skipped_message message.now }
 {
     !is_word(b"8", message.kind()) || is_copy(message) || is_other(message)
 }

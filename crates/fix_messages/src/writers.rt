@@ -4,7 +4,7 @@ ghost use Rattle.std.specs.Prelude.{◌≡◌, ◌<◌, ◌^◌, ◌∷◌, ◌+
 ghost use Rattle.audit_base.specs.Names.{is_name};
 ghost use Rattle.audit_base.specs.Numbers.{is_quantity};
 ghost use Rattle.fix_fields.specs.Grammar.{bytes_of};
-ghost use Rattle.fix_messages.specs.Logs.{fix_order_log, report_log};
+ghost use Rattle.fix_messages.specs.Logs.{fix_order_records, fix_report_records};
 ghost use Rattle.trade_reports.specs.Pairings.{pairing};
 ghost use Rattle.fix_messages.specs.Steps.{are_short_fields, fix_cancel_order, fix_new_order, fix_replace_order, field_written};
 ghost use Rattle.audit_base.specs.Histories.{HasMarketPrice};
@@ -238,7 +238,7 @@ pub fn write_order(alloc: Global, entry: &OrderRecord, out: &mut Vec<u8>) -> Res
     ensures unchanged { OnErr result (out.new.items ≡ out.old.items) }
     ensures in_form { OnOk result (IsOrderInForm entry.now) }
     ensures again { OnOk result (HasMarketPrice entry.now
-        → fix_order_log (order_message entry.now) ≡ Ok (entry.now ∷ [])) }
+        → fix_order_records (order_message entry.now) ≡ Ok (entry.now ∷ [])) }
 {
     let mut body = Vec::new(alloc);
     write_order_fields(alloc, entry, &mut body)?;
@@ -299,7 +299,7 @@ pub fn write_trade(alloc: Global, trade: &TradeRecord, out: &mut Vec<u8>) -> Res
     ensures unchanged { OnErr result (out.new.items ≡ out.old.items) }
     ensures in_form { OnOk result (IsTradeInForm trade.now) }
     ensures again { OnOk result
-        (report_log (trade_message_pair trade.now) ≡ Ok (reports_of trade.now)) }
+        (fix_report_records (trade_message_pair trade.now) ≡ Ok (reports_of trade.now)) }
     ensures paired { OnOk result (pairing (reports_of trade.now) ≡ Ok (trade.now ∷ [])) }
 {
     reports_are_paired_again();

@@ -9,7 +9,7 @@ use Rattle.audit_base.specs.declared.records.OrderRecord.{OrderRecord}
 use Rattle.audit_base.specs.declared.records.OrderRecord.TheVariants.{New, Cancel, Replace}
 use Rattle.audit_base.specs.Least.{only_if}
 use Rattle.audit_base.specs.Orders.{same_key}
-use Rattle.audit_base.specs.Histories.{target_key, ends_order, history_entry, key_at, earlier_entry_with_key, target_of, duplicate_id, time_back, unknown_target, entry_finding}
+use Rattle.audit_base.specs.Histories.{target_key, ends_order, history_entry, key_at, earlier_entry_with_key, target_of, duplicate_id_finding, time_back_finding, unknown_target_finding, entry_finding}
 use Rattle.instruction_history.specs.Draft.{finding_in_history}
 use Rattle.instruction_history.proofs.FirstLemmas.{least_answer-none, least_with-none, least_with-some, option_or-parts}
 use Rattle.audit_base.proofs.HistoryLemmas.{same_key-is, is-same_key}
@@ -25,16 +25,16 @@ only_if-none false a e = refl
 
 -- the three findings are not there
 pub record IsClean (h : Records) (k : ℕ) : Type 0 where
-  pub duplicate : duplicate_id h k ≡ None
-  pub back : time_back h k ≡ None
-  pub unknown : unknown_target h k ≡ None
+  pub duplicate : duplicate_id_finding h k ≡ None
+  pub back : time_back_finding h k ≡ None
+  pub unknown : unknown_target_finding h k ≡ None
 
 pub clean-at : (h : Records) → finding_in_history h ≡ None → (k : ℕ) → k < length h → IsClean h k
 clean-at h clean k lt =
     let none = least_answer-none (entry_finding h) (length h) k clean lt in
-    let one = option_or-parts (duplicate_id h k) _ none in
-    let two = option_or-parts (time_back h k) _ one.1 in
-    let three = option_or-parts (unknown_target h k) None two.1 in
+    let one = option_or-parts (duplicate_id_finding h k) _ none in
+    let two = option_or-parts (time_back_finding h k) _ one.1 in
+    let three = option_or-parts (unknown_target_finding h k) None two.1 in
     record { duplicate = one.0; back = two.0; unknown = three.0 }
 
 pub clean-distinct : (h : Records) → finding_in_history h ≡ None → (i j : ℕ) → i < j → j < length h → same_key (key_at h i) (key_at h j) ≡ false

@@ -7,13 +7,13 @@ use Rattle.std.proofs.lemmas.List.Elements.{All-nil, All-cons, All-filter}
 use Rattle.audit_base.specs.declared.orders.Order.{Order}
 use Rattle.audit_base.specs.declared.records.OrderRecord.{OrderRecord}
 use Rattle.audit_base.specs.declared.records.OrderRecord.TheVariants.{New, Cancel, Replace}
-use Rattle.audit_base.specs.Orders.{same_name, IsMarketPriced}
+use Rattle.audit_base.specs.Orders.{same_name, HasMarketPriceIfMarket}
 use Rattle.audit_base.specs.Histories.{symbol_of, history, order_list, order_of_entry, HasMarketPrice}
 use Rattle.instruction_history.specs.MarketPrices.{AreRecordsMarketPriced, AreMarketPriced}
 use Rattle.instruction_history.proofs.RecordLemmas.{Records}
 
 abbrev IsPriced : Order → Type 0
-IsPriced o = IsMarketPriced o.life o.side o.limit
+IsPriced o = HasMarketPriceIfMarket o.life o.side o.limit
 
 -- the order of a record
 record-priced : (h : Records) (k at : ℕ) (r : OrderRecord) → HasMarketPrice r → (o : Order) → order_of_entry h (k, at, r) ≡ Some o → IsPriced o

@@ -6,7 +6,7 @@ use Rattle.audit_base.specs.declared.findings.Finding.{Finding}
 use Rattle.audit_base.specs.declared.records.OrderRecord.{OrderRecord}
 use Rattle.audit_base.specs.Least.{only_if}
 use Rattle.audit_base.specs.Orders.{same_key}
-use Rattle.audit_base.specs.Histories.{key_of, time_of, target_key, is_order, ends_order, side_of, fits_side, entry_past_end, history_entry, history_entry_place, key_at, earlier_entry_with_key, target_of, duplicate_id, time_back, unknown_target, entry_finding, replaced_order_at, is_ended_before, is_placed_within, is_placed}
+use Rattle.audit_base.specs.Histories.{key_of, time_of, target_key, is_order, ends_order, side_of, fits_side, entry_past_end, history_entry, history_entry_place, key_at, earlier_entry_with_key, target_of, duplicate_id_finding, time_back_finding, unknown_target_finding, entry_finding, replaced_order_at, is_ended_before, is_placed_within, is_placed}
 use Rattle.audit_base.specs.Moments.{is_before}
 use Rattle.audit_base.specs.declared.findings.Property.TheVariants as property
 use Rattle.audit_base.specs.declared.terms.Which.TheVariants as which
@@ -57,7 +57,7 @@ option_map-same {B = B} f g (Some a) same = ap (λ (b : B). Some b) (same a refl
 abbrev pub repeats : ℕ → ℕ → Finding
 repeats place earlier = finding_at_record property.DuplicateId which.Orders place (show_place which.Orders earlier) None
 
-pub duplicate-same : (n : ℕ) (h g : Records) → SameBelow h g n → (k : ℕ) → k < n → duplicate_id h k ≡ duplicate_id g k
+pub duplicate-same : (n : ℕ) (h g : Records) → SameBelow h g n → (k : ℕ) → k < n → duplicate_id_finding h k ≡ duplicate_id_finding g k
 duplicate-same n h g same k lt =
     let shows : option_map (λ j. repeats (history_entry_place h k) (history_entry_place h j)) (earlier_entry_with_key h k) ≡ option_map (λ j. repeats (history_entry_place g k) (history_entry_place g j)) (earlier_entry_with_key h k) =
     option_map-same _ _ (earlier_entry_with_key h k)
@@ -69,7 +69,7 @@ duplicate-same n h g same k lt =
 abbrev pub back_finding : ℕ × OrderRecord → ℕ × OrderRecord → Option Finding
 back_finding e before = only_if (is_before (time_of e.1) (time_of before.1)) (finding_at_record property.TimeBack which.Orders e.0 (show_place which.Orders before.0) None)
 
-pub time_back-same : (n : ℕ) (h g : Records) → SameBelow h g n → (k : ℕ) → k < n → time_back h k ≡ time_back g k
+pub time_back-same : (n : ℕ) (h g : Records) → SameBelow h g n → (k : ℕ) → k < n → time_back_finding h k ≡ time_back_finding g k
 time_back-same n h g same zero lt = refl
 time_back-same n h g same (suc j) lt =
     let less : j < n = omega arith in
@@ -79,7 +79,7 @@ time_back-same n h g same (suc j) lt =
 abbrev pub targetless : ℕ × OrderRecord → Option ℕ → Option Finding
 targetless e target = only_if (is_some (target_key e.1) && is_none target) (finding_at_record property.UnknownTarget which.Orders e.0 None None)
 
-pub unknown-same : (n : ℕ) (h g : Records) → SameBelow h g n → (k : ℕ) → k < n → unknown_target h k ≡ unknown_target g k
+pub unknown-same : (n : ℕ) (h g : Records) → SameBelow h g n → (k : ℕ) → k < n → unknown_target_finding h k ≡ unknown_target_finding g k
 unknown-same n h g same k lt =
     ap (λ (e : ℕ × OrderRecord). targetless e (target_of h k)) (same.at k lt) ∙ ap (targetless (get_or g k entry_past_end)) (target-same n h g same k lt)
 

@@ -16,7 +16,7 @@ use Rattle.instruction_history.specs.Draft.{IsHistorySoFar, kept_orders, finding
 use Rattle.order_list.specs.declared.keys.Keys.{Keys}
 use Rattle.std.proofs.lemmas.List.{length-map}
 use Rattle.order_list.specs.declared.keys.KeyNumber.{KeyNumber}
-use Rattle.order_list.specs.Keys.{seen_in, AddsKey, AddsNumber}
+use Rattle.order_list.specs.Keys.{record_seen_in, AddsKey, AddsNumber}
 use Rattle.order_list.specs.Stored.{order_of}
 use Rattle.order_list.proofs.StoredLemmas.{stored-kept, numbered-kept}
 use Rattle.instruction_history.specs.Draft.{fitting_target, target_among, duplicate_evidence, record_evidence, with_target_ended, order_by_target, orders_with_own, seen_as, AddsRecord}
@@ -35,7 +35,7 @@ and_then-same f g (Some a) same = same a
 
 -- the target by what a draft holds
 abbrev pub target_by : HistorySoFar → OrderRecord → Option ℕ
-target_by d r = target_among (kept_orders d) (seen_in d.keys) r
+target_by d r = target_among (kept_orders d) (record_seen_in d.keys) r
 
 target-by : (h : Records) (d : HistorySoFar) (e : ℕ × OrderRecord) → IsHistorySoFar h d → target_by d e.1 ≡ target_index h e
 target-by h d e is =
@@ -45,7 +45,7 @@ target-by h d e is =
 
 -- what is wrong with a record by what is kept
 abbrev pub evidence_so_far : HistorySoFar → OrderRecord → Option ℕ → Option Evidence
-evidence_so_far d r target = record_evidence (seen_in d.keys (key_of r)) d.last r target
+evidence_so_far d r target = record_evidence (record_seen_in d.keys (key_of r)) d.last r target
 
 finding-by : (h : Records) (d : HistorySoFar) (e : ℕ × OrderRecord) (target : Option ℕ) → IsHistorySoFar h d → target ≡ target_by d e.1 → option_map (finding_at e.0) (evidence_so_far d e.1 target) ≡ finding_in_history (h ++ e ∷ [])
 finding-by h d e target is by =
@@ -57,11 +57,11 @@ finding-by h d e target is by =
     ∙ sym (finding_in-push h e)
 
 -- what is wrong with it where this is what its key named
-evidence-with : (d : HistorySoFar) (r : OrderRecord) (target : Option ℕ) (key : Key) (earlier : Option SeenRecord) → key ≡ key_of r → earlier ≡ seen_in d.keys key → record_evidence earlier d.last r target ≡ evidence_so_far d r target
-evidence-with d r target key earlier own is = ap (λ (s : Option SeenRecord). record_evidence s d.last r target) (is ∙ ap (seen_in d.keys) own)
+evidence-with : (d : HistorySoFar) (r : OrderRecord) (target : Option ℕ) (key : Key) (earlier : Option SeenRecord) → key ≡ key_of r → earlier ≡ record_seen_in d.keys key → record_evidence earlier d.last r target ≡ evidence_so_far d r target
+evidence-with d r target key earlier own is = ap (λ (s : Option SeenRecord). record_evidence s d.last r target) (is ∙ ap (record_seen_in d.keys) own)
 
 -- the finding of what is wrong by what a draft holds is that of the history
-pub draft-found : (h : Records) (d : HistorySoFar) (place : ℕ) (r : OrderRecord) (target : Option ℕ) (key : Key) (earlier : Option SeenRecord) (evidence : Evidence) → IsHistorySoFar h d → target ≡ target_by d r → key ≡ key_of r → earlier ≡ seen_in d.keys key
+pub draft-found : (h : Records) (d : HistorySoFar) (place : ℕ) (r : OrderRecord) (target : Option ℕ) (key : Key) (earlier : Option SeenRecord) (evidence : Evidence) → IsHistorySoFar h d → target ≡ target_by d r → key ≡ key_of r → earlier ≡ record_seen_in d.keys key
     → Some evidence ≡ record_evidence earlier d.last r target → finding_in_history (h ++ (place, r) ∷ []) ≡ Some (finding_at place evidence)
 draft-found h d place r target key earlier evidence is by own named found =
     sym (finding-by h d (place, r) target is by) ∙ ap (option_map (finding_at place)) (sym (evidence-with d r target key earlier own named) ∙ sym found)
@@ -86,14 +86,14 @@ orders-by h d new keys place r target key number is adds by clean takes =
 count-kept : (d : HistorySoFar) → length d.orders.items ≡ length (kept_orders d)
 count-kept d = sym (length-map d.orders.items (order_of d.keys))
 
-keys-by : (h : Records) (d : HistorySoFar) (keys : Keys) (place : ℕ) (r : OrderRecord) (target : Option ℕ) → IsHistorySoFar h d → None ≡ evidence_so_far d r target → AddsKey d.keys keys (key_of r) (seen_as r place (length d.orders.items)) → (key : Key) → seen_in keys key ≡ seen_by_key (h ++ (place, r) ∷ []) key
+keys-by : (h : Records) (d : HistorySoFar) (keys : Keys) (place : ℕ) (r : OrderRecord) (target : Option ℕ) → IsHistorySoFar h d → None ≡ evidence_so_far d r target → AddsKey d.keys keys (key_of r) (seen_as r place (length d.orders.items)) → (key : Key) → record_seen_in keys key ≡ seen_by_key (h ++ (place, r) ∷ []) key
 keys-by h d keys place r target is none adds key = adds key ∙ go (same_key (key_of r) key) refl ∙ sym (named_in-push h (place, r) key)
   where
-    go : (b : Bool) → same_key (key_of r) key ≡ b → (if b then Some (seen_as r place (length d.orders.items)) else seen_in d.keys key) ≡ option_or (seen_by_key h key) (only_if b (seen_at (h ++ (place, r) ∷ []) (length h)))
+    go : (b : Bool) → same_key (key_of r) key ≡ b → (if b then Some (seen_as r place (length d.orders.items)) else record_seen_in d.keys key) ≡ option_or (seen_by_key h key) (only_if b (seen_at (h ++ (place, r) ∷ []) (length h)))
     go true e =
         let own : key_of r ≡ key = same_key-is (key_of r) key e in
-        let unseen : seen_in d.keys (key_of r) ≡ None = option_map-none _ _ (option_or-parts (duplicate_evidence (seen_in d.keys (key_of r))) _ (sym none)).0 in
-        let unnamed : seen_by_key h key ≡ None = sym (is.keys key) ∙ ap (seen_in d.keys) (sym own) ∙ unseen in
+        let unseen : record_seen_in d.keys (key_of r) ≡ None = option_map-none _ _ (option_or-parts (duplicate_evidence (record_seen_in d.keys (key_of r))) _ (sym none)).0 in
+        let unnamed : seen_by_key h key ≡ None = sym (is.keys key) ∙ ap (record_seen_in d.keys) (sym own) ∙ unseen in
         ap (λ (n : ℕ). Some (seen_as r place n)) (count-kept d ∙ ap length is.orders)
         ∙ ap (λ (s : SeenRecord). Some s) (sym (seen-step h (place, r)))
         ∙ sym (option_or-none (seen_by_key h key) _ unnamed)
@@ -103,7 +103,7 @@ keys-by h d keys place r target is none adds key = adds key ∙ go (same_key (ke
 pub clear-unseen : (earlier : Option SeenRecord) (last : Option LastRecord) (r : OrderRecord) (target : Option ℕ) → None ≡ record_evidence earlier last r target → earlier ≡ None
 clear-unseen earlier last r target clear = option_map-none _ _ (option_or-parts (duplicate_evidence earlier) _ (sym clear)).0
 
-pub draft-takes : (h : Records) (d new : HistorySoFar) (keys : Keys) (place : ℕ) (r : OrderRecord) (target : Option ℕ) (key : Key) (earlier : Option SeenRecord) (number : KeyNumber) → IsHistorySoFar h d → target ≡ target_by d r → key ≡ key_of r → earlier ≡ seen_in d.keys key
+pub draft-takes : (h : Records) (d new : HistorySoFar) (keys : Keys) (place : ℕ) (r : OrderRecord) (target : Option ℕ) (key : Key) (earlier : Option SeenRecord) (number : KeyNumber) → IsHistorySoFar h d → target ≡ target_by d r → key ≡ key_of r → earlier ≡ record_seen_in d.keys key
     → None ≡ record_evidence earlier d.last r target → AddsNumber d.keys keys key number
     → AddsKey d.keys keys key (seen_as r place (length d.orders.items)) → AddsRecord (with_key_of d keys) new place r target → IsHistorySoFar (h ++ (place, r) ∷ []) new
 draft-takes h d new keys place r target key earlier number is by own named clear has adds takes =
@@ -114,6 +114,6 @@ draft-takes h d new keys place r target key earlier number is by own named clear
       clean = clean;
       orders = orders-by h d new keys place r target key number is has by clean takes;
       numbered = takes.numbered (numbered-kept d.keys keys d.orders.items has.keeps is.numbered);
-      keys = λ k. ap (λ (m : Keys). seen_in m k) takes.keys ∙ keys-by h d keys place r target is none added k;
+      keys = λ k. ap (λ (m : Keys). record_seen_in m k) takes.keys ∙ keys-by h d keys place r target is none added k;
       last = takes.last ∙ sym (last-step h (place, r));
     }

@@ -14,7 +14,7 @@ use Rattle.audit_base.specs.declared.terms.Which.TheVariants as which
 use Rattle.audit_base.specs.Shows.{finding_at_record}
 use Rattle.audit_base.specs.Least.{least_with, first_answer, only_if}
 use Rattle.audit_base.specs.Orders.{same_name, same_key}
-use Rattle.audit_base.specs.Histories.{key_of, time_of, target_key, is_order, ends_order, side_of, fits_side, entry_past_end, history_entry, history_entry_place, key_at, target_of, earlier_entry_with_key, duplicate_id, time_back, unknown_target, entry_finding, order_index}
+use Rattle.audit_base.specs.Histories.{key_of, time_of, target_key, is_order, ends_order, side_of, fits_side, entry_past_end, history_entry, history_entry_place, key_at, target_of, earlier_entry_with_key, duplicate_id_finding, time_back_finding, unknown_target_finding, entry_finding, order_index}
 use Rattle.audit_base.specs.Moments.{is_before}
 use Rattle.instruction_history.specs.declared.findings.LastRecord.{LastRecord}
 use Rattle.order_list.specs.declared.keys.SeenRecord.{SeenRecord}
@@ -110,7 +110,7 @@ repeats-seen h longer e place (Some k) same is within =
     let earlier : history_entry_place longer k ≡ history_entry_place h k = record_place-same longer h same k (within k refl) in
     ap (λ (f : Finding). Some f) (ap (λ (p : ℕ). repeats p (history_entry_place longer k)) is ∙ ap (repeats e.0) earlier)
 
-pub duplicate-step : (h : Records) (e : ℕ × OrderRecord) → duplicate_id (h ++ e ∷ []) (length h) ≡ option_map (finding_at e.0) (duplicate_evidence (seen_by_key h (key_of e.1)))
+pub duplicate-step : (h : Records) (e : ℕ × OrderRecord) → duplicate_id_finding (h ++ e ∷ []) (length h) ≡ option_map (finding_at e.0) (duplicate_evidence (seen_by_key h (key_of e.1)))
 duplicate-step h e =
     let longer : Records = h ++ e ∷ [] in
     let same = pushed-same h e in
@@ -121,10 +121,10 @@ duplicate-step h e =
     ap (option_map (λ k. repeats (history_entry_place longer (length h)) (history_entry_place longer k))) earlier
     ∙ repeats-seen h longer e (history_entry_place longer (length h)) (least_with (λ k. same_key (key_at h k) (key_of e.1)) (length h)) same place (λ k finding_at_record. (least_with-some _ (length h) k finding_at_record).within)
 
-back-step : (h : Records) (e : ℕ × OrderRecord) → time_back (h ++ e ∷ []) (length h) ≡ option_map (finding_at e.0) (time_back_evidence (last_record h (length h)) (time_of e.1))
+back-step : (h : Records) (e : ℕ × OrderRecord) → time_back_finding (h ++ e ∷ []) (length h) ≡ option_map (finding_at e.0) (time_back_evidence (last_record h (length h)) (time_of e.1))
 back-step h e = go (length h) refl
   where
-    go : (n : ℕ) → n ≡ length h → time_back (h ++ e ∷ []) n ≡ option_map (finding_at e.0) (time_back_evidence (last_record h n) (time_of e.1))
+    go : (n : ℕ) → n ≡ length h → time_back_finding (h ++ e ∷ []) n ≡ option_map (finding_at e.0) (time_back_evidence (last_record h n) (time_of e.1))
     go zero is = refl
     go (suc k) is =
         let longer : Records = h ++ e ∷ [] in
@@ -138,7 +138,7 @@ is_none-option_map : {A B : Type 0} (f : A → B) (o : Option A) → is_none (op
 is_none-option_map f None = refl
 is_none-option_map f (Some a) = refl
 
-unknown-step : (h : Records) (e : ℕ × OrderRecord) → unknown_target (h ++ e ∷ []) (length h) ≡ option_map (finding_at e.0) (unknown_target_evidence (target_key e.1) (option_map (order_index h) (target_of (h ++ e ∷ []) (length h))))
+unknown-step : (h : Records) (e : ℕ × OrderRecord) → unknown_target_finding (h ++ e ∷ []) (length h) ≡ option_map (finding_at e.0) (unknown_target_evidence (target_key e.1) (option_map (order_index h) (target_of (h ++ e ∷ []) (length h))))
 unknown-step h e =
     let target : Option ℕ = target_of (h ++ e ∷ []) (length h) in
     ap (λ (x : ℕ × OrderRecord). targetless x target) (pushed-at h e)
@@ -160,8 +160,8 @@ finding-step h e =
     let one : Option Evidence = duplicate_evidence (seen_by_key h (key_of e.1)) in
     let two : Option Evidence = time_back_evidence (last_record h (length h)) (time_of e.1) in
     let three : Option Evidence = unknown_target_evidence (target_key e.1) (option_map (order_index h) (target_of longer (length h))) in
-    ap (λ (o : Option Finding). first_answer (o ∷ time_back longer (length h) ∷ unknown_target longer (length h) ∷ [])) (duplicate-step h e)
-    ∙ ap (λ (o : Option Finding). first_answer (option_map (finding_at e.0) one ∷ o ∷ unknown_target longer (length h) ∷ [])) (back-step h e)
+    ap (λ (o : Option Finding). first_answer (o ∷ time_back_finding longer (length h) ∷ unknown_target_finding longer (length h) ∷ [])) (duplicate-step h e)
+    ∙ ap (λ (o : Option Finding). first_answer (option_map (finding_at e.0) one ∷ o ∷ unknown_target_finding longer (length h) ∷ [])) (back-step h e)
     ∙ ap (λ (o : Option Finding). first_answer (option_map (finding_at e.0) one ∷ option_map (finding_at e.0) two ∷ o ∷ [])) (unknown-step h e)
     ∙ first-mapped (finding_at e.0) one two three
 

@@ -19,7 +19,7 @@ use Rattle.instruction_history.specs.declared.history_so_far.HistorySoFar.{Histo
 use Rattle.instruction_history.specs.declared.findings.LastRecord.{LastRecord}
 use Rattle.order_list.specs.declared.keys.SeenRecord.{SeenRecord}
 use Rattle.order_list.specs.Changed.{with_ending}
-use Rattle.order_list.specs.Keys.{seen_in}
+use Rattle.order_list.specs.Keys.{record_seen_in}
 use Rattle.order_list.specs.Stored.{orders_of, AreKeysNumbered}
 
 -- What is known after some records of a history.
@@ -47,7 +47,8 @@ seen_by_key h key = option_map (seen_at h) (least_with (λ k. same_key (key_at h
 -- the record before the next one
 abbrev pub last_record : List (ℕ × OrderRecord) → ℕ → Option LastRecord
 last_record h zero = None
-last_record h (suc k) = Some (record { place = history_entry_place h k; time = time_of (history_entry h k) })
+last_record h (suc k) =
+    Some (record { place = history_entry_place h k; time = time_of (history_entry h k) })
 
 -- the orders that are kept
 abbrev pub kept_orders : HistorySoFar → List Order
@@ -58,7 +59,7 @@ pub record IsHistorySoFar (h : List (ℕ × OrderRecord)) (d : HistorySoFar) : T
   pub clean : finding_in_history h ≡ None
   pub orders : kept_orders d ≡ orders_in h
   pub numbered : AreKeysNumbered d.keys d.orders.items
-  pub keys : (key : Key) → seen_in d.keys key ≡ seen_by_key h key
+  pub keys : (key : Key) → record_seen_in d.keys key ≡ seen_by_key h key
   pub last : d.last ≡ last_record h (length h)
 
 -- what is kept is that of the history, or the finding is its first one

@@ -6,7 +6,7 @@ ghost use Rattle.audit_base.specs.declared.orders.Order.{Order};
 ghost use Rattle.instruction_history.specs.Draft as draft;
 ghost use Rattle.instruction_history.specs.Flaws.{flaw_finding, NamesNoOrder};
 ghost use Rattle.order_list.specs.declared.keys.Keys.{Keys as AKeys};
-ghost use Rattle.order_list.specs.Keys.{seen_in, key_in, HasNumber, IsNumbered};
+ghost use Rattle.order_list.specs.Keys.{record_seen_in, key_in, HasNumber, IsNumbered};
 ghost use Rattle.order_list.specs.Stored.{order_with, orders_of, AreKeysNumbered};
 
 use super::findings::{LastRecord, record_evidence};
@@ -42,7 +42,7 @@ fn named_target(
     firm: &Name,
     id: &Name,
 ) -> Option<usize>
-    ensures value { let seen = seen_in keys.now (record { firm = firm.now; id = id.now }) in
+    ensures value { let seen = record_seen_in keys.now (record { firm = firm.now; id = id.now }) in
         result ≡ draft.seen_target orders.now entry.now seen }
     ensures in_range { IfSome result (λ i. i < length orders.now) }
 {
@@ -53,7 +53,7 @@ fn named_target(
 
 /// The index of the target of the record.
 fn target_of(orders: &OrderList<'_>, keys: &Keys, entry: &OrderRecord) -> Option<usize>
-    ensures value { result ≡ draft.target_among orders.now (seen_in keys.now) entry.now }
+    ensures value { result ≡ draft.target_among orders.now (record_seen_in keys.now) entry.now }
     ensures in_range { IfSome result (λ i. i < length orders.now) }
 {
     match entry {

@@ -16,7 +16,7 @@ use Rattle.audit_base.specs.declared.records.OrderRecord.TheVariants.{New, Cance
 use Rattle.audit_base.specs.declared.orders.Order.{Order}
 use Rattle.audit_base.specs.Orders.{same_name, same_key, may_rest, order_at, order_past_end}
 use Rattle.audit_base.specs.Least.{least_answer, only_if}
-use Rattle.audit_base.specs.Histories.{key_of, time_of, symbol_of, target_key, is_order, ends_order, side_of, fits_side, history, entry_past_end, history_entry, key_at, target_of, duplicate_id, time_back, unknown_target, entry_finding, WellFormed, Regular, order_of_entry, order_list, instant_order}
+use Rattle.audit_base.specs.Histories.{key_of, time_of, symbol_of, target_key, is_order, ends_order, side_of, fits_side, history, entry_past_end, history_entry, key_at, target_of, duplicate_id_finding, time_back_finding, unknown_target_finding, entry_finding, WellFormed, Regular, order_of_entry, order_list, instant_order_finding}
 use Rattle.audit_base.specs.Moments.{is_before}
 use Rattle.audit_base.proofs.HistoryLemmas.{same_key-is, is-same_key, order_list-regular}
 use Rattle.audit_base.proofs.LeastLemmas.{least-none, option_or-none, with-none, with-exists}
@@ -133,7 +133,7 @@ module _ (start count : ℕ) (few : count ≤ 1000000) where
   time-at k lt = ap time_of (record-is k lt) ∙ time-is (1 + k) (state_at start (1 + k))
 
   -- none has the key of an earlier one
-  no-duplicate : (k : ℕ) → k < count → duplicate_id numbered k ≡ None
+  no-duplicate : (k : ℕ) → k < count → duplicate_id_finding numbered k ≡ None
   no-duplicate k lt = rw (with-none (λ j. same_key (key_at numbered j) (key_at numbered k)) k (λ j below.
       ap (λ (key : Key). same_key key (key_at numbered k)) (key-at j (omega arith))
       ∙ ap (same_key (key_of_number (1 + j))) (key-at k lt)
@@ -149,12 +149,12 @@ module _ (start count : ℕ) (few : count ≤ 1000000) where
       ∙ not-before (1 + j) (1 + suc j) (omega arith)
 
   -- none is before the one before it
-  no-time_back : (k : ℕ) → k < count → time_back numbered k ≡ None
+  no-time_back : (k : ℕ) → k < count → time_back_finding numbered k ≡ None
   no-time_back zero lt = refl
   no-time_back (suc j) lt = rw (earlier-first j lt) refl
 
   -- each cancel has its target
-  no-unknown_target : (k : ℕ) → k < count → unknown_target numbered k ≡ None
+  no-unknown_target : (k : ℕ) → k < count → unknown_target_finding numbered k ≡ None
   no-unknown_target k lt = only-none (is_some (target_key (history_entry numbered k)) && is_none (target_of numbered k)) _
       (elim (cases_Bool ((1 + k) % 10 == 0)) [
         | inr other ↦ and_left _ _ (ap (λ (r : OrderRecord). is_some (target_key r)) (record-is k lt ∙ is-new (1 + k) (state_at start (1 + k)) (λ e. both_ways _ other (eq-eqb ((1 + k) % 10) 0 e))))
@@ -178,9 +178,9 @@ module _ (start count : ℕ) (few : count ≤ 1000000) where
 
   no-finding : (k : ℕ) → k < count → entry_finding numbered k ≡ None
   no-finding k lt =
-      option_or-none (duplicate_id numbered k) _ (no-duplicate k lt)
-      ∙ option_or-none (time_back numbered k) _ (no-time_back k lt)
-      ∙ option_or-none (unknown_target numbered k) _ (no-unknown_target k lt)
+      option_or-none (duplicate_id_finding numbered k) _ (no-duplicate k lt)
+      ∙ option_or-none (time_back_finding numbered k) _ (no-time_back k lt)
+      ∙ option_or-none (unknown_target_finding numbered k) _ (no-unknown_target k lt)
 
   pub well_formed : WellFormed generated_symbol entries
   well_formed = subst (λ (h : List (ℕ × OrderRecord)). least_answer (entry_finding h) (length h) ≡ None) (sym history-is)
@@ -203,7 +203,7 @@ module _ (start count : ℕ) (few : count ≤ 1000000) where
       get_or-enumerate_from 0 numbered k d (omega (arith, count-is, length-enumerate_from 1 entries)) ∙ ap (λ (r : ℕ × OrderRecord). (0 + k, r)) (numbered-is k d.1 inside) in
       order-rests records (0 + k) (1 + k) (1 + k) (state_at start (1 + k)) o (sym (ap (λ (x : ℕ × (ℕ × OrderRecord)). order_of_entry records (x.0, x.1.0, x.1.1)) is) ∙ e))
 
-  pub all-rest : instant_order (order_list generated_symbol entries) ≡ None
-  all-rest = subst (λ (h : List (ℕ × OrderRecord)). instant_order (filter_map (λ e. order_of_entry h (e.0, e.1.0, e.1.1)) (enumerate_from 0 h)) ≡ None) (sym history-is)
+  pub all-rest : instant_order_finding (order_list generated_symbol entries) ≡ None
+  all-rest = subst (λ (h : List (ℕ × OrderRecord)). instant_order_finding (filter_map (λ e. order_of_entry h (e.0, e.1.0, e.1.1)) (enumerate_from 0 h)) ≡ None) (sym history-is)
       (let orders = filter_map (λ e. order_of_entry numbered (e.0, e.1.0, e.1.1)) (enumerate_from 0 numbered) in
       rw (with-none (λ i. not (may_rest (order_at orders i).life)) (length orders) (λ k lt. ap not (orders-rest numbered k order_past_end lt))) refl)

@@ -9,7 +9,7 @@ use Rattle.audit_base.specs.declared.terms.Life.TheVariants.{Rests}
 use Rattle.audit_base.specs.declared.records.OrderRecord.{OrderRecord}
 use Rattle.audit_base.specs.declared.records.OrderRecord.TheVariants.{New, Cancel}
 use Rattle.audit_base.specs.declared.orders.Order.{Order}
-use Rattle.audit_base.specs.Histories.{symbol_of, order_list, instant_order}
+use Rattle.audit_base.specs.Histories.{symbol_of, order_list, instant_order_finding}
 
 -- START is from 1 to 2,147,483,646
 pub record IsStart (start : ℕ) : Type 0 where
@@ -95,4 +95,4 @@ AreOfSymbol symbol entries = All (λ entry. symbol_of entry ≡ symbol) entries
 
 -- no order of the list is of a life that isn't Rests, so a call has no finding 16
 abbrev pub AllRest : List Order → Type 0
-AllRest orders = instant_order orders ≡ None
+AllRest orders = instant_order_finding orders ≡ None

@@ -5,12 +5,12 @@ use Rattle.std.proofs.lemmas.List.{take_rest}
 use Rattle.std.proofs.KnownBytes.{Appends-kept}
 use Rattle.std.specs.Io.KnownBytes.{Appends}
 use lib.Seq.{take-append_seam}
-use Rattle.log_source.specs.Sources.{Rose}
+use Rattle.log_source.specs.Sources.{RoseOrIsFull}
 use Rattle.log_source.specs.Sinks.{SinkState, SinkStays, Writes, AppendsPart, Puts}
 use Rattle.log_source.specs.declared.shelf.Failed.{Failed}
 
 -- a count that rose later rose from what it was before
-pub Rose-later : (a b c : ℕ) → a ≤ b → Rose b c → Rose a c
+pub Rose-later : (a b c : ℕ) → a ≤ b → RoseOrIsFull b c → RoseOrIsFull a c
 Rose-later a b c h (inl less) = inl (omega arith)
 Rose-later a b c h (inr greatest) = inr greatest
 

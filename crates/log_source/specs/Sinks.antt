@@ -1,7 +1,7 @@
 -- What a sink holds: its state before and after a write.
 use Rattle.std.specs.Prelude.{◌≡◌, ℕ, ◌<◌, ◌≤◌, List, length, take, Option, is_some, IfSome, Result, IfOk, OnOk, OnErr}
 use Rattle.std.specs.Io.KnownBytes.{Appends, WriteAppends}
-use Rattle.log_source.specs.Sources.{Rose}
+use Rattle.log_source.specs.Sources.{RoseOrIsFull}
 use Rattle.log_source.specs.declared.shelf.Failed.{Failed}
 
 -- The state of a sink: the bytes written, where they are known, how many faults were counted,
@@ -21,7 +21,7 @@ pub record SinkStays (old new : SinkState) : Type 0 where
 -- a call failed: the faults rose, and where the bytes written are known,
 -- they are at least as many as the sink takes for sure
 pub record HasFailureCause (old new : SinkState) : Type 0 where
-  pub rose : Rose old.faults new.faults
+  pub rose : RoseOrIsFull old.faults new.faults
   pub reached : IfSome new.wrote (λ bytes. new.sure ≤ length bytes)
 
 -- What a write does: at `Ok n` the first n bytes of the piece, at least one,

@@ -34,8 +34,8 @@ abbrev pub fresh_slot : Option (List ℕ) → Slot
 fresh_slot left = record { started = false; left = left; taken = 0; starts = 0; faults = 0 }
 
 -- a count of faults rose, or is the greatest value that it can show
-abbrev pub Rose : ℕ → ℕ → Type 0
-Rose old new = (old < new) ⊎ (new ≡ 2 ^ 64 - 1)
+abbrev pub RoseOrIsFull : ℕ → ℕ → Type 0
+RoseOrIsFull old new = (old < new) ⊎ (new ≡ 2 ^ 64 - 1)
 
 -- Only this slot may have changed: whether its logs are known, its logs and its other slot stay.
 pub record ChangesOneSlot {F : Type 0} (tells : F → Bool)
@@ -53,7 +53,7 @@ pub record Starts {T : Type 0} (tells : Bool) (log : Option (List ℕ)) (old new
   pub later : old.faults ≤ new.faults
   pub started : new.started ≡ is_ok result
   pub known : OnOk result (tells ≡ true → IsSome log × (new.left ≡ log))
-  pub cause : IsErrOf result start.Failed → Rose old.faults new.faults
+  pub cause : IsErrOf result start.Failed → RoseOrIsFull old.faults new.faults
       ⊎ ((tells ≡ true) × (log ≡ None))
 
 -- What a read into `buf` does to its slot: at `Ok n` the first n bytes of what
@@ -66,4 +66,4 @@ pub record Reads (old new : Slot) (result : Result ℕ Failed) (buf : List ℕ) 
   pub started : new.started ≡ old.started
   pub starts : new.starts ≡ old.starts
   pub later : old.faults ≤ new.faults
-  pub cause : OnErr result (Rose old.faults new.faults)
+  pub cause : OnErr result (RoseOrIsFull old.faults new.faults)

@@ -3,7 +3,7 @@ use Rattle.std.specs.Prelude.{◌≡◌, ℕ, ◌<◌, ◌≤◌, ◌⊎◌, ◌
 use Rattle.std.specs.Io.KnownBytes.{IsAtEnd}
 use Rattle.audit_base.specs.declared.terms.Which.{Which}
 use Rattle.log_source.specs.Calls.{count_after}
-use Rattle.log_source.specs.Sources.{Rose}
+use Rattle.log_source.specs.Sources.{RoseOrIsFull}
 use Rattle.log_source.specs.declared.shelf.Shelf as shelf
 use Rattle.log_source.specs.declared.take.TakeFault.{TakeFault}
 use Rattle.log_source.specs.declared.take.TakeFault.TheVariants as take
@@ -38,7 +38,7 @@ pub record Takes {F T : Type 0} (shelves : shelf.Ghosts F) (which : Which) (name
   pub too_long : IsErrOf result take.TooLong ↔ (limit < (shelves.slot new which).taken)
   pub longer : IsErrOf result take.TooLong → HasTooLongLog shelves which name limit old
   pub fault : IsErrOf result take.Fault
-      → Rose (shelves.slot old which).faults (shelves.slot new which).faults
+      → RoseOrIsFull (shelves.slot old which).faults (shelves.slot new which).faults
       ⊎ LacksLog shelves which name old
 
 -- what a call that takes a whole log answers where the start failed so

@@ -13,25 +13,25 @@ use Rattle.audit_base.specs.declared.terms.Which.{Which}
 use Rattle.audit_base.specs.declared.terms.Which.TheVariants.{Orders, Trades}
 use Rattle.audit_base.specs.Histories.{history_finding, order_list, WellFormed}
 use Rattle.audit_base.specs.Orders.{same_name}
-use Rattle.audit_base.specs.Trades.{deal_of_trade, deals_of_symbol, trades_of_symbol, unsound_trade}
+use Rattle.audit_base.specs.Trades.{deal_of_trade, deals_of_symbol, trades_of_symbol, trades_finding}
 use Rattle.log_source.specs.declared.shelf.Shelf.{Ghosts as Shelf}
 use Rattle.log_source.specs.Calls.{count_after}
-use Rattle.log_source.specs.Sources.{Slot, Rose}
+use Rattle.log_source.specs.Sources.{Slot, RoseOrIsFull}
 use Rattle.matching_core.specs.declared.deals_draft.ResolvedTrades.{ResolvedTrades}
 use Rattle.record_verdict.specs.declared.before_rule.BeforeRule.{BeforeRule}
 use Rattle.record_verdict.specs.declared.before_rule.BeforeRule.TheVariants as upto
 use Rattle.log_verdict.specs.declared.reading.Collected.{Collected}
 use Rattle.log_verdict.specs.declared.reading.Collected.TheVariants as collected
 use Rattle.record_verdict.specs.declared.scopes.Scope.{Scope}
-use Rattle.record_verdict.specs.Scopes.{early_finding, unadmitted_order}
+use Rattle.record_verdict.specs.Scopes.{finding_before_rule_in_scope, unadmitted_order_finding}
 use Rattle.log_verdict.specs.declared.sources.Source.{Source}
 use Rattle.log_verdict.specs.declared.reading.Unread.{Unread}
 use Rattle.log_verdict.specs.declared.reading.Unread.TheVariants as unread
 use Rattle.log_verdict.specs.declared.stops.Stop.{Stop}
 use Rattle.log_verdict.specs.declared.stops.Stop.TheVariants as stop
-use Rattle.log_verdict.specs.BothLogs.{without_log, Decides, DecidesTrades, IsAfterOrders, IsAdmitted, AreResolvedTrades, ReadsAfterOrders, StaysWithin, StaysWithinAt}
+use Rattle.log_verdict.specs.BothLogs.{without_log, GivesBeforeRuleOrStop, GivesTradesOrStop, IsAfterOrders, IsAdmitted, AreResolvedTrades, ReadsAfterOrders, StaysWithin, StaysWithinAt}
 use Rattle.log_verdict.specs.Collecting.{step_of, HasCollected, HasLogTrades, IsReadAs, IsUnread}
-use Rattle.log_verdict.specs.LogVerdicts.{order_log, trade_log}
+use Rattle.log_verdict.specs.LogVerdicts.{records_of_order_log, trades_of_trade_log}
 use Rattle.log_verdict.specs.Steps.{Reading, IsReadFault, IsTooLong, KeepsShelfLogs, EndsWithin, FaultsNeverFall}
 use Rattle.record_verdict.specs.BeforeRule.{finding_or_sound, IsBeforeRule}
 
@@ -84,8 +84,8 @@ module _ (first second : Reading) (after : Follows first second) where
   fault_after : (name : List ℕ) → IsReadFault second (step_of second Trades name) → IsReadFault (joined first second) (step_of (joined first second) Trades name)
   fault_after name is = record { once = once_after is.once; cause = by_cause is.cause }
     where
-      by_cause : Rose (second.before Trades).faults (second.after Trades).faults ⊎ ((second.tells ≡ true) × (second.log_of Trades name ≡ None))
-          → Rose (first.before Trades).faults (second.after Trades).faults ⊎ ((first.tells ≡ true) × (first.log_of Trades name ≡ None))
+      by_cause : RoseOrIsFull (second.before Trades).faults (second.after Trades).faults ⊎ ((second.tells ≡ true) × (second.log_of Trades name ≡ None))
+          → RoseOrIsFull (first.before Trades).faults (second.after Trades).faults ⊎ ((first.tells ≡ true) × (first.log_of Trades name ≡ None))
       by_cause (inl rose) = inl (rw (← after.trades) rose)
       by_cause (inr (t, none)) = inr (sym after.tells ∙ t, sym (after.logs Trades name) ∙ none)
 
@@ -99,19 +99,19 @@ module _ (first second : Reading) (after : Follows first second) where
 
   -- what is decided after the order log is decided of both
   pub decides_after : (scope : Scope) (orders trades : Source) (entries : List OrderRecord) (result : Result BeforeRule Stop)
-      → IsReadAs first Orders orders.name.now (λ bytes. order_log orders.form bytes ≡ Ok entries)
-      → DecidesTrades second scope trades entries result → Decides (joined first second) scope orders trades result
+      → IsReadAs first Orders orders.name.now (λ bytes. records_of_order_log orders.form bytes ≡ Ok entries)
+      → GivesTradesOrStop second scope trades entries result → GivesBeforeRuleOrStop (joined first second) scope orders trades result
   decides_after scope orders trades entries (Ok reached) read is =
-      stays_read orders.name.now (λ bytes. order_log orders.form bytes ≡ Ok entries) (λ bytes. ReadsAfterOrders (joined first second) trades (λ es paired. IsBeforeRule scope es paired reached) (λ log bad. reached ≡ upto.Malformed log bad) (order_log orders.form bytes))
+      stays_read orders.name.now (λ bytes. records_of_order_log orders.form bytes ≡ Ok entries) (λ bytes. ReadsAfterOrders (joined first second) trades (λ es paired. IsBeforeRule scope es paired reached) (λ log bad. reached ≡ upto.Malformed log bad) (records_of_order_log orders.form bytes))
       (λ bytes e. rw e (read_after trades.name.now _ is)) read
   decides_after scope orders trades entries (Err (stop.ReadFault log)) read (is, fault) =
       rw is (record {
-        is_started = stays_read orders.name.now (λ bytes. order_log orders.form bytes ≡ Ok entries) (λ bytes. IsOk (order_log orders.form bytes)) (λ bytes e. rw e refl) read;
+        in_turn = stays_read orders.name.now (λ bytes. records_of_order_log orders.form bytes ≡ Ok entries) (λ bytes. IsOk (records_of_order_log orders.form bytes)) (λ bytes e. rw e refl) read;
         fault = fault_after trades.name.now fault;
       })
   decides_after scope orders trades entries (Err (stop.TooLong log)) read (is, long) =
       rw is (record {
-        is_started = stays_read orders.name.now (λ bytes. order_log orders.form bytes ≡ Ok entries) (λ bytes. IsOk (order_log orders.form bytes)) (λ bytes e. rw e refl) read;
+        in_turn = stays_read orders.name.now (λ bytes. records_of_order_log orders.form bytes ≡ Ok entries) (λ bytes. IsOk (records_of_order_log orders.form bytes)) (λ bytes e. rw e refl) read;
         long = long_after trades.name.now long;
       })
   decides_after scope orders trades entries (Err stop.Memory) read is = tt
@@ -153,20 +153,20 @@ within_unread r unread.Memory result is within same begins =
 -- What is found of records, after an order list that the rule admits.
 
 -- a report without its partner
-alone_found : (scope : Scope) (entries : List OrderRecord) (history : List Order) (finding : Finding) → IsAdmitted scope entries history → early_finding scope entries (Err finding) ≡ Some finding
+alone_found : (scope : Scope) (entries : List OrderRecord) (history : List Order) (finding : Finding) → IsAdmitted scope entries history → finding_before_rule_in_scope scope entries (Err finding) ≡ Some finding
 alone_found scope entries history finding is =
-    let admits : unadmitted_order scope.admission (order_list scope.symbol entries) ≡ None = ap (unadmitted_order scope.admission) (sym is.orders) ∙ is.admits in
+    let admits : unadmitted_order_finding scope.admission (order_list scope.symbol entries) ≡ None = ap (unadmitted_order_finding scope.admission) (sym is.orders) ∙ is.admits in
     rw (is.formed, admits) refl
 
 -- else what is found of the trades
-trades_found : (scope : Scope) (entries : List OrderRecord) (ts : List TradeRecord) (history : List Order) (finding : Option Finding) → IsAdmitted scope entries history → unsound_trade history scope.symbol ts ≡ finding
-    → early_finding scope entries (Ok ts) ≡ finding
-trades_found scope entries ts history finding is found = by_finding finding (ap (λ (os : List Order). unsound_trade os scope.symbol ts) (sym is.orders) ∙ found)
+trades_found : (scope : Scope) (entries : List OrderRecord) (ts : List TradeRecord) (history : List Order) (finding : Option Finding) → IsAdmitted scope entries history → trades_finding history scope.symbol ts ≡ finding
+    → finding_before_rule_in_scope scope entries (Ok ts) ≡ finding
+trades_found scope entries ts history finding is found = by_finding finding (ap (λ (os : List Order). trades_finding os scope.symbol ts) (sym is.orders) ∙ found)
   where
-    admits : unadmitted_order scope.admission (order_list scope.symbol entries) ≡ None
-    admits = ap (unadmitted_order scope.admission) (sym is.orders) ∙ is.admits
+    admits : unadmitted_order_finding scope.admission (order_list scope.symbol entries) ≡ None
+    admits = ap (unadmitted_order_finding scope.admission) (sym is.orders) ∙ is.admits
 
-    by_finding : (finding : Option Finding) → unsound_trade (order_list scope.symbol entries) scope.symbol ts ≡ finding → early_finding scope entries (Ok ts) ≡ finding
+    by_finding : (finding : Option Finding) → trades_finding (order_list scope.symbol entries) scope.symbol ts ≡ finding → finding_before_rule_in_scope scope entries (Ok ts) ≡ finding
     by_finding None e = rw (is.formed, admits, e) refl
     by_finding (Some f) e = rw (is.formed, admits, e) refl
 
@@ -187,8 +187,8 @@ ended_before scope entries ts ended is end = by_finding ended.finding refl
 module _ (r : Reading) (scope : Scope) (trades : Source) (entries : List OrderRecord) where
   -- the trade log was read, and whatever it says, this is found
   pub after_any : {K : Type 0} (has_taken : K → List TradeRecord → Type 0) (kept : Collected K) (finding : Finding)
-      → ((paired : Result (List TradeRecord) Finding) → early_finding scope entries paired ≡ Some finding)
-      → IsReadAs r Trades trades.name.now (λ bytes. HasCollected has_taken kept (trade_log trades.form bytes)) → IsAfterOrders r scope trades entries (upto.Found finding)
+      → ((paired : Result (List TradeRecord) Finding) → finding_before_rule_in_scope scope entries paired ≡ Some finding)
+      → IsReadAs r Trades trades.name.now (λ bytes. HasCollected has_taken kept (trades_of_trade_log trades.form bytes)) → IsAfterOrders r scope trades entries (upto.Found finding)
   after_any has_taken (collected.Trades collector) finding found is =
       record { bytes = is.bytes; read = is.read; holds = rw is.holds.says (found (Ok is.holds.trades)) }
   after_any has_taken (collected.Alone other) finding found is =
@@ -196,12 +196,12 @@ module _ (r : Reading) (scope : Scope) (trades : Source) (entries : List OrderRe
 
   -- a report without its partner is found
   pub after_alone : (finding : Finding) (history : List Order) → IsAdmitted scope entries history
-      → IsReadAs r Trades trades.name.now (λ bytes. trade_log trades.form bytes ≡ Ok (Err finding)) → IsAfterOrders r scope trades entries (upto.Found finding)
+      → IsReadAs r Trades trades.name.now (λ bytes. trades_of_trade_log trades.form bytes ≡ Ok (Err finding)) → IsAfterOrders r scope trades entries (upto.Found finding)
   after_alone finding history is read =
       record { bytes = read.bytes; read = read.read; holds = rw read.holds (alone_found scope entries history finding is) }
 
   -- where the trade log was not read into trades, what is answered says why
-  pub after_unread : (why : Unread) → IsUnread (trade_log trades.form) r Trades trades.name.now why → DecidesTrades r scope trades entries (without_log Trades why)
+  pub after_unread : (why : Unread) → IsUnread (trades_of_trade_log trades.form) r Trades trades.name.now why → GivesTradesOrStop r scope trades entries (without_log Trades why)
   after_unread (unread.Bad bad) is = record { bytes = is.bytes; read = is.read; holds = rw is.holds refl }
   after_unread unread.ReadFault is = (refl, is)
   after_unread unread.TooLong is = (refl, is)
@@ -209,7 +209,7 @@ module _ (r : Reading) (scope : Scope) (trades : Source) (entries : List OrderRe
 
   -- what the trades give that were handed to a collector
   pub after_ended : (has_taken : List TradeRecord → Type 0) (ended : ResolvedTrades) → IsAdmitted scope entries ended.history
-      → IsReadAs r Trades trades.name.now (λ bytes. HasLogTrades has_taken (trade_log trades.form bytes)) → ((ts : List TradeRecord) → has_taken ts → AreResolvedTrades scope ts ended)
+      → IsReadAs r Trades trades.name.now (λ bytes. HasLogTrades has_taken (trades_of_trade_log trades.form bytes)) → ((ts : List TradeRecord) → has_taken ts → AreResolvedTrades scope ts ended)
       → IsAfterOrders r scope trades entries (finding_or_sound ended ended.finding)
   after_ended has_taken ended is read ends = record {
     bytes = read.bytes;
@@ -219,15 +219,15 @@ module _ (r : Reading) (scope : Scope) (trades : Source) (entries : List OrderRe
 
 -- what was gathered of the trades of a symbol, in the words of the question
 pub ends_as : (scope : Scope) (symbol : List ℕ) (orders : List Order) (ts : List TradeRecord) (ended : ResolvedTrades) → scope.symbol ≡ symbol → ended.history ≡ orders → ended.count ≡ length ts
-    → unsound_trade orders symbol ts ≡ ended.finding → (ended.finding ≡ None → ended.deals.items ≡ deals_of_symbol orders symbol ts) → AreResolvedTrades scope ts ended
+    → trades_finding orders symbol ts ≡ ended.finding → (ended.finding ≡ None → ended.deals.items ≡ deals_of_symbol orders symbol ts) → AreResolvedTrades scope ts ended
 ends_as scope symbol orders ts ended named among counts finds makes = record {
   count = counts;
-  finding = subst (λ (s : List ℕ). unsound_trade ended.history s ts ≡ ended.finding) (sym named) (subst (λ (os : List Order). unsound_trade os symbol ts ≡ ended.finding) (sym among) finds);
+  finding = subst (λ (s : List ℕ). trades_finding ended.history s ts ≡ ended.finding) (sym named) (subst (λ (os : List Order). trades_finding os symbol ts ≡ ended.finding) (sym among) finds);
   deals = λ none. subst (λ (s : List ℕ). ended.deals.items ≡ deals_of_symbol ended.history s ts) (sym named) (subst (λ (os : List Order). ended.deals.items ≡ deals_of_symbol os symbol ts) (sym among) (makes none));
 }
 
 -- the orders of a history whose orders the rule admits
-pub admitted : (scope : Scope) (symbol : List ℕ) (entries : List OrderRecord) (history : List Order) → scope.symbol ≡ symbol → WellFormed symbol entries → history ≡ order_list symbol entries → unadmitted_order scope.admission history ≡ None
+pub admitted : (scope : Scope) (symbol : List ℕ) (entries : List OrderRecord) (history : List Order) → scope.symbol ≡ symbol → WellFormed symbol entries → history ≡ order_list symbol entries → unadmitted_order_finding scope.admission history ≡ None
     → IsAdmitted scope entries history
 admitted scope symbol entries history named formed orders admits = record {
   formed = subst (λ (s : List ℕ). WellFormed s entries) (sym named) formed;
@@ -237,16 +237,16 @@ admitted scope symbol entries history named formed orders admits = record {
 
 -- an order of a history that the rule does not admit is found, whatever the trade log says
 pub order_found : (scope : Scope) (symbol : List ℕ) (entries : List OrderRecord) (history : List Order) (finding : Finding) → scope.symbol ≡ symbol → WellFormed symbol entries → history ≡ order_list symbol entries
-    → unadmitted_order scope.admission history ≡ Some finding → (paired : Result (List TradeRecord) Finding) → early_finding scope entries paired ≡ Some finding
+    → unadmitted_order_finding scope.admission history ≡ Some finding → (paired : Result (List TradeRecord) Finding) → finding_before_rule_in_scope scope entries paired ≡ Some finding
 order_found scope symbol entries history finding named formed orders instant paired =
     let formed' : WellFormed scope.symbol entries = subst (λ (s : List ℕ). WellFormed s entries) (sym named) formed in
-    let instant' : unadmitted_order scope.admission (order_list scope.symbol entries) ≡ Some finding =
-    subst (λ (s : List ℕ). unadmitted_order scope.admission (order_list s entries) ≡ Some finding) (sym named) (subst (λ (os : List Order). unadmitted_order scope.admission os ≡ Some finding) orders instant) in
+    let instant' : unadmitted_order_finding scope.admission (order_list scope.symbol entries) ≡ Some finding =
+    subst (λ (s : List ℕ). unadmitted_order_finding scope.admission (order_list s entries) ≡ Some finding) (sym named) (subst (λ (os : List Order). unadmitted_order_finding scope.admission os ≡ Some finding) orders instant) in
     rw (formed', instant') refl
 
 -- a finding of the history is found, whatever the trade log says
 pub history_found : (scope : Scope) (symbol : List ℕ) (entries : List OrderRecord) (finding : Finding) → scope.symbol ≡ symbol → history_finding symbol entries ≡ Some finding
-    → (paired : Result (List TradeRecord) Finding) → early_finding scope entries paired ≡ Some finding
+    → (paired : Result (List TradeRecord) Finding) → finding_before_rule_in_scope scope entries paired ≡ Some finding
 history_found scope symbol entries finding named found paired =
     let found' : history_finding scope.symbol entries ≡ Some finding = subst (λ (s : List ℕ). history_finding s entries ≡ Some finding) (sym named) found in
     rw found' refl

@@ -36,8 +36,8 @@ of-reports (Ok reports) are = of-pairing (pairing reports) are
 of-reports (Err bad) are = tt
 
 pub trades-range : of_csv.CsvTradesAreInRange → of_fix.FixTradesAreInRange → TradeLogsAreInRange
-trades-range csv_trades fix_trades Csv bytes = each-paired (csv.csv_trade_log bytes) (csv_trades bytes)
-trades-range csv_trades fix_trades Fix bytes = of-reports (fix.report_log bytes) (fix_trades bytes)
+trades-range csv_trades fix_trades Csv bytes = each-paired (csv.csv_trade_records bytes) (csv_trades bytes)
+trades-range csv_trades fix_trades Fix bytes = of-reports (fix.fix_report_records bytes) (fix_trades bytes)
 
 pub orders-nine : of_csv.CsvOrdersHaveNineBytes → of_fix.FixOrdersHaveNineBytes → OrderLogsHaveNineBytes
 orders-nine csv_orders fix_orders Csv bytes = csv_orders bytes

@@ -8,7 +8,7 @@ use Rattle.audit_base.specs.declared.records.OrderRecord.{OrderRecord}
 use Rattle.audit_base.specs.declared.records.TradeRecord.{TradeRecord}
 use Rattle.audit_base.specs.declared.orders.Order.{Order}
 use Rattle.audit_base.specs.Histories.{order_list, WellFormed}
-use Rattle.audit_base.specs.Trades.{deals_of_symbol, unsound_trade}
+use Rattle.audit_base.specs.Trades.{deals_of_symbol, trades_finding}
 use Rattle.matching_core.specs.declared.deals_draft.ResolvedTrades.{ResolvedTrades}
 use Rattle.log_verdict.specs.declared.stops.Stop.{Stop}
 use Rattle.log_verdict.specs.declared.stops.Stop.TheVariants as stop
@@ -19,12 +19,12 @@ use Rattle.record_verdict.specs.declared.before_rule.BeforeRule.TheVariants as u
 use Rattle.record_verdict.specs.declared.questions.Question.{Question}
 use Rattle.log_verdict.specs.declared.sources.Source.{Source}
 use Rattle.log_verdict.specs.Collecting.{step_of, IsReadAs}
-use Rattle.log_verdict.specs.LogVerdicts.{order_log, trade_log}
+use Rattle.log_verdict.specs.LogVerdicts.{records_of_order_log, trades_of_trade_log}
 use Rattle.record_verdict.specs.BeforeRule.{IsBeforeRule}
 use Rattle.log_verdict.specs.Steps.{Reading, IsReadFault, IsTooLong, BeginsWithin, EndsWithin}
 use Rattle.record_verdict.specs.declared.scopes.Scope.{Scope}
-use Rattle.record_verdict.specs.Judgements.{IsJudged}
-use Rattle.record_verdict.specs.Scopes.{unadmitted_order}
+use Rattle.record_verdict.specs.Judgements.{IsRecordVerdict}
+use Rattle.record_verdict.specs.Scopes.{unadmitted_order_finding}
 use Rattle.audit_report.specs.declared.verdicts.Verdict.{Verdict}
 use Rattle.audit_report.specs.declared.verdicts.Verdict.TheVariants.{Malformed}
 use Rattle.log_source.specs.Sources.{longest_read}
@@ -44,7 +44,7 @@ abbrev pub ReadsTrades : Reading → Source → (Result (List TradeRecord) Findi
     → (BadPlace → Type 0) → Type 0
 ReadsTrades r trades of_trades of_bad =
     IsReadAs r Trades trades.name.now
-    (λ bytes. MatchResult (trade_log trades.form bytes) of_trades of_bad)
+    (λ bytes. MatchResult (trades_of_trade_log trades.form bytes) of_trades of_bad)
 
 -- the order log said this: where it is out of its grammar, the trade log is not started
 abbrev pub ReadsAfterOrders : Reading → Source
@@ -62,7 +62,7 @@ abbrev pub ReadsLogs : Reading → Source → Source
     → (Which → BadPlace → Type 0) → Type 0
 ReadsLogs r orders trades of_records of_bad =
     IsReadAs r Orders orders.name.now
-    (λ bytes. ReadsAfterOrders r trades of_records of_bad (order_log orders.form bytes))
+    (λ bytes. ReadsAfterOrders r trades of_records of_bad (records_of_order_log orders.form bytes))
 
 -- both logs were read, and give this before the rule is looked at
 abbrev pub ReadsUpToRule : Reading → Scope → Source → Source → BeforeRule → Type 0
@@ -79,13 +79,13 @@ IsAfterOrders r scope trades entries reached =
 -- both logs were read, and this is their verdict
 abbrev pub ReadsVerdict : Reading → Question → Source → Source → Verdict → Type 0
 ReadsVerdict r q orders trades verdict =
-    ReadsLogs r orders trades (λ entries paired. IsJudged q entries paired verdict)
+    ReadsLogs r orders trades (λ entries paired. IsRecordVerdict q entries paired verdict)
     (λ log bad. verdict ≡ Malformed log bad)
 
 -- the trade log is started only after an order log that was read to its end and is in its grammar
 abbrev pub IsAfterGoodOrders : Reading → Source → Type 0
 IsAfterGoodOrders r orders =
-    IsReadAs r Orders orders.name.now (λ bytes. IsOk (order_log orders.form bytes))
+    IsReadAs r Orders orders.name.now (λ bytes. IsOk (records_of_order_log orders.form bytes))
 
 -- the log of these two that a slot is for
 abbrev pub source_of : Source → Source → Which → Source
@@ -94,25 +94,25 @@ source_of orders trades Trades = trades
 
 -- the log was started in its turn: the order log while the trade log was left alone, or the
 -- trade log after an order log that is in its grammar
-abbrev pub IsStarted : Reading → Source → Which → Type 0
-IsStarted r orders Orders = IsUntouched r Trades
-IsStarted r orders Trades = IsAfterGoodOrders r orders
+abbrev pub IsLogInTurn : Reading → Source → Which → Type 0
+IsLogInTurn r orders Orders = IsUntouched r Trades
+IsLogInTurn r orders Trades = IsAfterGoodOrders r orders
 
 -- A log was started and could not be read.
 pub record StopsAtFault (r : Reading) (orders trades : Source) (log : Which) : Type 0 where
-  pub is_started : IsStarted r orders log
+  pub in_turn : IsLogInTurn r orders log
   pub fault : IsReadFault r (step_of r log (source_of orders trades log).name.now)
 
 -- A log was started and is too long.
 pub record StopsAtLength (r : Reading) (orders trades : Source) (log : Which) : Type 0 where
-  pub is_started : IsStarted r orders log
+  pub in_turn : IsLogInTurn r orders log
   pub long : IsTooLong r (step_of r log (source_of orders trades log).name.now)
 
 -- why it is not known what two logs give
-abbrev pub IsAuditStop : Reading → Source → Source → Stop → Type 0
-IsAuditStop r orders trades (stop.ReadFault log) = StopsAtFault r orders trades log
-IsAuditStop r orders trades (stop.TooLong log) = StopsAtLength r orders trades log
-IsAuditStop r orders trades stop.Memory = Unit {0}
+abbrev pub IsStopOfTwoLogs : Reading → Source → Source → Stop → Type 0
+IsStopOfTwoLogs r orders trades (stop.ReadFault log) = StopsAtFault r orders trades log
+IsStopOfTwoLogs r orders trades (stop.TooLong log) = StopsAtLength r orders trades log
+IsStopOfTwoLogs r orders trades stop.Memory = Unit {0}
 
 -- what is answered where a log was not read into records
 abbrev pub without_log : Which → Unread → Result BeforeRule Stop
@@ -136,22 +136,23 @@ IsLogStop r log name (stop.TooLong which) = (which ≡ log) × IsTooLong r (step
 IsLogStop r log name stop.Memory = Unit {0}
 
 -- what is known after the order log, or why nothing is
-abbrev pub DecidesTrades : Reading → Scope → Source → List OrderRecord
+abbrev pub GivesTradesOrStop : Reading → Scope → Source → List OrderRecord
     → Result BeforeRule Stop → Type 0
-DecidesTrades r scope trades entries result =
+GivesTradesOrStop r scope trades entries result =
     MatchResult result (IsAfterOrders r scope trades entries)
     (IsLogStop r Trades trades.name.now)
 
 -- what both logs give, or why that is not known
-abbrev pub Decides : Reading → Scope → Source → Source → Result BeforeRule Stop → Type 0
-Decides r scope orders trades result =
-    MatchResult result (ReadsUpToRule r scope orders trades) (IsAuditStop r orders trades)
+abbrev pub GivesBeforeRuleOrStop : Reading → Scope → Source → Source → Result BeforeRule Stop
+    → Type 0
+GivesBeforeRuleOrStop r scope orders trades result =
+    MatchResult result (ReadsUpToRule r scope orders trades) (IsStopOfTwoLogs r orders trades)
 
 -- the verdict on both logs, or why there is none
-abbrev pub DecidesVerdict : Reading → Question → Source → Source → Result Verdict Stop
+abbrev pub GivesVerdictOrStop : Reading → Question → Source → Source → Result Verdict Stop
     → Type 0
-DecidesVerdict r q orders trades result =
-    MatchResult result (ReadsVerdict r q orders trades) (IsAuditStop r orders trades)
+GivesVerdictOrStop r q orders trades result =
+    MatchResult result (ReadsVerdict r q orders trades) (IsStopOfTwoLogs r orders trades)
 
 -- where no log was too long, both slots end within the limit if they began so
 abbrev pub StaysWithin : {T : Type 0} → Reading → Result T Stop → Type 0
@@ -166,13 +167,13 @@ pub record IsAdmitted (scope : Scope) (entries : List OrderRecord)
     (history : List Order) : Type 0 where
   pub formed : WellFormed scope.symbol entries
   pub orders : history ≡ order_list scope.symbol entries
-  pub admits : unadmitted_order scope.admission history ≡ None
+  pub admits : unadmitted_order_finding scope.admission history ≡ None
 
 -- What was gathered of these trades: how many they are, their first finding,
 -- and, where there is none, their deals.
 pub record AreResolvedTrades (scope : Scope) (trades : List TradeRecord)
     (ended : ResolvedTrades) : Type 0 where
   pub count : ended.count ≡ length trades
-  pub finding : unsound_trade ended.history scope.symbol trades ≡ ended.finding
+  pub finding : trades_finding ended.history scope.symbol trades ≡ ended.finding
   pub deals : ended.finding ≡ None
       → ended.deals.items ≡ deals_of_symbol ended.history scope.symbol trades

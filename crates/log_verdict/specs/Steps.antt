@@ -6,7 +6,7 @@ use Rattle.audit_base.specs.declared.terms.Which.TheVariants.{Orders, Trades}
 use Rattle.log_source.specs.declared.shelf.Shelf.{Ghosts as Shelf}
 use Rattle.log_verdict.specs.declared.sources.Source.{Source}
 use Rattle.log_source.specs.Calls.{count_after}
-use Rattle.log_source.specs.Sources.{Slot, Rose, longest_log}
+use Rattle.log_source.specs.Sources.{Slot, RoseOrIsFull, longest_log}
 
 -- What a call knows of a shelf: how many bytes a log may have, whether what the shelf has is
 -- known, what it has in each slot under a name, and its slots before and after the call.
@@ -67,7 +67,7 @@ pub record IsRead (r : Reading) (step : LogStep) (bytes : List ℕ) : Type 0 whe
 -- shelf knows that it lacks the log.
 pub record IsReadFault (r : Reading) (step : LogStep) : Type 0 where
   pub once : IsStartedOnce step
-  pub cause : Rose step.before.faults step.after.faults
+  pub cause : RoseOrIsFull step.before.faults step.after.faults
       ⊎ ((r.tells ≡ true) × (r.log_of step.log step.name ≡ None))
 
 -- The log was started once and is too long: more of it was taken than a log may have, and where

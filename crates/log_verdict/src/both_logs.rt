@@ -8,8 +8,8 @@ ghost use Rattle.audit_base.specs.declared.terms.Which.{Which};
 ghost use Rattle.instruction_history.specs.HistoryDraft.{IsHistoryDraft};
 ghost use Rattle.log_source.specs.Collectors.{HasPlace};
 ghost use Rattle.log_source.specs.Sources.{longest_read};
-ghost use Rattle.record_verdict.specs.Scopes.{early_finding};
-ghost use Rattle.log_verdict.specs.BothLogs.{Decides, DecidesTrades, HaveOneLimit, IsAdmitted};
+ghost use Rattle.record_verdict.specs.Scopes.{finding_before_rule_in_scope};
+ghost use Rattle.log_verdict.specs.BothLogs.{GivesBeforeRuleOrStop, GivesTradesOrStop, HaveOneLimit, IsAdmitted};
 ghost use Rattle.log_verdict.specs.BothLogs.{StaysWithin, StaysWithinAt, without_log};
 ghost use Rattle.log_verdict.specs.Collecting.{TouchesOnly};
 ghost use Rattle.log_verdict.specs.Steps.{reading_by, KeepsShelfLogs, FaultsNeverFall};
@@ -57,8 +57,8 @@ fn after_finding<F: Shelf>(
     ensures only { TouchesOnly (reading_by trades.now F.Shelf shelf.old shelf.new) Which.Trades }
     ensures decides { (entries : List OrderRecord)
         → ((paired : Result (List TradeRecord) Finding)
-        → early_finding scope.now entries paired ≡ Some finding)
-        → DecidesTrades (reading_by trades.now F.Shelf shelf.old shelf.new)
+        → finding_before_rule_in_scope scope.now entries paired ≡ Some finding)
+        → GivesTradesOrStop (reading_by trades.now F.Shelf shelf.old shelf.new)
         scope.now trades.now entries result }
     ensures judgeable { IfOk result IsJudgeable }
     ensures within { StaysWithinAt (reading_by trades.now F.Shelf shelf.old shelf.new)
@@ -84,7 +84,7 @@ fn after_history<M: AuditedHistory, F: Shelf>(
     ensures logs { KeepsShelfLogs F.Shelf shelf.old shelf.new }
     ensures only { TouchesOnly (reading_by trades.now F.Shelf shelf.old shelf.new) Which.Trades }
     ensures decides { (entries : List OrderRecord) → IsAdmitted scope.now entries history
-        → DecidesTrades (reading_by trades.now F.Shelf shelf.old shelf.new)
+        → GivesTradesOrStop (reading_by trades.now F.Shelf shelf.old shelf.new)
         scope.now trades.now entries result }
     ensures judgeable { IfOk result IsJudgeable }
     ensures within { (F.slot shelf.old Which.Trades).taken ≤ trades.now.limit
@@ -112,7 +112,7 @@ fn after_orders<S: AuditedSymbol, F: Shelf>(
     ensures logs { KeepsShelfLogs F.Shelf shelf.old shelf.new }
     ensures only { TouchesOnly (reading_by trades.now F.Shelf shelf.old shelf.new) Which.Trades }
     ensures decides { (entries : List OrderRecord) → IsHistoryDraft S.symbol orders entries
-        → DecidesTrades (reading_by trades.now F.Shelf shelf.old shelf.new)
+        → GivesTradesOrStop (reading_by trades.now F.Shelf shelf.old shelf.new)
         scope.now trades.now entries result }
     ensures judgeable { IfOk result IsJudgeable }
     ensures within { (F.slot shelf.old Which.Trades).taken ≤ trades.now.limit
@@ -142,7 +142,7 @@ fn read_about<S: AuditedSymbol, F: Shelf>(
     requires limit { HaveOneLimit orders.now trades.now }
     ensures logs { KeepsShelfLogs F.Shelf shelf.old shelf.new }
     ensures later { FaultsNeverFall (reading_by orders.now F.Shelf shelf.old shelf.new) }
-    ensures decides { Decides (reading_by orders.now F.Shelf shelf.old shelf.new)
+    ensures decides { GivesBeforeRuleOrStop (reading_by orders.now F.Shelf shelf.old shelf.new)
         scope.now orders.now trades.now result }
     ensures judgeable { IfOk result IsJudgeable }
     ensures within { StaysWithin (reading_by orders.now F.Shelf shelf.old shelf.new) result }
@@ -166,7 +166,7 @@ pub fn read_both<F: Shelf>(
     requires limit { HaveOneLimit orders.now trades.now }
     ensures logs { KeepsShelfLogs F.Shelf shelf.old shelf.new }
     ensures later { FaultsNeverFall (reading_by orders.now F.Shelf shelf.old shelf.new) }
-    ensures decides { Decides (reading_by orders.now F.Shelf shelf.old shelf.new)
+    ensures decides { GivesBeforeRuleOrStop (reading_by orders.now F.Shelf shelf.old shelf.new)
         scope.now orders.now trades.now result }
     ensures judgeable { IfOk result IsJudgeable }
     ensures within { StaysWithin (reading_by orders.now F.Shelf shelf.old shelf.new) result }

@@ -3,7 +3,7 @@ ghost use Rattle.std.specs.Prelude.{◌≡◌, ◌<◌, ◌≤◌, ◌-◌, ◌^
 ghost use Rattle.audit_base.specs.Verdicts.{paired_trades};
 ghost use Rattle.fix_messages.specs.Pairings.{result_of_paired};
 ghost use Rattle.log_source.specs.Sources.{longest_log};
-ghost use Rattle.log_verdict.specs.LogVerdicts.{order_log, trade_log, IsDecodeFault};
+ghost use Rattle.log_verdict.specs.LogVerdicts.{records_of_order_log, trades_of_trade_log, IsDecodeFault};
 
 use audit_base::faults::LogFault;
 use audit_base::records::OrderRecord;
@@ -18,8 +18,8 @@ use std::alloc::Global;
 /// `judge` asks for, also of a trade log.
 pub fn decode_orders(alloc: Global, form: Form, bytes: &[u8]) -> Result<Vec<OrderRecord>, LogFault>
     requires within { length bytes.now ≤ longest_log }
-    ensures says { MatchResult result (λ entries. order_log form bytes.now ≡ Ok entries.items)
-        (IsDecodeFault (order_log form bytes.now)) }
+    ensures says { MatchResult result (λ entries. records_of_order_log form bytes.now ≡ Ok entries.items)
+        (IsDecodeFault (records_of_order_log form bytes.now)) }
     ensures few { IfOk result (λ entries. vec_len entries < 2 ^ 32 - 1) }
 {
     match form {
@@ -32,8 +32,8 @@ pub fn decode_orders(alloc: Global, form: Form, bytes: &[u8]) -> Result<Vec<Orde
 /// where a report has no partner. `Bad` comes as for an order log.
 pub fn decode_trades(alloc: Global, form: Form, bytes: &[u8]) -> Result<Paired, LogFault>
     requires within { length bytes.now ≤ longest_log }
-    ensures says { MatchResult result (λ paired. trade_log form bytes.now ≡ Ok (result_of_paired paired))
-        (IsDecodeFault (trade_log form bytes.now)) }
+    ensures says { MatchResult result (λ paired. trades_of_trade_log form bytes.now ≡ Ok (result_of_paired paired))
+        (IsDecodeFault (trades_of_trade_log form bytes.now)) }
     ensures few { IfOk result
         (λ paired. length (paired_trades (result_of_paired paired)) < 2 ^ 32 - 1) }
 {

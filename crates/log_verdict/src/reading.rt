@@ -6,7 +6,7 @@ ghost use Rattle.csv_logs.specs.Logs.{read_csv_log};
 ghost use Rattle.fix_messages.specs.Logs as fix;
 ghost use Rattle.log_source.specs.Collectors.{HasPlace};
 ghost use Rattle.log_source.specs.Sources.{longest_read};
-ghost use Rattle.log_verdict.specs.LogVerdicts.{order_log, trade_log, paired_reports};
+ghost use Rattle.log_verdict.specs.LogVerdicts.{records_of_order_log, trades_of_trade_log, paired_reports};
 ghost use Rattle.log_verdict.specs.Collecting.{CollectsLog, CollectsTrades, HasFewCollected, TouchesOnly};
 ghost use Rattle.log_verdict.specs.Steps.{reading_by, KeepsShelfLogs};
 
@@ -139,7 +139,7 @@ pub fn collect_orders<F: Shelf, K: Collector<Entry = OrderRecord>>(
     requires fresh { K.has_taken collector [] }
     ensures logs { KeepsShelfLogs F.Shelf shelf.old shelf.new }
     ensures only { TouchesOnly (reading_by source.now F.Shelf shelf.old shelf.new) Which.Orders }
-    ensures read { CollectsLog K.has_taken (order_log source.now.form)
+    ensures read { CollectsLog K.has_taken (records_of_order_log source.now.form)
         (reading_by source.now F.Shelf shelf.old shelf.new) Which.Orders
         source.now.name.now result }
     ensures within { result ≢ Err Unread.TooLong
@@ -175,7 +175,7 @@ fn collect_pairs<F: Shelf, K: Collector<Entry = TradeRecord>>(
     requires fresh { K.has_taken collector [] }
     ensures logs { KeepsShelfLogs F.Shelf shelf.old shelf.new }
     ensures only { TouchesOnly (reading_by source.now F.Shelf shelf.old shelf.new) Which.Trades }
-    ensures read { CollectsTrades K.has_taken (λ bytes. paired_reports (fix.report_log bytes))
+    ensures read { CollectsTrades K.has_taken (λ bytes. paired_reports (fix.fix_report_records bytes))
         (reading_by source.now F.Shelf shelf.old shelf.new) Which.Trades
         source.now.name.now result }
     ensures within { result ≢ Err Unread.TooLong
@@ -207,7 +207,7 @@ pub fn collect_trades<F: Shelf, K: Collector<Entry = TradeRecord>>(
     requires fresh { K.has_taken collector [] }
     ensures logs { KeepsShelfLogs F.Shelf shelf.old shelf.new }
     ensures only { TouchesOnly (reading_by source.now F.Shelf shelf.old shelf.new) Which.Trades }
-    ensures read { CollectsTrades K.has_taken (trade_log source.now.form)
+    ensures read { CollectsTrades K.has_taken (trades_of_trade_log source.now.form)
         (reading_by source.now F.Shelf shelf.old shelf.new) Which.Trades
         source.now.name.now result }
     ensures within { result ≢ Err Unread.TooLong

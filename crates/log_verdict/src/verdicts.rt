@@ -1,7 +1,7 @@
 //! The verdict on two logs of a shelf.
 ghost use Rattle.std.specs.Prelude.{IfOk};
 ghost use Rattle.audit_report.specs.Texts.{IsVerdictInRange};
-ghost use Rattle.log_verdict.specs.BothLogs.{DecidesVerdict, HaveOneLimit, StaysWithin};
+ghost use Rattle.log_verdict.specs.BothLogs.{GivesVerdictOrStop, HaveOneLimit, StaysWithin};
 ghost use Rattle.log_verdict.specs.Steps.{reading_by, KeepsShelfLogs, FaultsNeverFall};
 
 use crate::both_logs::read_both;
@@ -32,7 +32,7 @@ pub fn verdict_on<F: Shelf>(
     requires limit { HaveOneLimit orders.now trades.now }
     ensures logs { KeepsShelfLogs F.Shelf shelf.old shelf.new }
     ensures later { FaultsNeverFall (reading_by orders.now F.Shelf shelf.old shelf.new) }
-    ensures decides { DecidesVerdict (reading_by orders.now F.Shelf shelf.old shelf.new)
+    ensures decides { GivesVerdictOrStop (reading_by orders.now F.Shelf shelf.old shelf.new)
         question.now orders.now trades.now result }
     ensures in_range { IfOk result IsVerdictInRange }
     ensures within { StaysWithin (reading_by orders.now F.Shelf shelf.old shelf.new) result }

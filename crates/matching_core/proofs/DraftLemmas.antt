@@ -7,7 +7,7 @@ use Rattle.audit_base.specs.declared.orders.Deal.{Deal}
 use Rattle.audit_base.specs.declared.records.TradeRecord.{TradeRecord}
 use Rattle.audit_base.specs.Deals.{IsDealList}
 use Rattle.audit_base.specs.Orders.{same_name}
-use Rattle.audit_base.specs.Trades.{trades_of_symbol, deals_of_symbol, unsound_trade}
+use Rattle.audit_base.specs.Trades.{trades_of_symbol, deals_of_symbol, trades_finding}
 use Rattle.audit_base.proofs.TradeLemmas.{deals-are}
 use Rattle.matching_core.specs.declared.outcomes.CheckFault.TheVariants.{Found}
 use Rattle.matching_core.specs.Answers.{IsResolveAnswer}
@@ -63,7 +63,7 @@ known-finding : (orders : List Order) (h : Listed) (kept : SoundDeals) (found : 
 known-finding orders h kept None known = known.clean
 known-finding orders h kept (Some f) known = known
 
-pub ends-finding : (orders : List Order) (symbol : List ℕ) (trades : List TradeRecord) (kept : SoundDeals) (found : Option Finding) → AreTradesKnown orders (trades_of_symbol symbol trades) kept found → unsound_trade orders symbol trades ≡ found
+pub ends-finding : (orders : List Order) (symbol : List ℕ) (trades : List TradeRecord) (kept : SoundDeals) (found : Option Finding) → AreTradesKnown orders (trades_of_symbol symbol trades) kept found → trades_finding orders symbol trades ≡ found
 ends-finding orders symbol trades kept found known = unsound-is orders symbol trades ∙ known-finding orders (trades_of_symbol symbol trades) kept found known
 
 pub ends-deals : (orders : List Order) (symbol : List ℕ) (trades : List TradeRecord) (kept : SoundDeals) (found : Option Finding) → found ≡ None → AreTradesKnown orders (trades_of_symbol symbol trades) kept found → kept.deals.items ≡ deals_of_symbol orders symbol trades

@@ -13,7 +13,7 @@ use Rattle.audit_base.specs.declared.findings.Finding.{Finding}
 use Rattle.audit_base.specs.declared.flaws.Evidence.TheVariants.{DuplicateTrade}
 use Rattle.audit_base.specs.Least.{least_answer, least_with, only_if}
 use Rattle.audit_base.specs.Orders.{same_name}
-use Rattle.audit_base.specs.Trades.{trades_of_symbol, trade_past_end, trade_at, trade_place, duplicate_trade, unknown_order, unsound_trade, deal_of_trade}
+use Rattle.audit_base.specs.Trades.{trades_of_symbol, trade_past_end, trade_at, trade_place, duplicate_trade_finding, unknown_order_finding, trades_finding, deal_of_trade}
 use Rattle.instruction_history.proofs.FirstLemmas.{least_answer-same, least_with-same, least_answer-stays, least_with-some, option_or-none, option_or-nothing}
 use Rattle.instruction_history.proofs.HistoryLemmas.{enumerate_from-append}
 use Rattle.instruction_history.specs.Flaws.{finding_at}
@@ -45,8 +45,8 @@ abbrev duplicate : ℕ → ℕ → Finding
 duplicate place first = finding_at place (DuplicateTrade first)
 
 -- 5 and 6 of a trade, by the trade itself and those before it
-duplicate-same : (n : ℕ) (h g : Listed) → SameBelow h g n → (k : ℕ) → k < n → duplicate_trade h k ≡ duplicate_trade g k
-unfolding duplicate_trade
+duplicate-same : (n : ℕ) (h g : Listed) → SameBelow h g n → (k : ℕ) → k < n → duplicate_trade_finding h k ≡ duplicate_trade_finding g k
+unfolding duplicate_trade_finding
 duplicate-same n h g same k lt =
     let here : get_or h k trade_past_end ≡ get_or g k trade_past_end = same.at k lt in
     let tests : least_with (λ j. same_name (trade_at h j).trade (trade_at h k).trade) k ≡ least_with (λ j. same_name (trade_at g j).trade (trade_at g k).trade) k =
@@ -58,17 +58,17 @@ duplicate-same n h g same k lt =
     ap (λ (x : ℕ × TradeRecord). duplicate x.0 (trade_place h j)) here ∙ ap (λ (x : ℕ × TradeRecord). duplicate (trade_place g k) x.0) (same.at j (omega (arith, first.within))))
     ∙ ap (option_map (λ j. duplicate (trade_place g k) (trade_place g j))) tests
 
-unknown-at : (orders : List Order) (h : Listed) (k : ℕ) → unknown_order orders h k ≡ unknown_order_of orders (get_or h k trade_past_end)
-unfolding unknown_order
+unknown-at : (orders : List Order) (h : Listed) (k : ℕ) → unknown_order_finding orders h k ≡ unknown_order_of orders (get_or h k trade_past_end)
+unfolding unknown_order_finding
 unknown-at orders h k = refl
 
 abbrev trade_finding : List Order → Listed → ℕ → Option Finding
-trade_finding orders h k = option_or (duplicate_trade h k) (unknown_order orders h k)
+trade_finding orders h k = option_or (duplicate_trade_finding h k) (unknown_order_finding orders h k)
 
 finding-same : (orders : List Order) (n : ℕ) (h g : Listed) → SameBelow h g n → (k : ℕ) → k < n → trade_finding orders h k ≡ trade_finding orders g k
 finding-same orders n h g same k lt =
-    let five : duplicate_trade h k ≡ duplicate_trade g k = duplicate-same n h g same k lt in
-    let six : unknown_order orders h k ≡ unknown_order orders g k = unknown-at orders h k ∙ ap (unknown_order_of orders) (same.at k lt) ∙ sym (unknown-at orders g k) in
+    let five : duplicate_trade_finding h k ≡ duplicate_trade_finding g k = duplicate-same n h g same k lt in
+    let six : unknown_order_finding orders h k ≡ unknown_order_finding orders g k = unknown-at orders h k ∙ ap (unknown_order_of orders) (same.at k lt) ∙ sym (unknown-at orders g k) in
     rw (five, six) refl
 
 pushed-same : (h : Listed) (e : ℕ × TradeRecord) → SameBelow (h ++ e ∷ []) h (length h)
@@ -85,8 +85,8 @@ finding_in-push orders h e =
     ap (least_answer (trade_finding orders (h ++ e ∷ []))) (length-push h e) ∙ ap (λ (o : Option Finding). option_or o (trade_finding orders (h ++ e ∷ []) (length h))) before
 
 -- 5 of the last one
-duplicate-push : (h : Listed) (e : ℕ × TradeRecord) → duplicate_trade (h ++ e ∷ []) (length h) ≡ option_map (duplicate e.0) (listed_place_of_id h e.1.trade)
-unfolding duplicate_trade
+duplicate-push : (h : Listed) (e : ℕ × TradeRecord) → duplicate_trade_finding (h ++ e ∷ []) (length h) ≡ option_map (duplicate e.0) (listed_place_of_id h e.1.trade)
+unfolding duplicate_trade_finding
 duplicate-push h e =
     let longer : Listed = h ++ e ∷ [] in
     let same = pushed-same h e in
@@ -109,8 +109,8 @@ duplicate-push h e =
 finding-push : (orders : List Order) (h : Listed) (e : ℕ × TradeRecord) → trade_finding orders (h ++ e ∷ []) (length h) ≡ option_or (option_map (duplicate e.0) (listed_place_of_id h e.1.trade)) (unknown_order_of orders e)
 finding-push orders h e =
     let five = duplicate-push h e in
-    let six : unknown_order orders (h ++ e ∷ []) (length h) ≡ unknown_order_of orders e = unknown-at orders (h ++ e ∷ []) (length h) ∙ ap (unknown_order_of orders) (pushed-at h e) in
-    ap (λ (o : Option Finding). option_or o (unknown_order orders (h ++ e ∷ []) (length h))) five ∙ ap (option_or (option_map (duplicate e.0) (listed_place_of_id h e.1.trade))) six
+    let six : unknown_order_finding orders (h ++ e ∷ []) (length h) ≡ unknown_order_of orders e = unknown-at orders (h ++ e ∷ []) (length h) ∙ ap (unknown_order_of orders) (pushed-at h e) in
+    ap (λ (o : Option Finding). option_or o (unknown_order_finding orders (h ++ e ∷ []) (length h))) five ∙ ap (option_or (option_map (duplicate e.0) (listed_place_of_id h e.1.trade))) six
 
 finding-next : (orders : List Order) (h : Listed) (e : ℕ × TradeRecord) → finding_in_trades orders h ≡ None → finding_in_trades orders (h ++ e ∷ []) ≡ option_or (option_map (duplicate e.0) (listed_place_of_id h e.1.trade)) (unknown_order_of orders e)
 finding-next orders h e clean = finding_in-push orders h e ∙ option_or-none (finding_in_trades orders h) (trade_finding orders (h ++ e ∷ []) (length h)) clean ∙ finding-push orders h e
@@ -192,6 +192,6 @@ finding_in-append orders h r f is =
     least_answer-same (trade_finding orders (h ++ r)) (trade_finding orders h) (length h) (λ k lt. finding-same orders (length h) (h ++ r) h same k lt) ∙ is in
     least_answer-stays (trade_finding orders (h ++ r)) (length h) (length (h ++ r)) f early (omega (arith, length-append h r))
 
-pub unsound-is : (orders : List Order) (symbol : List ℕ) (trades : List TradeRecord) → unsound_trade orders symbol trades ≡ finding_in_trades orders (trades_of_symbol symbol trades)
-unfolding unsound_trade
+pub unsound-is : (orders : List Order) (symbol : List ℕ) (trades : List TradeRecord) → trades_finding orders symbol trades ≡ finding_in_trades orders (trades_of_symbol symbol trades)
+unfolding trades_finding
 unsound-is orders symbol trades = refl

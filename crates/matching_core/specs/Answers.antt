@@ -8,7 +8,7 @@ use Rattle.audit_base.specs.declared.orders.Deal.{Deal}
 use Rattle.audit_base.specs.declared.records.TradeRecord.{TradeRecord}
 use Rattle.audit_base.specs.Calls.{Matching, OnePrice}
 use Rattle.audit_base.specs.Deals.{IsDealList, DealsInRange}
-use Rattle.audit_base.specs.Trades.{SoundTrades, deals_of_symbol, unsound_trade}
+use Rattle.audit_base.specs.Trades.{SoundTrades, deals_of_symbol, trades_finding}
 use Rattle.matching_core.specs.declared.outcomes.CheckFault.{CheckFault}
 use Rattle.matching_core.specs.declared.outcomes.CheckFault.TheVariants.{Found}
 
@@ -27,4 +27,4 @@ pub record IsResolveAnswer (orders : List Order) (symbol : List ℕ) (trades : L
   pub deals : IfOk result (λ deals. deals.items ≡ deals_of_symbol orders symbol trades)
   pub deal_list : IfOk result (λ deals. IsDealList orders deals.items)
   pub numbers : IfOk result (λ deals. DealsInRange deals.items)
-  pub found : IfCheckFinding result (λ finding. unsound_trade orders symbol trades ≡ Some finding)
+  pub found : IfCheckFinding result (λ finding. trades_finding orders symbol trades ≡ Some finding)

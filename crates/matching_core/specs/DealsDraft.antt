@@ -4,7 +4,7 @@ use Rattle.audit_base.specs.declared.findings.Finding.{Finding}
 use Rattle.audit_base.specs.declared.orders.Deal.{Deal}
 use Rattle.audit_base.specs.declared.orders.Order.{Order}
 use Rattle.audit_base.specs.declared.records.TradeRecord.{TradeRecord}
-use Rattle.audit_base.specs.Trades.{deals_of_symbol, unsound_trade}
+use Rattle.audit_base.specs.Trades.{deals_of_symbol, trades_finding}
 use Rattle.matching_core.specs.declared.deals_draft.DealsDraft.{DealsDraft}
 use Rattle.matching_core.specs.DealsSoFar.{IsDealsSoFar}
 
@@ -26,7 +26,7 @@ ForHandedTrades symbol orders draft P =
 abbrev pub IsFindingOfTrades : {M : Type 0} → List ℕ → List Order → DealsDraft M
     → Option Finding → Type 0
 IsFindingOfTrades symbol orders draft finding =
-    ForHandedTrades symbol orders draft (λ trades. unsound_trade orders symbol trades ≡ finding)
+    ForHandedTrades symbol orders draft (λ trades. trades_finding orders symbol trades ≡ finding)
 
 -- the deals of those records, where there is no finding
 abbrev pub AreDealsOf : {M : Type 0} → List ℕ → List Order → DealsDraft M → Option Finding

@@ -10,7 +10,7 @@ use Rattle.audit_base.specs.declared.flaws.Evidence.TheVariants.{UnknownOrder}
 use Rattle.audit_base.specs.Deals.{DealsInRange}
 use Rattle.audit_base.specs.Least.{least_answer, least_with, only_if}
 use Rattle.audit_base.specs.Orders.{same_name, order_on_side_with_key}
-use Rattle.audit_base.specs.Trades.{trades_of_symbol, trade_at, trade_place, duplicate_trade, unknown_order, deal_of_trade}
+use Rattle.audit_base.specs.Trades.{trades_of_symbol, trade_at, trade_place, duplicate_trade_finding, unknown_order_finding, deal_of_trade}
 use Rattle.instruction_history.specs.Flaws.{finding_at, flaw_finding, NamesNoOrder}
 use Rattle.matching_core.specs.declared.deals_so_far.DealsSoFar.{DealsSoFar}
 use Rattle.matching_core.specs.declared.sound_deals.SoundDeals.{SoundDeals}
@@ -44,7 +44,8 @@ unknown_order_of orders e =
 -- the first finding of the trades of a list
 abbrev pub finding_in_trades : List Order → List (ℕ × TradeRecord) → Option Finding
 finding_in_trades orders listed =
-    least_answer (λ k. option_or (duplicate_trade listed k) (unknown_order orders listed k))
+    least_answer
+    (λ k. option_or (duplicate_trade_finding listed k) (unknown_order_finding orders listed k))
     (length listed)
 
 -- the place of the first trade of the list with an id

@@ -1,7 +1,7 @@
 //! The deals of the trades of one symbol: each trade with its bid and its ask.
 ghost use Rattle.std.specs.Prelude.{◌≡◌, ◌<◌, ◌-◌, ◌^◌, Some, IfOk, OnOk, length};
 ghost use Rattle.audit_base.specs.Deals.{IsDealList, DealsInRange};
-ghost use Rattle.audit_base.specs.Trades.{SoundTrades, deals_of_symbol, unsound_trade};
+ghost use Rattle.audit_base.specs.Trades.{SoundTrades, deals_of_symbol, trades_finding};
 ghost use Rattle.matching_core.specs.Answers.{IfCheckFinding, IsResolveAnswer};
 ghost use Rattle.matching_core.specs.DealsSoFar.{IsDealsSoFar};
 
@@ -73,7 +73,7 @@ pub fn resolve(
         IfOk result (λ made. made.items ≡ deals) }
     ensures deal_list { IfOk result (λ deals. IsDealList history.now deals.items) }
     ensures numbers { IfOk result (λ deals. DealsInRange deals.items) }
-    ensures found { let first = unsound_trade history.now symbol.now trades.now in
+    ensures found { let first = trades_finding history.now symbol.now trades.now in
         IfCheckFinding result (λ f. first ≡ Some f) }
 {
     resolve_all::<Brand>(alloc, history, trades, symbol)

@@ -3,7 +3,7 @@ ghost use Rattle.std.specs.Prelude.{◌<◌, ◌-◌, ◌^◌, IfOk};
 ghost use Rattle.audit_base.specs.declared.terms.VolumeRule.TheVariants.{Maximum};
 ghost use Rattle.audit_base.specs.Orders.{IsOrderList};
 ghost use Rattle.audit_base.specs.Deals.{IsDealList};
-ghost use Rattle.call_auction.specs.Audits.{IsGreatestOf, IsAuditedCall};
+ghost use Rattle.call_auction.specs.Audits.{IsGreatestOf, IsCallOutcome};
 
 use audit_base::faults::NoMemory;
 use audit_base::orders::{Cut, Deal};
@@ -38,7 +38,7 @@ pub fn audit_maximum(
     requires order_list { IsOrderList orders.now }
     requires deal_list { IsDealList orders.now deals.now }
     requires few { count < 2 ^ 32 - 1 }
-    ensures { IfOk result (IsAuditedCall Maximum orders.now deals.now count) }
+    ensures { IfOk result (IsCallOutcome Maximum orders.now deals.now count) }
 {
     let most = greatest_of(alloc, orders)?;
     audit_call(alloc, VolumeRule::Maximum, orders, deals, count, most)

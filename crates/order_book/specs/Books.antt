@@ -19,7 +19,7 @@ abbrev pub IsAheadInBook : Side → Resting → Resting → Type 0
 IsAheadInBook side r s = IsTrue (better_limit side r.limit s.limit) ⊎ ((r.limit ≡ s.limit)
     × (r.index < s.index))
 
--- a list with one order more, behind those whose limit is not worse
+-- a list with one order more, after those whose limit is not worse
 abbrev pub with_order : Side → Resting → List Resting → List Resting
 with_order side r [] = r ∷ []
 with_order side r (x ∷ xs) = if better_limit side r.limit x.limit then r ∷ x ∷ xs

@@ -12,16 +12,16 @@ use Rattle.order_list.specs.declared.keys.KeyNumber.{KeyNumber}
 use Rattle.order_list.specs.declared.keys.SeenRecord.{SeenRecord}
 
 -- what a key names in the maps, if it is there
-abbrev pub seen_in : Keys → Key → Option SeenRecord
-seen_in keys key =
+abbrev pub record_seen_in : Keys → Key → Option SeenRecord
+record_seen_in keys key =
     value_by_pair (get same_block keys.short) (get same_key keys.long key)
     (short_pair_of key.firm key.id)
 
 -- one key more: it names this, and every other key names what it did
 abbrev pub AddsKey : Keys → Keys → Key → SeenRecord → Type 0
 AddsKey old new key seen =
-    (other : Key) → seen_in new other
-    ≡ (if same_key key other then Some seen else seen_in old other)
+    (other : Key) → record_seen_in new other
+    ≡ (if same_key key other then Some seen else record_seen_in old other)
 
 -- the index of what is seen, if it is an order of the side
 abbrev pub index_on : Side → SeenRecord → Option ℕ

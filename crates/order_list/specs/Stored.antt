@@ -28,8 +28,8 @@ abbrev pub target_from : ℕ → Option ℕ
 target_from target = if nat_lt target 4294967295 then Some target else None
 
 -- the order that is kept so, with this key
-abbrev pub order_by : Key → StoredOrder → Order
-order_by key s = record {
+abbrev pub order_of_stored_and_key : Key → StoredOrder → Order
+order_of_stored_and_key key s = record {
   place = s.place;
   key = key;
   time = time_from s.second s.nano;
@@ -43,7 +43,7 @@ order_by key s = record {
 
 -- the order, and the orders, beside a table of keys
 abbrev pub order_of : Keys → StoredOrder → Order
-order_of keys s = order_by (key_in keys (number_of s)) s
+order_of keys s = order_of_stored_and_key (key_in keys (number_of s)) s
 
 abbrev pub orders_of : Keys → List StoredOrder → List Order
 orders_of keys stored = map (order_of keys) stored

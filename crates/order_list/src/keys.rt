@@ -4,7 +4,7 @@
 //! longer key as it is.
 ghost use Rattle.std.specs.Prelude.{◌≡◌, true, false, None, IfOk, OnOk, slice_get};
 ghost use Rattle.audit_base.specs.declared.names.Key.{Key};
-ghost use Rattle.order_list.specs.Keys.{index_on, seen_in, name_from, key_of_pair, no_key, key_in, short_key, long_key};
+ghost use Rattle.order_list.specs.Keys.{index_on, record_seen_in, name_from, key_of_pair, no_key, key_in, short_key, long_key};
 ghost use Rattle.order_list.specs.Keys.{AddsKey, AddsNumber};
 
 use audit_base::faults::NoMemory;
@@ -123,7 +123,7 @@ fn long_number(index: u32) -> KeyNumber
 impl Keys {
     /// No keys.
     pub fn new(alloc: Global, seed: HashSeed) -> Keys
-        ensures { (key : Key) → seen_in result key ≡ None }
+        ensures { (key : Key) → record_seen_in result key ≡ None }
     {
         Keys {
             short: IndexMap::with_hasher(alloc, BlockSeed::of(seed)),
@@ -134,7 +134,7 @@ impl Keys {
     /// What the key of this firm and this id names, if a record has it. A key is a copy of both
     /// names, which only a long one needs.
     pub fn find(&self, firm: &Name, id: &Name) -> Option<SeenRecord>
-        ensures { result ≡ seen_in self.now (record { firm = firm.now; id = id.now }) }
+        ensures { result ≡ record_seen_in self.now (record { firm = firm.now; id = id.now }) }
     {
         match ShortPair::of(firm.bytes(), id.bytes()) {
             Some(short) => self.short.get(&short).copied(),
@@ -151,7 +151,7 @@ impl Keys {
     /// One more key: what it named before, and where nothing, its number. Where it named something,
     /// it names the new record now.
     pub fn add(&mut self, key: &Key, seen: SeenRecord) -> Result<AddedKey, NoMemory>
-        ensures earlier { IfOk result (λ added. added.earlier ≡ seen_in self.old key.now) }
+        ensures earlier { IfOk result (λ added. added.earlier ≡ record_seen_in self.old key.now) }
         ensures adds { OnOk result (AddsKey self.old self.new key.now seen) }
         ensures number { IfOk result (λ added. added.earlier ≡ None
             → AddsNumber self.old self.new key.now added.number) }

@@ -2,7 +2,7 @@
 ghost use Rattle.std.specs.Prelude.{◌≡◌, ◌<◌, IfSome, Some, None};
 ghost use Rattle.audit_base.specs.declared.names.Key.{Key as AKey};
 ghost use Rattle.order_list.specs.Changed.{with_terms, with_ending};
-ghost use Rattle.order_list.specs.Stored.{number_of, time_from, cancelled_from, target_from, order_by, order_with};
+ghost use Rattle.order_list.specs.Stored.{number_of, time_from, cancelled_from, target_from, order_of_stored_and_key, order_with};
 
 use super::keys::KeyNumber;
 use audit_base::numbers::{Price, Quantity};
@@ -74,7 +74,7 @@ impl StoredOrder {
     /// What is kept of the order of these parts.
     pub fn of(parts: &OrderParts) -> StoredOrder
         requires { IfSome parts.now.target (λ t. t < 4294967295) }
-        ensures order { (key : AKey) → order_by key result ≡ order_with key parts.now }
+        ensures order { (key : AKey) → order_of_stored_and_key key result ≡ order_with key parts.now }
         ensures number { number_of result ≡ parts.now.number }
     {
         let Stamp { second, nano } = parts.time;
@@ -97,8 +97,8 @@ impl StoredOrder {
     /// The same order with other terms.
     pub(crate) fn with_terms(&self, terms: ChangedTerms) -> StoredOrder
         requires { IfSome terms.target (λ t. t < 4294967295) }
-        ensures order { (key : AKey) → order_by key result
-            ≡ with_terms terms.quantity terms.cancelled terms.target (order_by key self.now) }
+        ensures order { (key : AKey) → order_of_stored_and_key key result
+            ≡ with_terms terms.quantity terms.cancelled terms.target (order_of_stored_and_key key self.now) }
         ensures number { number_of result ≡ number_of self.now }
     {
         StoredOrder {
@@ -112,8 +112,8 @@ impl StoredOrder {
 
     /// Ends the order at a place, unless an earlier record did.
     pub fn end(&mut self, place: u32)
-        ensures order { (key : AKey) → order_by key self.new
-            ≡ with_ending place (order_by key self.old) }
+        ensures order { (key : AKey) → order_of_stored_and_key key self.new
+            ≡ with_ending place (order_of_stored_and_key key self.old) }
         ensures number { number_of self.new ≡ number_of self.old }
     {
         if !self.is_ended {

@@ -19,8 +19,8 @@ use Rattle.audit_base.specs.Orders.{OrdersInRange, IsOrderList}
 use Rattle.audit_base.specs.RecordRanges.{RecordsInRange}
 use Rattle.audit_base.specs.RuleKinds.{rule_of_volume}
 use Rattle.audit_base.specs.Rules.{Conforms}
-use Rattle.audit_base.specs.Trades.{TradesInRange, deals_of_symbol, unsound_trade}
-use Rattle.audit_base.specs.Verdicts.{IsRuleVerdict, IsVerdict, instant_order_finding, log_finding, paired_trades, pairing_finding}
+use Rattle.audit_base.specs.Trades.{TradesInRange, deals_of_symbol, trades_finding}
+use Rattle.audit_base.specs.Verdicts.{IsRuleFinding, IsRecordFinding, instant_finding_of_rule, finding_before_rule, paired_trades, pairing_finding}
 use Rattle.audit_base.proofs.HistoryLemmas.{order_list-is, order_list-regular}
 use Rattle.audit_base.proofs.LeastLemmas.{none_some, option_or-parts}
 use Rattle.audit_base.proofs.RangeLemmas.{orders-range}
@@ -36,7 +36,7 @@ use Rattle.continuous_laws.specs.Laws.{OnlyPairs}
 use Rattle.verdict_laws.specs.Existence.{VerdictExists, VerdictIsTheOnlyOne}
 use Rattle.record_verdict.specs.declared.questions.Question.{Question}
 use Rattle.record_verdict.specs.Existence.{JudgementExists}
-use Rattle.record_verdict.specs.Judgements.{AreOnlyQuantities, IsAcceptance, IsReportedBound, IsJudged, table_lines}
+use Rattle.record_verdict.specs.Judgements.{AreOnlyQuantities, IsAcceptance, IsReportedBound, IsRecordVerdict, table_lines}
 
 -- the laws on which this rests
 pub record Laws : Type 0 where
@@ -114,26 +114,26 @@ module _ (laws : Laws) where
 
     -- what the rules say, where the stages before the rule have this finding
     abbrev By : Option Finding → Option Finding → Type 0
-    By found v = MatchOption found (IsRuleVerdict q.rule history deals (length (paired_trades paired)) v) (λ f. v ≡ Some f)
+    By found v = MatchOption found (IsRuleFinding q.rule history deals (length (paired_trades paired)) v) (λ f. v ≡ Some f)
 
-    conforms : (found : Option Finding) → log_finding q.rule q.symbol entries paired ≡ found → By found None → (log_finding q.rule q.symbol entries paired ≡ None) × Conforms q.rule history deals
+    conforms : (found : Option Finding) → finding_before_rule q.rule q.symbol entries paired ≡ found → By found None → (finding_before_rule q.rule q.symbol entries paired ≡ None) × Conforms q.rule history deals
     conforms None e is = (e, is)
     conforms (Some f) e is = none_some None f refl is
 
-    judged-as : (found : Option Finding) → IsVerdict q.rule q.symbol entries paired found → (the_verdict : Verdict) × IsJudged q entries paired the_verdict
+    judged-as : (found : Option Finding) → IsRecordFinding q.rule q.symbol entries paired found → (the_verdict : Verdict) × IsRecordVerdict q entries paired the_verdict
     judged-as (Some f) is = (
       verdict.Rejected f,
       record { found = Some f; by_the_rules = is; one = λ other by. laws.one q.rule q.symbol entries paired other (Some f) trades by is; outcome = refl },
     )
     judged-as None is =
-        let c = conforms (log_finding q.rule q.symbol entries paired) refl is in
-        let formed = option_or-parts (history_finding q.symbol entries) (first_answer (instant_order_finding q.rule history ∷ pairing_finding paired ∷ unsound_trade history q.symbol (paired_trades paired) ∷ [])) c.0 in
+        let c = conforms (finding_before_rule q.rule q.symbol entries paired) refl is in
+        let formed = option_or-parts (history_finding q.symbol entries) (first_answer (instant_finding_of_rule q.rule history ∷ pairing_finding paired ∷ trades_finding history q.symbol (paired_trades paired) ∷ [])) c.0 in
         let accepted = acceptance q history deals (order_list-is q.symbol entries few) (orders-range q.symbol entries records) (order_list-regular q.symbol entries formed.0) (deals-ranges history q.symbol (paired_trades paired) trades) c.1 in (
           accepted.0,
           record { found = None; by_the_rules = is; one = λ other by. laws.one q.rule q.symbol entries paired other None trades by is; outcome = accepted.1 },
         )
 
-    judged : (the_verdict : Verdict) × IsJudged q entries paired the_verdict
+    judged : (the_verdict : Verdict) × IsRecordVerdict q entries paired the_verdict
     judged = let v = laws.exists q.rule q.symbol entries paired few (orders-range q.symbol entries records) trades in judged-as v.0 v.1
 
   pub judgement : JudgementExists

@@ -21,7 +21,7 @@ use Rattle.audit_report.specs.declared.verdicts.Verdict.{Verdict}
 use Rattle.audit_report.specs.declared.verdicts.Verdict.TheVariants as verdict
 use Rattle.call_auction.specs.Audits.{IsReachedBound}
 use Rattle.record_verdict.specs.declared.questions.Question.{Question}
-use Rattle.record_verdict.specs.Judgements.{IsAcceptance, IsAcceptedLog, IsJudged, IsVerdictOfFinding}
+use Rattle.record_verdict.specs.Judgements.{IsAcceptance, IsAcceptedLog, IsRecordVerdict, IsVerdictOfFinding}
 
 same-cut : (c d : Cut) → c.price ≡ d.price → c.volume ≡ d.volume → c ≡ d
 same-cut c d price volume =
@@ -66,7 +66,7 @@ module _ (q : Question) (orders : List Order) (deals : List Deal) where
   one-outcome (Some f) a b x y = x ∙ sym y
 
 -- the records of two logs have one verdict
-pub one-judged : (q : Question) (entries : List OrderRecord) (paired : Result (List TradeRecord) Finding) (a b : Verdict) → IsJudged q entries paired a → IsJudged q entries paired b → a ≡ b
+pub one-judged : (q : Question) (entries : List OrderRecord) (paired : Result (List TradeRecord) Finding) (a b : Verdict) → IsRecordVerdict q entries paired a → IsRecordVerdict q entries paired b → a ≡ b
 one-judged q entries paired a b x y =
     let orders : List Order = order_list q.symbol entries in
     let deals : List Deal = deals_of_symbol orders q.symbol (paired_trades paired) in

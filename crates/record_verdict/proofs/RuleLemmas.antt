@@ -17,7 +17,7 @@ use Rattle.audit_base.specs.Orders.{order_at}
 use Rattle.audit_base.specs.Deals.{AreTotals, volume}
 use Rattle.audit_base.specs.Histories.{Regular}
 use Rattle.audit_base.specs.CallOffences.{offence_before_volume}
-use Rattle.audit_base.specs.Verdicts.{IsRuleVerdict}
+use Rattle.audit_base.specs.Verdicts.{IsRuleFinding}
 use Rattle.audit_report.specs.declared.tables.Line.{Line}
 use Rattle.audit_report.specs.declared.verdicts.Verdict.TheVariants.{Rejected}
 use Rattle.matching_core.specs.declared.outcomes.CheckFault.{CheckFault}
@@ -26,12 +26,12 @@ use Rattle.matching_core.specs.declared.outcomes.Outcome.{Outcome}
 use Rattle.matching_core.specs.declared.outcomes.Outcome.TheVariants as outcome
 use Rattle.matching_core.specs.declared.outcomes.Reached.{Reached}
 use Rattle.call_laws.proofs.VolumeLemmas.{early-offence, first-of_call}
-use Rattle.call_auction.specs.Audits.{IsAuditedCall, IsReachedBound}
+use Rattle.call_auction.specs.Audits.{IsCallOutcome, IsReachedBound}
 use Rattle.continuous_audit.specs.Audits as continuous
 use Rattle.record_verdict.specs.declared.questions.Question.{Question}
 use Rattle.record_verdict.specs.Judgements.{order_line_at, order_table_lines, AreOnlyQuantities, EachOnly, IsReportedBound}
-use Rattle.record_verdict.specs.Stages.{IsJudgedDeals}
-use Rattle.record_verdict.specs.Tables.{line_of_order, lines_of, accepted_verdict, IsCallAudited, IsRuleConforming, IsOutcomeOfFault, IsRuleAudited}
+use Rattle.record_verdict.specs.Stages.{VerdictFollowsDeals}
+use Rattle.record_verdict.specs.Tables.{line_of_order, lines_of, accepted_verdict, IsCallOutcomeForAnyCount, IsConformingUnderRule, IsOutcomeOfFault, IsRuleOutcome}
 
 the-same : {X : Type 0} (x y : X) → Some y ≡ Some x → x ≡ y
 the-same x y e = cc
@@ -65,7 +65,7 @@ no-call_rule_is rule.Continuous e = refl
 module _ (orders : List Order) (deals : List Deal) where
   -- what a check found is the first offence
   pub broken-audited : (r : CallRule) (why : CheckFault) (answer : Outcome) → ((finding : Finding) → why ≡ fault.Found finding → offence_before_volume r orders deals ≡ Some finding)
-      → IsOutcomeOfFault why answer → IsCallAudited r orders deals answer
+      → IsOutcomeOfFault why answer → IsCallOutcomeForAnyCount r orders deals answer
   broken-audited r (fault.Found finding) answer found is = λ count. rw is (first-of_call r orders deals count finding (early-offence r orders deals count finding (found finding refl)))
   broken-audited r fault.Memory answer found is = absurd is
 
@@ -79,7 +79,7 @@ module _ (orders : List Order) (deals : List Deal) where
 
 module _ (orders : List Order) (deals : List Deal) (count : ℕ) where
   -- what an audit of a rule with a greatest volume answers
-  pub greatest_audited : (r : VolumeRule) (answer : Outcome) → IsAuditedCall r orders deals count answer → IsRuleAudited (rule_of_volume r) orders deals count answer
+  pub greatest_audited : (r : VolumeRule) (answer : Outcome) → IsCallOutcome r orders deals count answer → IsRuleOutcome (rule_of_volume r) orders deals count answer
   greatest_audited r (outcome.Conforms reached) audited = record {
     conforms = audited.conforms;
     totals = audited.totals;
@@ -90,7 +90,7 @@ module _ (orders : List Order) (deals : List Deal) (count : ℕ) where
   greatest_audited r (outcome.Broken finding) audited = first-of_call (call.Greatest r) orders deals count finding audited.offence
 
   -- what the audit of continuous trading answers
-  pub continuous_audited : Regular orders → (answer : Outcome) → continuous.IsAuditedContinuous orders deals answer → IsRuleAudited rule.Continuous orders deals count answer
+  pub continuous_audited : Regular orders → (answer : Outcome) → continuous.IsContinuousOutcome orders deals answer → IsRuleOutcome rule.Continuous orders deals count answer
   continuous_audited regular (outcome.Conforms reached) audited = record {
     conforms = audited.conforms;
     totals = audited.totals;
@@ -101,8 +101,8 @@ module _ (orders : List Order) (deals : List Deal) (count : ℕ) where
   continuous_audited regular (outcome.Broken finding) audited = audited.offence
 
   -- what the audit answers is the verdict
-  pub judged_conforming : (q : Question) (reached : Reached) → IsRuleConforming q.rule orders deals count reached
-      → IsJudgedDeals q orders deals count (accepted_verdict q orders deals reached)
+  pub judged_conforming : (q : Question) (reached : Reached) → IsConformingUnderRule q.rule orders deals count reached
+      → VerdictFollowsDeals q orders deals count (accepted_verdict q orders deals reached)
   judged_conforming q reached is = record {
     found = None;
     by_the_rule = is.conforms;
@@ -118,5 +118,5 @@ module _ (orders : List Order) (deals : List Deal) (count : ℕ) where
     };
   }
 
-  pub judged_broken : (q : Question) (finding : Finding) → IsRuleVerdict q.rule orders deals count (Some finding) → IsJudgedDeals q orders deals count (Rejected finding)
+  pub judged_broken : (q : Question) (finding : Finding) → IsRuleFinding q.rule orders deals count (Some finding) → VerdictFollowsDeals q orders deals count (Rejected finding)
   judged_broken q finding is = record { found = Some finding; by_the_rule = is; outcome = refl }

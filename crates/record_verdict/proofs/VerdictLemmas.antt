@@ -12,9 +12,9 @@ use Rattle.audit_base.specs.declared.terms.CallRule.{CallRule}
 use Rattle.audit_base.specs.declared.terms.Which.{Which}
 use Rattle.audit_base.specs.Deals.{DealsInRange}
 use Rattle.audit_base.specs.RuleKinds.{call_rule}
-use Rattle.audit_base.specs.Histories.{instant_order, order_list}
+use Rattle.audit_base.specs.Histories.{instant_order_finding, order_list}
 use Rattle.audit_base.specs.Trades.{deals_of_symbol}
-use Rattle.audit_base.specs.Verdicts.{instant_order_finding, log_finding, paired_trades, IsRuleVerdict}
+use Rattle.audit_base.specs.Verdicts.{instant_finding_of_rule, finding_before_rule, paired_trades, IsRuleFinding}
 use Rattle.audit_base.proofs.VerdictLemmas.{one-verdict-of_deals}
 use Rattle.audit_report.specs.declared.verdicts.Verdict.{Verdict}
 use Rattle.audit_report.specs.declared.verdicts.Verdict.TheVariants as verdict
@@ -22,26 +22,26 @@ use Rattle.matching_core.specs.declared.deals_draft.ResolvedTrades.{ResolvedTrad
 use Rattle.record_verdict.specs.declared.before_rule.BeforeRule.TheVariants as upto
 use Rattle.record_verdict.specs.declared.scopes.Admission.TheVariants as admission
 use Rattle.record_verdict.specs.declared.questions.Question.{Question}
-use Rattle.record_verdict.specs.BeforeRule.{AreJudgeable, AreSound}
+use Rattle.record_verdict.specs.BeforeRule.{AreResolvedTradesInRange, IsResolvedWithoutFinding}
 use Rattle.record_verdict.specs.Laws.{SoundTradesAreJudged}
-use Rattle.record_verdict.specs.Judgements.{IsJudged, IsVerdictOfFinding}
-use Rattle.record_verdict.specs.Scopes.{admission_of, early_finding, scope_of, unadmitted_order}
-use Rattle.record_verdict.specs.Stages.{IsJudgedDeals, VerdictIs}
+use Rattle.record_verdict.specs.Judgements.{IsRecordVerdict, IsVerdictOfFinding}
+use Rattle.record_verdict.specs.Scopes.{admission_of, finding_before_rule_in_scope, scope_of, unadmitted_order_finding}
+use Rattle.record_verdict.specs.Stages.{VerdictFollowsDeals, IsVerdictUpToRule}
 
 -- what a rule does not admit is what it finds of the orders before it is looked at
-admitted-by : (the_rule : Rule) (orders : List Order) → unadmitted_order (admission_of the_rule) orders ≡ instant_order_finding the_rule orders
+admitted-by : (the_rule : Rule) (orders : List Order) → unadmitted_order_finding (admission_of the_rule) orders ≡ instant_finding_of_rule the_rule orders
 admitted-by the_rule orders = either (call_rule the_rule)
   where
-    either : (r : Option CallRule) → unadmitted_order (cond (is_some r) admission.Resting admission.All) orders ≡ option_and_then (λ call. instant_order orders) r
+    either : (r : Option CallRule) → unadmitted_order_finding (cond (is_some r) admission.Resting admission.All) orders ≡ option_and_then (λ call. instant_order_finding orders) r
     either (Some r) = refl
     either None = refl
 
 -- the findings before those of the rule of a question
-pub early-is : (q : Question) (entries : List OrderRecord) (paired : Result (List TradeRecord) Finding) → early_finding (scope_of q) entries paired ≡ log_finding q.rule q.symbol entries paired
+pub early-is : (q : Question) (entries : List OrderRecord) (paired : Result (List TradeRecord) Finding) → finding_before_rule_in_scope (scope_of q) entries paired ≡ finding_before_rule q.rule q.symbol entries paired
 early-is q entries paired = rw (admitted-by q.rule (order_list q.symbol entries)) refl
 
 -- a bad place is the verdict
-pub malformed_is : (q : Question) (log : Which) (bad : BadPlace) → VerdictIs q (upto.Malformed log bad) (verdict.Malformed log bad)
+pub malformed_is : (q : Question) (log : Which) (bad : BadPlace) → IsVerdictUpToRule q (upto.Malformed log bad) (verdict.Malformed log bad)
 malformed_is q log bad = record {
   of_place = same;
   of_finding = λ finding e. absurd (no_finding finding e);
@@ -58,8 +58,8 @@ malformed_is q log bad = record {
     same : (other : Which) (place : BadPlace) → upto.Malformed log bad ≡ upto.Malformed other place → verdict.Malformed log bad ≡ verdict.Malformed other place
     same other place e = cc
 
-found_judged : (q : Question) (entries : List OrderRecord) (paired : Result (List TradeRecord) Finding) (finding : Finding) → log_finding q.rule q.symbol entries paired ≡ Some finding
-    → IsJudged q entries paired (verdict.Rejected finding)
+found_judged : (q : Question) (entries : List OrderRecord) (paired : Result (List TradeRecord) Finding) (finding : Finding) → finding_before_rule q.rule q.symbol entries paired ≡ Some finding
+    → IsRecordVerdict q entries paired (verdict.Rejected finding)
 found_judged q entries paired finding found = record {
   found = Some finding;
   by_the_rules = rw found refl;
@@ -68,7 +68,7 @@ found_judged q entries paired finding found = record {
 }
 
 -- a finding is the verdict
-pub found_is : (q : Question) (finding : Finding) → VerdictIs q (upto.Found finding) (verdict.Rejected finding)
+pub found_is : (q : Question) (finding : Finding) → IsVerdictUpToRule q (upto.Found finding) (verdict.Rejected finding)
 found_is q finding = record {
   of_place = λ other place e. absurd (apart other place e);
   of_finding = same;
@@ -86,17 +86,17 @@ found_is q finding = record {
     apart other place e = cc
 
 sound_judged : (q : Question) (entries : List OrderRecord) (paired : Result (List TradeRecord) Finding) (resolved : ResolvedTrades) (v : Verdict) → DealsInRange resolved.deals.items
-    → IsJudgedDeals q resolved.history resolved.deals.items resolved.count v → AreSound (scope_of q) entries paired resolved → IsJudged q entries paired v
+    → VerdictFollowsDeals q resolved.history resolved.deals.items resolved.count v → IsResolvedWithoutFinding (scope_of q) entries paired resolved → IsRecordVerdict q entries paired v
 sound_judged q entries paired resolved v numbers judged sound =
     let orders : List Order = order_list q.symbol entries in
     let deals : List Deal = deals_of_symbol orders q.symbol (paired_trades paired) in
-    let by_orders : IsRuleVerdict q.rule orders resolved.deals.items resolved.count judged.found =
-    subst (λ (os : List Order). IsRuleVerdict q.rule os resolved.deals.items resolved.count judged.found) sound.orders judged.by_the_rule in
-    let by_deals : IsRuleVerdict q.rule orders deals resolved.count judged.found =
-    subst (λ (ds : List Deal). IsRuleVerdict q.rule orders ds resolved.count judged.found) sound.deals by_orders in
-    let by_count : IsRuleVerdict q.rule orders deals (length (paired_trades paired)) judged.found =
-    subst (λ (n : ℕ). IsRuleVerdict q.rule orders deals n judged.found) sound.count by_deals in
-    let by_rules = subst (λ (o : Option Finding). MatchOption o (IsRuleVerdict q.rule orders deals (length (paired_trades paired)) judged.found) (λ finding. judged.found ≡ Some finding)) (sym (sym (early-is q entries paired) ∙ sound.none)) by_count in
+    let by_orders : IsRuleFinding q.rule orders resolved.deals.items resolved.count judged.found =
+    subst (λ (os : List Order). IsRuleFinding q.rule os resolved.deals.items resolved.count judged.found) sound.orders judged.by_the_rule in
+    let by_deals : IsRuleFinding q.rule orders deals resolved.count judged.found =
+    subst (λ (ds : List Deal). IsRuleFinding q.rule orders ds resolved.count judged.found) sound.deals by_orders in
+    let by_count : IsRuleFinding q.rule orders deals (length (paired_trades paired)) judged.found =
+    subst (λ (n : ℕ). IsRuleFinding q.rule orders deals n judged.found) sound.count by_deals in
+    let by_rules = subst (λ (o : Option Finding). MatchOption o (IsRuleFinding q.rule orders deals (length (paired_trades paired)) judged.found) (λ finding. judged.found ≡ Some finding)) (sym (sym (early-is q entries paired) ∙ sound.none)) by_count in
     record {
       found = judged.found;
       by_the_rules = by_rules;
@@ -106,7 +106,7 @@ sound_judged q entries paired resolved v numbers judged sound =
     }
 
 -- the verdict on sound trades is that of the logs
-pub sound_is : (q : Question) (resolved : ResolvedTrades) (v : Verdict) → AreJudgeable resolved → IsJudgedDeals q resolved.history resolved.deals.items resolved.count v → VerdictIs q (upto.Sound resolved) v
+pub sound_is : (q : Question) (resolved : ResolvedTrades) (v : Verdict) → AreResolvedTradesInRange resolved → VerdictFollowsDeals q resolved.history resolved.deals.items resolved.count v → IsVerdictUpToRule q (upto.Sound resolved) v
 sound_is q resolved v judgeable judged = record {
   of_place = λ other place e. absurd (apart other place e);
   of_finding = λ finding e. absurd (no_finding finding e);
@@ -114,8 +114,8 @@ sound_is q resolved v judgeable judged = record {
   of_records = λ entries paired is. sound_judged q entries paired resolved v judgeable.numbers judged is;
 }
   where
-    same : (other : ResolvedTrades) → upto.Sound resolved ≡ upto.Sound other → IsJudgedDeals q other.history other.deals.items other.count v
-    same other e = subst (λ (s : ResolvedTrades). IsJudgedDeals q s.history s.deals.items s.count v) (inner other e) judged
+    same : (other : ResolvedTrades) → upto.Sound resolved ≡ upto.Sound other → VerdictFollowsDeals q other.history other.deals.items other.count v
+    same other e = subst (λ (s : ResolvedTrades). VerdictFollowsDeals q s.history s.deals.items s.count v) (inner other e) judged
       where
         inner : (other : ResolvedTrades) → upto.Sound resolved ≡ upto.Sound other → resolved ≡ other
         inner other e = cc
@@ -130,9 +130,9 @@ sound_is q resolved v judgeable judged = record {
 pub sound-trades : SoundTradesAreJudged
 sound-trades q entries trades deals v none same numbers judged =
     let orders : List Order = order_list q.symbol entries in
-    let by_deals : IsRuleVerdict q.rule orders (deals_of_symbol orders q.symbol trades) (length trades) judged.found =
-    subst (λ (ds : List Deal). IsRuleVerdict q.rule orders ds (length trades) judged.found) same judged.by_the_rule in
-    let by_rules = subst (λ (o : Option Finding). MatchOption o (IsRuleVerdict q.rule orders (deals_of_symbol orders q.symbol trades) (length trades) judged.found) (λ finding. judged.found ≡ Some finding)) (sym none) by_deals in
+    let by_deals : IsRuleFinding q.rule orders (deals_of_symbol orders q.symbol trades) (length trades) judged.found =
+    subst (λ (ds : List Deal). IsRuleFinding q.rule orders ds (length trades) judged.found) same judged.by_the_rule in
+    let by_rules = subst (λ (o : Option Finding). MatchOption o (IsRuleFinding q.rule orders (deals_of_symbol orders q.symbol trades) (length trades) judged.found) (λ finding. judged.found ≡ Some finding)) (sym none) by_deals in
     record {
       found = judged.found;
       by_the_rules = by_rules;

@@ -12,13 +12,13 @@ use Rattle.matching_core.specs.declared.deals_draft.ResolvedTrades.{ResolvedTrad
 use Rattle.record_verdict.specs.declared.before_rule.BeforeRule.{BeforeRule}
 use Rattle.record_verdict.specs.declared.before_rule.BeforeRule.TheVariants as upto
 use Rattle.record_verdict.specs.declared.scopes.Scope.{Scope}
-use Rattle.record_verdict.specs.Scopes.{early_finding}
+use Rattle.record_verdict.specs.Scopes.{finding_before_rule_in_scope}
 
 -- The trades are sound: these are the orders of the history, which are
 -- admitted, and the deals between them.
-pub record AreSound (scope : Scope) (entries : List OrderRecord)
+pub record IsResolvedWithoutFinding (scope : Scope) (entries : List OrderRecord)
     (paired : Result (List TradeRecord) Finding) (resolved : ResolvedTrades) : Type 0 where
-  pub none : early_finding scope entries paired ≡ None
+  pub none : finding_before_rule_in_scope scope entries paired ≡ None
   pub orders : resolved.history ≡ order_list scope.symbol entries
   pub deals : let history = order_list scope.symbol entries in
       resolved.deals.items ≡ deals_of_symbol history scope.symbol (paired_trades paired)
@@ -29,9 +29,9 @@ abbrev pub IsBeforeRule : Scope → List OrderRecord → Result (List TradeRecor
     → BeforeRule → Type 0
 IsBeforeRule scope entries paired (upto.Malformed log bad) = ⊥
 IsBeforeRule scope entries paired (upto.Found finding) =
-    early_finding scope entries paired ≡ Some finding
+    finding_before_rule_in_scope scope entries paired ≡ Some finding
 IsBeforeRule scope entries paired (upto.Sound resolved) =
-    AreSound scope entries paired resolved
+    IsResolvedWithoutFinding scope entries paired resolved
 
 -- a log is not in its grammar
 abbrev pub is_malformed : BeforeRule → Bool
@@ -46,7 +46,7 @@ finding_or_sound resolved (Some finding) = upto.Found finding
 
 -- Sound trades are fewer than there are places, and at least as many as their deals, which are a
 -- deal list with numbers in range.
-pub record AreJudgeable (resolved : ResolvedTrades) : Type 0 where
+pub record AreResolvedTradesInRange (resolved : ResolvedTrades) : Type 0 where
   pub few : resolved.count < 2 ^ 32 - 1
   pub counted : length resolved.deals.items ≤ resolved.count
   pub deal_list : IsDealList resolved.history resolved.deals.items
@@ -55,4 +55,4 @@ pub record AreJudgeable (resolved : ResolvedTrades) : Type 0 where
 abbrev pub IsJudgeable : BeforeRule → Type 0
 IsJudgeable (upto.Malformed log bad) = Unit {0}
 IsJudgeable (upto.Found finding) = Unit {0}
-IsJudgeable (upto.Sound resolved) = AreJudgeable resolved
+IsJudgeable (upto.Sound resolved) = AreResolvedTradesInRange resolved

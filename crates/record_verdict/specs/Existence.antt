@@ -8,7 +8,7 @@ use Rattle.audit_base.specs.Trades.{TradesInRange}
 use Rattle.audit_base.specs.Verdicts.{paired_trades}
 use Rattle.audit_report.specs.declared.verdicts.Verdict.{Verdict}
 use Rattle.record_verdict.specs.declared.questions.Question.{Question}
-use Rattle.record_verdict.specs.Judgements.{IsJudged}
+use Rattle.record_verdict.specs.Judgements.{IsRecordVerdict}
 
 -- under each of the five rules the records of two logs have a verdict: a finding, or what is
 -- reported of an accepted log, with its bound, its table and its only quantities
@@ -17,4 +17,4 @@ JudgementExists = (q : Question) (entries : List OrderRecord)
     (paired : Result (List TradeRecord) Finding) → length entries < 2 ^ 32
     → RecordsInRange entries
     → TradesInRange (paired_trades paired)
-    → (the_verdict : Verdict) × IsJudged q entries paired the_verdict
+    → (the_verdict : Verdict) × IsRecordVerdict q entries paired the_verdict

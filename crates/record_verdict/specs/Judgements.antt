@@ -18,7 +18,7 @@ use Rattle.audit_base.specs.Histories.{order_list}
 use Rattle.audit_base.specs.Least.{only_if}
 use Rattle.audit_base.specs.Trades.{deals_of_symbol}
 use Rattle.audit_base.specs.Rules.{Only, OnlyPair}
-use Rattle.audit_base.specs.Verdicts.{IsVerdict, paired_trades}
+use Rattle.audit_base.specs.Verdicts.{IsRecordFinding, paired_trades}
 use Rattle.audit_report.specs.declared.tables.Line.{Line}
 use Rattle.audit_report.specs.declared.tables.Line.TheVariants as line
 use Rattle.audit_report.specs.declared.verdicts.Accepted.{Accepted}
@@ -112,11 +112,11 @@ IsVerdictOfFinding q orders deals found the_verdict =
 
 -- The verdict on the records of two logs is that of the rules, which have no other. `trades` are
 -- those of the trade log, or finding 4 in their place.
-pub record IsJudged (q : Question) (entries : List OrderRecord)
+pub record IsRecordVerdict (q : Question) (entries : List OrderRecord)
     (trades : Result (List TradeRecord) Finding) (the_verdict : Verdict) : Type 0 where
   pub found : Option Finding
-  pub by_the_rules : IsVerdict q.rule q.symbol entries trades found
-  pub one : (other : Option Finding) → IsVerdict q.rule q.symbol entries trades other
+  pub by_the_rules : IsRecordFinding q.rule q.symbol entries trades found
+  pub one : (other : Option Finding) → IsRecordFinding q.rule q.symbol entries trades other
       → other ≡ found
   pub outcome : let orders = order_list q.symbol entries in
       IsVerdictOfFinding q orders

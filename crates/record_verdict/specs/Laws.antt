@@ -7,24 +7,24 @@ use Rattle.audit_base.specs.declared.records.TradeRecord.{TradeRecord}
 use Rattle.audit_base.specs.Deals.{DealsInRange}
 use Rattle.audit_base.specs.Histories.{order_list}
 use Rattle.audit_base.specs.Trades.{deals_of_symbol}
-use Rattle.audit_base.specs.Verdicts.{log_finding}
+use Rattle.audit_base.specs.Verdicts.{finding_before_rule}
 use Rattle.audit_report.specs.declared.verdicts.Verdict.{Verdict}
 use Rattle.record_verdict.specs.declared.questions.Question.{Question}
-use Rattle.record_verdict.specs.Judgements.{IsJudged}
-use Rattle.record_verdict.specs.Stages.{IsJudgedDeals}
+use Rattle.record_verdict.specs.Judgements.{IsRecordVerdict}
+use Rattle.record_verdict.specs.Stages.{VerdictFollowsDeals}
 
 -- the records of two logs have one verdict on a question
 abbrev pub OneJudgement : Type 0
 OneJudgement = (q : Question) (entries : List OrderRecord)
     (paired : Result (List TradeRecord) Finding) (a b : Verdict)
-    → IsJudged q entries paired a → IsJudged q entries paired b → a ≡ b
+    → IsRecordVerdict q entries paired a → IsRecordVerdict q entries paired b → a ≡ b
 
 -- where nothing is found before the rule, the verdict on the deals
 -- of the trades is that on the records
 abbrev pub SoundTradesAreJudged : Type 0
 SoundTradesAreJudged = (q : Question) (entries : List OrderRecord) (trades : List TradeRecord)
     (deals : List Deal) (the_verdict : Verdict)
-    → log_finding q.rule q.symbol entries (Ok trades) ≡ None
+    → finding_before_rule q.rule q.symbol entries (Ok trades) ≡ None
     → deals ≡ deals_of_symbol (order_list q.symbol entries) q.symbol trades → DealsInRange deals
-    → IsJudgedDeals q (order_list q.symbol entries) deals (length trades) the_verdict
-    → IsJudged q entries (Ok trades) the_verdict
+    → VerdictFollowsDeals q (order_list q.symbol entries) deals (length trades) the_verdict
+    → IsRecordVerdict q entries (Ok trades) the_verdict

@@ -6,9 +6,9 @@ use Rattle.audit_base.specs.declared.records.OrderRecord.{OrderRecord}
 use Rattle.audit_base.specs.declared.records.TradeRecord.{TradeRecord}
 use Rattle.audit_base.specs.declared.terms.Rule.{Rule}
 use Rattle.audit_base.specs.RuleKinds.{call_rule}
-use Rattle.audit_base.specs.Histories.{history_finding, instant_order, order_list}
+use Rattle.audit_base.specs.Histories.{history_finding, instant_order_finding, order_list}
 use Rattle.audit_base.specs.Least.{first_answer}
-use Rattle.audit_base.specs.Trades.{unsound_trade}
+use Rattle.audit_base.specs.Trades.{trades_finding}
 use Rattle.audit_base.specs.Verdicts.{pairing_finding, paired_trades}
 use Rattle.record_verdict.specs.declared.questions.Question.{Question}
 use Rattle.record_verdict.specs.declared.scopes.Admission.{Admission}
@@ -25,18 +25,20 @@ abbrev pub scope_of : Question → Scope
 scope_of q = record { symbol = q.symbol; admission = admission_of q.rule }
 
 -- finding 16: the first order that is not admitted
-abbrev pub unadmitted_order : Admission → List Order → Option Finding
-unadmitted_order admission.Resting orders = instant_order orders
-unadmitted_order admission.All orders = None
+abbrev pub unadmitted_order_finding : Admission → List Order → Option Finding
+unadmitted_order_finding admission.Resting orders = instant_order_finding orders
+unadmitted_order_finding admission.All orders = None
 
 -- the findings before those of a rule, in the order of the stages: 1 to 3, 16, 4, 5 and 6
-abbrev pub early_finding : Scope → List OrderRecord → Result (List TradeRecord) Finding
+abbrev pub finding_before_rule_in_scope : Scope → List OrderRecord
+    → Result (List TradeRecord) Finding
     → Option Finding
-early_finding scope entries trades =
+finding_before_rule_in_scope scope entries trades =
     let orders = order_list scope.symbol entries in
-    first_answer (history_finding scope.symbol entries ∷ unadmitted_order scope.admission orders
+    first_answer (history_finding scope.symbol entries
+    ∷ unadmitted_order_finding scope.admission orders
     ∷ pairing_finding trades
-    ∷ unsound_trade orders scope.symbol (paired_trades trades) ∷ [])
+    ∷ trades_finding orders scope.symbol (paired_trades trades) ∷ [])
 
 -- what a reading needs to know of a question under a rule of a
 -- call, and of one that admits all orders

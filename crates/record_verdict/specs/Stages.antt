@@ -8,8 +8,8 @@ use Rattle.audit_base.specs.declared.orders.Deal.{Deal}
 use Rattle.audit_base.specs.declared.findings.Finding.{Finding}
 use Rattle.audit_base.specs.Histories.{order_list}
 use Rattle.audit_base.specs.Least.{first_answer}
-use Rattle.audit_base.specs.Trades.{deals_of_symbol, unsound_trade}
-use Rattle.audit_base.specs.Verdicts.{IsVerdict, IsRuleVerdict, instant_order_finding, pairing_finding, paired_trades}
+use Rattle.audit_base.specs.Trades.{deals_of_symbol, trades_finding}
+use Rattle.audit_base.specs.Verdicts.{IsRecordFinding, IsRuleFinding, instant_finding_of_rule, pairing_finding, paired_trades}
 use Rattle.audit_base.specs.declared.faults.BadPlace.{BadPlace}
 use Rattle.audit_base.specs.declared.terms.Which.{Which}
 use Rattle.audit_report.specs.declared.verdicts.Verdict.{Verdict}
@@ -20,31 +20,31 @@ use Rattle.record_verdict.specs.declared.before_rule.BeforeRule.TheVariants as u
 use Rattle.record_verdict.specs.declared.questions.Question.{Question}
 use Rattle.record_verdict.specs.BeforeRule.{IsBeforeRule}
 use Rattle.record_verdict.specs.Scopes.{scope_of}
-use Rattle.record_verdict.specs.Judgements.{IsJudged, IsVerdictOfFinding}
+use Rattle.record_verdict.specs.Judgements.{IsRecordVerdict, IsVerdictOfFinding}
 
 -- the rule decides where no stage before it has a finding
 abbrev pub IsFindingAfter : Option Finding → Question → List Order → List Deal → ℕ
     → Option Finding → Type 0
 IsFindingAfter before q orders deals count found =
-    MatchOption before (IsRuleVerdict q.rule orders deals count found)
+    MatchOption before (IsRuleFinding q.rule orders deals count found)
     (λ finding. found ≡ Some finding)
 
 -- The verdict is that of the rules, before it is known that they have no other.
-pub record IsJudgedRecords (q : Question) (entries : List OrderRecord)
+pub record VerdictFollowsRecords (q : Question) (entries : List OrderRecord)
     (trades : Result (List TradeRecord) Finding) (the_verdict : Verdict) : Type 0 where
   pub found : Option Finding
-  pub by_the_rules : IsVerdict q.rule q.symbol entries trades found
+  pub by_the_rules : IsRecordFinding q.rule q.symbol entries trades found
   pub outcome : let orders = order_list q.symbol entries in
       IsVerdictOfFinding q orders
       (deals_of_symbol orders q.symbol (paired_trades trades)) found the_verdict
 
 -- The same where the history is well-formed and these are its orders.
-pub record IsJudgedHistory (q : Question) (orders : List Order)
+pub record VerdictFollowsHistory (q : Question) (orders : List Order)
     (trades : Result (List TradeRecord) Finding) (the_verdict : Verdict) : Type 0 where
   pub found : Option Finding
   pub by_the_rules : IsFindingAfter
-      (first_answer (instant_order_finding q.rule orders ∷ pairing_finding trades
-      ∷ unsound_trade orders q.symbol (paired_trades trades) ∷ []))
+      (first_answer (instant_finding_of_rule q.rule orders ∷ pairing_finding trades
+      ∷ trades_finding orders q.symbol (paired_trades trades) ∷ []))
       q orders (deals_of_symbol orders q.symbol (paired_trades trades))
       (length (paired_trades trades))
       found
@@ -52,31 +52,31 @@ pub record IsJudgedHistory (q : Question) (orders : List Order)
       found the_verdict
 
 -- The same where these are the trades.
-pub record IsJudgedTrades (q : Question) (orders : List Order) (trades : List TradeRecord)
+pub record VerdictFollowsTrades (q : Question) (orders : List Order) (trades : List TradeRecord)
     (the_verdict : Verdict) : Type 0 where
   pub found : Option Finding
-  pub by_the_rules : IsFindingAfter (unsound_trade orders q.symbol trades)
+  pub by_the_rules : IsFindingAfter (trades_finding orders q.symbol trades)
       q orders (deals_of_symbol orders q.symbol trades) (length trades) found
   pub outcome : IsVerdictOfFinding q orders (deals_of_symbol orders q.symbol trades) found
       the_verdict
 
 -- The same where the trades are sound and these are their deals.
-pub record IsJudgedDeals (q : Question) (orders : List Order) (deals : List Deal) (count : ℕ)
+pub record VerdictFollowsDeals (q : Question) (orders : List Order) (deals : List Deal) (count : ℕ)
     (the_verdict : Verdict) : Type 0 where
   pub found : Option Finding
-  pub by_the_rule : IsRuleVerdict q.rule orders deals count found
+  pub by_the_rule : IsRuleFinding q.rule orders deals count found
   pub outcome : IsVerdictOfFinding q orders deals found the_verdict
 
 -- The verdict on what two logs give before the rule is looked at: their first bad place, the
 -- finding, or that of the rule on sound trades; and so it is that on whatever records give this.
-pub record VerdictIs (q : Question) (reached : BeforeRule) (the_verdict : Verdict)
+pub record IsVerdictUpToRule (q : Question) (reached : BeforeRule) (the_verdict : Verdict)
     : Type 0 where
   pub of_place : (log : Which) (bad : BadPlace) → reached ≡ upto.Malformed log bad
       → the_verdict ≡ verdict.Malformed log bad
   pub of_finding : (finding : Finding) → reached ≡ upto.Found finding
       → the_verdict ≡ verdict.Rejected finding
   pub of_deals : (sound : ResolvedTrades) → reached ≡ upto.Sound sound
-      → IsJudgedDeals q sound.history sound.deals.items sound.count the_verdict
+      → VerdictFollowsDeals q sound.history sound.deals.items sound.count the_verdict
   pub of_records : (entries : List OrderRecord) (paired : Result (List TradeRecord) Finding)
       → IsBeforeRule (scope_of q) entries paired reached
-      → IsJudged q entries paired the_verdict
+      → IsRecordVerdict q entries paired the_verdict

@@ -7,7 +7,7 @@ use Rattle.audit_base.specs.declared.terms.Rule.{Rule}
 use Rattle.audit_base.specs.declared.terms.CallRule.{CallRule}
 use Rattle.audit_base.specs.RuleKinds.{rule_of_call}
 use Rattle.audit_base.specs.Deals.{AreTotals, volume}
-use Rattle.audit_base.specs.Verdicts.{IsRuleVerdict}
+use Rattle.audit_base.specs.Verdicts.{IsRuleFinding}
 use Rattle.audit_base.specs.Orders.{order_at, place_at}
 use Rattle.audit_base.specs.Shows.{with_traded_number}
 use Rattle.audit_report.specs.declared.tables.Line.{Line}
@@ -62,25 +62,25 @@ accepted_verdict q orders deals reached = verdict.Accepted (record {
 
 -- The deals conform to the rule, with what each order traded, the volume and the bound; the
 -- quantities are the only ones.
-pub record IsRuleConforming (the_rule : Rule) (orders : List Order) (deals : List Deal)
+pub record IsConformingUnderRule (the_rule : Rule) (orders : List Order) (deals : List Deal)
     (count : ℕ) (reached : Reached) : Type 0 where
-  pub conforms : IsRuleVerdict the_rule orders deals count None
+  pub conforms : IsRuleFinding the_rule orders deals count None
   pub totals : AreTotals orders deals reached.traded.0
   pub volume_is : reached.traded.1 ≡ volume deals
   pub bound_is : IsReportedBound the_rule orders (volume deals) reached.bound
   pub only : AreOnlyQuantities the_rule orders deals
 
 -- what the audit of a rule answers: that the deals conform, or their first offence
-abbrev pub IsRuleAudited : Rule → List Order → List Deal → ℕ → Outcome → Type 0
-IsRuleAudited the_rule orders deals count (outcome.Conforms reached) =
-    IsRuleConforming the_rule orders deals count reached
-IsRuleAudited the_rule orders deals count (outcome.Broken finding) =
-    IsRuleVerdict the_rule orders deals count (Some finding)
+abbrev pub IsRuleOutcome : Rule → List Order → List Deal → ℕ → Outcome → Type 0
+IsRuleOutcome the_rule orders deals count (outcome.Conforms reached) =
+    IsConformingUnderRule the_rule orders deals count reached
+IsRuleOutcome the_rule orders deals count (outcome.Broken finding) =
+    IsRuleFinding the_rule orders deals count (Some finding)
 
 -- the same of a rule of a call, whatever the number of trades of the whole log is
-abbrev pub IsCallAudited : CallRule → List Order → List Deal → Outcome → Type 0
-IsCallAudited the_rule orders deals the_outcome =
-    (count : ℕ) → IsRuleAudited (rule_of_call the_rule) orders deals count the_outcome
+abbrev pub IsCallOutcomeForAnyCount : CallRule → List Order → List Deal → Outcome → Type 0
+IsCallOutcomeForAnyCount the_rule orders deals the_outcome =
+    (count : ℕ) → IsRuleOutcome (rule_of_call the_rule) orders deals count the_outcome
 
 -- the outcome of deals that conform to a rule without a bound
 abbrev pub conforming_outcome : List ℕ × ℕ → Outcome

@@ -6,8 +6,8 @@ ghost use Rattle.audit_base.specs.Verdicts as spec;
 ghost use Rattle.audit_base.specs.Verdicts.{paired_trades};
 ghost use Rattle.audit_report.specs.Texts.{IsVerdictInRange};
 ghost use Rattle.fix_messages.specs.Pairings.{result_of_paired};
-ghost use Rattle.record_verdict.specs.Judgements.{question, IsJudged};
-ghost use Rattle.record_verdict.specs.Stages.{IsJudgedRecords, IsJudgedHistory, IsJudgedTrades};
+ghost use Rattle.record_verdict.specs.Judgements.{question, IsRecordVerdict};
+ghost use Rattle.record_verdict.specs.Stages.{VerdictFollowsRecords, VerdictFollowsHistory, VerdictFollowsTrades};
 
 use crate::questions::Question;
 use crate::rules::judge_deals;
@@ -40,7 +40,7 @@ fn paired_in_range(trades: &Paired)
 /// What is found where the rule does not admit an order of the history:
 /// a call takes only orders that rest.
 pub fn call_finding(rule: Rule, orders: &OrderList<'_>) -> Option<Finding>
-    ensures { result ≡ spec.instant_order_finding rule orders.now }
+    ensures { result ≡ spec.instant_finding_of_rule rule orders.now }
 {
     Admission::of(rule).first_unadmitted(orders)
 }
@@ -53,7 +53,7 @@ fn judge_trades(
     trades: &[TradeRecord],
 ) -> Result<Verdict, NoMemory>
     requires few { length trades.now < 2 ^ 32 - 1 }
-    ensures { IfOk result (IsJudgedTrades question.now history.now trades.now) }
+    ensures { IfOk result (VerdictFollowsTrades question.now history.now trades.now) }
 {
     match resolve(alloc, history, trades, &question.symbol) {
         Ok(deals) => judge_deals(
@@ -76,7 +76,7 @@ fn judge_history(
     trades: &Paired,
 ) -> Result<Verdict, NoMemory>
     requires few { length (paired_trades (result_of_paired trades.now)) < 2 ^ 32 - 1 }
-    ensures { IfOk result (IsJudgedHistory question.now history.now (result_of_paired trades.now)) }
+    ensures { IfOk result (VerdictFollowsHistory question.now history.now (result_of_paired trades.now)) }
 {
     if let Some(finding) = call_finding(question.rule, &history.orders()) {
         return Ok(Verdict::Rejected(finding));
@@ -97,7 +97,7 @@ fn judge_records(
     requires few_entries { length entries.now < 2 ^ 32 - 1 }
     requires few_trades { length (paired_trades (result_of_paired trades.now)) < 2 ^ 32 - 1 }
     ensures judged { IfOk result
-        (IsJudgedRecords question.now entries.now (result_of_paired trades.now)) }
+        (VerdictFollowsRecords question.now entries.now (result_of_paired trades.now)) }
     ensures in_range { IfOk result IsVerdictInRange }
 {
     match History::build(alloc, entries, &question.symbol) {
@@ -126,7 +126,7 @@ pub fn judge(
     requires few_entries { length entries.now < 2 ^ 32 - 1 }
     requires few_trades { length (paired_trades (result_of_paired trades.now)) < 2 ^ 32 - 1 }
     ensures judged { IfOk result
-        (IsJudged (question rule symbol.now table) entries.now (result_of_paired trades.now)) }
+        (IsRecordVerdict (question rule symbol.now table) entries.now (result_of_paired trades.now)) }
     ensures in_range { IfOk result IsVerdictInRange }
 {
     paired_in_range(trades);

@@ -6,9 +6,9 @@ ghost use Rattle.audit_base.specs.RuleKinds.{rule_of_call};
 ghost use Rattle.audit_base.specs.Histories.{Regular};
 ghost use Rattle.audit_base.specs.Orders.{IsOrderList};
 ghost use Rattle.audit_base.specs.Deals.{AreTotals, IsDealList};
-ghost use Rattle.call_auction.specs.Audits.{IsAuditedCall};
-ghost use Rattle.record_verdict.specs.Stages.{IsJudgedDeals};
-ghost use Rattle.record_verdict.specs.Tables.{accepted_verdict, conforming_outcome, IsCallAudited, IsOutcomeOfFault, IsRuleAudited};
+ghost use Rattle.call_auction.specs.Audits.{IsCallOutcome};
+ghost use Rattle.record_verdict.specs.Stages.{VerdictFollowsDeals};
+ghost use Rattle.record_verdict.specs.Tables.{accepted_verdict, conforming_outcome, IsCallOutcomeForAnyCount, IsOutcomeOfFault, IsRuleOutcome};
 
 use crate::questions::Question;
 use crate::tables::table_of;
@@ -53,7 +53,7 @@ fn audit_matching(
     deals: &[Deal],
 ) -> Result<Outcome, NoMemory>
     requires deal_list { IsDealList orders.now deals.now }
-    ensures { IfOk result (IsCallAudited call.Matching orders.now deals.now) }
+    ensures { IfOk result (IsCallOutcomeForAnyCount call.Matching orders.now deals.now) }
 {
     match check_matching(alloc, orders, deals, false) {
         Ok(totals) => Ok(conforming(totals)),
@@ -65,7 +65,7 @@ fn audit_matching(
 fn audit_fair(alloc: Global, orders: &OrderList<'_>, deals: &[Deal]) -> Result<Outcome, NoMemory>
     requires order_list { IsOrderList orders.now }
     requires deal_list { IsDealList orders.now deals.now }
-    ensures { IfOk result (IsCallAudited call.Fair orders.now deals.now) }
+    ensures { IfOk result (IsCallOutcomeForAnyCount call.Fair orders.now deals.now) }
 {
     match fair_matching(alloc, orders, deals, false) {
         Ok(totals) => Ok(conforming(totals)),
@@ -84,7 +84,7 @@ fn audit_greatest(
     requires order_list { IsOrderList orders.now }
     requires deal_list { IsDealList orders.now deals.now }
     requires few { count < 2 ^ 32 - 1 }
-    ensures { IfOk result (IsAuditedCall rule orders.now deals.now count) }
+    ensures { IfOk result (IsCallOutcome rule orders.now deals.now count) }
 {
     match rule {
         VolumeRule::Uniform => audit_uniform(alloc, orders, deals, count),
@@ -103,7 +103,7 @@ fn audit_call(
     requires order_list { IsOrderList orders.now }
     requires deal_list { IsDealList orders.now deals.now }
     requires few { count < 2 ^ 32 - 1 }
-    ensures { IfOk result (IsRuleAudited (rule_of_call rule) orders.now deals.now count) }
+    ensures { IfOk result (IsRuleOutcome (rule_of_call rule) orders.now deals.now count) }
 {
     match rule {
         CallRule::Matching => audit_matching(alloc, orders, deals),
@@ -124,7 +124,7 @@ fn audit(
     requires order_list { IsOrderList orders.now }
     requires deal_list { IsDealList orders.now deals.now }
     requires few { count < 2 ^ 32 - 1 }
-    ensures { IfOk result (IsRuleAudited rule orders.now deals.now count) }
+    ensures { IfOk result (IsRuleOutcome rule orders.now deals.now count) }
 {
     match rule.call_rule() {
         Some(rule) => audit_call(alloc, rule, orders, deals, count),
@@ -171,7 +171,7 @@ pub fn judge_deals(
     requires order_list { IsOrderList orders.now }
     requires deal_list { IsDealList orders.now deals.now }
     requires few { count < 2 ^ 32 - 1 }
-    ensures { IfOk result (IsJudgedDeals question.now orders.now deals.now count) }
+    ensures { IfOk result (VerdictFollowsDeals question.now orders.now deals.now count) }
 {
     let outcome = audit(alloc, question.rule, orders, deals, count)?;
     match outcome {

@@ -1,7 +1,7 @@
 //! What a reading of two logs is about, before any rule is looked at.
 ghost use Rattle.std.specs.Prelude.{◌≡◌};
-ghost use Rattle.audit_base.specs.Histories.{instant_order};
-ghost use Rattle.record_verdict.specs.Scopes.{admission_of, unadmitted_order};
+ghost use Rattle.audit_base.specs.Histories.{instant_order_finding};
+ghost use Rattle.record_verdict.specs.Scopes.{admission_of, unadmitted_order_finding};
 
 use audit_base::findings::Finding;
 use audit_base::flaws::{Evidence, Flaw};
@@ -27,7 +27,7 @@ pub struct Scope {
 
 /// Finding 16: the first order that does not rest.
 fn first_instant(orders: &OrderList<'_>) -> Option<Finding>
-    ensures { result ≡ instant_order orders.now }
+    ensures { result ≡ instant_order_finding orders.now }
 {
     for index in 0..orders.len() {
         let order = orders.at(index);
@@ -53,7 +53,7 @@ impl Admission {
 
     /// Finding 16: the least of the orders that is not admitted.
     pub fn first_unadmitted(self, orders: &OrderList<'_>) -> Option<Finding>
-        ensures { result ≡ unadmitted_order self orders.now }
+        ensures { result ≡ unadmitted_order_finding self orders.now }
     {
         match self {
             Admission::Resting => first_instant(orders),

@@ -2,7 +2,7 @@
 ghost use Rattle.std.specs.Prelude.{IfOk};
 ghost use Rattle.audit_report.specs.Texts.{IsVerdictInRange};
 ghost use Rattle.record_verdict.specs.BeforeRule.{IsJudgeable};
-ghost use Rattle.record_verdict.specs.Stages.{VerdictIs};
+ghost use Rattle.record_verdict.specs.Stages.{IsVerdictUpToRule};
 
 use crate::before_rule::BeforeRule;
 use crate::questions::Question;
@@ -19,7 +19,7 @@ pub fn verdict_after(
     reached: &BeforeRule,
 ) -> Result<Verdict, NoMemory>
     requires { IsJudgeable reached.now }
-    ensures verdict { IfOk result (VerdictIs question.now reached.now) }
+    ensures verdict { IfOk result (IsVerdictUpToRule question.now reached.now) }
     ensures in_range { IfOk result IsVerdictInRange }
 {
     match reached {

@@ -7,7 +7,7 @@ use Rattle.audit_base.specs.declared.findings.Finding.{Finding}
 use Rattle.session_audit.specs.declared.phases.Phase.{Phase}
 use Rattle.session_audit.specs.declared.phases.PhaseKind.{PhaseKind}
 use Rattle.session_audit.specs.Phases.{rule_of, phase_kind, phase_deals}
-use Rattle.session_audit.specs.PhaseOrders.{phase_orders}
+use Rattle.session_audit.specs.PhaseOrders.{phase_list_at}
 use Rattle.session_audit.specs.Days.{instant_finding, ConformsDay, IsPhaseOffence}
 use Rattle.session_audit.specs.Audits.{IsBrokenDay}
 use Rattle.session_audit.specs.Judging.{IsBrokenPhase}
@@ -15,11 +15,11 @@ use Rattle.session_audit.specs.Progress.{IsDaySoFar}
 
 pub broken-phase : (phases : List Phase) (orders : List Order) (deals : List Deal) (count k : ℕ) (finding : Finding) → instant_finding phases orders deals ≡ None → k < length phases
     → (traded rest : List ℕ) → IsDaySoFar phases orders deals k traded rest → (here : List Order) (dealt : List Deal) (the_kind : PhaseKind)
-    → here ≡ phase_orders phases orders deals k → dealt ≡ phase_deals phases orders deals k → the_kind ≡ phase_kind phases k
+    → here ≡ phase_list_at phases orders deals k → dealt ≡ phase_deals phases orders deals k → the_kind ≡ phase_kind phases k
     → IsBrokenPhase (rule_of the_kind) here dealt count finding → IsBrokenDay phases orders deals count finding
 broken-phase phases orders deals count k finding admitted lt traded rest so_far here dealt the_kind here_is dealt_is kind_is broken =
-    let at : IsBrokenPhase (rule_of (phase_kind phases k)) (phase_orders phases orders deals k) (phase_deals phases orders deals k) count finding =
-    subst (λ (t : PhaseKind). IsBrokenPhase (rule_of t) (phase_orders phases orders deals k) (phase_deals phases orders deals k) count finding) kind_is
+    let at : IsBrokenPhase (rule_of (phase_kind phases k)) (phase_list_at phases orders deals k) (phase_deals phases orders deals k) count finding =
+    subst (λ (t : PhaseKind). IsBrokenPhase (rule_of t) (phase_list_at phases orders deals k) (phase_deals phases orders deals k) count finding) kind_is
     (subst (λ (h : List Order). IsBrokenPhase (rule_of the_kind) h (phase_deals phases orders deals k) count finding) here_is
     (subst (λ (d : List Deal). IsBrokenPhase (rule_of the_kind) here d count finding) dealt_is broken)) in
     let offence : IsPhaseOffence phases orders deals count finding = record { phase = k; inside = lt; before = so_far.conformed; fails = at.fails; here = at.offence } in

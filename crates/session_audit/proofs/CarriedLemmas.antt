@@ -20,7 +20,7 @@ use Rattle.session_audit.specs.declared.phases.Phase.{Phase}
 use Rattle.session_audit.specs.declared.phases.PhaseKind.{PhaseKind}
 use Rattle.session_audit.specs.declared.phases.PhaseKind.TheVariants as kind
 use Rattle.session_audit.specs.Phases.{rule_of, is_call, phase_kind, first_place, end_place, is_in_phase, phase_deals}
-use Rattle.session_audit.specs.PhaseOrders.{OrderInPhase, order_in_phase_at, phase_order, left_after_call, left_after_phase, chain_before_phase, rest_after, phase_orders}
+use Rattle.session_audit.specs.PhaseOrders.{RoleInPhase, role_in_phase_at, phase_order, left_after_call, left_after_phase, chain_before_phase, left_after_phases, phase_list_at}
 use Rattle.session_audit.specs.Laws.{CarriedOrdersDoNotMeet}
 use Rattle.session_audit.proofs.InPhaseLemmas.{in-phase-some, in-phase-le}
 use Rattle.session_audit.proofs.PhaseListLemmas.{keeps, quantity-le, quantity-some, phase-at, phase-inside, phase-side}
@@ -28,29 +28,29 @@ use Rattle.session_audit.proofs.DayLemmas.{left-le, left-past}
 
 module _ (phases : List Phase) (orders : List Order) (list : IsOrderList orders) (deals : List Deal) where
   abbrev here : ℕ → List Order
-  here k = phase_orders phases orders deals k
+  here k = phase_list_at phases orders deals k
 
-  abbrev what : ℕ → ℕ → OrderInPhase
-  what k i = order_in_phase_at phases orders deals k i
+  abbrev what : ℕ → ℕ → RoleInPhase
+  what k i = role_in_phase_at phases orders deals k i
 
   at : (k i : ℕ) → i < length (here k) → order_at (here k) i ≡ phase_order (end_place phases k) (order_at orders i) (what k i)
-  at k i lt = phase-at orders (end_place phases k) (first_place phases k) (rest_after phases orders deals k) (chain_before_phase phases orders deals k) i lt
+  at k i lt = phase-at orders (end_place phases k) (first_place phases k) (left_after_phases phases orders deals k) (chain_before_phase phases orders deals k) i lt
 
   inside : (k i : ℕ) → i < length (here k) → i < length orders
-  inside k i lt = phase-inside orders (end_place phases k) (first_place phases k) (rest_after phases orders deals k) (chain_before_phase phases orders deals k) i lt
+  inside k i lt = phase-inside orders (end_place phases k) (first_place phases k) (left_after_phases phases orders deals k) (chain_before_phase phases orders deals k) i lt
 
   module _ (numbers : OrdersInRange orders) where
     written : (i : ℕ) → i < length orders → OrderInRange (order_at orders i)
     written i lt = numbers i order_past_end lt
 
     -- no more is left of an order than its written quantity
-    rest-le : (k i : ℕ) → rest_after phases orders deals k i ≤ quantity_at orders i
-    unfolding rest_after
+    rest-le : (k i : ℕ) → left_after_phases phases orders deals k i ≤ quantity_at orders i
+    unfolding left_after_phases
     rest-le zero i = omega arith
     rest-le (suc k) i = elim (cases_lt i (length (here k))) [
       | inl lt ↦
           let m = left-le (phase_kind phases k) (here k) (phase_deals phases orders deals k) (end_place phases k) i in
-          let b = in-phase-le orders (first_place phases k) (rest_after phases orders deals k) (chain_before_phase phases orders deals k) i (rest-le k i) in
+          let b = in-phase-le orders (first_place phases k) (left_after_phases phases orders deals k) (chain_before_phase phases orders deals k) i (rest-le k i) in
           let q = quantity-le (end_place phases k) (order_at orders i) (what k i) b in
           let e = ap (λ (o : Order). o.quantity) (at k i lt) in
           omega arith
@@ -61,9 +61,9 @@ module _ (phases : List Phase) (orders : List Order) (list : IsOrderList orders)
     in-range k i lt =
         let in_orders = inside k i lt in
         let is = written i in_orders in
-        let b = in-phase-le orders (first_place phases k) (rest_after phases orders deals k) (chain_before_phase phases orders deals k) i (rest-le k i) in
+        let b = in-phase-le orders (first_place phases k) (left_after_phases phases orders deals k) (chain_before_phase phases orders deals k) i (rest-le k i) in
         let most = quantity-le (end_place phases k) (order_at orders i) (what k i) b in
-        let some = quantity-some (end_place phases k) (order_at orders i) (what k i) (in-phase-some orders (first_place phases k) (rest_after phases orders deals k) (chain_before_phase phases orders deals k) i) is.some in
+        let some = quantity-some (end_place phases k) (order_at orders i) (what k i) (in-phase-some orders (first_place phases k) (left_after_phases phases orders deals k) (chain_before_phase phases orders deals k) i) is.some in
         let limit : (phase_order (end_place phases k) (order_at orders i) (what k i)).limit ≡ (order_at orders i).limit = keeps (λ o. o.limit) (λ o q c t. refl) (end_place phases k) (order_at orders i) (what k i) in
         let w = is.most in
         let p = is.priced in
@@ -107,17 +107,17 @@ call-apart law kind.Maximum orders deals call numbers ranges conforms = law of_v
 call-apart law kind.Continuous orders deals call numbers ranges conforms = absurd (cc)
 
 pub carried-apart : ShortOrdersDoNotMeet → CarriedOrdersDoNotMeet
-unfolding rest_after
+unfolding left_after_phases
 carried-apart law phases orders deals k list numbers ranges call conforms bid ask buys sells some_bid some_ask =
-    let here : List Order = phase_orders phases orders deals k in
+    let here : List Order = phase_list_at phases orders deals k in
     let dealt : List Deal = phase_deals phases orders deals k in
     let last : ℕ = end_place phases k in
     let left_bid = call-left (phase_kind phases k) here dealt last bid call in
     let left_ask = call-left (phase_kind phases k) here dealt last ask call in
     let in_bid : bid < length here = elim (cases_lt bid (length here)) [ inl lt ↦ lt | inr past ↦ let z = left-past (phase_kind phases k) here dealt last bid past in absurd (omega arith) ] in
     let in_ask : ask < length here = elim (cases_lt ask (length here)) [ inl lt ↦ lt | inr past ↦ let z = left-past (phase_kind phases k) here dealt last ask past in absurd (omega arith) ] in
-    let side_bid = phase-side orders last (first_place phases k) (rest_after phases orders deals k) (chain_before_phase phases orders deals k) bid in_bid in
-    let side_ask = phase-side orders last (first_place phases k) (rest_after phases orders deals k) (chain_before_phase phases orders deals k) ask in_ask in
+    let side_bid = phase-side orders last (first_place phases k) (left_after_phases phases orders deals k) (chain_before_phase phases orders deals k) bid in_bid in
+    let side_ask = phase-side orders last (first_place phases k) (left_after_phases phases orders deals k) (chain_before_phase phases orders deals k) ask in_ask in
     let apart = call-apart law (phase_kind phases k) here dealt call (phase-numbers phases orders list deals numbers k) (deals-numbers phases orders deals k ranges) conforms bid ask
     (short-of here dealt Buy bid (side_bid ∙ buys) (omega arith)) (short-of here dealt Sell ask (side_ask ∙ sells) (omega arith)) in
     let limit_of : (i : ℕ) → i < length here → limit_at here i ≡ limit_at orders i = λ i lt.

@@ -11,13 +11,13 @@ use Rattle.audit_base.specs.Deals.{traded, NamesOrders, IsDealList, DealsInRange
 use Rattle.audit_base.specs.Histories.{Regular}
 use Rattle.audit_base.specs.Rules.{Conforms}
 use Rattle.audit_base.specs.CallOffences.{is_cancelled}
-use Rattle.audit_base.specs.Continuous.{size_by_past, entered_by_past, before_quantity_by_past, traded_before, rests_after, left_after, size_of_order}
+use Rattle.audit_base.specs.Continuous.{size_in_ledger, entered_in_ledger, chain_traded_in_ledger, traded_before, rests_after, left_after, size_of_order}
 use Rattle.audit_base.proofs.OrderLemmas.{place-rises}
 use Rattle.session_audit.specs.declared.phases.Phase.{Phase}
 use Rattle.session_audit.specs.declared.phases.PhaseKind.{PhaseKind}
 use Rattle.session_audit.specs.declared.phases.PhaseKind.TheVariants as kind
 use Rattle.session_audit.specs.Phases.{rule_of, phase_kind, first_place, end_place, ArePhases, phase_deals}
-use Rattle.session_audit.specs.PhaseOrders.{list_below, order_in_phase_at, left_after_phase, traded_before_phase, chain_before_phase, rest_after, phase_orders}
+use Rattle.session_audit.specs.PhaseOrders.{list_below, role_in_phase_at, left_after_phase, traded_before_phase, chain_before_phase, left_after_phases, phase_list_at}
 use Rattle.session_audit.specs.Days.{PhaseConforms}
 use Rattle.session_audit.specs.Numbers.{number_at, AreBoundedTotals}
 use Rattle.session_audit.specs.Leaving.{EndsBy}
@@ -43,8 +43,8 @@ left-rest true m q le = omega arith
 left-rest false m q le = le
 
 pub size-most : (orders : List Order) (deals : List Deal) (i : ℕ) → size_of_order orders deals i ≤ quantity_at orders i
-unfolding size_by_past
-size-most orders deals i = size-le (entered_by_past orders (traded_before orders deals) i) (quantity_at orders i) (before_quantity_by_past orders (traded_before orders deals) i)
+unfolding size_in_ledger
+size-most orders deals i = size-le (entered_in_ledger orders (traded_before orders deals) i) (quantity_at orders i) (chain_traded_in_ledger orders (traded_before orders deals) i)
 
 left-after-most : (orders : List Order) (deals : List Deal) (last i : ℕ) → left_after orders deals last i ≤ quantity_at orders i
 left-after-most orders deals last i = let m = size-most orders deals i in omega arith
@@ -67,7 +67,7 @@ replicated f n none =
     get_or-replicate {A = ℕ} n i 0 0 (omega arith) ∙ sym (list_below-at f n i 0 (omega arith) ∙ none i))
 
 pub no-phases : (phases : List Phase) (orders : List Order) (deals : List Deal) (traded rest : List ℕ) → traded ≡ replicate (length orders) 0 → rest ≡ [] → IsDaySoFar phases orders deals 0 traded rest
-unfolding traded_before_phase rest_after
+unfolding traded_before_phase left_after_phases
 no-phases phases orders deals traded rest traded_is rest_is = record {
   conformed = λ j lt. absurd (omega arith);
   traded_is = traded_is ∙ replicated (traded_before_phase phases orders deals 0) (length orders) (λ i. refl);
@@ -77,7 +77,7 @@ no-phases phases orders deals traded rest traded_is rest_is = record {
 
 module _ (phases : List Phase) (are : ArePhases phases) (orders : List Order) (list : IsOrderList orders) (deals : List Deal) (named : All (NamesOrders orders) deals) (k : ℕ) (inside : k < length phases) where
   abbrev pub here : List Order
-  here = phase_orders phases orders deals k
+  here = phase_list_at phases orders deals k
 
   abbrev pub dealt_here : List Deal
   dealt_here = phase_deals phases orders deals k
@@ -100,26 +100,26 @@ module _ (phases : List Phase) (are : ArePhases phases) (orders : List Order) (l
     pub long-so_far : length traded_list ≡ length orders
     long-so_far = ap length so_far.traded_is ∙ length-list_below (traded_before_phase phases orders deals k) (length orders)
 
-    rest-le : (i : ℕ) → rest_after phases orders deals k i ≤ quantity_at orders i
+    rest-le : (i : ℕ) → left_after_phases phases orders deals k i ≤ quantity_at orders i
     rest-le i = let m = so_far.most i in let e = so_far.rest_is i in omega arith
 
     -- no order of the phase has more than its written quantity
     quantity-at-most : (i : ℕ) → i < length here → quantity_at here i ≤ quantity_at orders i
     quantity-at-most i lt =
-        let at = ap (λ (o : Order). o.quantity) (phase-at orders (end_place phases k) (first_place phases k) (rest_after phases orders deals k) (chain_before_phase phases orders deals k) i lt) in
-        let m = in-phase-le orders (first_place phases k) (rest_after phases orders deals k) (chain_before_phase phases orders deals k) i (rest-le i) in
-        let q = quantity-le (end_place phases k) (order_at orders i) (order_in_phase_at phases orders deals k i) m in
+        let at = ap (λ (o : Order). o.quantity) (phase-at orders (end_place phases k) (first_place phases k) (left_after_phases phases orders deals k) (chain_before_phase phases orders deals k) i lt) in
+        let m = in-phase-le orders (first_place phases k) (left_after_phases phases orders deals k) (chain_before_phase phases orders deals k) i (rest-le i) in
+        let q = quantity-le (end_place phases k) (order_at orders i) (role_in_phase_at phases orders deals k i) m in
         omega arith
 
-    rest-is-left : rest_after phases orders deals (suc k) ≡ left_after_phase (phase_kind phases k) here dealt_here (end_place phases k)
-    unfolding rest_after
+    rest-is-left : left_after_phases phases orders deals (suc k) ≡ left_after_phase (phase_kind phases k) here dealt_here (end_place phases k)
+    unfolding left_after_phases
     rest-is-left = refl
 
     pub one-phase : (the_kind : PhaseKind) (last : ℕ) (after left : List ℕ) → the_kind ≡ phase_kind phases k → last ≡ end_place phases k
         → AddsPhase the_kind here dealt_here last traded_list after left → IsDaySoFar phases orders deals (k + 1) after left
     one-phase the_kind last after left kind_is last_is passed =
         let f = left_after_phase the_kind here dealt_here last in
-        let same : f ≡ rest_after phases orders deals (suc k) = (λ j. left_after_phase (kind_is j) here dealt_here (last_is j)) ∙ sym rest-is-left in
+        let same : f ≡ left_after_phases phases orders deals (suc k) = (λ j. left_after_phase (kind_is j) here dealt_here (last_is j)) ∙ sym rest-is-left in
         let at : (i : ℕ) → number_at left i ≡ f i = λ i. elim (cases_lt i (length here)) [
           | inl lt ↦ ap (λ (ns : List ℕ). number_at ns i) passed.left ∙ list_below-at f (length here) i 0 lt
           | inr le ↦
@@ -140,7 +140,7 @@ module _ (phases : List Phase) (are : ArePhases phases) (orders : List Order) (l
               let next : traded_before_phase phases orders deals (k + 1) i ≡ traded_before_phase phases orders deals (suc k) i = ap (λ (n : ℕ). traded_before_phase phases orders deals n i) (add-one k) in
               let goal : number_at after i ≡ traded_before_phase phases orders deals (k + 1) i = omega arith in
               goal ∙ sym (list_below-at (traded_before_phase phases orders deals (k + 1)) (length orders) i 0 (omega arith)));
-          rest_is = λ i. at i ∙ ap (λ (g : ℕ → ℕ). g i) same ∙ ap (λ (n : ℕ). rest_after phases orders deals n i) (sym (add-one k));
+          rest_is = λ i. at i ∙ ap (λ (g : ℕ → ℕ). g i) same ∙ ap (λ (n : ℕ). left_after_phases phases orders deals n i) (sym (add-one k));
           most = λ i.
               let e = at i in
               let m = left-le the_kind here dealt_here last i in
@@ -160,22 +160,22 @@ pub record IsReady (orders here : List Order) (dealt : List Deal) (last : ℕ) :
   pub few : length here ≤ length orders
 
 pub ready : (phases : List Phase) (are : ArePhases phases) (orders : List Order) (list : IsOrderList orders) (regular : Regular orders) (deals : List Deal) → IsDealList orders deals → DealsInRange deals → (k : ℕ) → k < length phases
-    → (here : List Order) (dealt : List Deal) (last : ℕ) → here ≡ phase_orders phases orders deals k → dealt ≡ phase_deals phases orders deals k → last ≡ end_place phases k → IsReady orders here dealt last
+    → (here : List Order) (dealt : List Deal) (last : ℕ) → here ≡ phase_list_at phases orders deals k → dealt ≡ phase_deals phases orders deals k → last ≡ end_place phases k → IsReady orders here dealt last
 ready phases are orders list regular deals dl ranges k inside here dealt last here_is dealt_is last_is =
-    let at : IsReady orders (phase_orders phases orders deals k) (phase_deals phases orders deals k) (end_place phases k) = record {
-      order_list = phase-is_list orders list (end_place phases k) (first_place phases k) (rest_after phases orders deals k) (chain_before_phase phases orders deals k);
-      regular = phase-is_regular orders list (end_place phases k) (first_place phases k) (rest_after phases orders deals k) (chain_before_phase phases orders deals k) regular;
+    let at : IsReady orders (phase_list_at phases orders deals k) (phase_deals phases orders deals k) (end_place phases k) = record {
+      order_list = phase-is_list orders list (end_place phases k) (first_place phases k) (left_after_phases phases orders deals k) (chain_before_phase phases orders deals k);
+      regular = phase-is_regular orders list (end_place phases k) (first_place phases k) (left_after_phases phases orders deals k) (chain_before_phase phases orders deals k) regular;
       deal_list = deals-list phases orders (place-rises orders list) deals k dl;
       ends = causes-upto phases orders (place-rises orders list) deals k dl.named;
       more = λ i. let m = in-le phases are orders deals k i inside in let s = traded-small deals ranges dl.few i in omega arith;
-      few = let e = phase-length orders (end_place phases k) (first_place phases k) (rest_after phases orders deals k) (chain_before_phase phases orders deals k) in let m = upto-inside orders (end_place phases k) in omega arith;
+      few = let e = phase-length orders (end_place phases k) (first_place phases k) (left_after_phases phases orders deals k) (chain_before_phase phases orders deals k) in let m = upto-inside orders (end_place phases k) in omega arith;
     } in
-    subst (λ h. IsReady orders h dealt last) (sym here_is) (subst (λ d. IsReady orders (phase_orders phases orders deals k) d last) (sym dealt_is) (subst (IsReady orders (phase_orders phases orders deals k) (phase_deals phases orders deals k)) (sym last_is) at))
+    subst (λ h. IsReady orders h dealt last) (sym here_is) (subst (λ d. IsReady orders (phase_list_at phases orders deals k) d last) (sym dealt_is) (subst (IsReady orders (phase_list_at phases orders deals k) (phase_deals phases orders deals k)) (sym last_is) at))
 
 -- the same as `one-phase`, of lists that are those of the phase
 pub phase-passed : (phases : List Phase) (are : ArePhases phases) (orders : List Order) (list : IsOrderList orders) (deals : List Deal) → All (NamesOrders orders) deals → (k : ℕ) → k < length phases
     → (traded_list rest : List ℕ) → IsDaySoFar phases orders deals k traded_list rest → (here : List Order) (dealt : List Deal) (the_kind : PhaseKind) (last : ℕ) (after left : List ℕ)
-    → here ≡ phase_orders phases orders deals k → dealt ≡ phase_deals phases orders deals k → the_kind ≡ phase_kind phases k → last ≡ end_place phases k
+    → here ≡ phase_list_at phases orders deals k → dealt ≡ phase_deals phases orders deals k → the_kind ≡ phase_kind phases k → last ≡ end_place phases k
     → AddsPhase the_kind here dealt last traded_list after left → IsDaySoFar phases orders deals (k + 1) after left
 phase-passed phases are orders list deals named k inside traded_list rest so_far here dealt the_kind last after left here_is dealt_is kind_is last_is passed =
     one-phase phases are orders list deals named k inside traded_list rest so_far the_kind last after left kind_is last_is

@@ -9,7 +9,7 @@ use Rattle.audit_base.specs.declared.orders.Deal.{Deal}
 use Rattle.audit_base.specs.Orders.{order_at, place_at, side_at, IsOrderList}
 use Rattle.audit_base.specs.Histories.{Regular}
 use Rattle.audit_base.specs.Deals.{names_order, quantity_traded_by, traded}
-use Rattle.audit_base.specs.Continuous.{cause, resting_order, chain, traded_before, uncancelled_before, rests_before_by_past, before_quantity_by_past}
+use Rattle.audit_base.specs.Continuous.{cause, resting_order, chain, traded_before, uncancelled_before, rests_before_in_ledger, chain_traded_in_ledger}
 use Rattle.audit_base.specs.ContinuousRules.{ConformsContinuous}
 use Rattle.audit_base.proofs.OrderLemmas.{place-rises, same_place, not_both_sides}
 use Rattle.audit_base.proofs.ContinuousLemmas.{target-below, chain-none, chain-some, before-is}
@@ -67,7 +67,7 @@ module _ (orders : List Order) (list : IsOrderList orders) (regular : Regular or
     -- of two orders of a deal, the one that ended by the place of a later order traded before
     -- that place
     ended-before : (i u w : ℕ) → i < length orders → w < length orders → (side_at orders u ≡ side_at orders w → ⊥) → IsEnded orders i u
-        → (place_at orders u < place_at orders w → rests_before_by_past orders (traded_before orders deals) (place_at orders w) u ≡ true)
+        → (place_at orders u < place_at orders w → rests_before_in_ledger orders (traded_before orders deals) (place_at orders w) u ≡ true)
         → max (place_at orders u) (place_at orders w) < place_at orders i
     ended-before i u w hi hw apart ended rest = elim (cases_lt (place_at orders u) (place_at orders w)) [
       | inr later ↦ let e = ended.earlier in omega arith
@@ -97,15 +97,15 @@ module _ (orders : List Order) (list : IsOrderList orders) (regular : Regular or
               ended-before i d.bid d.ask hi is.ask_inside (λ same. not_both_sides (sym is.buys ∙ same ∙ is.sells)) ended_bid (λ less.
               let r : resting_order orders d ≡ d.bid = cond-true (nat_lt (place_at orders d.bid) (place_at orders d.ask)) d.bid d.ask (lt-ltb _ _ less) in
               let c : cause orders d ≡ place_at orders d.ask = omega arith in
-              subst (λ (p : ℕ). rests_before_by_past orders (traded_before orders deals) p d.bid ≡ true) c (subst (λ (k : ℕ). rests_before_by_past orders (traded_before orders deals) (cause orders d) k ≡ true) r rested))
+              subst (λ (p : ℕ). rests_before_in_ledger orders (traded_before orders deals) p d.bid ≡ true) c (subst (λ (k : ℕ). rests_before_in_ledger orders (traded_before orders deals) (cause orders d) k ≡ true) r rested))
           | inr a ↦
               let e : d.ask ≡ u = eqb-true _ _ a in
               let ended_ask : IsEnded orders i d.ask = subst (IsEnded orders i) (sym e) ended in
-              let before_quantity_by_past : max (place_at orders d.ask) (place_at orders d.bid) < place_at orders i =
+              let chain_traded_in_ledger : max (place_at orders d.ask) (place_at orders d.bid) < place_at orders i =
               ended-before i d.ask d.bid hi is.bid_inside (λ same. not_both_sides (sym is.buys ∙ sym same ∙ is.sells)) ended_ask (λ less.
               let r : resting_order orders d ≡ d.ask = cond-false (nat_lt (place_at orders d.bid) (place_at orders d.ask)) d.bid d.ask (le-ltb _ _ (omega arith)) in
               let c : cause orders d ≡ place_at orders d.bid = omega arith in
-              subst (λ (p : ℕ). rests_before_by_past orders (traded_before orders deals) p d.ask ≡ true) c (subst (λ (k : ℕ). rests_before_by_past orders (traded_before orders deals) (cause orders d) k ≡ true) r rested)) in
+              subst (λ (p : ℕ). rests_before_in_ledger orders (traded_before orders deals) p d.ask ≡ true) c (subst (λ (k : ℕ). rests_before_in_ledger orders (traded_before orders deals) (cause orders d) k ≡ true) r rested)) in
               omega arith
         ]
 
@@ -122,6 +122,6 @@ module _ (orders : List Order) (list : IsOrderList orders) (regular : Regular or
     chain-traded i u hi ended = traded-all (place_at orders i) u (λ n x lt named. deal-before i u hi ended n x lt named)
 
     -- so Before is what the chain trades in the whole phase
-    pub before-whole : (i : ℕ) → i < length orders → before_quantity_by_past orders (traded_before orders deals) i ≡ sum_by (traded deals) (chain orders i)
+    pub before-whole : (i : ℕ) → i < length orders → chain_traded_in_ledger orders (traded_before orders deals) i ≡ sum_by (traded deals) (chain orders i)
     before-whole i hi = before-is orders list (traded_before orders deals) i
         ∙ sum_by-same (traded_before orders deals (place_at orders i)) (traded deals) (chain orders i) (All-weaker (IsEnded orders i) (λ u. traded_before orders deals (place_at orders i) u ≡ traded deals u) (λ u ended. chain-traded i u hi ended) (chain orders i) (chain-ended i hi))

@@ -12,7 +12,7 @@ use Rattle.audit_base.proofs.ContinuousLemmas.{target-below}
 use Rattle.audit_base.proofs.SumLemmas.{sum_by-same}
 use Rattle.session_audit.specs.declared.phases.Phase.{Phase}
 use Rattle.session_audit.specs.Phases.{first_place, end_place}
-use Rattle.session_audit.specs.PhaseOrders.{OrderInPhase, target_takes_part, orders_in_phase, order_in_phase, order_in_phase_at, phase_order, order_count_upto, phase_list, traded_before_phase, chain_before_phase, rest_after, phase_orders}
+use Rattle.session_audit.specs.PhaseOrders.{RoleInPhase, target_takes_part, roles_in_phase, role_in_phase, role_in_phase_at, phase_order, order_count_upto, phase_list, traded_before_phase, chain_before_phase, left_after_phases, phase_list_at}
 use Rattle.session_audit.specs.Numbers.{number_at, WithinQuantities, total_of_chain, AreChainTotals}
 use Rattle.session_audit.specs.Entering.{amount_in_phase, order_by_amount, own_amount, target_has_amount, amount_by_earlier, amounts_below, phase_list_by_amounts}
 use Rattle.session_audit.specs.Progress.{IsDaySoFar}
@@ -25,11 +25,11 @@ pub target-is : (orders : List Order) (i t : ℕ) (o : Order) (target : Option �
 target-is orders i t o target is same e = sym (same ∙ ap (λ (p : Order). p.target) is) ∙ e
 
 module _ (orders : List Order) (list : IsOrderList orders) (first : ℕ) (rest spent : List ℕ) where
-  abbrev what : ℕ → OrderInPhase
-  what = order_in_phase orders first (number_at rest) (number_at spent)
+  abbrev what : ℕ → RoleInPhase
+  what = role_in_phase orders first (number_at rest) (number_at spent)
 
-  abbrev earlier : ℕ → List OrderInPhase
-  earlier = orders_in_phase orders first (number_at rest) (number_at spent)
+  abbrev earlier : ℕ → List RoleInPhase
+  earlier = roles_in_phase orders first (number_at rest) (number_at spent)
 
   abbrev amount : ℕ → ℕ
   amount i = amount_in_phase (what i)
@@ -100,21 +100,21 @@ module _ (phases : List Phase) (orders : List Order) (list : IsOrderList orders)
   -- the list that is made from the numbers is that of the phase
   pub list-is : (spent amounts_list : List ℕ) → AreChainTotals orders traded (length orders) spent
       → amounts_list ≡ amounts_below orders (first_place phases k) rest spent (order_count_upto orders (end_place phases k))
-      → phase_list_by_amounts orders (first_place phases k) (end_place phases k) amounts_list (length amounts_list) ≡ phase_orders phases orders deals k
+      → phase_list_by_amounts orders (first_place phases k) (end_place phases k) amounts_list (length amounts_list) ≡ phase_list_at phases orders deals k
   unfolding phase_list
   list-is spent amounts_list totals are =
       let first : ℕ = first_place phases k in
       let last : ℕ = end_place phases k in
       let n : ℕ = order_count_upto orders last in
-      let rests : number_at rest ≡ rest_after phases orders deals k = λ j i. so_far.rest_is i j in
+      let rests : number_at rest ≡ left_after_phases phases orders deals k = λ j i. so_far.rest_is i j in
       let chains : number_at spent ≡ chain_before_phase phases orders deals k = λ j i. spent-is spent totals i j in
-      let there : ℕ → OrderInPhase = order_in_phase_at phases orders deals k in
-      let amount : ℕ → ℕ = λ i. amount_in_phase (order_in_phase orders first (number_at rest) (number_at spent) i) in
+      let there : ℕ → RoleInPhase = role_in_phase_at phases orders deals k in
+      let amount : ℕ → ℕ = λ i. amount_in_phase (role_in_phase orders first (number_at rest) (number_at spent) i) in
       let long : length amounts_list ≡ n = ap length are ∙ length-list_below amount n in
       ap (phase_list_by_amounts orders first last amounts_list) long
       ∙ list_below-same (λ i. phase_order last (order_at orders i) (order_by_amount first (number_at amounts_list i) (order_at orders i))) (λ i. phase_order last (order_at orders i) (there i)) n
       (λ i lt.
       let at : number_at amounts_list i ≡ amount_in_phase (there i) = ap (λ (ns : List ℕ). number_at ns i) are ∙ list_below-at amount n i 0 lt
-      ∙ (λ j. amount_in_phase (order_in_phase orders first (rests j) (chains j) i)) in
+      ∙ (λ j. amount_in_phase (role_in_phase orders first (rests j) (chains j) i)) in
       ap (λ (a : ℕ). phase_order last (order_at orders i) (order_by_amount first a (order_at orders i))) at
-      ∙ ap (phase_order last (order_at orders i)) (by-amount orders first (rest_after phases orders deals k) (chain_before_phase phases orders deals k) i))
+      ∙ ap (phase_order last (order_at orders i)) (by-amount orders first (left_after_phases phases orders deals k) (chain_before_phase phases orders deals k) i))

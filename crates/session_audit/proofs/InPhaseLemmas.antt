@@ -5,12 +5,12 @@ use Rattle.std.proofs.lemmas.Bool.{cases_lt, cond-true, cond-false, lt-ltb, le-l
 use Rattle.audit_base.specs.declared.orders.Order.{Order}
 use Rattle.audit_base.specs.Orders.{order_at, place_at, quantity_at}
 use Rattle.audit_base.specs.Continuous.{is_placed_order}
-use Rattle.session_audit.specs.PhaseOrders.{OrderInPhase, Carried, Own, Gone, takes_part, carried_or_gone, target_takes_part, own_or_gone, orders_in_phase, order_in_phase, list_below}
+use Rattle.session_audit.specs.PhaseOrders.{RoleInPhase, Carried, Own, Gone, takes_part, carried_or_gone, target_takes_part, own_or_gone, roles_in_phase, role_in_phase, list_below}
 use Rattle.session_audit.specs.Entering.{amount_in_phase, order_by_amount}
 use Rattle.session_audit.proofs.ListBelowLemmas.{list_below-at}
 
 -- its number isn't 0, unless it is gone
-abbrev pub HasAmount : OrderInPhase → Type 0
+abbrev pub HasAmount : RoleInPhase → Type 0
 HasAmount (Carried left) = 0 < left
 HasAmount (Own quantity) = 0 < quantity
 HasAmount Gone = Unit {0}
@@ -50,7 +50,7 @@ own-is : (b : Bool) (n q : ℕ) → cond b (Own n) Gone ≡ Own q → b ≡ true
 own-is true n q e = refl
 own-is false n q e = absurd (gone-not q e)
 
-takes-amount : (x : OrderInPhase) → HasAmount x → nat_lt 0 (amount_in_phase x) ≡ takes_part x
+takes-amount : (x : RoleInPhase) → HasAmount x → nat_lt 0 (amount_in_phase x) ≡ takes_part x
 takes-amount (Carried left) some = lt-ltb 0 left some
 takes-amount (Own quantity) some = lt-ltb 0 quantity some
 takes-amount Gone some = refl
@@ -67,27 +67,27 @@ own-amount placed there n = own-if placed there (nat_lt 0 n) n refl
 
 -- by its number an order is what it was
 carried-by : (first left : ℕ) (o : Order) → o.place < first → order_by_amount first left o ≡ carried_or_gone left
-carried-by first left o lt = ap (λ (x : OrderInPhase). cond (nat_lt 0 left) x Gone) (cond-true (nat_lt o.place first) (Carried left) (Own left) (lt-ltb _ _ lt))
+carried-by first left o lt = ap (λ (x : RoleInPhase). cond (nat_lt 0 left) x Gone) (cond-true (nat_lt o.place first) (Carried left) (Own left) (lt-ltb _ _ lt))
 
 own-by : (first n : ℕ) (o : Order) (b : Bool) → (b ≡ true → 0 < n) → first ≤ o.place → order_by_amount first (amount_in_phase (cond b (Own n) Gone)) o ≡ cond b (Own n) Gone
 own-by first n o true some le = ap (λ (b : Bool). cond b (cond (nat_lt o.place first) (Carried n) (Own n)) Gone) (lt-ltb 0 n (some refl)) ∙ cond-false (nat_lt o.place first) (Carried n) (Own n) (le-ltb _ _ le)
 own-by first n o false some le = refl
 
 module _ (orders : List Order) (first : ℕ) (rest spent : ℕ → ℕ) where
-  abbrev pub here : ℕ → OrderInPhase
-  here = order_in_phase orders first rest spent
+  abbrev pub here : ℕ → RoleInPhase
+  here = role_in_phase orders first rest spent
 
-  abbrev earlier : ℕ → List OrderInPhase
-  earlier = orders_in_phase orders first rest spent
+  abbrev earlier : ℕ → List RoleInPhase
+  earlier = roles_in_phase orders first rest spent
 
   -- the orders before an index, each by itself
   pub each-is : (n : ℕ) → earlier n ≡ list_below here n
-  unfolding orders_in_phase
+  unfolding roles_in_phase
   each-is zero = refl
-  each-is (suc n) = ap (λ (xs : List OrderInPhase). xs ++ here n ∷ []) (each-is n)
+  each-is (suc n) = ap (λ (xs : List RoleInPhase). xs ++ here n ∷ []) (each-is n)
 
   pub earlier-at : (i t : ℕ) → t < i → get_or (earlier i) t Gone ≡ here t
-  earlier-at i t lt = ap (λ (xs : List OrderInPhase). get_or xs t Gone) (each-is i) ∙ list_below-at here i t Gone lt
+  earlier-at i t lt = ap (λ (xs : List RoleInPhase). get_or xs t Gone) (each-is i) ∙ list_below-at here i t Gone lt
 
   -- the target of a later order takes part where it does by itself
   pub target-stays : (i t : ℕ) → t < i → target_takes_part (earlier i) (Some t) ≡ takes_part (here t)
@@ -132,7 +132,7 @@ module _ (orders : List Order) (first : ℕ) (rest spent : ℕ → ℕ) where
   by-amount i = elim (cases_lt (place_at orders i) first) [
     | inl lt ↦ ap (λ (n : ℕ). order_by_amount first n (order_at orders i)) (ap amount_in_phase (is-carried i lt) ∙ carried-amount (rest i))
         ∙ carried-by first (rest i) (order_at orders i) lt ∙ sym (is-carried i lt)
-    | inr le ↦ ap (λ (x : OrderInPhase). order_by_amount first (amount_in_phase x) (order_at orders i)) (is-own i le)
+    | inr le ↦ ap (λ (x : RoleInPhase). order_by_amount first (amount_in_phase x) (order_at orders i)) (is-own i le)
         ∙ own-by first (quantity i) (order_at orders i) (tests i) (tests-some i) le ∙ sym (is-own i le)
   ]
 

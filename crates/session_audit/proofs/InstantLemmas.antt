@@ -17,7 +17,7 @@ use Rattle.audit_base.proofs.ContinuousLemmas.{chain-none}
 use Rattle.audit_base.proofs.LeastLemmas.{with-at, none-with, cases_Option}
 use Rattle.session_audit.specs.declared.phases.Phase.{Phase}
 use Rattle.session_audit.specs.Phases.{is_call, phase_kind, first_place, end_place, is_in_phase}
-use Rattle.session_audit.specs.PhaseOrders.{Own, Gone, takes_part, target_takes_part, orders_in_phase, order_in_phase_at, chain_before_phase, traded_before_phase, rest_after}
+use Rattle.session_audit.specs.PhaseOrders.{Own, Gone, takes_part, target_takes_part, roles_in_phase, role_in_phase_at, chain_before_phase, traded_before_phase, left_after_phases}
 use Rattle.session_audit.specs.Days.{is_own, is_instant_in_call, instant_finding}
 use Rattle.session_audit.specs.Instants.{is_in_any_call, is_instant_order, first_instant_of_day}
 use Rattle.session_audit.proofs.InPhaseLemmas.{is-own}
@@ -66,19 +66,19 @@ module _ (phases : List Phase) (orders : List Order) (list : IsOrderList orders)
   unfolding chain_before_phase
   spent-none k = ap (sum_by (traded_before_phase phases orders deals k)) (chain-none orders list i none)
 
-  takes-placed : (k : ℕ) → first_place phases k ≤ place_at orders i → takes_part (order_in_phase_at phases orders deals k i) ≡ is_placed_order orders i
+  takes-placed : (k : ℕ) → first_place phases k ≤ place_at orders i → takes_part (role_in_phase_at phases orders deals k i) ≡ is_placed_order orders i
   takes-placed k le =
-      let earlier = orders_in_phase orders (first_place phases k) (rest_after phases orders deals k) (chain_before_phase phases orders deals k) i in
+      let earlier = roles_in_phase orders (first_place phases k) (left_after_phases phases orders deals k) (chain_before_phase phases orders deals k) i in
       let left : quantity_at orders i - chain_before_phase phases orders deals k i ≡ quantity_at orders i = let e = spent-none k in omega arith in
       let tests : (target_takes_part earlier (order_at orders i).target && nat_lt 0 (quantity_at orders i - chain_before_phase phases orders deals k i)) ≡ true
       = and_from _ _ (ap (target_takes_part earlier) none) (lt-ltb 0 (quantity_at orders i - chain_before_phase phases orders deals k i) (omega arith)) in
-      ap takes_part (is-own orders (first_place phases k) (rest_after phases orders deals k) (chain_before_phase phases orders deals k) i le)
+      ap takes_part (is-own orders (first_place phases k) (left_after_phases phases orders deals k) (chain_before_phase phases orders deals k) i le)
       ∙ takes-if (is_placed_order orders i && (target_takes_part earlier (order_at orders i).target && nat_lt 0 (quantity_at orders i - chain_before_phase phases orders deals k i))) (quantity_at orders i - chain_before_phase phases orders deals k i)
       ∙ ap (λ (b : Bool). is_placed_order orders i && b) tests ∙ and-true (is_placed_order orders i)
 
   own-is : (k : ℕ) → is_own phases orders deals k i ≡ (is_in_phase phases k (place_at orders i) && is_placed_order orders i)
   own-is k = elim (cases_Bool (is_in_phase phases k (place_at orders i))) [
-    | inr out ↦ ap (λ (b : Bool). b && takes_part (order_in_phase_at phases orders deals k i)) out ∙ sym (ap (λ (b : Bool). b && is_placed_order orders i) out)
+    | inr out ↦ ap (λ (b : Bool). b && takes_part (role_in_phase_at phases orders deals k i)) out ∙ sym (ap (λ (b : Bool). b && is_placed_order orders i) out)
     | inl in_phase ↦
         let from = leb-true _ _ (and_parts (nat_le (first_place phases k) (place_at orders i)) (nat_le (place_at orders i) (end_place phases k)) in_phase).0 in
         ap (λ (b : Bool). is_in_phase phases k (place_at orders i) && b) (takes-placed k from)

@@ -6,7 +6,7 @@ use Rattle.audit_base.specs.declared.orders.Deal.{Deal}
 use Rattle.audit_base.specs.Orders.{order_at, place_at, quantity_at, IsOrderList}
 use Rattle.audit_base.specs.Histories.{Regular}
 use Rattle.audit_base.specs.Deals.{traded}
-use Rattle.audit_base.specs.Continuous.{chain, traded_before, before_quantity_by_past, entered_by_past, size_if, size_by_past, rests_before_by_past, size_of_order, is_placed_order}
+use Rattle.audit_base.specs.Continuous.{chain, traded_before, chain_traded_in_ledger, entered_in_ledger, size_where_entered, size_in_ledger, rests_before_in_ledger, size_of_order, is_placed_order}
 use Rattle.audit_base.proofs.ContinuousLemmas.{target-below, entered-none, entered-some, size-is}
 use Rattle.audit_base.proofs.SumLemmas.{sum_by-same}
 use Rattle.session_audit.specs.Numbers.{number_at, total_of_chain}
@@ -23,28 +23,28 @@ module _ (orders : List Order) (list : IsOrderList orders) (regular : Regular or
   abbrev past : ℕ → ℕ → ℕ
   past = traded_before orders deals
 
-  chain-total : (i : ℕ) → i < length orders → total_of_chain orders numbers i ≡ before_quantity_by_past orders past i
+  chain-total : (i : ℕ) → i < length orders → total_of_chain orders numbers i ≡ chain_traded_in_ledger orders past i
   chain-total i lt =
       sum_by-same (number_at numbers) (traded deals) (chain orders i) (λ n x below. is.totals.each (get_or (chain orders i) n x) (chain-ended orders list regular i lt n x below).inside)
       ∙ sym (before-whole orders list regular deals is.conforms i lt)
 
   -- an order rests before p by its size and what it traded before p
-  rests-by : (p i : ℕ) → rests_before_by_past orders past p i ≡ rests_before_with (order_at orders i) p (size_by_past orders past i) (past p i)
-  unfolding rests_before_by_past size_by_past
+  rests-by : (p i : ℕ) → rests_before_in_ledger orders past p i ≡ rests_before_with (order_at orders i) p (size_in_ledger orders past i) (past p i)
+  unfolding rests_before_in_ledger size_in_ledger
   rests-by p i = refl
 
   target-size : (i : ℕ) (sizes : List ℕ) → i < length orders → sizes ≡ sizes_below orders deals i → (t : ℕ) → (order_at orders i).target ≡ Some t
-      → rests_before_by_past orders past (place_at orders i) t ≡ rests_before_with (order_at orders t) (place_at orders i) (number_at sizes t) (number_at numbers t)
+      → rests_before_in_ledger orders past (place_at orders i) t ≡ rests_before_with (order_at orders t) (place_at orders i) (number_at sizes t) (number_at numbers t)
   target-size i sizes lt are t e =
       let less = target-below orders list i lt t e in
       let inside : t < length orders = omega arith in
-      let size_is : size_by_past orders past t ≡ number_at sizes t = sym (ap (λ (ns : List ℕ). number_at ns t) are ∙ list_below-at (size_of_order orders deals) i t 0 less) in
+      let size_is : size_in_ledger orders past t ≡ number_at sizes t = sym (ap (λ (ns : List ℕ). number_at ns t) are ∙ list_below-at (size_of_order orders deals) i t 0 less) in
       let ends : IsEnded orders i t = target-ended orders list regular i t lt e in
       let traded_is : past (place_at orders i) t ≡ number_at numbers t = chain-traded orders list regular deals is.conforms i t lt ends ∙ sym (is.totals.each t inside) in
       rests-by (place_at orders i) t ∙ (λ j. rests_before_with (order_at orders t) (place_at orders i) (size_is j) (traded_is j))
 
   entered-by : (i : ℕ) (sizes : List ℕ) (target : Option ℕ) → i < length orders → sizes ≡ sizes_below orders deals i → (order_at orders i).target ≡ target
-      → entered_by_past orders past i ≡ (is_placed_order orders i && target_rests_before orders numbers sizes (place_at orders i) target)
+      → entered_in_ledger orders past i ≡ (is_placed_order orders i && target_rests_before orders numbers sizes (place_at orders i) target)
   entered-by i sizes None lt are e = entered-none orders list past i e ∙ sym (and-true (is_placed_order orders i))
   entered-by i sizes (Some t) lt are e = entered-some orders list past i t lt e ∙ ap (λ (b : Bool). is_placed_order orders i && b) (target-size i sizes lt are t e)
 
@@ -53,7 +53,7 @@ module _ (orders : List Order) (list : IsOrderList orders) (regular : Regular or
   size-by i sizes lt are =
       let e = entered-by i sizes (order_at orders i).target lt are refl in
       let b = chain-total i lt in
-      sym (size-is orders list past i ∙ ap (λ (t : Bool). size_if t orders past i) e ∙ ap (λ (n : ℕ). cond (is_placed_order orders i && has_resting_target orders numbers sizes i) (quantity_at orders i - n) 0) (sym b))
+      sym (size-is orders list past i ∙ ap (λ (t : Bool). size_where_entered t orders past i) e ∙ ap (λ (n : ℕ). cond (is_placed_order orders i && has_resting_target orders numbers sizes i) (quantity_at orders i - n) 0) (sym b))
 
   -- one size more, in the words of the code
   pub sizes-more : (i : ℕ) (sizes : List ℕ) (o : Order) (there : Bool) (spent : ℕ) → i < length orders → sizes ≡ sizes_below orders deals i → o ≡ order_at orders i
@@ -63,14 +63,14 @@ module _ (orders : List Order) (list : IsOrderList orders) (regular : Regular or
       let one : size_by o there spent ≡ size_of_order orders deals i = (λ j. size_by (o_is j) (there_is j) (spent_is j)) ∙ size-by i sizes lt are in
       (λ j. are j ++ one j ∷ []) ∙ sym (list_below-more (size_of_order orders deals) i)
 
-  pub left-by : (last : ℕ) → EndsBy orders deals last → (i size_by_past traded_i : ℕ) → i < length orders → size_by_past ≡ size_of_order orders deals i → traded_i ≡ number_at numbers i
-      → continuous_leaves (order_at orders i) last size_by_past traded_i ≡ left_after_continuous orders deals last i
+  pub left-by : (last : ℕ) → EndsBy orders deals last → (i size_in_ledger traded_i : ℕ) → i < length orders → size_in_ledger ≡ size_of_order orders deals i → traded_i ≡ number_at numbers i
+      → continuous_leaves (order_at orders i) last size_in_ledger traded_i ≡ left_after_continuous orders deals last i
   left-by last ends i size_i traded_i lt size_is traded_is =
       let whole : past (suc last) i ≡ traded deals i = traded-all orders list regular deals is.conforms (suc last) i (λ n x below named. let le = ends n x below in omega arith) in
       let t : traded_i ≡ past (suc last) i = traded_is ∙ is.totals.each i lt ∙ sym whole in
       let next : last + 1 ≡ suc last = add-one last in
       (λ j. cond (rests_before_with (order_at orders i) (next j) (size_is j) (t j)) (size_is j - t j) 0)
-      ∙ ap (λ (b : Bool). cond b (size_by_past orders past i - past (suc last) i) 0) (sym (rests-by (suc last) i))
+      ∙ ap (λ (b : Bool). cond b (size_in_ledger orders past i - past (suc last) i) 0) (sym (rests-by (suc last) i))
 
   pub lefts-more : (last : ℕ) → EndsBy orders deals last → (i : ℕ) (left : List ℕ) (o : Order) (size_i traded_i : ℕ) → i < length orders → left ≡ rest_after_continuous orders deals last i → o ≡ order_at orders i
       → size_i ≡ size_of_order orders deals i → traded_i ≡ number_at numbers i

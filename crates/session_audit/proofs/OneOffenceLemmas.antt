@@ -12,7 +12,7 @@ use Rattle.audit_base.proofs.VerdictLemmas.{one-offence}
 use Rattle.session_audit.specs.declared.phases.Phase.{Phase}
 use Rattle.session_audit.specs.Days.{instant_finding, IsPhaseOffence}
 use Rattle.session_audit.specs.OneOffence.{DayOffenceIsOne}
-use Rattle.session_audit.specs.PhaseOrders.{phase_orders}
+use Rattle.session_audit.specs.PhaseOrders.{phase_list_at}
 use Rattle.session_audit.specs.Phases.{phase_kind, phase_deals, rule_of}
 use Rattle.session_audit.proofs.PhaseDealLemmas.{deals-named}
 use Rattle.session_audit.proofs.UniqueLemmas.{in-range}
@@ -20,12 +20,12 @@ use Rattle.session_audit.proofs.UniqueLemmas.{in-range}
 module _ (phases : List Phase) (orders : List Order) (deals : List Deal) (count : ℕ) (one other : Finding)
     (rises : AllPairs (λ (o p : Order). o.place < p.place) orders) (named : All (NamesOrders orders) deals) (ranges : DealsInRange deals) where
   -- the first offences of a phase are one
-  same-phase : (j k : ℕ) → j ≡ k → IsFirstOffence (rule_of (phase_kind phases j)) (phase_orders phases orders deals j) (phase_deals phases orders deals j) count one
-      → IsFirstOffence (rule_of (phase_kind phases k)) (phase_orders phases orders deals k) (phase_deals phases orders deals k) count other → one ≡ other
+  same-phase : (j k : ℕ) → j ≡ k → IsFirstOffence (rule_of (phase_kind phases j)) (phase_list_at phases orders deals j) (phase_deals phases orders deals j) count one
+      → IsFirstOffence (rule_of (phase_kind phases k)) (phase_list_at phases orders deals k) (phase_deals phases orders deals k) count other → one ≡ other
   same-phase j k same x y =
-      one-offence (rule_of (phase_kind phases k)) (phase_orders phases orders deals k) (phase_deals phases orders deals k) count one other
+      one-offence (rule_of (phase_kind phases k)) (phase_list_at phases orders deals k) (phase_deals phases orders deals k) count one other
       (deals-named phases orders (λ i m lt below. rises i m order_past_end lt below) deals k named) (in-range phases orders deals k ranges)
-      (subst (λ (i : ℕ). IsFirstOffence (rule_of (phase_kind phases i)) (phase_orders phases orders deals i) (phase_deals phases orders deals i) count one) same x) y
+      (subst (λ (i : ℕ). IsFirstOffence (rule_of (phase_kind phases i)) (phase_list_at phases orders deals i) (phase_deals phases orders deals i) count one) same x) y
 
   -- the least phase that fails is one
   phase-offence : IsPhaseOffence phases orders deals count one → IsPhaseOffence phases orders deals count other → one ≡ other

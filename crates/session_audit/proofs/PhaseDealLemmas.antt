@@ -11,7 +11,7 @@ use Rattle.audit_base.specs.Deals.{NamesOrders, IsDealList}
 use Rattle.audit_base.specs.Continuous.{cause}
 use Rattle.session_audit.specs.declared.phases.Phase.{Phase}
 use Rattle.session_audit.specs.Phases.{first_place, end_place, is_in_phase, phase_deals}
-use Rattle.session_audit.specs.PhaseOrders.{phase_orders, rest_after, chain_before_phase}
+use Rattle.session_audit.specs.PhaseOrders.{phase_list_at, left_after_phases, chain_before_phase}
 use Rattle.session_audit.proofs.PhaseListLemmas.{Rises, phase-below, phase-side, phase-place}
 
 module _ (phases : List Phase) (orders : List Order) (rises : Rises orders) (deals : List Deal) (k : ℕ) where
@@ -19,7 +19,7 @@ module _ (phases : List Phase) (orders : List Order) (rises : Rises orders) (dea
   place_test d = is_in_phase phases k (cause orders d)
 
   abbrev pub the_orders : List Order
-  the_orders = phase_orders phases orders deals k
+  the_orders = phase_list_at phases orders deals k
 
   abbrev pub the_deals : List Deal
   the_deals = phase_deals phases orders deals k
@@ -37,13 +37,13 @@ module _ (phases : List Phase) (orders : List Order) (rises : Rises orders) (dea
   named-here d p =
       let n = p.0 in
       let le = upto d p.1 in
-      let bid = phase-below orders (end_place phases k) (first_place phases k) (rest_after phases orders deals k) (chain_before_phase phases orders deals k) rises d.bid n.bid_inside (omega arith) in
-      let ask = phase-below orders (end_place phases k) (first_place phases k) (rest_after phases orders deals k) (chain_before_phase phases orders deals k) rises d.ask n.ask_inside (omega arith) in
+      let bid = phase-below orders (end_place phases k) (first_place phases k) (left_after_phases phases orders deals k) (chain_before_phase phases orders deals k) rises d.bid n.bid_inside (omega arith) in
+      let ask = phase-below orders (end_place phases k) (first_place phases k) (left_after_phases phases orders deals k) (chain_before_phase phases orders deals k) rises d.ask n.ask_inside (omega arith) in
       record {
         bid_inside = bid;
         ask_inside = ask;
-        buys = phase-side orders (end_place phases k) (first_place phases k) (rest_after phases orders deals k) (chain_before_phase phases orders deals k) d.bid bid ∙ n.buys;
-        sells = phase-side orders (end_place phases k) (first_place phases k) (rest_after phases orders deals k) (chain_before_phase phases orders deals k) d.ask ask ∙ n.sells;
+        buys = phase-side orders (end_place phases k) (first_place phases k) (left_after_phases phases orders deals k) (chain_before_phase phases orders deals k) d.bid bid ∙ n.buys;
+        sells = phase-side orders (end_place phases k) (first_place phases k) (left_after_phases phases orders deals k) (chain_before_phase phases orders deals k) d.ask ask ∙ n.sells;
       }
 
   pub deals-named : All (NamesOrders orders) deals → All (NamesOrders the_orders) the_deals
@@ -69,6 +69,6 @@ module _ (phases : List Phase) (orders : List Order) (rises : Rises orders) (dea
   causes-upto named = All-weaker (λ d. NamesOrders orders d × (place_test d ≡ true)) (λ d. cause the_orders d ≤ end_place phases k) (λ d p.
       let n = named-here d p in
       let le = upto d p.1 in
-      let b = phase-place orders (end_place phases k) (first_place phases k) (rest_after phases orders deals k) (chain_before_phase phases orders deals k) d.bid n.bid_inside in
-      let a = phase-place orders (end_place phases k) (first_place phases k) (rest_after phases orders deals k) (chain_before_phase phases orders deals k) d.ask n.ask_inside in
+      let b = phase-place orders (end_place phases k) (first_place phases k) (left_after_phases phases orders deals k) (chain_before_phase phases orders deals k) d.bid n.bid_inside in
+      let a = phase-place orders (end_place phases k) (first_place phases k) (left_after_phases phases orders deals k) (chain_before_phase phases orders deals k) d.ask n.ask_inside in
       omega arith) the_deals (of-phase (NamesOrders orders) named)

@@ -8,31 +8,31 @@ use Rattle.audit_base.specs.Orders.{order_at, place_at, side_at, order_past_end,
 use Rattle.audit_base.specs.Histories.{Regular}
 use Rattle.audit_base.proofs.OrderLemmas.{place-rises, same_place}
 use Rattle.audit_base.proofs.OffenceLemmas.{get_or-default}
-use Rattle.session_audit.specs.PhaseOrders.{OrderInPhase, Carried, Own, Gone, takes_part, target_takes_part, orders_in_phase, order_in_phase, end_upto, phase_order, order_count_upto, phase_list}
+use Rattle.session_audit.specs.PhaseOrders.{RoleInPhase, Carried, Own, Gone, takes_part, target_takes_part, roles_in_phase, role_in_phase, end_upto, phase_order, order_count_upto, phase_list}
 use Rattle.session_audit.specs.Entering.{amount_in_phase}
 use Rattle.session_audit.proofs.ListBelowLemmas.{length-list_below, list_below-at}
 use Rattle.session_audit.proofs.InPhaseLemmas.{HasAmount, own-target, target-stays}
 
 -- An order of the list of a phase, and what it keeps.
 
-pub keeps : {A : Type 0} (g : Order → A) → ((o : Order) (q : ℕ) (c t : Option ℕ) → g (record o { quantity = q; cancelled = c; target = t }) ≡ g o) → (last : ℕ) (o : Order) (x : OrderInPhase) → g (phase_order last o x) ≡ g o
+pub keeps : {A : Type 0} (g : Order → A) → ((o : Order) (q : ℕ) (c t : Option ℕ) → g (record o { quantity = q; cancelled = c; target = t }) ≡ g o) → (last : ℕ) (o : Order) (x : RoleInPhase) → g (phase_order last o x) ≡ g o
 keeps g same last o (Carried left) = same o left (end_upto last o.cancelled) None
 keeps g same last o (Own quantity) = same o quantity (end_upto last o.cancelled) o.target
 keeps g same last o Gone = same o o.quantity (Some o.place) None
 
 -- its quantity is its number, or the written one
-pub quantity-le : (last : ℕ) (o : Order) (x : OrderInPhase) → amount_in_phase x ≤ o.quantity → (phase_order last o x).quantity ≤ o.quantity
+pub quantity-le : (last : ℕ) (o : Order) (x : RoleInPhase) → amount_in_phase x ≤ o.quantity → (phase_order last o x).quantity ≤ o.quantity
 quantity-le last o (Carried left) le = le
 quantity-le last o (Own quantity) le = le
 quantity-le last o Gone le = omega arith
 
-pub quantity-some : (last : ℕ) (o : Order) (x : OrderInPhase) → HasAmount x → 0 < o.quantity → 0 < (phase_order last o x).quantity
+pub quantity-some : (last : ℕ) (o : Order) (x : RoleInPhase) → HasAmount x → 0 < o.quantity → 0 < (phase_order last o x).quantity
 quantity-some last o (Carried left) some written = some
 quantity-some last o (Own quantity) some written = some
 quantity-some last o Gone some written = written
 
 -- an order that takes part is cancelled where it is in the day, if by `last`
-pub present-cancelled : (last : ℕ) (o : Order) (x : OrderInPhase) → takes_part x ≡ true → (phase_order last o x).cancelled ≡ end_upto last o.cancelled
+pub present-cancelled : (last : ℕ) (o : Order) (x : RoleInPhase) → takes_part x ≡ true → (phase_order last o x).cancelled ≡ end_upto last o.cancelled
 present-cancelled last o (Carried left) e = refl
 present-cancelled last o (Own quantity) e = refl
 present-cancelled last o Gone e = absurd (cc)
@@ -41,7 +41,7 @@ none-some : (t : ℕ) → None ≡ Some t → ⊥
 none-some t e = cc
 
 -- an order with a target is own, and has its own target
-pub order-target : (last : ℕ) (o : Order) (x : OrderInPhase) (t : ℕ) → (phase_order last o x).target ≡ Some t → (q : ℕ) × (x ≡ Own q) × (o.target ≡ Some t)
+pub order-target : (last : ℕ) (o : Order) (x : RoleInPhase) (t : ℕ) → (phase_order last o x).target ≡ Some t → (q : ℕ) × (x ≡ Own q) × (o.target ≡ Some t)
 order-target last o (Carried left) t e = absurd (none-some t e)
 order-target last o (Own quantity) t e = (quantity, refl, e)
 order-target last o Gone t e = absurd (none-some t e)
@@ -60,7 +60,7 @@ pub is-ended : (last c : ℕ) (o : Option ℕ) → o ≡ Some c → c ≤ last �
 is-ended last c o e le = ap (end_upto last) e ∙ cond-true (nat_le c last) (Some c) None (le-leb _ _ le)
 
 -- it is cancelled where the order is, and by `last`, or it is gone and cancelled at its own place
-pub order-cancelled : (last : ℕ) (o : Order) (x : OrderInPhase) (c : ℕ) → (phase_order last o x).cancelled ≡ Some c → ((o.cancelled ≡ Some c) × (c ≤ last)) ⊎ (c ≡ o.place)
+pub order-cancelled : (last : ℕ) (o : Order) (x : RoleInPhase) (c : ℕ) → (phase_order last o x).cancelled ≡ Some c → ((o.cancelled ≡ Some c) × (c ≤ last)) ⊎ (c ≡ o.place)
 order-cancelled last o (Carried left) c e = inl (ended-is last c o.cancelled e)
 order-cancelled last o (Own quantity) c e = inl (ended-is last c o.cancelled e)
 order-cancelled last o Gone c e = inr (some-same c o.place (sym e))
@@ -94,8 +94,8 @@ module _ (orders : List Order) (last : ℕ) where
     abbrev pub phase : List Order
     phase = phase_list orders first last rest spent
 
-    abbrev what : ℕ → OrderInPhase
-    what = order_in_phase orders first rest spent
+    abbrev what : ℕ → RoleInPhase
+    what = role_in_phase orders first rest spent
 
     abbrev entry : ℕ → Order
     entry i = phase_order last (order_at orders i) (what i)
@@ -178,7 +178,7 @@ module _ (orders : List Order) (last : ℕ) where
             let less = is.0 in
             let r = regular.targets i t inside p.2 in
             let le = r.2 in
-            let stays : takes_part (what t) ≡ true = sym (target-stays orders first rest spent i t less) ∙ sym (ap (target_takes_part (orders_in_phase orders first rest spent i)) p.2) ∙ own-target orders first rest spent i p.0 p.1 in
+            let stays : takes_part (what t) ≡ true = sym (target-stays orders first rest spent i t less) ∙ sym (ap (target_takes_part (roles_in_phase orders first rest spent i)) p.2) ∙ own-target orders first rest spent i p.0 p.1 in
             let upto = phase-upto i lt in
             let t_at : (order_at phase t).cancelled ≡ end_upto last (order_at orders t).cancelled = ap (λ (o : Order). o.cancelled) (phase-at t (omega arith)) ∙ present-cancelled last (order_at orders t) (what t) stays in
             let here = phase-place i lt in

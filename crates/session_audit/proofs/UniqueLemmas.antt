@@ -10,7 +10,7 @@ use Rattle.audit_base.specs.Orders.{place_at, quantity_at, IsOrderList}
 use Rattle.audit_base.specs.Deals.{traded, pair, volume, NamesOrders, DealsInRange, DealInRange}
 use Rattle.audit_base.specs.Calls.{Matching, Fair}
 use Rattle.audit_base.specs.CallOffences.{is_cancelled}
-use Rattle.audit_base.specs.Continuous.{cause, chain, traded_before, rests_before_by_past, left_before_by_past}
+use Rattle.audit_base.specs.Continuous.{cause, chain, traded_before, rests_before_in_ledger, left_before_in_ledger}
 use Rattle.audit_base.specs.ContinuousRules.{ConformsContinuous}
 use Rattle.audit_base.specs.Histories.{Regular}
 use Rattle.audit_base.specs.Rules.{Conforms}
@@ -22,7 +22,7 @@ use Rattle.session_audit.specs.declared.phases.Phase.{Phase}
 use Rattle.session_audit.specs.declared.phases.PhaseKind.{PhaseKind}
 use Rattle.session_audit.specs.declared.phases.PhaseKind.TheVariants as kind
 use Rattle.session_audit.specs.Phases.{rule_of, phase_kind, first_place, end_place, is_in_phase, phase_deals}
-use Rattle.session_audit.specs.PhaseOrders.{phase_list, left_after_phase, traded_in_phase, traded_before_phase, chain_before_phase, rest_after, phase_orders}
+use Rattle.session_audit.specs.PhaseOrders.{phase_list, left_after_phase, traded_in_phase, traded_before_phase, chain_before_phase, left_after_phases, phase_list_at}
 use Rattle.session_audit.specs.Days.{ConformsDay}
 use Rattle.session_audit.specs.Laws.{DayUniqueness, DayPairs}
 use Rattle.session_audit.proofs.PhaseListLemmas.{phase-is_list, phase-is_regular}
@@ -117,35 +117,35 @@ module _ (fixes : FairVolumeFixesQuantities) (unique : ContinuousUniqueness) whe
   phase-fixed kind.Continuous orders ds es list regular rd re c d =
       let f = pairs-fix orders ds es c.named d.named (λ b a. unique orders ds es list regular c d b a) in
       let p : traded_before orders ds ≡ traded_before orders es = f.past in
-      record { totals = f.totals; left = λ last j i. cond (rests_before_by_past orders (p j) (suc last) i) (left_before_by_past orders (p j) (suc last) i) 0 }
+      record { totals = f.totals; left = λ last j i. cond (rests_before_in_ledger orders (p j) (suc last) i) (left_before_in_ledger orders (p j) (suc last) i) 0 }
 
   module _ (phases : List Phase) (orders : List Order) (ds es : List Deal) (list : IsOrderList orders) (regular : Regular orders) (rd : DealsInRange ds) (re : DealsInRange es) (c : ConformsDay phases orders ds) (d : ConformsDay phases orders es) where
     record Agree (k : ℕ) : Type 0 where
-      rest : rest_after phases orders ds k ≡ rest_after phases orders es k
+      rest : left_after_phases phases orders ds k ≡ left_after_phases phases orders es k
       earlier : traded_before_phase phases orders ds k ≡ traded_before_phase phases orders es k
 
     start : Agree 0
-    unfolding rest_after traded_before_phase
+    unfolding left_after_phases traded_before_phase
     start = record { rest = λ j i. 0; earlier = λ j i. 0 }
 
     chains-same : (k : ℕ) → Agree k → chain_before_phase phases orders ds k ≡ chain_before_phase phases orders es k
     unfolding chain_before_phase
     chains-same k a = let e = a.earlier in λ j i. sum_by (e j) (chain orders i)
 
-    lists-same : (k : ℕ) → Agree k → phase_orders phases orders ds k ≡ phase_orders phases orders es k
+    lists-same : (k : ℕ) → Agree k → phase_list_at phases orders ds k ≡ phase_list_at phases orders es k
     lists-same k a = let r = a.rest in let s = chains-same k a in λ j. phase_list orders (first_place phases k) (end_place phases k) (r j) (s j)
 
-    fixed-at : (k : ℕ) → k < length phases → Agree k → Fixed (phase_kind phases k) (phase_orders phases orders ds k) (phase_deals phases orders ds k) (phase_deals phases orders es k)
+    fixed-at : (k : ℕ) → k < length phases → Agree k → Fixed (phase_kind phases k) (phase_list_at phases orders ds k) (phase_deals phases orders ds k) (phase_deals phases orders es k)
     fixed-at k lt a =
-        let here : List Order = phase_orders phases orders ds k in
+        let here : List Order = phase_list_at phases orders ds k in
         phase-fixed (phase_kind phases k) here (phase_deals phases orders ds k) (phase_deals phases orders es k)
-        (phase-is_list orders list (end_place phases k) (first_place phases k) (rest_after phases orders ds k) (chain_before_phase phases orders ds k))
-        (phase-is_regular orders list (end_place phases k) (first_place phases k) (rest_after phases orders ds k) (chain_before_phase phases orders ds k) regular)
+        (phase-is_list orders list (end_place phases k) (first_place phases k) (left_after_phases phases orders ds k) (chain_before_phase phases orders ds k))
+        (phase-is_regular orders list (end_place phases k) (first_place phases k) (left_after_phases phases orders ds k) (chain_before_phase phases orders ds k) regular)
         (in-range phases orders ds k rd) (in-range phases orders es k re) (c.each k lt)
         (subst (λ (h : List Order). Conforms (rule_of (phase_kind phases k)) h (phase_deals phases orders es k)) (sym (lists-same k a)) (d.each k lt))
 
     next : (k : ℕ) → k < length phases → Agree k → Agree (suc k)
-    unfolding rest_after traded_before_phase
+    unfolding left_after_phases traded_before_phase
     next k lt a =
         let f = fixed-at k lt a in
         let h = lists-same k a in
@@ -166,13 +166,13 @@ module _ (fixes : FairVolumeFixesQuantities) (unique : ContinuousUniqueness) whe
     pub pairs-same : (k : ℕ) → k < length phases → phase_kind phases k ≡ kind.Continuous → (bid ask : ℕ) → pair (phase_deals phases orders ds k) bid ask ≡ pair (phase_deals phases orders es k) bid ask
     pairs-same k lt is bid ask =
         let a = agree k (omega arith) in
-        let here : List Order = phase_orders phases orders ds k in
+        let here : List Order = phase_list_at phases orders ds k in
         let first : ConformsContinuous here (phase_deals phases orders ds k) = subst (λ (t : PhaseKind). Conforms (rule_of t) here (phase_deals phases orders ds k)) is (c.each k lt) in
         let second : ConformsContinuous here (phase_deals phases orders es k) = subst (λ (t : PhaseKind). Conforms (rule_of t) here (phase_deals phases orders es k)) is
         (subst (λ (h : List Order). Conforms (rule_of (phase_kind phases k)) h (phase_deals phases orders es k)) (sym (lists-same k a)) (d.each k lt)) in
         unique here (phase_deals phases orders ds k) (phase_deals phases orders es k)
-        (phase-is_list orders list (end_place phases k) (first_place phases k) (rest_after phases orders ds k) (chain_before_phase phases orders ds k))
-        (phase-is_regular orders list (end_place phases k) (first_place phases k) (rest_after phases orders ds k) (chain_before_phase phases orders ds k) regular)
+        (phase-is_list orders list (end_place phases k) (first_place phases k) (left_after_phases phases orders ds k) (chain_before_phase phases orders ds k))
+        (phase-is_regular orders list (end_place phases k) (first_place phases k) (left_after_phases phases orders ds k) (chain_before_phase phases orders ds k) regular)
         first second bid ask
 
   pub day-unique : DayUniqueness

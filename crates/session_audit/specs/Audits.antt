@@ -24,8 +24,8 @@ pub record IsBrokenDay (phases : List Phase) (orders : List Order) (deals : List
 
 -- what the audit answers: that the day conforms, or its first offence; `count` is the number of
 -- trades of the whole log
-abbrev pub IsAuditedDay : List Phase → List Order → List Deal → ℕ → Day → Type 0
-IsAuditedDay phases orders deals count (day.Conforms totals) =
+abbrev pub IsDayOutcome : List Phase → List Order → List Deal → ℕ → Day → Type 0
+IsDayOutcome phases orders deals count (day.Conforms totals) =
     IsConformingDay phases orders deals totals
-IsAuditedDay phases orders deals count (day.Broken finding) =
+IsDayOutcome phases orders deals count (day.Broken finding) =
     IsBrokenDay phases orders deals count finding

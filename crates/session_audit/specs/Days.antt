@@ -12,13 +12,13 @@ use Rattle.audit_base.specs.Shows.{finding_at_record}
 use Rattle.audit_base.specs.Verdicts.{IsFirstOffence}
 use Rattle.session_audit.specs.declared.phases.Phase.{Phase}
 use Rattle.session_audit.specs.Phases.{rule_of, is_call, phase_kind, is_in_phase, phase_deals}
-use Rattle.session_audit.specs.PhaseOrders.{takes_part, order_in_phase_at, phase_orders}
+use Rattle.session_audit.specs.PhaseOrders.{takes_part, role_in_phase_at, phase_list_at}
 
 -- the order at i is an own order of the phase at index k: its place is in the phase, and it
 -- isn't gone
 abbrev pub is_own : List Phase → List Order → List Deal → ℕ → ℕ → Bool
 is_own phases orders deals k i = is_in_phase phases k (place_at orders i)
-    && takes_part (order_in_phase_at phases orders deals k i)
+    && takes_part (role_in_phase_at phases orders deals k i)
 
 -- it is an own order of a call phase, and its life isn't Rests
 abbrev pub is_instant_in_call : List Phase → List Order → List Deal → ℕ → Bool
@@ -36,7 +36,7 @@ instant_finding phases orders deals =
 -- the deals of the phase at index k are as its rule asks, over its order list
 abbrev pub PhaseConforms : List Phase → List Order → List Deal → ℕ → Type 0
 PhaseConforms phases orders deals k = Conforms (rule_of (phase_kind phases k))
-    (phase_orders phases orders deals k) (phase_deals phases orders deals k)
+    (phase_list_at phases orders deals k) (phase_deals phases orders deals k)
 
 -- Conforms (day): no call phase has an own order whose life isn't Rests, and each phase conforms
 pub record ConformsDay (phases : List Phase) (orders : List Order) (deals : List Deal)
@@ -45,7 +45,7 @@ pub record ConformsDay (phases : List Phase) (orders : List Order) (deals : List
   pub each : EachIndex phases (PhaseConforms phases orders deals)
 
 -- The first offence of the least phase that fails, over its order list and its deals. `count` is
--- the number of trades of the whole log, since the place of a volume finding is the one behind
+-- the number of trades of the whole log, since the place of a volume finding is the one after
 -- the last.
 pub record IsPhaseOffence (phases : List Phase) (orders : List Order) (deals : List Deal)
     (count : ℕ) (finding : Finding) : Type 0 where
@@ -54,7 +54,8 @@ pub record IsPhaseOffence (phases : List Phase) (orders : List Order) (deals : L
   pub before : (j : ℕ) → j < phase → PhaseConforms phases orders deals j
   pub fails : PhaseConforms phases orders deals phase → ⊥
   pub here : IsFirstOffence (rule_of (phase_kind phases phase))
-      (phase_orders phases orders deals phase) (phase_deals phases orders deals phase) count finding
+      (phase_list_at phases orders deals phase)
+      (phase_deals phases orders deals phase) count finding
 
 -- the first offence of a day: finding 16, looked for in all call phases, or else that of a phase
 abbrev pub IsDayOffence : List Phase → List Order → List Deal → ℕ → Finding → Type 0

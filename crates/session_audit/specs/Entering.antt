@@ -5,16 +5,16 @@ use Rattle.audit_base.specs.declared.orders.Order.{Order}
 use Rattle.audit_base.specs.Orders.{order_at}
 use Rattle.audit_base.specs.Continuous.{is_cancelled_at_place}
 use Rattle.session_audit.specs.Numbers.{number_at}
-use Rattle.session_audit.specs.PhaseOrders.{OrderInPhase, Carried, Own, Gone, order_in_phase, phase_order, list_below}
+use Rattle.session_audit.specs.PhaseOrders.{RoleInPhase, Carried, Own, Gone, role_in_phase, phase_order, list_below}
 
 -- the number that is kept of an order
-abbrev pub amount_in_phase : OrderInPhase → ℕ
+abbrev pub amount_in_phase : RoleInPhase → ℕ
 amount_in_phase (Carried left) = left
 amount_in_phase (Own quantity) = quantity
 amount_in_phase Gone = 0
 
 -- what an order is in the phase that begins at `first`, by its number
-abbrev pub order_by_amount : ℕ → ℕ → Order → OrderInPhase
+abbrev pub order_by_amount : ℕ → ℕ → Order → RoleInPhase
 order_by_amount first amount o = if nat_lt 0 amount
     then (if nat_lt o.place first then Carried amount else Own amount)
     else Gone
@@ -38,7 +38,7 @@ amount_by_earlier orders first rest spent amounts i = let o = order_at orders i 
 -- the numbers of the first n orders
 abbrev pub amounts_below : List Order → ℕ → List ℕ → List ℕ → ℕ → List ℕ
 amounts_below orders first rest spent n =
-    let what = order_in_phase orders first (number_at rest) (number_at spent) in
+    let what = role_in_phase orders first (number_at rest) (number_at spent) in
     list_below (λ i. amount_in_phase (what i)) n
 
 -- the first n orders as the list of the phase has them, by their numbers

@@ -24,8 +24,8 @@ pub record IsBrokenPhase (the_rule : Rule) (orders : List Order) (deals : List D
   pub fails : Conforms the_rule orders deals → ⊥
 
 -- what the audit of a phase answers: that its deals conform, or their first offence
-abbrev pub IsAuditedPhase : Rule → List Order → List Deal → ℕ → Outcome → Type 0
-IsAuditedPhase the_rule orders deals count (outcome.Conforms reached) =
+abbrev pub IsPhaseOutcome : Rule → List Order → List Deal → ℕ → Outcome → Type 0
+IsPhaseOutcome the_rule orders deals count (outcome.Conforms reached) =
     IsConformingPhase the_rule orders deals reached
-IsAuditedPhase the_rule orders deals count (outcome.Broken finding) =
+IsPhaseOutcome the_rule orders deals count (outcome.Broken finding) =
     IsBrokenPhase the_rule orders deals count finding

@@ -9,7 +9,7 @@ use Rattle.audit_base.specs.Histories.{Regular}
 use Rattle.session_audit.specs.declared.phases.Phase.{Phase}
 use Rattle.session_audit.specs.declared.phases.PhaseKind.TheVariants as kind
 use Rattle.session_audit.specs.Phases.{is_call, phase_kind, phase_deals}
-use Rattle.session_audit.specs.PhaseOrders.{traded_in_phase, rest_after, phase_orders}
+use Rattle.session_audit.specs.PhaseOrders.{traded_in_phase, left_after_phases, phase_list_at}
 use Rattle.session_audit.specs.Days.{PhaseConforms, ConformsDay}
 
 -- 'day uniqueness': two lists of deals that conform trade the same with each order in each phase
@@ -29,14 +29,14 @@ DayPairs = (phases : List Phase) (orders : List Order) (ds es : List Deal)
     → pair (phase_deals phases orders ds k) bid ask ≡ pair (phase_deals phases orders es k) bid ask
 
 -- the order list of each phase is an order list, whatever the deals are
-abbrev pub PhaseOrdersAreOrderList : Type 0
-PhaseOrdersAreOrderList = (phases : List Phase) (orders : List Order) (deals : List Deal) (k : ℕ)
-    → IsOrderList orders → IsOrderList (phase_orders phases orders deals k)
+abbrev pub PhaseListsAreOrderLists : Type 0
+PhaseListsAreOrderLists = (phases : List Phase) (orders : List Order) (deals : List Deal) (k : ℕ)
+    → IsOrderList orders → IsOrderList (phase_list_at phases orders deals k)
 
 -- the order list of each phase is regular where that of the day is
 abbrev pub PhaseOrdersAreRegular : Type 0
 PhaseOrdersAreRegular = (phases : List Phase) (orders : List Order) (deals : List Deal) (k : ℕ)
-    → IsOrderList orders → Regular orders → Regular (phase_orders phases orders deals k)
+    → IsOrderList orders → Regular orders → Regular (phase_list_at phases orders deals k)
 
 -- The bids that a call which conforms leaves meet none of the asks that it leaves, so that
 -- orders which are carried out of it give by themselves no spread finding.
@@ -45,6 +45,6 @@ CarriedOrdersDoNotMeet = (phases : List Phase) (orders : List Order) (deals : Li
     → IsOrderList orders → OrdersInRange orders → DealsInRange deals
     → IsTrue (is_call (phase_kind phases k)) → PhaseConforms phases orders deals k
     → (bid ask : ℕ) → side_at orders bid ≡ Buy → side_at orders ask ≡ Sell
-    → 0 < rest_after phases orders deals (suc k) bid
-    → 0 < rest_after phases orders deals (suc k) ask
+    → 0 < left_after_phases phases orders deals (suc k) bid
+    → 0 < left_after_phases phases orders deals (suc k) ask
     → limit_at orders bid < limit_at orders ask

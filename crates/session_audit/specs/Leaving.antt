@@ -24,7 +24,7 @@ pub record HasContinuousTotals (orders : List Order) (deals : List Deal) (traded
   pub conforms : ConformsContinuous orders deals
   pub totals : AreTotals orders deals traded
 
--- no deal has a cause behind this place
+-- no deal has a cause after this place
 abbrev pub EndsBy : List Order → List Deal → ℕ → Type 0
 EndsBy orders deals last = All (λ d. cause orders d ≤ last) deals
 

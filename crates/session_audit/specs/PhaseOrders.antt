@@ -22,52 +22,52 @@ use Rattle.session_audit.specs.Phases.{phase_kind, first_place, end_place, phase
 
 -- What an order is in a phase: carried from an earlier phase, with what is left of it; an own order
 -- of the phase, with its quantity there; or gone.
-pub data OrderInPhase : Type 0 where
-  Carried : (left : ℕ) → OrderInPhase
-  Own : (quantity : ℕ) → OrderInPhase
-  Gone : OrderInPhase
+pub data RoleInPhase : Type 0 where
+  Carried : (left : ℕ) → RoleInPhase
+  Own : (quantity : ℕ) → RoleInPhase
+  Gone : RoleInPhase
 
 -- the order takes part in the phase: it isn't gone
-abbrev pub takes_part : OrderInPhase → Bool
+abbrev pub takes_part : RoleInPhase → Bool
 takes_part (Carried left) = true
 takes_part (Own quantity) = true
 takes_part Gone = false
 
 -- an order of an earlier phase is carried where something is left of it, else gone
-abbrev pub carried_or_gone : ℕ → OrderInPhase
+abbrev pub carried_or_gone : ℕ → RoleInPhase
 carried_or_gone left = if nat_lt 0 left then Carried left else Gone
 
 -- an order has no target, or one that isn't gone; `earlier` has what the orders before it are
-abbrev pub target_takes_part : List OrderInPhase → Option ℕ → Bool
+abbrev pub target_takes_part : List RoleInPhase → Option ℕ → Bool
 target_takes_part earlier None = true
 target_takes_part earlier (Some t) = takes_part (slice_index_or earlier t Gone)
 
 -- An order of the phase is own, with its written quantity less what its chain traded. It is gone
 -- where it is cancelled at its own place, where its target is gone, or where this quantity is 0.
-abbrev pub own_or_gone : List Order → (ℕ → ℕ) → List OrderInPhase → ℕ → OrderInPhase
+abbrev pub own_or_gone : List Order → (ℕ → ℕ) → List RoleInPhase → ℕ → RoleInPhase
 own_or_gone orders spent earlier i =
     let target_stays = target_takes_part earlier (order_at orders i).target in
     let quantity = quantity_at orders i - spent i in
     if is_placed_order orders i && (target_stays && nat_lt 0 quantity) then Own quantity else Gone
 
 -- what the order at i is in the phase; `earlier` has what the orders before it are
-abbrev pub order_by_earlier : List Order → ℕ → (ℕ → ℕ) → (ℕ → ℕ) → List OrderInPhase → ℕ
-    → OrderInPhase
-order_by_earlier orders first rest spent earlier i =
+abbrev pub role_after_earlier : List Order → ℕ → (ℕ → ℕ) → (ℕ → ℕ) → List RoleInPhase → ℕ
+    → RoleInPhase
+role_after_earlier orders first rest spent earlier i =
     if nat_lt (place_at orders i) first then carried_or_gone (rest i)
     else own_or_gone orders spent earlier i
 
 -- what each of the first n orders is in the phase
-unfoldable pub orders_in_phase : List Order → ℕ → (ℕ → ℕ) → (ℕ → ℕ) → ℕ → List OrderInPhase
-orders_in_phase orders first rest spent zero = []
-orders_in_phase orders first rest spent (suc n) =
-    let earlier = orders_in_phase orders first rest spent n in
-    earlier ++ order_by_earlier orders first rest spent earlier n ∷ []
+unfoldable pub roles_in_phase : List Order → ℕ → (ℕ → ℕ) → (ℕ → ℕ) → ℕ → List RoleInPhase
+roles_in_phase orders first rest spent zero = []
+roles_in_phase orders first rest spent (suc n) =
+    let earlier = roles_in_phase orders first rest spent n in
+    earlier ++ role_after_earlier orders first rest spent earlier n ∷ []
 
 -- what the order at i is in the phase
-abbrev pub order_in_phase : List Order → ℕ → (ℕ → ℕ) → (ℕ → ℕ) → ℕ → OrderInPhase
-order_in_phase orders first rest spent i =
-    order_by_earlier orders first rest spent (orders_in_phase orders first rest spent i) i
+abbrev pub role_in_phase : List Order → ℕ → (ℕ → ℕ) → (ℕ → ℕ) → ℕ → RoleInPhase
+role_in_phase orders first rest spent i =
+    role_after_earlier orders first rest spent (roles_in_phase orders first rest spent i) i
 
 -- the place of the record that ends an order, where it is at most `last`
 abbrev pub end_upto : ℕ → Option ℕ → Option ℕ
@@ -78,7 +78,7 @@ end_upto last (Some c) = if nat_le c last then Some c else None
 -- no target. An own order has its quantity there, and its target. Both have their `cancelled`
 -- where it is at most `last`. A gone order has its written quantity, no target, and its own
 -- place as `cancelled`.
-abbrev pub phase_order : ℕ → Order → OrderInPhase → Order
+abbrev pub phase_order : ℕ → Order → RoleInPhase → Order
 phase_order last o (Carried left) =
     record o { quantity = left; cancelled = end_upto last o.cancelled; target = None }
 phase_order last o (Own quantity) =
@@ -97,7 +97,7 @@ list_below f (suc n) = list_below f n ++ f n ∷ []
 -- the order list of the phase: each order of place at most `last`, at the same index
 unfoldable pub phase_list : List Order → ℕ → ℕ → (ℕ → ℕ) → (ℕ → ℕ) → List Order
 phase_list orders first last rest spent = list_below
-    (λ i. phase_order last (order_at orders i) (order_in_phase orders first rest spent i))
+    (λ i. phase_order last (order_at orders i) (role_in_phase orders first rest spent i))
     (order_count_upto orders last)
 
 -- what a call leaves of the order at i, by the order list and the deals of the phase: what it
@@ -136,25 +136,25 @@ chain_before_phase phases orders deals k i =
     sum_by (traded_before_phase phases orders deals k) (chain orders i)
 
 -- the order list of the phase at index k, where it is known what the phases before left
-abbrev pub phase_list_by_rest : List Phase → List Order → List Deal → ℕ → (ℕ → ℕ) → List Order
-phase_list_by_rest phases orders deals k rest =
+abbrev pub phase_list_from_left : List Phase → List Order → List Deal → ℕ → (ℕ → ℕ) → List Order
+phase_list_from_left phases orders deals k rest =
     phase_list orders (first_place phases k) (end_place phases k) rest
     (chain_before_phase phases orders deals k)
 
 -- Rest(k): what is left of each order after the first k phases. Rest(0) is 0 of each order, and
 -- Rest(k) is what the k-th phase leaves of it, the one at index k - 1.
-unfoldable pub rest_after : List Phase → List Order → List Deal → ℕ → ℕ → ℕ
-rest_after phases orders deals zero = λ i. 0
-rest_after phases orders deals (suc k) = left_after_phase (phase_kind phases k)
-    (phase_list_by_rest phases orders deals k (rest_after phases orders deals k))
+unfoldable pub left_after_phases : List Phase → List Order → List Deal → ℕ → ℕ → ℕ
+left_after_phases phases orders deals zero = λ i. 0
+left_after_phases phases orders deals (suc k) = left_after_phase (phase_kind phases k)
+    (phase_list_from_left phases orders deals k (left_after_phases phases orders deals k))
     (phase_deals phases orders deals k) (end_place phases k)
 
 -- what the order at i is in the phase at index k
-abbrev pub order_in_phase_at : List Phase → List Order → List Deal → ℕ → ℕ → OrderInPhase
-order_in_phase_at phases orders deals k = order_in_phase orders (first_place phases k)
-    (rest_after phases orders deals k) (chain_before_phase phases orders deals k)
+abbrev pub role_in_phase_at : List Phase → List Order → List Deal → ℕ → ℕ → RoleInPhase
+role_in_phase_at phases orders deals k = role_in_phase orders (first_place phases k)
+    (left_after_phases phases orders deals k) (chain_before_phase phases orders deals k)
 
 -- P: the order list of the phase at index k
-abbrev pub phase_orders : List Phase → List Order → List Deal → ℕ → List Order
-phase_orders phases orders deals k =
-    phase_list_by_rest phases orders deals k (rest_after phases orders deals k)
+abbrev pub phase_list_at : List Phase → List Order → List Deal → ℕ → List Order
+phase_list_at phases orders deals k =
+    phase_list_from_left phases orders deals k (left_after_phases phases orders deals k)

@@ -7,7 +7,7 @@ use Rattle.audit_base.specs.Rules.{Conforms}
 use Rattle.session_audit.specs.declared.phases.Phase.{Phase}
 use Rattle.session_audit.specs.declared.phases.PhaseKind.{PhaseKind}
 use Rattle.session_audit.specs.Phases.{rule_of}
-use Rattle.session_audit.specs.PhaseOrders.{list_below, traded_before_phase, rest_after, left_after_phase}
+use Rattle.session_audit.specs.PhaseOrders.{list_below, traded_before_phase, left_after_phases, left_after_phase}
 use Rattle.session_audit.specs.Days.{PhaseConforms}
 use Rattle.session_audit.specs.Leaving.{EndsBy}
 use Rattle.session_audit.specs.Numbers.{number_at, WithinQuantities}
@@ -18,7 +18,7 @@ pub record IsDaySoFar (phases : List Phase) (orders : List Order) (deals : List 
     (traded rest : List ℕ) : Type 0 where
   pub conformed : (j : ℕ) → j < k → PhaseConforms phases orders deals j
   pub traded_is : traded ≡ list_below (traded_before_phase phases orders deals k) (length orders)
-  pub rest_is : (i : ℕ) → number_at rest i ≡ rest_after phases orders deals k i
+  pub rest_is : (i : ℕ) → number_at rest i ≡ left_after_phases phases orders deals k i
   pub most : WithinQuantities orders rest
 
 -- a phase that conforms and ends at `last`, with what each order traded in it

@@ -5,7 +5,7 @@ ghost use Rattle.audit_base.specs.Deals.{IsDealList};
 ghost use Rattle.audit_base.specs.Histories.{Regular};
 ghost use Rattle.session_audit.specs.Phases.{ArePhases};
 ghost use Rattle.session_audit.specs.Days.{instant_finding};
-ghost use Rattle.session_audit.specs.Audits.{IsAuditedDay};
+ghost use Rattle.session_audit.specs.Audits.{IsDayOutcome};
 
 use super::days::Day;
 use super::dealing::{causes_of, deals_between};
@@ -33,7 +33,7 @@ fn audit_phases(
     requires deal_list { IsDealList orders.now deals.now }
     requires few { count < 2 ^ 32 - 1 }
     requires admitted { instant_finding phases.now orders.now deals.now ≡ None }
-    ensures { IfOk result (IsAuditedDay phases.now orders.now deals.now count) }
+    ensures { IfOk result (IsDayOutcome phases.now orders.now deals.now count) }
 {
     deals_in_range(deals);
     let causes = causes_of(alloc, orders, deals)?;
@@ -71,7 +71,7 @@ pub fn audit_session(
     requires deal_list { IsDealList orders.now deals.now }
     requires counted { length deals.now ≤ count }
     requires few { count < 2 ^ 32 - 1 }
-    ensures { IfOk result (IsAuditedDay phases.now orders.now deals.now count) }
+    ensures { IfOk result (IsDayOutcome phases.now orders.now deals.now count) }
 {
     orders.in_range();
     if let Some(finding) = first_instant_of_day(phases, orders) {

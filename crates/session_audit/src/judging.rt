@@ -2,7 +2,7 @@
 ghost use Rattle.std.specs.Prelude.{◌<◌, ◌-◌, ◌^◌, IfOk};
 ghost use Rattle.audit_base.specs.Orders.{IsOrderList};
 ghost use Rattle.audit_base.specs.Deals.{IsDealList};
-ghost use Rattle.session_audit.specs.Judging.{IsAuditedPhase};
+ghost use Rattle.session_audit.specs.Judging.{IsPhaseOutcome};
 ghost use Rattle.session_audit.specs.Phases.{rule_of};
 
 use super::phases::PhaseKind;
@@ -27,7 +27,7 @@ pub fn audit_phase(
     requires order_list { IsOrderList orders.now }
     requires deal_list { IsDealList orders.now deals.now }
     requires few { count < 2 ^ 32 - 1 }
-    ensures { IfOk result (IsAuditedPhase (rule_of kind) orders.now deals.now count) }
+    ensures { IfOk result (IsPhaseOutcome (rule_of kind) orders.now deals.now count) }
 {
     match kind {
         PhaseKind::Uniform => audit_uniform(alloc, orders, deals, count),

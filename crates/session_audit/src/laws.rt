@@ -1,6 +1,6 @@
 //! What holds of every trading day. Nothing is computed here: a law is a function's contract, so
 //! that the check proves it.
-ghost use Rattle.session_audit.specs.Laws.{CarriedOrdersDoNotMeet, DayUniqueness, DayPairs, PhaseOrdersAreOrderList, PhaseOrdersAreRegular};
+ghost use Rattle.session_audit.specs.Laws.{CarriedOrdersDoNotMeet, DayUniqueness, DayPairs, PhaseListsAreOrderLists, PhaseOrdersAreRegular};
 ghost use Rattle.session_audit.specs.OneOffence.{DayOffenceIsOne};
 
 use call_laws::laws::short_orders_do_not_meet;
@@ -21,7 +21,7 @@ pub fn day_uniqueness()
 
 /// The order list of each phase is an order list, and regular where that of the day is.
 pub fn phase_orders_are_regular()
-    ensures order_list { PhaseOrdersAreOrderList }
+    ensures order_list { PhaseListsAreOrderLists }
     ensures regular { PhaseOrdersAreRegular }
 {}
 

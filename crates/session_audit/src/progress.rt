@@ -9,7 +9,7 @@ ghost use Rattle.audit_base.specs.Orders.{IsOrderList};
 ghost use Rattle.session_audit.specs.Judging.{IsBrokenPhase};
 ghost use Rattle.session_audit.specs.Leaving.{EndsBy};
 ghost use Rattle.session_audit.specs.Numbers.{AreBoundedTotals, WithinQuantities};
-ghost use Rattle.session_audit.specs.PhaseOrders.{phase_orders};
+ghost use Rattle.session_audit.specs.PhaseOrders.{phase_list_at};
 ghost use Rattle.session_audit.specs.Phases as spec;
 ghost use Rattle.session_audit.specs.Progress.{AddsNumbers, AddsPhase, HasPhaseTotals, IsDaySoFar, rest_after_phase};
 
@@ -95,7 +95,7 @@ pub fn list_phase<'a>(
     requires most { WithinQuantities orders.now so_far.now.rest.items }
     ensures { IfOk result (λ list. (deals : List ADeal)
         → IsDaySoFar phases.now orders.now deals index so_far.now.traded.items so_far.now.rest.items
-        → list.orders ≡ phase_orders phases.now orders.now deals index) }
+        → list.orders ≡ phase_list_at phases.now orders.now deals index) }
 {
     let first = first_place(phases, index);
     let last = end_place(phases, index);

@@ -13,7 +13,8 @@ use Rattle.audit_base.specs.Deals.{AreTotals}
 -- quantity
 abbrev pub is_short_on : List Order → List ℕ → Side → ℕ → Bool
 is_short_on orders traded side i =
-    is_uncancelled_on side (order_at orders i) && nat_lt (slice_index traded i) (quantity_at orders i)
+    is_uncancelled_on side (order_at orders i)
+    && nat_lt (slice_index traded i) (quantity_at orders i)
 
 -- whichever deals the numbers are of: the best short order of the side, if it has one
 abbrev pub IsBestShortOn : List Order → List ℕ → Side → Option ℕ → Type 0

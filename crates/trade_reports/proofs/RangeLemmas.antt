@@ -7,10 +7,10 @@ use Rattle.std.proofs.lemmas.List.Elements.{All-append, All-cons, All-head, All-
 use Rattle.audit_base.specs.declared.records.TradeRecord.{TradeRecord}
 use Rattle.audit_base.specs.RecordRanges.{AreInRange}
 use Rattle.audit_base.specs.Trades.{TradesInRange, TradeInRange}
-use Rattle.trade_reports.specs.declared.reports.LoneReport.{LoneReport}
+use Rattle.trade_reports.specs.declared.reports.UnpairedReport.{UnpairedReport}
 use Rattle.trade_reports.specs.declared.reports.PlacedReport.{PlacedReport}
 use Rattle.trade_reports.specs.declared.reports.Report.{Report}
-use Rattle.trade_reports.specs.Pairings.{ReportPair, lone_report_in_reversed, pair_with, pairing, pairs_in_reversed, trade_of_reports, trades_of_pairs, trades_unless_lone, waiting_in_reversed}
+use Rattle.trade_reports.specs.Pairings.{ReportPair, unpaired_report_newest_first, pair_with, pairing, report_pairs_newest_first, trade_of_reports, trades_of_pairs, trades_unless_unpaired, waiting_report_newest_first}
 use Rattle.trade_reports.specs.Ranges.{PairedTradesAreInRange}
 
 abbrev IsReport : Report → Type 0
@@ -30,11 +30,11 @@ paired-with : (second : PlacedReport) (first : Option PlacedReport) → IsReport
 paired-with second None is = All-nil IsPair
 paired-with second (Some first) is = All-cons IsPair (record { first = first; second = second }) [] is (All-nil IsPair)
 
-all-pairs : (all : List Report) → All IsReport all → All IsPair (pairs_in_reversed all)
+all-pairs : (all : List Report) → All IsReport all → All IsPair (report_pairs_newest_first all)
 all-pairs [] are = All-nil IsPair
 all-pairs (report ∷ before) are =
-    All-append IsPair (pairs_in_reversed before) (pair_with (record { place = length before + 1; report = report }) (waiting_in_reversed report.trade before)) (all-pairs before (All-tail IsReport report before are))
-    (paired-with (record { place = length before + 1; report = report }) (waiting_in_reversed report.trade before) (All-head IsReport report before are))
+    All-append IsPair (report_pairs_newest_first before) (pair_with (record { place = length before + 1; report = report }) (waiting_report_newest_first report.trade before)) (all-pairs before (All-tail IsReport report before are))
+    (paired-with (record { place = length before + 1; report = report }) (waiting_report_newest_first report.trade before) (All-head IsReport report before are))
 
 all-trades : (listed : List ReportPair) → All IsPair listed → TradesInRange (trades_of_pairs listed)
 all-trades [] are = All-nil TradeInRange
@@ -42,10 +42,10 @@ all-trades (pair ∷ listed) are =
     let is = All-head IsPair pair listed are in
     All-cons TradeInRange (trade_of_reports pair.first.report pair.second.report) (trades_of_pairs listed) (record { some = is.some; most = is.most; priced = is.priced }) (all-trades listed (All-tail IsPair pair listed are))
 
-unless-lone : (lone : Option LoneReport) (trades : List TradeRecord) → TradesInRange trades → IfOk (trades_unless_lone lone trades) TradesInRange
+unless-lone : (lone : Option UnpairedReport) (trades : List TradeRecord) → TradesInRange trades → IfOk (trades_unless_unpaired lone trades) TradesInRange
 unless-lone None trades are = are
 unless-lone (Some lone) trades are = tt
 
 pub paired-range : PairedTradesAreInRange
 unfolding pairing
-paired-range reports are = let all = reverse reports in unless-lone (lone_report_in_reversed all) (trades_of_pairs (pairs_in_reversed all)) (all-trades (pairs_in_reversed all) (all-pairs all (reversed reports are)))
+paired-range reports are = let all = reverse reports in unless-lone (unpaired_report_newest_first all) (trades_of_pairs (report_pairs_newest_first all)) (all-trades (report_pairs_newest_first all) (all-pairs all (reversed reports are)))

@@ -4,12 +4,12 @@ use Rattle.std.specs.HashMap.{get}
 use Rattle.audit_base.specs.Orders.{same_name}
 use Rattle.audit_base.specs.declared.records.TradeRecord.{TradeRecord}
 use Rattle.trade_reports.specs.declared.reports.Report.{Report}
-use Rattle.trade_reports.specs.declared.reports.LoneReport.{LoneReport}
+use Rattle.trade_reports.specs.declared.reports.UnpairedReport.{UnpairedReport}
 use Rattle.trade_reports.specs.declared.reports.PlacedReport.{PlacedReport}
 use Rattle.trade_reports.specs.declared.first_reports.FirstReports.{FirstReports}
 use Rattle.trade_reports.specs.declared.earlier_reports.EarlierReports.{EarlierReports}
 use Rattle.trade_reports.specs.declared.pairing_draft.PairingDraft.{PairingDraft}
-use Rattle.trade_reports.specs.Pairings.{reports_agree, disagreement_of, disagreement_in_reversed, pairs_in_reversed, trade_of_reports, trades_of_pairs, waiting_in_reversed}
+use Rattle.trade_reports.specs.Pairings.{reports_agree, disagreement_of, disagreement_newest_first, report_pairs_newest_first, trade_of_reports, trades_of_pairs, waiting_report_newest_first}
 use Rattle.log_source.specs.Handing.{HandsOnMore}
 
 -- a report at a place
@@ -43,11 +43,11 @@ first_report_in reports id =
 -- and where there is none that their trades were handed on.
 pub record IsKnownOfReports {K : Type 0} (has_taken : K → List TradeRecord → Type 0)
     (firsts : FirstReports)
-    (lone : Option LoneReport) (trades : K) (all : List Report)
+    (lone : Option UnpairedReport) (trades : K) (all : List Report)
     : Type 0 where
-  pub waits : (id : List ℕ) → first_report_in firsts id ≡ waiting_in_reversed id all
-  pub disagreement : lone ≡ disagreement_in_reversed all
-  pub handed : lone ≡ None → has_taken trades (trades_of_pairs (pairs_in_reversed all))
+  pub waits : (id : List ℕ) → first_report_in firsts id ≡ waiting_report_newest_first id all
+  pub disagreement : lone ≡ disagreement_newest_first all
+  pub handed : lone ≡ None → has_taken trades (trades_of_pairs (report_pairs_newest_first all))
 
 -- the draft has been handed exactly these reports
 pub record IsPairingDraft {K : Type 0} (has_taken : K → List TradeRecord → Type 0)
@@ -63,9 +63,9 @@ earlier_report None first = first
 earlier_report (Some found) first = if nat_le found.place first.place then found else first
 
 -- A pair was taken: its trade was handed on, unless it or a pair before it disagrees.
-abbrev pub TakesPair : {K : Type 0} → (K → List TradeRecord → Type 0) → Option LoneReport
+abbrev pub TakesPair : {K : Type 0} → (K → List TradeRecord → Type 0) → Option UnpairedReport
     → PlacedReport → PlacedReport
-    → K → K → Option LoneReport → Type 0
+    → K → K → Option UnpairedReport → Type 0
 TakesPair has_taken (Some found) first second old new lone = lone ≡ Some found
 TakesPair has_taken None first second old new lone =
     MatchBool (reports_agree first.report second.report)

@@ -14,7 +14,7 @@ use Rattle.audit_base.specs.declared.terms.Side.{Side}
 use Rattle.audit_base.specs.declared.terms.Side.TheVariants as side
 use Rattle.trade_reports.specs.declared.reports.Report.{Report}
 use Rattle.trade_reports.specs.declared.reports.PlacedReport.{PlacedReport}
-use Rattle.trade_reports.specs.declared.reports.LoneReport.{LoneReport}
+use Rattle.trade_reports.specs.declared.reports.UnpairedReport.{UnpairedReport}
 use Rattle.trade_reports.specs.declared.pairing.Paired.{Paired}
 use Rattle.trade_reports.specs.declared.pairing.Paired.TheVariants.{Trades, Alone}
 
@@ -25,13 +25,13 @@ first_unless_waiting report (Some first) = None
 
 -- the report that waits for a second one with this id: the latest report with the id,
 -- unless one was waiting for that
-abbrev pub waiting_in_reversed : List ℕ → List Report → Option PlacedReport
-waiting_in_reversed id [] = None
-waiting_in_reversed id (report ∷ before) =
+abbrev pub waiting_report_newest_first : List ℕ → List Report → Option PlacedReport
+waiting_report_newest_first id [] = None
+waiting_report_newest_first id (report ∷ before) =
     if same_name id report.trade
     then first_unless_waiting (record { place = length before + 1; report = report })
-    (waiting_in_reversed id before)
-    else waiting_in_reversed id before
+    (waiting_report_newest_first id before)
+    else waiting_report_newest_first id before
 
 -- the first and the second report of a pair
 pub record ReportPair : Type 0 where
@@ -43,12 +43,12 @@ pair_with second None = []
 pair_with second (Some first) = record { first = first; second = second } ∷ []
 
 -- the pairs, in the order of their second reports
-abbrev pub pairs_in_reversed : List Report → List ReportPair
-pairs_in_reversed [] = []
-pairs_in_reversed (report ∷ before) =
-    pairs_in_reversed before
+abbrev pub report_pairs_newest_first : List Report → List ReportPair
+report_pairs_newest_first [] = []
+report_pairs_newest_first (report ∷ before) =
+    report_pairs_newest_first before
     ++ pair_with (record { place = length before + 1; report = report })
-    (waiting_in_reversed report.trade before)
+    (waiting_report_newest_first report.trade before)
 
 -- two reports agree: one is of the buy side and the other of the sell side, and quantity,
 -- price and symbol are equal
@@ -86,58 +86,60 @@ abbrev pub trades_of_pairs : List ReportPair → List TradeRecord
 trades_of_pairs listed = map (λ pair. trade_of_reports pair.first.report pair.second.report) listed
 
 -- the reports with their places, in log order
-abbrev pub placed_in_reversed : List Report → List PlacedReport
-placed_in_reversed [] = []
-placed_in_reversed (report ∷ before) =
-    placed_in_reversed before ++ record { place = length before + 1; report = report } ∷ []
+abbrev pub placed_reports_newest_first : List Report → List PlacedReport
+placed_reports_newest_first [] = []
+placed_reports_newest_first (report ∷ before) =
+    placed_reports_newest_first before ++ record { place = length before + 1; report = report } ∷ []
 
 abbrev pub is_report_at : ℕ → Option PlacedReport → Bool
 is_report_at place None = false
 is_report_at place (Some first) = first.place == place
 
 -- the least report that is first and has no second
-abbrev pub least_waiting_in_reversed : List Report → Option PlacedReport
-least_waiting_in_reversed all =
-    find (λ report. is_report_at report.place (waiting_in_reversed report.report.trade all))
-    (placed_in_reversed all)
+abbrev pub least_waiting_newest_first : List Report → Option PlacedReport
+least_waiting_newest_first all =
+    find (λ report. is_report_at report.place (waiting_report_newest_first report.report.trade all))
+    (placed_reports_newest_first all)
 
 -- a pair that disagrees: the second report, with the first one shown
-abbrev pub disagreement_of : ReportPair → LoneReport
+abbrev pub disagreement_of : ReportPair → UnpairedReport
 disagreement_of pair = record { place = pair.second.place; first = Some pair.first.place }
 
 -- the least disagreement
-abbrev pub disagreement_in_reversed : List Report → Option LoneReport
-disagreement_in_reversed all =
-    option_map disagreement_of (find pair_disagrees (pairs_in_reversed all))
+abbrev pub disagreement_newest_first : List Report → Option UnpairedReport
+disagreement_newest_first all =
+    option_map disagreement_of (find pair_disagrees (report_pairs_newest_first all))
 
 -- a report that is first and has no second
-abbrev pub lone_without_second : PlacedReport → LoneReport
-lone_without_second report = record { place = report.place; first = None }
+abbrev pub unpaired_without_second : PlacedReport → UnpairedReport
+unpaired_without_second report = record { place = report.place; first = None }
 
--- the first report that no other agrees with: the least second report that disagrees
--- with its first, and where there is none the least first report that has no second
-abbrev pub lone_report_in_reversed : List Report → Option LoneReport
-lone_report_in_reversed all =
-    option_or (disagreement_in_reversed all)
-    (option_map lone_without_second (least_waiting_in_reversed all))
+-- the least second report that disagrees with its first; where there is none, the least first
+-- report that has no second
+abbrev pub unpaired_report_newest_first : List Report → Option UnpairedReport
+unpaired_report_newest_first all =
+    option_or (disagreement_newest_first all)
+    (option_map unpaired_without_second (least_waiting_newest_first all))
 
 -- finding 4 at a report
-abbrev pub lone_finding : LoneReport → Finding
-lone_finding lone = finding_of [] (record { place = lone.place; evidence = Unpaired lone.first })
+abbrev pub unpaired_finding : UnpairedReport → Finding
+unpaired_finding lone =
+    finding_of [] (record { place = lone.place; evidence = Unpaired lone.first })
 
 -- the trades, or finding 4 in their place
-abbrev pub trades_unless_lone : Option LoneReport → List TradeRecord
+abbrev pub trades_unless_unpaired : Option UnpairedReport → List TradeRecord
     → Result (List TradeRecord) Finding
-trades_unless_lone None trades = Ok trades
-trades_unless_lone (Some lone) trades = Err (lone_finding lone)
+trades_unless_unpaired None trades = Ok trades
+trades_unless_unpaired (Some lone) trades = Err (unpaired_finding lone)
 
-abbrev pub pairing_in_reversed : List Report → Result (List TradeRecord) Finding
-pairing_in_reversed all =
-    trades_unless_lone (lone_report_in_reversed all) (trades_of_pairs (pairs_in_reversed all))
+abbrev pub pairing_newest_first : List Report → Result (List TradeRecord) Finding
+pairing_newest_first all =
+    trades_unless_unpaired (unpaired_report_newest_first all)
+    (trades_of_pairs (report_pairs_newest_first all))
 
 -- The trades of these reports, in the order of their second reports, or finding 4 in their place.
 unfoldable pub pairing : List Report → Result (List TradeRecord) Finding
-pairing reports = pairing_in_reversed (reverse reports)
+pairing reports = pairing_newest_first (reverse reports)
 
 -- what a trade log that has been read gives: its trades, or the finding that its reports don't pair
 abbrev pub result_of_paired : Paired → Result (List TradeRecord) Finding

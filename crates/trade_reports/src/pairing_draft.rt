@@ -8,7 +8,7 @@ ghost use Rattle.trade_reports.specs.declared.reports.Report.{Report};
 
 use crate::first_reports::FirstReports;
 use crate::pairs::{agree, trade_of};
-use crate::reports::{LoneReport, PlacedReport, Report};
+use crate::reports::{PlacedReport, Report, UnpairedReport};
 use audit_base::faults::NoMemory;
 use audit_base::findings::Finding;
 use audit_base::records::TradeRecord;
@@ -23,7 +23,7 @@ use std::alloc::Global;
 pub struct PairingDraft<K> {
     count: u32,
     firsts: FirstReports,
-    lone: Option<LoneReport>,
+    lone: Option<UnpairedReport>,
     trades: K,
 }
 
@@ -49,7 +49,7 @@ fn hand_on_pair<K: Collector<Entry = TradeRecord>>(
 // Takes a pair: hands on its trade, unless it or a pair before it disagrees.
 fn take_pair<K: Collector<Entry = TradeRecord>>(
     trades: &mut K,
-    lone: &mut Option<LoneReport>,
+    lone: &mut Option<UnpairedReport>,
     first: &PlacedReport,
     place: u32,
     second: &Report,
@@ -63,7 +63,7 @@ fn take_pair<K: Collector<Entry = TradeRecord>>(
     }
     if !agree(&first.report, second) {
         let first = Some(first.place);
-        *lone = Some(LoneReport { place, first });
+        *lone = Some(UnpairedReport { place, first });
         return Ok(());
     }
     hand_on_pair(trades, &first.report, second)
@@ -74,7 +74,7 @@ fn take_pair<K: Collector<Entry = TradeRecord>>(
 fn take_with_earlier<K: Collector<Entry = TradeRecord>>(
     firsts: &mut FirstReports,
     trades: &mut K,
-    lone: &mut Option<LoneReport>,
+    lone: &mut Option<UnpairedReport>,
     place: u32,
     report: &Report,
 ) -> Result<(), NoMemory>
@@ -95,7 +95,7 @@ fn take_with_earlier<K: Collector<Entry = TradeRecord>>(
 fn take_other<K: Collector<Entry = TradeRecord>>(
     firsts: &mut FirstReports,
     trades: &mut K,
-    lone: &mut Option<LoneReport>,
+    lone: &mut Option<UnpairedReport>,
     place: u32,
     report: &Report,
 ) -> Result<(), NoMemory>
@@ -117,7 +117,7 @@ fn take_other<K: Collector<Entry = TradeRecord>>(
 fn take_report<K: Collector<Entry = TradeRecord>>(
     firsts: &mut FirstReports,
     trades: &mut K,
-    lone: &mut Option<LoneReport>,
+    lone: &mut Option<UnpairedReport>,
     place: u32,
     report: &Report,
 ) -> Result<(), NoMemory>

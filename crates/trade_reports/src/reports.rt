@@ -2,7 +2,7 @@
 ghost use Rattle.std.specs.Prelude.{◌≡◌, Some};
 ghost use Rattle.trade_reports.specs.Drafts.{report_at};
 ghost use Rattle.trade_reports.specs.Reports.{report_to};
-ghost use Rattle.trade_reports.specs.Pairings.{lone_finding, lone_without_second};
+ghost use Rattle.trade_reports.specs.Pairings.{unpaired_finding, unpaired_without_second};
 
 use audit_base::findings::Finding;
 use audit_base::flaws::{Evidence, Flaw};
@@ -62,15 +62,15 @@ pub struct PlacedReport {
 /// A report that no other agrees with, by its place, and the place of the first report
 /// of its pair where it is the second.
 #[derive(Clone, Copy)]
-pub struct LoneReport {
+pub struct UnpairedReport {
     pub place: u32,
     pub first: Option<u32>,
 }
 
-impl LoneReport {
+impl UnpairedReport {
     /// Finding 4.
     pub(crate) fn finding(self) -> Finding
-        ensures { result ≡ lone_finding self }
+        ensures { result ≡ unpaired_finding self }
     {
         let evidence = Evidence::Unpaired(self.first);
         let place = self.place;
@@ -80,10 +80,10 @@ impl LoneReport {
 
 impl PlacedReport {
     /// What it is where it has no second report.
-    pub(crate) fn without_second(&self) -> LoneReport
-        ensures { result ≡ lone_without_second self.now }
+    pub(crate) fn without_second(&self) -> UnpairedReport
+        ensures { result ≡ unpaired_without_second self.now }
     {
-        LoneReport {
+        UnpairedReport {
             place: self.place,
             first: None,
         }

@@ -3,7 +3,7 @@ ghost use Rattle.std.specs.Prelude.{◌<◌, ◌-◌, ◌^◌, IfOk};
 ghost use Rattle.audit_base.specs.declared.terms.VolumeRule.TheVariants.{Uniform};
 ghost use Rattle.audit_base.specs.Orders.{IsOrderList};
 ghost use Rattle.audit_base.specs.Deals.{IsDealList};
-ghost use Rattle.call_auction.specs.Audits.{IsGreatestOf, IsAuditedCall};
+ghost use Rattle.call_auction.specs.Audits.{IsGreatestOf, IsCallOutcome};
 
 use audit_base::faults::NoMemory;
 use audit_base::orders::{Cut, Deal};
@@ -40,7 +40,7 @@ pub fn audit_uniform(
     requires order_list { IsOrderList orders.now }
     requires deal_list { IsDealList orders.now deals.now }
     requires few { count < 2 ^ 32 - 1 }
-    ensures { IfOk result (IsAuditedCall Uniform orders.now deals.now count) }
+    ensures { IfOk result (IsCallOutcome Uniform orders.now deals.now count) }
 {
     let most = greatest_of(alloc, orders)?;
     audit_call(alloc, VolumeRule::Uniform, orders, deals, count, most)

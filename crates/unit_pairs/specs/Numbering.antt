@@ -23,7 +23,7 @@ unit_pair_price orders (Same price) ask = price
 unit_pair_price orders AskLimit ask = limit_at orders ask
 
 -- a pair of an ask of the orders, of a quantity from 1 to 10^12
-pub record IsUnitPairDealt (orders : List Order) (p : UnitPair) : Type 0 where
+pub record IsUnitPairInRange (orders : List Order) (p : UnitPair) : Type 0 where
   pub ask_inside : p.ask < length orders
   pub some : 0 < p.quantity
   pub most : p.quantity ≤ 10 ^ 12

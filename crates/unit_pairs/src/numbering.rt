@@ -1,6 +1,6 @@
 //! The deals of pairs, numbered in their order.
 ghost use Rattle.std.specs.Prelude.{◌≡◌, ◌<◌, ◌≤◌, ◌^◌, IfOk, All, length};
-ghost use Rattle.unit_pairs.specs.Numbering.{AreUnitPairDeals, IsUnitPairDealt, unit_pair_price};
+ghost use Rattle.unit_pairs.specs.Numbering.{AreUnitPairDeals, IsUnitPairInRange, unit_pair_price};
 
 use super::meeting::UnitPair;
 use audit_base::faults::NoMemory;
@@ -49,7 +49,7 @@ pub fn number_pairs(
     price: &DealPrice,
 ) -> Result<Vec<Deal>, NoMemory>
     requires few { length pairs.now < 2 ^ 32 }
-    requires pairs { All (IsUnitPairDealt orders.now) pairs.now }
+    requires pairs { All (IsUnitPairInRange orders.now) pairs.now }
     ensures { IfOk result (λ deals. AreUnitPairDeals orders.now price.now pairs.now deals.items) }
 {
     let mut deals = Vec::with_capacity(alloc, pairs.len())?;

@@ -8,7 +8,7 @@ use Rattle.audit_base.specs.declared.terms.Rule.TheVariants as rule
 use Rattle.audit_base.specs.declared.terms.CallRule.TheVariants as call
 use Rattle.audit_base.specs.declared.terms.Side.TheVariants.{Buy, Sell}
 use Rattle.audit_base.specs.declared.terms.VolumeRule.TheVariants as of_volume
-use Rattle.audit_base.specs.Continuous.{before_quantity_by_past, entered_by_past, left_before_by_past, rests_before_by_past, size_by_past, traded_before}
+use Rattle.audit_base.specs.Continuous.{chain_traded_in_ledger, entered_in_ledger, left_before_in_ledger, rests_before_in_ledger, size_in_ledger, traded_before}
 use Rattle.audit_base.specs.Deals.{DealsInRange}
 use Rattle.audit_base.specs.Expected.{available_quantity, orders_meet, pair_deals, pair_share, resting_limit, incoming_share, IsExpectedContinuous}
 use Rattle.audit_base.specs.Orders.{order_at, place_at, side_at, quantity_at, order_past_end, same_side, OrdersInRange}
@@ -21,17 +21,17 @@ use Rattle.verdict_laws.specs.Existence.{ConformingListExists, HistoryHasConform
 
 -- Expected trades of continuous trading trade at most what an order has, at a limit.
 module _ (orders : List Order) (past : ℕ → ℕ → ℕ) where
-  size-if-most : (b : Bool) (i : ℕ) → cond b (quantity_at orders i - before_quantity_by_past orders past i) 0 ≤ quantity_at orders i
+  size-if-most : (b : Bool) (i : ℕ) → cond b (quantity_at orders i - chain_traded_in_ledger orders past i) 0 ≤ quantity_at orders i
   size-if-most true i = omega arith
   size-if-most false i = omega arith
 
-  size-most : (i : ℕ) → size_by_past orders past i ≤ quantity_at orders i
-  unfolding size_by_past
-  size-most i = size-if-most (entered_by_past orders past i) i
+  size-most : (i : ℕ) → size_in_ledger orders past i ≤ quantity_at orders i
+  unfolding size_in_ledger
+  size-most i = size-if-most (entered_in_ledger orders past i) i
 
   available-most : (n r : ℕ) → available_quantity orders past n r ≤ quantity_at orders r
   unfolding available_quantity
-  available-most n r = cond_both (orders_meet (order_at orders n) (order_at orders r) && rests_before_by_past orders past (place_at orders n) r) (left_before_by_past orders past (place_at orders n) r) 0 (λ x. x ≤ quantity_at orders r)
+  available-most n r = cond_both (orders_meet (order_at orders n) (order_at orders r) && rests_before_in_ledger orders past (place_at orders n) r) (left_before_in_ledger orders past (place_at orders n) r) 0 (λ x. x ≤ quantity_at orders r)
       (λ t. let m = size-most r in omega arith) (λ t. omega arith)
 
   share-most : (most n r : ℕ) → quantity_at orders r ≤ most → incoming_share orders past n r ≤ most

@@ -16,8 +16,8 @@ use Rattle.audit_base.specs.Deals.{NamesOrders}
 use Rattle.audit_base.specs.Histories.{history_finding, order_list}
 use Rattle.audit_base.specs.Least.{first_answer, least_answer}
 use Rattle.audit_base.specs.Orders.{order_past_end}
-use Rattle.audit_base.specs.Trades.{unsound_trade, deals_of_symbol}
-use Rattle.audit_base.specs.Verdicts.{IsRuleVerdict, instant_order_finding, pairing_finding, paired_trades, log_finding}
+use Rattle.audit_base.specs.Trades.{trades_finding, deals_of_symbol}
+use Rattle.audit_base.specs.Verdicts.{IsRuleFinding, instant_finding_of_rule, pairing_finding, paired_trades, finding_before_rule}
 use Rattle.audit_base.proofs.ContinuousOffenceLemmas.{no_faults-conform, no_faults-conforms}
 use Rattle.audit_base.proofs.HistoryLemmas.{order_list-is}
 use Rattle.audit_base.proofs.LeastLemmas.{cases_Option, least-found, option_or-parts}
@@ -27,7 +27,7 @@ use Rattle.verdict_laws.specs.Existence.{RuleVerdictExists, VerdictExists}
 
 -- in continuous trading the least place with a finding decides; behind the last place there is none
 continuous-verdict : (orders : List Order) (deals : List Deal) (count : ℕ) → All (NamesOrders orders) deals
-    → (v : Option Finding) × IsRuleVerdict rule.Continuous orders deals count v
+    → (v : Option Finding) × IsRuleFinding rule.Continuous orders deals count v
 continuous-verdict orders deals count named =
     let last = sum_by (λ (o : Order). o.place) orders in
     elim (cases_Option (least_answer (finding_at_place orders deals) (suc last))) [
@@ -53,19 +53,19 @@ module _ (symbol : List ℕ) (entries : List OrderRecord) (trades : Result (List
 
   -- what the verdict is where the stages before the rule have this finding
   abbrev by_rule : Rule → Option Finding → Option Finding → Type 0
-  by_rule the_rule v found = MatchOption found (IsRuleVerdict the_rule orders deals (length (paired_trades trades)) v) (λ f. v ≡ Some f)
+  by_rule the_rule v found = MatchOption found (IsRuleFinding the_rule orders deals (length (paired_trades trades)) v) (λ f. v ≡ Some f)
 
-  is-sound : (the_rule : Rule) → log_finding the_rule symbol entries trades ≡ None → unsound_trade orders symbol (paired_trades trades) ≡ None
+  is-sound : (the_rule : Rule) → finding_before_rule the_rule symbol entries trades ≡ None → trades_finding orders symbol (paired_trades trades) ≡ None
   is-sound the_rule none =
-      let last = unsound_trade orders symbol (paired_trades trades) in
-      let formed = option_or-parts (history_finding symbol entries) (first_answer (instant_order_finding the_rule orders ∷ pairing_finding trades ∷ last ∷ [])) none in
-      let later = option_or-parts (instant_order_finding the_rule orders) (first_answer (pairing_finding trades ∷ last ∷ [])) formed.1 in
+      let last = trades_finding orders symbol (paired_trades trades) in
+      let formed = option_or-parts (history_finding symbol entries) (first_answer (instant_finding_of_rule the_rule orders ∷ pairing_finding trades ∷ last ∷ [])) none in
+      let later = option_or-parts (instant_finding_of_rule the_rule orders) (first_answer (pairing_finding trades ∷ last ∷ [])) formed.1 in
       let latest = option_or-parts (pairing_finding trades) (first_answer (last ∷ [])) later.1 in
       (option_or-parts last None latest.1).0
 
 -- two logs that have been read have the first finding before the rule, or the verdict of the rule
 pub logs-verdict : RuleVerdictExists → VerdictExists
-logs-verdict exists the_rule symbol entries trades few ranges range = elim (cases_Option (log_finding the_rule symbol entries trades)) [
+logs-verdict exists the_rule symbol entries trades few ranges range = elim (cases_Option (finding_before_rule the_rule symbol entries trades)) [
   | inr (f, some) ↦ (Some f, subst (by_rule symbol entries trades the_rule (Some f)) (sym some) refl)
   | inl none ↦
       let sound = is-sound symbol entries trades the_rule none in

@@ -12,7 +12,7 @@ use Rattle.audit_base.specs.Deals.{NamesOrders, DealsInRange}
 use Rattle.audit_base.specs.Rules.{Conforms}
 use Rattle.audit_base.specs.Histories.{WellFormed, order_list, Regular}
 use Rattle.audit_base.specs.Trades.{TradesInRange}
-use Rattle.audit_base.specs.Verdicts.{paired_trades, IsRuleVerdict, IsVerdict}
+use Rattle.audit_base.specs.Verdicts.{paired_trades, IsRuleFinding, IsRecordFinding}
 
 -- the order list is regular, where the rule is that of continuous trading, which asks for it
 abbrev pub RegularIfContinuous : Rule → List Order → Type 0
@@ -36,7 +36,7 @@ abbrev pub RuleVerdictExists : Type 0
 RuleVerdictExists = (the_rule : Rule) (orders : List Order) (deals : List Deal) (count : ℕ)
     → IsOrderList orders → OrdersInRange orders → All (NamesOrders orders) deals
     → DealsInRange deals
-    → (verdict : Option Finding) × IsRuleVerdict the_rule orders deals count verdict
+    → (verdict : Option Finding) × IsRuleFinding the_rule orders deals count verdict
 
 -- under each of the five rules two logs that have been read have a verdict
 abbrev pub VerdictExists : Type 0
@@ -44,12 +44,13 @@ VerdictExists = (the_rule : Rule) (symbol : List ℕ) (entries : List OrderRecor
     (trades : Result (List TradeRecord) Finding)
     → length entries < 2 ^ 32 → OrdersInRange (order_list symbol entries)
     → TradesInRange (paired_trades trades)
-    → (verdict : Option Finding) × IsVerdict the_rule symbol entries trades verdict
+    → (verdict : Option Finding) × IsRecordFinding the_rule symbol entries trades verdict
 
 -- and at most one
 abbrev pub VerdictIsTheOnlyOne : Type 0
 VerdictIsTheOnlyOne = (the_rule : Rule) (symbol : List ℕ) (entries : List OrderRecord)
     (trades : Result (List TradeRecord) Finding) (one other : Option Finding)
     → TradesInRange (paired_trades trades)
-    → IsVerdict the_rule symbol entries trades one → IsVerdict the_rule symbol entries trades other
+    → IsRecordFinding the_rule symbol entries trades one
+    → IsRecordFinding the_rule symbol entries trades other
     → one ≡ other

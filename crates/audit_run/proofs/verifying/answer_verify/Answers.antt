@@ -5,7 +5,7 @@ use Rattle.audit_run.specs.Certificates.{IsVerifyAnswer}
 use Rattle.audit_run.specs.Deciding.{request_to_verify}
 use Rattle.audit_run.specs.Requests.{log_read_at}
 use Rattle.record_verdict.specs.Scopes.{call_scope}
-use Rattle.log_verdict.specs.LogVerdicts.{log_in, trade_log}
+use Rattle.log_verdict.specs.LogVerdicts.{log_in, trades_of_trade_log}
 use Rattle.log_verdict.specs.Steps.{reading_by}
 use Rattle.audit_run.proofs.BothLogsLemmas.{both_stop, both_text}
 use Rattle.audit_run.proofs.CertificateLemmas.{bad_trades, both_read, decides_certificate, later_certificate, within_certificate}
@@ -21,7 +21,7 @@ returns-then-is_malformed-clause-decides g c =
     _ _
     (λ logs short come. subst (λ (bytes : List ℕ). IsVerifyAnswer c.args.symbol.now (log_in c.args.orders.now.form (log_read_at logs 0)) (log_in c.args.trades.now.form (log_read_at logs 1)) bytes
     c.in_ok-verify_answer-in-Ok.field-0.status c.in_ok-verify_answer-in-Ok.field-0.text.items) (sym short) (c.in_ok-verify_answer-in-Ok.ensures _ _ come))
-    (λ first second entries e come. rw (bad_trades (call_scope c.args.symbol.now) entries (trade_log c.args.trades.now.form second) c.in-Ok.reached come malformed) refl)
+    (λ first second entries e come. rw (bad_trades (call_scope c.args.symbol.now) entries (trades_of_trade_log c.args.trades.now.form second) c.in-Ok.reached come malformed) refl)
     (λ logs is. verify-status _ _ _ _ _ _ is) c.in-Ok.ensures.decides
 
 pub returns-else-is_malformed-clause-decides : goal.returns-else-is_malformed-clause-decides

@@ -3,7 +3,7 @@ use Rattle.std.proofs.lemmas.Result.{IfOk-weaker}
 use Rattle.continuous_audit.specs.declared.pairs.FillPair.{FillPair}
 use Rattle.continuous_audit.specs.Endings.{AreEndings}
 use Rattle.continuous_audit.specs.Matching.{AreTradesAtStart}
-use Rattle.continuous_audit.specs.Pairs.{AreFillPairDeals, IsFillPairDealt}
+use Rattle.continuous_audit.specs.Pairs.{AreFillPairDeals, IsFillPairInRange}
 use Rattle.continuous_audit.proofs.ExpectingLemmas.{matched-first, sorted-dealt, sorted-length, made-expected, made-conforms, made-listed}
 use Rattle.continuous_audit.proofs.expecting.continuous_matching.Goals as goal
 
@@ -27,7 +27,7 @@ pub number_pairs-requires-clause-dealt : goal.number_pairs-requires-clause-dealt
 number_pairs-requires-clause-dealt c =
     let pairs = c.match_records.new.so_far.pairs.items in
     let sorted = c.sort_pairs.new.pairs.items in
-    subst (All (IsFillPairDealt (length c.args.orders.now))) (sym c.deref-2.ensures.value)
+    subst (All (IsFillPairInRange (length c.args.orders.now))) (sym c.deref-2.ensures.value)
     (sorted-dealt c.args.orders.now c.requires.order_list c.requires.regular pairs sorted c.in_ok-sort_pairs.ensures.moved c.in_ok-sort_pairs.ensures.sorted (λ deals is. (c.in_ok-match_records.ensures.matched deals is).pairs) c.in_ok-match_records.ensures.counted.dealt)
 
 pub returns-clause-expected : goal.returns-clause-expected

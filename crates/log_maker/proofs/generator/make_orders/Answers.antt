@@ -1,6 +1,6 @@
 use Rattle.std.proofs.Common.{◌≡◌, sym, ap, ◌∙◌, arith, subst, length}
 use Rattle.std.specs.Prelude.{None}
-use Rattle.audit_base.specs.Histories.{WellFormed, Regular, order_list, instant_order}
+use Rattle.audit_base.specs.Histories.{WellFormed, Regular, order_list, instant_order_finding}
 use Rattle.log_maker.specs.Generator.{AreOfSymbol, generated_records, generated_symbol}
 use Rattle.log_maker.proofs.GeneratorLemmas.{state-first, step-is, all-made}
 use Rattle.log_maker.proofs.HistoryOfGenerated.{count-is, all-of-symbol, well_formed, regular, all-rest}
@@ -32,4 +32,4 @@ pub returns-clause-regular : goal.returns-clause-regular
 returns-clause-regular c = subst (λ entries. Regular (order_list generated_symbol entries)) (sym (made c)) (regular c.args.start c.args.count c.requires.count.most)
 
 pub returns-clause-resting : goal.returns-clause-resting
-returns-clause-resting c = subst (λ entries. instant_order (order_list generated_symbol entries) ≡ None) (sym (made c)) (all-rest c.args.start c.args.count c.requires.count.most)
+returns-clause-resting c = subst (λ entries. instant_order_finding (order_list generated_symbol entries) ≡ None) (sym (made c)) (all-rest c.args.start c.args.count c.requires.count.most)

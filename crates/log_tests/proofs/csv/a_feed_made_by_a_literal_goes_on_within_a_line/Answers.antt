@@ -3,7 +3,7 @@ use Rattle.std.specs.Prelude.{codes, length}
 use Rattle.audit_base.specs.declared.records.OrderRecord.{OrderRecord}
 use Rattle.audit_base.specs.Columns.{order_columns}
 use Rattle.csv_logs.specs.Lines.{Line, nonempty_lines}
-use Rattle.csv_logs.specs.Logs.{csv_order_log, read_lines, read_csv_log}
+use Rattle.csv_logs.specs.Logs.{csv_order_records, read_lines, read_csv_log}
 use Rattle.csv_logs.specs.OrderLines.{order_of_row}
 use Rattle.csv_logs.specs.Feeds.{HasNoBadLine}
 use Rattle.log_tests.proofs.csv.a_feed_made_by_a_literal_goes_on_within_a_line.Goals as goal
@@ -21,7 +21,7 @@ any-size : (lines : List Line) (size : ℕ) (entries : List OrderRecord) → rea
 any-size [] size entries e = absurd (cc e)
 any-size (first ∷ lines) size entries e = e
 
-open-within : (entries : List OrderRecord) → csv_order_log first_lines ≡ Ok entries
+open-within : (entries : List OrderRecord) → csv_order_records first_lines ≡ Ok entries
     → HasNoBadLine order_columns order_of_row entries second_line 89 true (first_lines ++ second_line)
 unfolding read_csv_log
 open-within entries reads = record {
@@ -34,7 +34,7 @@ open-within entries reads = record {
 }
 
 -- the literal is a feed of these records, within a line
-stands : (entries : List OrderRecord) (new all : List ℕ) → csv_order_log first_lines ≡ Ok entries → new ≡ [] → all ≡ new ++ second_line
+stands : (entries : List OrderRecord) (new all : List ℕ) → csv_order_records first_lines ≡ Ok entries → new ≡ [] → all ≡ new ++ second_line
     → HasNoBadLine order_columns order_of_row entries all 89 true (first_lines ++ second_line)
 stands entries new all reads none rest =
     subst (λ (r : List ℕ). HasNoBadLine order_columns order_of_row entries r 89 true (first_lines ++ second_line)) (sym (rest ∙ ap (λ (t : List ℕ). t ++ second_line) none))

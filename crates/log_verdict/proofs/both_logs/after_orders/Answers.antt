@@ -1,5 +1,5 @@
 use Rattle.std.proofs.Common.{ap, sym, ◌∙◌}
-use Rattle.record_verdict.specs.Scopes.{unadmitted_order}
+use Rattle.record_verdict.specs.Scopes.{unadmitted_order_finding}
 use Rattle.log_verdict.proofs.AuditLemmas.{admitted, history_found, order_found}
 use Rattle.log_verdict.proofs.both_logs.after_orders.Goals as goal
 
@@ -8,14 +8,14 @@ end-requires g c = (c.requires.place.entries, c.requires.place.has)
 
 pub returns-in-Some-clause-decides : goal.returns-in-Some-clause-decides
 returns-in-Some-clause-decides g c = λ entries has.
-    let refused = ap (unadmitted_order c.args.scope.now.admission) (sym c.orders.ensures.same) ∙ sym c.first_unadmitted-unadmitted.ensures ∙ c.in-Some.is in
+    let refused = ap (unadmitted_order_finding c.args.scope.now.admission) (sym c.orders.ensures.same) ∙ sym c.first_unadmitted-unadmitted.ensures ∙ c.in-Some.is in
     c.after_finding.ensures.decides entries
     (order_found c.args.scope.now g.S.AuditedSymbol.symbol entries c.in-Ok.history c.in-Some.finding c.requires.symbol
     (c.in-Ok.ensures.well_formed entries has) (c.in-Ok.ensures.orders entries has) refused)
 
 pub returns-in-None-clause-decides : goal.returns-in-None-clause-decides
 returns-in-None-clause-decides g c = λ entries has.
-    let admits = ap (unadmitted_order c.args.scope.now.admission) (sym c.orders.ensures.same) ∙ sym c.first_unadmitted-unadmitted.ensures ∙ c.in-None.is in
+    let admits = ap (unadmitted_order_finding c.args.scope.now.admission) (sym c.orders.ensures.same) ∙ sym c.first_unadmitted-unadmitted.ensures ∙ c.in-None.is in
     c.after_history.ensures.decides entries
     (admitted c.args.scope.now g.S.AuditedSymbol.symbol entries c.in-Ok.history c.requires.symbol (c.in-Ok.ensures.well_formed entries has) (c.in-Ok.ensures.orders entries has) admits)
 

@@ -3,7 +3,7 @@ use Rattle.std.specs.Prelude.{replicate}
 use Rattle.audit_base.specs.Deals.{deal_at}
 use Rattle.audit_base.specs.Continuous.{cause}
 use Rattle.session_audit.specs.Phases.{phase_deals}
-use Rattle.session_audit.specs.PhaseOrders.{phase_orders}
+use Rattle.session_audit.specs.PhaseOrders.{phase_list_at}
 use Rattle.session_audit.proofs.ListBelowLemmas.{length-list_below}
 use Rattle.session_audit.proofs.BrokenLemmas.{broken-phase}
 use Rattle.session_audit.proofs.DayLemmas.{IsReady, no-phases, small-so_far, long-so_far, ready, phase-passed}
@@ -33,7 +33,7 @@ judge_phase-requires c =
     let orders = c.args.orders.now in
     let deals = c.args.deals.now in
     let k = c.loop-index.index in
-    let here : c.list-own.result ≡ phase_orders phases orders deals k = c.list-own.ensures ∙ c.in_ok-list.ensures deals c.loop-index.invariant in
+    let here : c.list-own.result ≡ phase_list_at phases orders deals k = c.list-own.ensures ∙ c.in_ok-list.ensures deals c.loop-index.invariant in
     let picked : c.deref-in-loop-index.result.now ≡ phase_deals phases orders deals k = c.deref-in-loop-index.ensures.value ∙ c.in_ok-dealt.ensures
     ∙ dealt phases orders deals c.deref.result.now k c.first_place-first.result c.end_place-last.result (c.deref.ensures.value ∙ c.in_ok-causes.ensures.causes) c.first_place-first.ensures c.end_place-last.ensures in
     let is : IsReady orders c.list-own.result c.deref-in-loop-index.result.now c.end_place-last.result = ready phases c.requires.phases orders c.requires.order_list c.requires.regular deals c.requires.deal_list c.deals_in_range.ensures k c.loop-index-test.true
@@ -56,7 +56,7 @@ returns-in-Some c =
     let orders = c.args.orders.now in
     let deals = c.args.deals.now in
     let k = c.loop-index.index in
-    let here : c.list-own.result ≡ phase_orders phases orders deals k = c.list-own.ensures ∙ c.in_ok-list.ensures deals c.loop-index.invariant in
+    let here : c.list-own.result ≡ phase_list_at phases orders deals k = c.list-own.ensures ∙ c.in_ok-list.ensures deals c.loop-index.invariant in
     let picked : c.deref-in-loop-index.result.now ≡ phase_deals phases orders deals k = c.deref-in-loop-index.ensures.value ∙ c.in_ok-dealt.ensures
     ∙ dealt phases orders deals c.deref.result.now k c.first_place-first.result c.end_place-last.result (c.deref.ensures.value ∙ c.in_ok-causes.ensures.causes) c.first_place-first.ensures c.end_place-last.ensures in
     broken-phase phases orders deals c.args.count k c.in-Some.finding c.requires.admitted c.loop-index-test.true c.loop-index.so_far.traded.items c.loop-index.so_far.rest.items c.loop-index.invariant
@@ -68,7 +68,7 @@ loop-index-preserved c =
     let orders = c.args.orders.now in
     let deals = c.args.deals.now in
     let k = c.loop-index.index in
-    let here : c.list-own.result ≡ phase_orders phases orders deals k = c.list-own.ensures ∙ c.in_ok-list.ensures deals c.loop-index.invariant in
+    let here : c.list-own.result ≡ phase_list_at phases orders deals k = c.list-own.ensures ∙ c.in_ok-list.ensures deals c.loop-index.invariant in
     let picked : c.deref-in-loop-index.result.now ≡ phase_deals phases orders deals k = c.deref-in-loop-index.ensures.value ∙ c.in_ok-dealt.ensures
     ∙ dealt phases orders deals c.deref.result.now k c.first_place-first.result c.end_place-last.result (c.deref.ensures.value ∙ c.in_ok-causes.ensures.causes) c.first_place-first.ensures c.end_place-last.ensures in
     let none : c.in_ok-finding.field-0 ≡ None = c.in_default.is in

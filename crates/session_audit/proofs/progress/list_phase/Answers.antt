@@ -1,7 +1,7 @@
 use Rattle.std.proofs.Common.{◌≡◌, ◌∙◌, length, sym, ap, arith, subst}
 use Rattle.std.proofs.lemmas.Result.{IfOk-weaker}
 use Rattle.session_audit.specs.Phases.{first_place, end_place}
-use Rattle.session_audit.specs.PhaseOrders.{order_in_phase, order_count_upto}
+use Rattle.session_audit.specs.PhaseOrders.{role_in_phase, order_count_upto}
 use Rattle.session_audit.specs.Numbers.{number_at, WithinQuantities, total_of_chain, AreChainTotals}
 use Rattle.session_audit.specs.Entering.{amount_in_phase, amounts_below, phase_list_by_amounts}
 use Rattle.session_audit.proofs.ListBelowLemmas.{length-list_below}
@@ -27,7 +27,7 @@ list_orders-requires-clause-inside c =
     let e = c.order_count_upto-count.ensures in
     let m = upto-inside c.args.orders.now c.end_place-last.result in
     let long : length c.deref-4.result.now ≡ c.order_count_upto-count.result = ap length (c.deref-4.ensures.value ∙ c.in_ok-amounts.ensures)
-    ∙ length-list_below (λ i. amount_in_phase (order_in_phase c.args.orders.now c.first_place-first.result (number_at c.deref-2.result.now) (number_at c.deref-3.result.now) i)) c.order_count_upto-count.result in
+    ∙ length-list_below (λ i. amount_in_phase (role_in_phase c.args.orders.now c.first_place-first.result (number_at c.deref-2.result.now) (number_at c.deref-3.result.now) i)) c.order_count_upto-count.result in
     omega arith
 
 pub list_orders-requires-clause-most : goal.list_orders-requires-clause-most

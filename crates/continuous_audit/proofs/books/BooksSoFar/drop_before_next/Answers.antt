@@ -1,7 +1,7 @@
 use Rattle.std.proofs.Common.{suc, subst}
 use Rattle.audit_base.specs.Orders.{place_at}
 use Rattle.audit_base.specs.Continuous.{traded_before}
-use Rattle.continuous_audit.specs.Books.{ready_place}
+use Rattle.continuous_audit.specs.Books.{next_order_place}
 use Rattle.continuous_audit.specs.Endings.{AreEndingsBelow}
 use Rattle.continuous_audit.specs.Holding.{resting_left_before}
 use Rattle.continuous_audit.proofs.ReadyLemmas.{dropped-more, next-above, next-holds}
@@ -9,7 +9,7 @@ use Rattle.continuous_audit.proofs.books.BooksSoFar.drop_before_next.Goals as go
 
 pub returns-clause-dropped : goal.returns-clause-dropped
 returns-clause-dropped c =
-    dropped-more c.args.endings.now c.args.self.now.start c.drop_ended.new.self.start (suc (place_at c.args.orders.now c.args.order)) (ready_place c.args.orders.now (suc c.args.order)) c.requires.dropped
+    dropped-more c.args.endings.now c.args.self.now.start c.drop_ended.new.self.start (suc (place_at c.args.orders.now c.args.order)) (next_order_place c.args.orders.now (suc c.args.order)) c.requires.dropped
     (next-above c.args.orders.now c.requires.list c.args.order c.requires.order)
     (subst (AreEndingsBelow c.args.endings.now c.args.self.now.start c.drop_ended.new.self.start) c.next_place.ensures c.drop_ended.ensures.ended)
 

@@ -3,7 +3,7 @@ use Rattle.audit_base.specs.declared.flaws.Flaw.{Flaw}
 use Rattle.audit_base.specs.Orders.{place_at}
 use Rattle.continuous_audit.specs.Flaws.{IsFlawAt}
 use Rattle.continuous_audit.specs.Progress.{IsReadyNext}
-use Rattle.continuous_audit.specs.Records.{ConformsAndIsApart}
+use Rattle.continuous_audit.specs.Records.{ConformsAndIsUncrossed}
 use Rattle.continuous_audit.proofs.ReadyLemmas.{ready-here}
 use Rattle.continuous_audit.proofs.VerdictLemmas.{offence}
 use Rattle.continuous_audit.proofs.state.State.first_offence.Goals as goal
@@ -25,5 +25,5 @@ returns-in-Some-clause-found c =
     let orders = c.args.market.now.orders.now in
     let deals = c.args.market.now.deals.now in
     let is = subst (λ (f : Option Flaw). IfSome f (IsFlawAt c.args.market.now c.loop-order.order)) c.in-Some.is c.in_ok-place.ensures.found in
-    let calm = subst (ConformsAndIsApart orders deals) (ready-here orders c.loop-order.order (subst (λ (n : ℕ). c.loop-order.order < n) c.len-order-end.ensures c.loop-order-test.true)) c.loop-order.invariant.calm in
+    let calm = subst (ConformsAndIsUncrossed orders deals) (ready-here orders c.loop-order.order (subst (λ (n : ℕ). c.loop-order.order < n) c.len-order-end.ensures c.loop-order-test.true)) c.loop-order.invariant.calm in
     offence orders deals (place_at orders c.loop-order.order) c.finding.result calm (is.same ∙ ap Some (sym c.finding.ensures))

@@ -3,19 +3,19 @@ use Rattle.audit_base.specs.declared.orders.Order.{Order}
 use Rattle.audit_base.specs.Histories.{key_of}
 use Rattle.instruction_history.specs.Draft.{seen_as, target_among}
 use Rattle.order_list.specs.declared.keys.SeenRecord.{SeenRecord}
-use Rattle.order_list.specs.Keys.{seen_in, AddsKey, HasNumber}
+use Rattle.order_list.specs.Keys.{record_seen_in, AddsKey, HasNumber}
 use Rattle.instruction_history.proofs.SoFarLemmas.{target_by, clear-unseen, draft-found, draft-takes}
 use Rattle.instruction_history.proofs.history_so_far.HistorySoFar.take.Goals as goal
 
 pub returns-in-Some-clause-knows : goal.returns-in-Some-clause-knows
 returns-in-Some-clause-knows c =
-    let by : c.target_of-target.result ≡ target_by c.args.self.now c.args.entry.now = c.target_of-target.ensures.value ∙ ap (λ (orders : List Order). target_among orders (seen_in c.args.self.now.keys) c.args.entry.now) c.list.ensures.same in
+    let by : c.target_of-target.result ≡ target_by c.args.self.now c.args.entry.now = c.target_of-target.ensures.value ∙ ap (λ (orders : List Order). target_among orders (record_seen_in c.args.self.now.keys) c.args.entry.now) c.list.ensures.same in
     λ h is.
     draft-found h c.args.self.now c.args.place c.args.entry.now c.target_of-target.result c.key_of.result.now c.in_ok-added.added.earlier c.in-Some.evidence is by c.key_of.ensures c.in_ok-added.ensures.earlier c.in-Some.ensures.first
 
 pub returns-clause-knows : goal.returns-clause-knows
 returns-clause-knows c =
-    let by : c.target_of-target.result ≡ target_by c.args.self.now c.args.entry.now = c.target_of-target.ensures.value ∙ ap (λ (orders : List Order). target_among orders (seen_in c.args.self.now.keys) c.args.entry.now) c.list.ensures.same in
+    let by : c.target_of-target.result ≡ target_by c.args.self.now c.args.entry.now = c.target_of-target.ensures.value ∙ ap (λ (orders : List Order). target_among orders (record_seen_in c.args.self.now.keys) c.args.entry.now) c.list.ensures.same in
     let size : c.len.result ≡ length c.args.self.now.orders.items = omega (arith, c.len.ensures, c.args.self.now.orders.ok.0) in
     let clear = sym c.in_default.is ∙ c.record_evidence.ensures.first in
     let unseen : c.in_ok-added.added.earlier ≡ None = clear-unseen c.in_ok-added.added.earlier c.args.self.now.last c.args.entry.now c.target_of-target.result clear in
