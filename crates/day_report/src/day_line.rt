@@ -9,9 +9,9 @@ use std::alloc::Global;
 /// How many symbols of a day were judged, and what came of it.
 #[derive(Clone, Copy, Debug, PartialEq, Eq)]
 pub struct DayCounts {
-    pub symbols: u32,
-    pub accepted: u32,
-    pub rejected: u32,
+    pub symbols: u64,
+    pub accepted: u64,
+    pub rejected: u64,
 }
 
 /// `day,SYMBOLS,ACCEPTED,REJECTED,RULE`, with what the symbols were judged by in the place of

@@ -1,2 +1,5 @@
 pub mod SymbolLemmas
+pub mod PlaceLemmas
+pub mod KeptLemmas
+pub mod MetLemmas
 mod ShareLemmas

@@ -1,7 +1,7 @@
 -- Each symbol is in one share.
-use Rattle.std.proofs.Common.{◌≡◌, ℕ, ◌+◌, ◌-◌, ◌%◌, ◌<◌, ◌≤◌, ◌==◌, arith}
+use Rattle.std.proofs.Common.{◌≡◌, ◌+◌, ◌-◌, ◌%◌, arith}
 use Rattle.std.proofs.lemmas.Bool.{eqb-true, eq-eqb}
-use Rattle.day_symbols.specs.Laws.{IsOnlyShare, SharesAreTheDay}
+use Rattle.day_symbols.specs.Laws.{SharesAreTheDay}
 
 -- the share of the symbol at an index is the one whose number is one above the rest of the index
 pub shares-are : SharesAreTheDay

@@ -1,7 +1,7 @@
 -- Distinct names: one name more, and the laws.
-use Rattle.std.proofs.Common.{◌≡◌, ◌≢◌, ℕ, List, [], ◌∷◌, ◌++◌, ◌⊎◌, Bool, true, false, All, refl, sym, ap, subst, ◌∙◌, inl, inr, zero, suc, append-nil, cond, not, length, ◌<◌, get_or, arith}
+use Rattle.std.proofs.Common.{◌≡◌, ◌≢◌, ℕ, List, [], ◌∷◌, ◌++◌, Bool, true, false, All, refl, sym, ap, subst, ◌∙◌, inl, inr, zero, suc, append-nil, cond, not, arith}
 use Rattle.std.specs.List.{AllPairs, Contains, filter, list_any}
-use Rattle.std.proofs.lemmas.List.Elements.{All-nil, All-cons, All-head, All-filter, All-weaker, All-contains, All-contains_itself, Contains-append_cases, Contains-append_right, filter-append, filter_passes}
+use Rattle.std.proofs.lemmas.List.Elements.{All-nil, All-cons, All-head, All-filter, All-weaker, All-contains_itself, Contains-append_cases, Contains-append_right, filter-append, filter_passes}
 use Rattle.std.proofs.lemmas.List.Kept.{AllPairs-cons, AllPairs-filter}
 use Rattle.std.proofs.lemmas.Map.Views.{any-filter_same}
 use Rattle.std.proofs.lemmas.Slice.Eq.{bytes_eq-Decides}
@@ -17,10 +17,10 @@ is_other name other = not (same_name name other)
 abbrev pub with_name : List (List ℕ) → List ℕ → List (List ℕ)
 with_name names name = cond (list_any (same_name name) names) names (names ++ name ∷ [])
 
-same-is : (a b : List ℕ) → same_name a b ≡ true → a ≡ b
+pub same-is : (a b : List ℕ) → same_name a b ≡ true → a ≡ b
 same-is a b = (bytes_eq-Decides a b).0
 
-is-same : (a b : List ℕ) → a ≡ b → same_name a b ≡ true
+pub is-same : (a b : List ℕ) → a ≡ b → same_name a b ≡ true
 is-same a b = (bytes_eq-Decides a b).1
 
 -- names that are the same as another one are other than this one, if that is
@@ -59,7 +59,7 @@ distinct-more (name ∷ names) more =
     ∙ more-behind name more (distinct_names names) (same_name more name) (list_any (same_name more) (distinct_names names)) refl refl
 
 -- no name is there twice
-distinct-once : (names : List (List ℕ)) → AllPairs (λ (a b : List ℕ). a ≢ b) (distinct_names names)
+pub distinct-once : (names : List (List ℕ)) → AllPairs (λ (a b : List ℕ). a ≢ b) (distinct_names names)
 distinct-once [] = λ i j d lt inside. absurd (omega arith)
 distinct-once (name ∷ names) =
     AllPairs-cons (λ (a b : List ℕ). a ≢ b) name (filter (is_other name) (distinct_names names))
@@ -104,7 +104,7 @@ has-either name kept x true is has = subst (λ (z : List ℕ). Contains (name �
 has-either name kept x false is has = Contains-append_right (name ∷ []) (filter (is_other name) kept) x (has-kept (is_other name) kept x (ap not is) has)
 
 -- each name is there
-distinct-all : (names : List (List ℕ)) → All (Contains (distinct_names names)) names
+pub distinct-all : (names : List (List ℕ)) → All (Contains (distinct_names names)) names
 distinct-all [] = All-nil (Contains [])
 distinct-all (name ∷ names) =
     let rest = filter (is_other name) (distinct_names names) in

@@ -1,8 +1,7 @@
 -- The laws of a day's symbols, as statements.
-use Rattle.std.specs.Prelude.{◌≡◌, ◌≢◌, ◌<◌, ◌≤◌, ℕ, List, All, AllPairs, Contains, IsTrue}
+use Rattle.std.specs.Prelude.{◌≡◌, ◌≢◌, ◌≤◌, ℕ, List, All, AllPairs, Contains, IsTrue}
 use Rattle.audit_base.specs.declared.records.OrderRecord.{OrderRecord}
 use Rattle.audit_base.specs.declared.records.TradeRecord.{TradeRecord}
-use Rattle.audit_base.specs.Histories.{symbol_of}
 use Rattle.day_symbols.specs.Symbols.{symbols_of_day, symbols_of_logs}
 use Rattle.day_symbols.specs.Shares.{is_in_share}
 

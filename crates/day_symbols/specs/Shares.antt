@@ -1,7 +1,9 @@
 -- Shares of a day's symbols.
-use Rattle.std.specs.Prelude.{ℕ, Bool, ◌&&◌, ◌==◌, ◌+◌, ◌-◌, ◌%◌, ◌≤◌, Option, List, [], filter, length, map, nat_le}
+use Rattle.std.specs.Prelude.{ℕ, Bool, true, ◌&&◌, ◌==◌, ◌-◌, ◌%◌, ◌≤◌, Option, List, [], filter, length, map, nat_le, option_and_then, option_map, position, unwrap_or}
 use Rattle.std.specs.List.{range_with_len, slice_index_or}
 use Rattle.audit_base.specs.Least.{only_if}
+use Rattle.audit_base.specs.Names.{name_form}
+use Rattle.audit_base.specs.Orders.{same_name}
 
 -- A share number/count of a day.
 pub record DayShare : Type 0 where
@@ -32,7 +34,21 @@ whole_day = record { number = 1; count = 1 }
 abbrev pub is_in_share : DayShare → ℕ → Bool
 is_in_share share index = index % share.count == share.number - 1
 
+-- the indices of a share among the first so many, in order
+abbrev pub indices_in : DayShare → ℕ → List ℕ
+indices_in share count = filter (is_in_share share) (range_with_len 0 count)
+
+-- how many symbols of the share stand before the one at an index
+abbrev pub place_in : DayShare → ℕ → ℕ
+place_in share index = length (indices_in share index)
+
 -- the symbols of a share, in their order
 abbrev pub symbols_in : DayShare → List (List ℕ) → List (List ℕ)
-symbols_in share symbols = map (λ index. slice_index_or symbols index [])
-    (filter (is_in_share share) (range_with_len 0 (length symbols)))
+symbols_in share symbols =
+    map (λ index. slice_index_or symbols index []) (indices_in share (length symbols))
+
+-- the records of a symbol are looked at, unless it was met before and is outside the share
+abbrev pub is_looked_at : DayShare → List (List ℕ) → List ℕ → Bool
+is_looked_at share symbols text =
+    unwrap_or (option_map (is_in_share share)
+    (option_and_then (λ name. position (same_name name) symbols) (name_form text))) true

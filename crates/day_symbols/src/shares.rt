@@ -1,4 +1,6 @@
 //! Shares of a day's symbols, by which several runs or machines divide a day among them.
+use crate::symbols::Symbols;
+use audit_base::names::{Name, read_name};
 use std::marker::Model;
 
 /// The greatest number of shares of a day.
@@ -25,8 +27,8 @@ impl Model for Share {
 }
 
 impl Share {
-    ghost use Rattle.std.specs.Prelude.{◌≡◌};
-    ghost use Rattle.day_symbols.specs.Shares.{is_in_share, day_share_of, whole_day};
+    ghost use Rattle.std.specs.Prelude.{◌≡◌, ◌<◌, true, length, option_map, slice_get};
+    ghost use Rattle.day_symbols.specs.Shares.{is_in_share, is_looked_at, place_in, day_share_of, symbols_in, whole_day};
 
     /// The share number/count, where there is one.
     pub fn of(number: u32, count: u32) -> Option<Share>
@@ -54,5 +56,37 @@ impl Share {
         ensures { result ≡ is_in_share self index }
     {
         index % self.count as usize == (self.number - 1) as usize
+    }
+    /// How many symbols of the share stand before the one at this index, which is in the share.
+    pub fn place(self, index: usize) -> usize
+        requires { is_in_share self index ≡ true }
+        ensures { result ≡ place_in self index }
+    {
+        index / self.count as usize
+    }
+    /// Whether the records of the symbol are looked at: all but those of a symbol that was met before and is
+    /// outside the share. Of the whole day no symbol is looked up.
+    pub fn looks_at(self, symbols: &Symbols, symbol: &[u8]) -> bool
+        ensures { result ≡ is_looked_at self symbols.now symbol.now }
+    {
+        if self.count == 1 {
+            return true;
+        }
+        let Some(name) = read_name(symbol) else {
+            return true;
+        };
+        match symbols.find(&name) {
+            Some(index) => self.has(index),
+            None => true,
+        }
+    }
+    /// The symbol at a place among those of the share.
+    pub fn symbol_at(self, symbols: &Symbols, place: usize) -> Option<&Name>
+        requires { place < length (symbols_in self symbols.now) }
+        ensures { option_map (λ name. name.now) result ≡ slice_get (symbols_in self symbols.now) place }
+    {
+        // This call tells the proof that the index is below 2^64.
+        let _ = symbols.len();
+        symbols.at(place * self.count as usize + (self.number - 1) as usize)
     }
 }

@@ -6,7 +6,7 @@ use Rattle.audit_base.specs.declared.records.OrderRecord.{OrderRecord}
 use Rattle.audit_base.specs.Orders.{same_name}
 use Rattle.audit_base.specs.Histories.{symbol_of, history}
 use Rattle.instruction_history.specs.declared.history_so_far.HistorySoFar.{HistorySoFar}
-use Rattle.instruction_history.specs.Draft.{IsHistorySoFar, IsHistoryKnown, KnowsNextRecord, finding_in_history, record_of_symbol}
+use Rattle.instruction_history.specs.Draft.{IsHistorySoFar, IsHistoryKnown, finding_in_history, record_of_symbol}
 use Rattle.order_list.specs.Stored.{order_of}
 use Rattle.instruction_history.proofs.HistoryLemmas.{finding_in-append, history-push, length-orders}
 use Rattle.instruction_history.proofs.RecordLemmas.{Records}
@@ -22,7 +22,7 @@ not-of-it : (symbol : List ℕ) (place : ℕ) (x : OrderRecord) → same_name (s
 not-of-it symbol place x other = rw other refl
 
 -- a record of the symbol
-known-of : (symbol : List ℕ) (entries : List OrderRecord) (x : OrderRecord) (place : ℕ) (new : HistorySoFar) (found : Option Finding) → place ≡ length entries + 1 → same_name (symbol_of x) symbol ≡ true
+pub known-of : (symbol : List ℕ) (entries : List OrderRecord) (x : OrderRecord) (place : ℕ) (new : HistorySoFar) (found : Option Finding) → place ≡ length entries + 1 → same_name (symbol_of x) symbol ≡ true
     → IsHistoryKnown (history symbol entries ++ (place, x) ∷ []) new found → IsHistoryKnown (history symbol (entries ++ x ∷ [])) new found
 known-of symbol entries x place new found at same known =
     subst (λ (h : Records). IsHistoryKnown h new found) (sym (pushed symbol entries x place at ∙ ap (λ (h : Records). history symbol entries ++ h) (of-it symbol place x same))) known
@@ -51,10 +51,3 @@ few-known symbol entries d found none known = omega (arith, length-orders symbol
 
 pub size-more : (count : ℕ) (entries : List OrderRecord) (x : OrderRecord) → count ≡ length entries → count + 1 ≡ length (entries ++ x ∷ [])
 size-more count entries x is = simp length-append (omega (arith, is))
-
--- a record of the symbol was taken, and its finding, if it has one, is kept
-pub known-next : (symbol : List ℕ) (entries : List OrderRecord) (x : OrderRecord) (count : ℕ) (old new : HistorySoFar) (before found : Option Finding) → count ≡ length entries → before ≡ None
-    → same_name (symbol_of x) symbol ≡ true → IsHistoryKnown (history symbol entries) old before → KnowsNextRecord old new (count + 1) x found → IsHistoryKnown (history symbol (entries ++ x ∷ [])) new found
-known-next symbol entries x count old new before found counted none same known takes =
-    let place : count + 1 ≡ length entries + 1 = ap (λ (n : ℕ). n + 1) counted in
-    known-of symbol entries x (count + 1) new found place same (takes (history symbol entries) (so_far-known (history symbol entries) old before none known))

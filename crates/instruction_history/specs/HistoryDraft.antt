@@ -3,19 +3,17 @@ use Rattle.std.specs.Prelude.{◌≡◌, ℕ, List, [], ◌∷◌, ◌++◌, Som
 use Rattle.audit_base.specs.declared.records.OrderRecord.{OrderRecord}
 use Rattle.audit_base.specs.declared.findings.Finding.{Finding}
 use Rattle.audit_base.specs.declared.orders.Order.{Order}
-use Rattle.audit_base.specs.Histories.{history, history_finding, order_list}
+use Rattle.audit_base.specs.Histories.{history_finding, order_list}
 use Rattle.instruction_history.specs.declared.history_draft.HistoryDraft.{HistoryDraft}
-use Rattle.instruction_history.specs.Draft.{IsHistoryKnown}
-use Rattle.instruction_history.specs.Flaws.{flaw_finding, NamesNoOrder}
 use Rattle.instruction_history.specs.MarketPrices.{AreRecordsMarketPriced, AreMarketPriced}
+use Rattle.instruction_history.specs.SymbolHistory.{IsSymbolHistory}
 
 -- the draft of the symbol's history has been handed exactly these records of the order log
 pub record IsHistoryDraft {S : Type 0} (symbol : List ℕ) (draft : HistoryDraft S)
     (entries : List OrderRecord) : Type 0 where
   pub named : draft.symbol ≡ symbol
   pub count : draft.count ≡ length entries
-  pub known : IsHistoryKnown (history symbol entries) draft.so_far (flaw_finding draft.flaw)
-  pub alone : NamesNoOrder draft.flaw
+  pub kept : IsSymbolHistory symbol draft.kept entries
 
 -- a fact of whatever records the draft has been handed
 abbrev pub ForHandedRecords : {S : Type 0} → List ℕ → HistoryDraft S → (List OrderRecord → Type 0)

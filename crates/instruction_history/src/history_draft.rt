@@ -13,10 +13,9 @@ ghost use Rattle.instruction_history.specs.HistoryDraft.{IsHistoryDraft, ForHand
 ghost use Rattle.log_source.specs.Collectors.{HasPlace};
 
 use super::history::History;
-use super::history_so_far::HistorySoFar;
+use super::symbol_history::SymbolHistory;
 use audit_base::faults::NoMemory;
 use audit_base::findings::Finding;
-use audit_base::flaws::Flaw;
 use audit_base::names::Name;
 use audit_base::records::OrderRecord;
 use log_source::collector::Collector;
@@ -62,9 +61,7 @@ pub struct HistoryDraft<S> {
     symbol: Name,
     /// How many records of the log there were, of all symbols.
     count: u32,
-    /// What is known where there is no flaw.
-    so_far: HistorySoFar,
-    flaw: Option<Flaw>,
+    kept: SymbolHistory,
     of: PhantomData<S>,
 }
 
@@ -78,8 +75,7 @@ impl<S: AuditedSymbol> HistoryDraft<S> {
         HistoryDraft {
             symbol,
             count: 0,
-            so_far: HistorySoFar::new(alloc, seed),
-            flaw: None,
+            kept: SymbolHistory::new(alloc, seed),
             of: PhantomData,
         }
     }
@@ -90,14 +86,10 @@ impl<S: AuditedSymbol> HistoryDraft<S> {
         ensures { OnOk result (TakesRecord S.symbol self.old self.new entry.now) }
     {
         self.count += 1;
-        if let Some(_) = self.flaw {
-            return Ok(());
-        }
         if !has_symbol(entry, &self.symbol) {
             return Ok(());
         }
-        self.flaw = self.so_far.take(entry, self.count)?;
-        Ok(())
+        self.kept.take(entry, self.count)
     }
 
     /// The history, where it is well-formed, or else its first finding. Takes no memory.
@@ -110,15 +102,7 @@ impl<S: AuditedSymbol> HistoryDraft<S> {
     {
         // This read gives the proof that there are fewer than 2^32 records.
         let _ = self.count;
-        let HistoryDraft { so_far, flaw, .. } = self;
-        match flaw {
-            Some(flaw) => Err(flaw.finding()),
-            None => {
-                // This call gives the proof the ranges of the numbers.
-                so_far.list().in_range();
-                Ok(History::of(so_far))
-            }
-        }
+        self.kept.end()
     }
 }
 

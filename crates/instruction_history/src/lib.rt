@@ -15,3 +15,4 @@ mod findings;
 pub mod history;
 pub mod history_draft;
 mod history_so_far;
+pub mod symbol_history;

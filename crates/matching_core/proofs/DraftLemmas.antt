@@ -50,11 +50,10 @@ resolved-known orders h kept None none known = known
 resolved-known orders h kept (Some f) none known = absurd (cc none)
 
 -- a trade of the symbol was taken, and its finding, if it has one, is kept
-pub known-next : (orders : List Order) (symbol : List ℕ) (trades : List TradeRecord) (x : TradeRecord) (count : ℕ) (old new : SoundDeals) (before found : Option Finding) → count ≡ length trades → before ≡ None
-    → same_name x.symbol symbol ≡ true → AreTradesKnown orders (trades_of_symbol symbol trades) old before → KnowsNextTrade orders old new (count + 1) x found → AreTradesKnown orders (trades_of_symbol symbol (trades ++ x ∷ [])) new found
-known-next orders symbol trades x count old new before found counted none same known takes =
-    let place : count + 1 ≡ length trades + 1 = ap (λ (n : ℕ). n + 1) counted in
-    known-of orders symbol trades x (count + 1) new found place same (takes (trades_of_symbol symbol trades) (resolved-known orders (trades_of_symbol symbol trades) old before none known))
+pub known-next : (orders : List Order) (symbol : List ℕ) (trades : List TradeRecord) (x : TradeRecord) (place : ℕ) (old new : SoundDeals) (before found : Option Finding) → place ≡ length trades + 1 → before ≡ None
+    → same_name x.symbol symbol ≡ true → AreTradesKnown orders (trades_of_symbol symbol trades) old before → KnowsNextTrade orders old new place x found → AreTradesKnown orders (trades_of_symbol symbol (trades ++ x ∷ [])) new found
+known-next orders symbol trades x place old new before found at none same known takes =
+    known-of orders symbol trades x place new found at same (takes (trades_of_symbol symbol trades) (resolved-known orders (trades_of_symbol symbol trades) old before none known))
 
 pub size-more : (count : ℕ) (trades : List TradeRecord) (x : TradeRecord) → count ≡ length trades → count + 1 ≡ length (trades ++ x ∷ [])
 size-more count trades x is = simp length-append (omega (arith, is))

@@ -1,5 +1,5 @@
 -- The trades of a symbol one by one: what is known after some of them.
-use Rattle.std.specs.Prelude.{◌≡◌, ℕ, List, [], ◌∷◌, ◌++◌, Option, None, Some, is_none, map, option_map, length, if◌then◌else◌}
+use Rattle.std.specs.Prelude.{◌≡◌, ◌<◌, ◌+◌, ◌-◌, ◌^◌, ℕ, true, List, [], ◌∷◌, ◌++◌, Option, None, Some, is_none, map, option_map, length, if◌then◌else◌}
 use Rattle.std.specs.Option.{option_or}
 use Rattle.audit_base.specs.declared.terms.Side.TheVariants.{Buy, Sell}
 use Rattle.audit_base.specs.declared.records.TradeRecord.{TradeRecord}
@@ -14,6 +14,7 @@ use Rattle.audit_base.specs.Trades.{trades_of_symbol, trade_at, trade_place, dup
 use Rattle.instruction_history.specs.Flaws.{finding_at, flaw_finding, NamesNoOrder}
 use Rattle.matching_core.specs.declared.deals_so_far.DealsSoFar.{DealsSoFar}
 use Rattle.matching_core.specs.declared.sound_deals.SoundDeals.{SoundDeals}
+use Rattle.matching_core.specs.declared.symbol_deals.SymbolDeals.{SymbolDeals}
 use Rattle.matching_core.specs.declared.trade_ids.TradeIds.{TradeIds}
 use Rattle.matching_core.specs.IdOrder.{rising_place_of_id}
 use Rattle.matching_core.specs.MappedIds.{mapped_place_of_id}
@@ -68,13 +69,41 @@ abbrev pub AreTradesKnown : List Order → List (ℕ × TradeRecord) → SoundDe
 AreTradesKnown orders listed kept None = AreKeptOfTrades orders listed kept
 AreTradesKnown orders listed kept (Some finding) = finding_in_trades orders listed ≡ Some finding
 
+-- What is kept of the trades of one symbol.
+
+-- these are the deals of the symbol between these orders, after exactly these records of the trade
+-- log, of
+-- all symbols
+pub record IsSymbolDeals (orders : List Order) (symbol : List ℕ) (kept : SymbolDeals)
+    (trades : List TradeRecord) : Type 0 where
+  pub known : AreTradesKnown orders (trades_of_symbol symbol trades) kept.sound
+      (flaw_finding kept.flaw)
+  pub alone : NamesNoOrder kept.flaw
+
+-- a fact of every symbol and all records whose deals these are
+abbrev pub ForTrades : List Order → SymbolDeals → (List ℕ → List TradeRecord → Type 0) → Type 0
+ForTrades orders kept P = (symbol : List ℕ) (trades : List TradeRecord)
+    → IsSymbolDeals orders symbol kept trades → P symbol trades
+
+-- these are the deals of a symbol after some records, fewer than there are places
+pub record HasFewTrades (orders : List Order) (kept : SymbolDeals) : Type 0 where
+  pub symbol : List ℕ
+  pub trades : List TradeRecord
+  pub is : IsSymbolDeals orders symbol kept trades
+  pub few : length trades < 2 ^ 32 - 1
+
+-- of whatever symbol these were the deals, they are those with one trade of the symbol more, at its
+-- place
+abbrev pub TakesOwnTrade : List Order → SymbolDeals → SymbolDeals → ℕ → TradeRecord → Type 0
+TakesOwnTrade orders old new place trade = ForTrades orders old (λ symbol trades.
+    same_name trade.symbol symbol ≡ true → place ≡ length trades + 1
+    → IsSymbolDeals orders symbol new (trades ++ trade ∷ []))
+
 -- the symbol's part of exactly these records of the trade log is known
 pub record IsDealsSoFar {M : Type 0} (orders : List Order) (symbol : List ℕ)
     (so_far : DealsSoFar M) (trades : List TradeRecord) : Type 0 where
   pub count : so_far.count ≡ length trades
-  pub known : AreTradesKnown orders (trades_of_symbol symbol trades) so_far.sound
-      (flaw_finding so_far.flaw)
-  pub alone : NamesNoOrder so_far.flaw
+  pub kept : IsSymbolDeals orders symbol so_far.kept trades
 
 -- whatever records of the trade log were known, they are known with one more
 abbrev pub TakesTrade : {M : Type 0} → List Order → List ℕ → DealsSoFar M → DealsSoFar M

@@ -7,7 +7,6 @@
 //! them, by doubling.
 ghost use Rattle.std.specs.Prelude.{◌≡◌, ◌<◌, ◌-◌, ◌^◌, [], None, length};
 ghost use Rattle.audit_base.specs.Deals.{IsDealList, DealsInRange};
-ghost use Rattle.instruction_history.specs.Flaws.{flaw_finding, NamesNoOrder};
 ghost use Rattle.matching_core.specs.DealsDraft.{IsDealsDraft, ForHandedTrades, IsFindingOfTrades, AreDealsOf};
 ghost use Rattle.log_source.specs.Collectors.{HasPlace};
 
@@ -15,7 +14,6 @@ pub use super::deals_so_far::AuditedHistory;
 use super::deals_so_far::DealsSoFar;
 use audit_base::faults::NoMemory;
 use audit_base::findings::Finding;
-use audit_base::flaws::Flaw;
 use audit_base::names::Name;
 use audit_base::orders::Deal;
 use audit_base::records::TradeRecord;
@@ -42,17 +40,6 @@ pub struct ResolvedTrades {
     pub deals: Vec<Deal>,
     /// The first finding; then the deals say nothing.
     pub finding: Option<Finding>,
-}
-
-/// The finding of a flaw, if there is one.
-fn finding_of(flaw: Option<Flaw>) -> Option<Finding>
-    requires { NamesNoOrder flaw }
-    ensures { result ≡ flaw_finding flaw }
-{
-    match flaw {
-        Some(flaw) => Some(flaw.finding()),
-        None => None,
-    }
 }
 
 impl<M: AuditedHistory> DealsDraft<M> {
@@ -86,18 +73,8 @@ impl<M: AuditedHistory> DealsDraft<M> {
             so_far,
             ..
         } = self;
-        let DealsSoFar {
-            count,
-            sound,
-            flaw,
-            ..
-        } = so_far;
-        ResolvedTrades {
-            history,
-            count,
-            deals: sound.deals,
-            finding: finding_of(flaw),
-        }
+        let DealsSoFar { count, kept, .. } = so_far;
+        kept.end(history, count)
     }
 }
 

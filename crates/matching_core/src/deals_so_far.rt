@@ -6,9 +6,8 @@ ghost use Rattle.audit_base.specs.declared.records.TradeRecord.{TradeRecord};
 ghost use Rattle.log_source.specs.Collectors.{HasPlace};
 ghost use Rattle.matching_core.specs.DealsSoFar.{IsDealsSoFar, TakesTrade};
 
-use super::sound_deals::SoundDeals;
+use super::symbol_deals::SymbolDeals;
 use audit_base::faults::NoMemory;
-use audit_base::flaws::Flaw;
 use audit_base::names::Name;
 use audit_base::records::TradeRecord;
 use instruction_history::history::History;
@@ -45,9 +44,7 @@ fn has_symbol(trade: &TradeRecord, symbol: &Name) -> bool
 pub(crate) struct DealsSoFar<M> {
     /// How many records of the log there were, of all symbols.
     pub count: u32,
-    /// What is known where there is no flaw.
-    pub sound: SoundDeals,
-    pub flaw: Option<Flaw>,
+    pub kept: SymbolDeals,
     of: PhantomData<M>,
 }
 
@@ -58,8 +55,7 @@ impl<M: AuditedHistory> DealsSoFar<M> {
     {
         DealsSoFar {
             count: 0,
-            sound: SoundDeals::new(alloc, seed),
-            flaw: None,
+            kept: SymbolDeals::new(alloc, seed),
             of: PhantomData,
         }
     }
@@ -78,13 +74,9 @@ impl<M: AuditedHistory> DealsSoFar<M> {
         ensures { OnOk result (TakesTrade M.orders M.symbol self.old self.new trade.now) }
     {
         self.count += 1;
-        if let Some(_) = self.flaw {
-            return Ok(());
-        }
         if !has_symbol(trade, symbol) {
             return Ok(());
         }
-        self.flaw = self.sound.take(history, trade, self.count)?;
-        Ok(())
+        self.kept.take(history, trade, self.count)
     }
 }

@@ -8,6 +8,7 @@ ghost use Rattle.matching_core.specs.DealsSoFar.{IsDealsSoFar};
 use super::deals_so_far::{AuditedHistory, DealsSoFar};
 use super::outcomes::CheckFault;
 use super::sound_deals::SoundDeals;
+use super::symbol_deals::SymbolDeals;
 use audit_base::faults::NoMemory;
 use audit_base::names::Name;
 use audit_base::orders::Deal;
@@ -48,7 +49,8 @@ fn resolve_all<M: AuditedHistory>(
     requires few { length trades.now < 2 ^ 32 - 1 }
     ensures { IsResolveAnswer history.now symbol.now trades.now result }
 {
-    let DealsSoFar { sound, flaw, .. } = deals_after::<M>(alloc, history, trades, symbol)?;
+    let DealsSoFar { kept, .. } = deals_after::<M>(alloc, history, trades, symbol)?;
+    let SymbolDeals { sound, flaw } = kept;
     let SoundDeals { deals, .. } = sound;
     match flaw {
         Some(flaw) => Err(CheckFault::Found(flaw.finding())),

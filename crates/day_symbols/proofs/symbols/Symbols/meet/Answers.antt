@@ -1,6 +1,5 @@
 use Rattle.day_symbols.proofs.SymbolLemmas.{distinct_met}
-use Rattle.std.proofs.Common.{rules, ◌≡◌, ◌∷◌, ◌++◌, [], ℕ, List, OnErr, OnOk, IfOk, Some, ◌==◌, length, option_map, position, slice_get, ◌+◌, ◌-◌, ◌*◌, ◌<◌, ◌≤◌, ◌/◌, ◌%◌, Bool, true, false, nat_eq, nat_lt, slice_index_or, slice_set, bit_and, bit_or, Fits, w8, w32, w64, Bor, MutBor}
-use Rattle.audit_base.specs.Orders.{same_name}
+use Rattle.std.proofs.Common.{◌≡◌, ℕ, List}
 use Rattle.day_symbols.specs.Symbols.{distinct_names}
 use Rattle.day_symbols.proofs.symbols.Symbols.meet.Goals as goal
 

@@ -1,0 +1,53 @@
+-- What is known of the order log of a day after some of its records.
+use Rattle.std.specs.Prelude.{◌≡◌, ◌<◌, ◌^◌, ℕ, List, [], length, map}
+use Rattle.audit_base.specs.declared.records.OrderRecord.{OrderRecord}
+use Rattle.audit_base.specs.Histories.{symbol_of}
+use Rattle.day_symbols.specs.Kept.{AreForEach}
+use Rattle.day_symbols.specs.Shares.{DayShare, symbols_in}
+use Rattle.day_symbols.specs.Symbols.{distinct_names}
+use Rattle.day_orders.specs.declared.day_orders.DayOrders.{DayOrders}
+use Rattle.day_orders.specs.declared.day_orders.EndedOrders.{EndedOrders}
+use Rattle.instruction_history.specs.declared.symbol_history.SymbolHistory.{SymbolHistory}
+use Rattle.instruction_history.specs.SymbolHistory.{IsSymbolHistory}
+
+-- the symbols of order records, in the order in which each appears first
+abbrev pub order_symbols : List OrderRecord → List (List ℕ)
+order_symbols entries = distinct_names (map symbol_of entries)
+
+-- of each of these symbols there is the history after these records
+abbrev pub AreHistories : List (List ℕ) → List SymbolHistory → List OrderRecord → Type 0
+AreHistories symbols histories entries =
+    AreForEach (λ symbol kept. IsSymbolHistory symbol kept entries) symbols histories
+
+-- the day has been handed exactly these records of the order log: it has their symbols, and of each
+-- symbol of
+-- the share its history
+pub record IsDayOrders {D : Type 0} (share : DayShare) (day : DayOrders D)
+    (entries : List OrderRecord) : Type 0 where
+  pub shared : day.share ≡ share
+  pub count : day.count ≡ length entries
+  pub symbols_are : day.symbols ≡ order_symbols entries
+  pub histories_are : AreHistories
+      (symbols_in share (order_symbols entries)) day.histories.items entries
+
+-- a fact of whatever records the day has been handed
+abbrev pub ForEntries : {D : Type 0} → DayShare → DayOrders D → (List OrderRecord → Type 0) → Type 0
+ForEntries share day P = (entries : List OrderRecord) → IsDayOrders share day entries → P entries
+
+-- the order log has these records: these are its symbols, and the histories of those of the share
+pub record HasOrders (share : DayShare) (ended : EndedOrders)
+    (entries : List OrderRecord) : Type 0 where
+  pub symbols_are : ended.symbols ≡ order_symbols entries
+  pub histories_are : AreHistories
+      (symbols_in share (order_symbols entries)) ended.histories.items entries
+  pub few : length entries < 2 ^ 32
+
+-- the history of whatever symbol, before any record
+abbrev pub IsEmptyHistory : SymbolHistory → Type 0
+IsEmptyHistory kept = (symbol : List ℕ) → IsSymbolHistory symbol kept []
+
+-- only the histories have changed
+pub record KeepsAllButHistories {D : Type 0} (old new : DayOrders D) : Type 0 where
+  pub shared : new.share ≡ old.share
+  pub count : new.count ≡ old.count
+  pub symbols_are : new.symbols ≡ old.symbols

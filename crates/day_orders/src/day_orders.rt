@@ -1,0 +1,136 @@
+//! The histories of the symbols of a day, record by record.
+ghost use Rattle.std.specs.Prelude.{◌≡◌, ◌+◌, ◌<◌, ◌∷◌, [], OnOk, slice_get, Some};
+ghost use Rattle.log_source.specs.Collectors.{HasPlace};
+ghost use Rattle.log_source.specs.Handing.{HandsOnMore};
+ghost use Rattle.day_symbols.specs.Kept.{HasRoomAt};
+ghost use Rattle.day_symbols.specs.Shares.{DayShare, whole_day};
+ghost use Rattle.day_orders.specs.DayOrders.{ForEntries, HasOrders, IsDayOrders, IsEmptyHistory, KeepsAllButHistories};
+
+use audit_base::faults::NoMemory;
+use audit_base::records::{LogRecord, OrderRecord};
+use day_symbols::shares::Share;
+use day_symbols::symbols::Symbols;
+use instruction_history::symbol_history::SymbolHistory;
+use log_source::collector::Collector;
+use seeded_hash::seed::HashSeed;
+use std::alloc::Global;
+use std::marker::{Brand, PhantomData};
+
+/// The share of a day that is audited, for proofs alone. What hands records to collectors of any kind can say of
+/// one only which records it has been handed, and not which share it was made for. So the type of a day says
+/// that. Whoever makes one picks the share, at `Brand`, and nothing of it is there when the program runs.
+pub trait AuditedShare {
+    ghost share: { DayShare };
+}
+
+impl AuditedShare for Brand {
+    ghost share = { whole_day };
+}
+
+/// What is known of the order log of a day after some of its records: its symbols, and the history of each that
+/// is in the share.
+#[derive(Drop)]
+pub struct DayOrders<D> {
+    alloc: Global,
+    seed: HashSeed,
+    share: Share,
+    /// How many records of the log there were, of all symbols.
+    count: u32,
+    symbols: Symbols,
+    /// Those of the symbols of the share, in their order.
+    histories: Vec<SymbolHistory>,
+    of: PhantomData<D>,
+}
+
+/// The order log of a day, whose records have all come.
+#[derive(Drop)]
+pub struct EndedOrders {
+    pub symbols: Symbols,
+    /// Those of the symbols of the share, in their order.
+    pub histories: Vec<SymbolHistory>,
+}
+
+impl<D: AuditedShare> DayOrders<D> {
+    /// No records. Symbols and keys are found by hashes of this seed. Takes no memory.
+    pub fn new(alloc: Global, seed: HashSeed, share: Share) -> DayOrders<D>
+        requires { share ≡ D.share }
+        ensures { IsDayOrders D.share result [] }
+    {
+        DayOrders {
+            alloc,
+            seed,
+            share,
+            count: 0,
+            symbols: Symbols::new(alloc, seed),
+            histories: Vec::new(alloc),
+            of: PhantomData,
+        }
+    }
+
+    /// A history at this place, where the histories end there.
+    fn make_room(&mut self, place: usize) -> Result<(), NoMemory>
+        ensures room { let room = HasRoomAt IsEmptyHistory place in
+            OnOk result (room self.old.histories.items self.new.histories.items) }
+        ensures only { KeepsAllButHistories self.old self.new }
+    {
+        if place == self.histories.len() {
+            let history = SymbolHistory::new(self.alloc, self.seed);
+            self.histories.push(history)?;
+        }
+        Ok(())
+    }
+
+    /// Takes the next record of the log. After `NoMemory` nothing is known of the day.
+    fn take_entry(&mut self, entry: &OrderRecord) -> Result<(), NoMemory>
+        requires { HasPlace (IsDayOrders D.share) self.old }
+        ensures { let adds = HandsOnMore (IsDayOrders D.share self.old) (IsDayOrders D.share self.new) in
+            OnOk result (adds (entry.now ∷ [])) }
+    {
+        self.count += 1;
+        let index = self.symbols.meet(&entry.symbol())?;
+        if !self.share.has(index) {
+            return Ok(());
+        }
+        let place = self.share.place(index);
+        self.make_room(place)?;
+        self.histories[place].take(entry, self.count)
+    }
+
+    /// The symbols of the log and the histories of those in the share. Takes no memory.
+    pub fn end(self) -> EndedOrders
+        ensures { ForEntries D.share self (HasOrders D.share result) }
+    {
+        let DayOrders {
+            symbols,
+            histories,
+            ..
+        } = self;
+        EndedOrders { symbols, histories }
+    }
+}
+
+impl<D: AuditedShare> Collector for DayOrders<D> {
+    ghost use Rattle.day_symbols.specs.Shares.{is_looked_at};
+
+    type Entry = OrderRecord;
+
+    ghost has_taken = { IsDayOrders D.share };
+
+    ghost wants = { λ day symbol. is_looked_at day.share day.symbols symbol };
+
+    fn take(&mut self, entry: OrderRecord) -> Result<(), NoMemory> {
+        self.take_entry(&entry)
+    }
+
+    fn wants(&self, symbol: &[u8]) -> bool {
+        self.share.looks_at(&self.symbols, symbol)
+    }
+
+    fn pass_over(&mut self) {
+        self.count += 1;
+    }
+
+    fn count(&self) -> u32 {
+        self.count
+    }
+}

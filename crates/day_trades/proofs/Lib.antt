@@ -1,0 +1,2 @@
+pub mod SymbolTradesLemmas
+pub mod DayTradesLemmas

@@ -1,0 +1,78 @@
+-- What is known of one symbol of a day, with one trade more, and what it comes to.
+use Rattle.std.proofs.Common.{◌≡◌, ◌≤◌, ℕ, Bool, false, Option, Some, None, Ok, List, [], ◌∷◌, ◌++◌, All, length, append-nil, refl, sym, ap, subst, ◌∙◌, arith}
+use Rattle.std.specs.Prelude.{map}
+use Rattle.std.specs.List.{enumerate_from}
+use Rattle.std.proofs.lemmas.List.{append_assoc, length-map}
+use Rattle.std.proofs.lemmas.List.Elements.{All-head, All-tail}
+use Rattle.std.proofs.lemmas.List.FromFn.{length-enumerate_from}
+use Rattle.std.proofs.lemmas.List.Sums.{count_by-le-length, length-filter}
+use Rattle.audit_base.specs.declared.findings.Finding.{Finding}
+use Rattle.audit_base.specs.declared.orders.Order.{Order}
+use Rattle.audit_base.specs.declared.records.OrderRecord.{OrderRecord}
+use Rattle.audit_base.specs.declared.records.TradeRecord.{TradeRecord}
+use Rattle.audit_base.specs.Histories.{order_list}
+use Rattle.audit_base.specs.Orders.{same_name}
+use Rattle.audit_base.specs.Trades.{deal_of_trade, deals_of_symbol, trades_of_symbol, trades_finding}
+use Rattle.matching_core.specs.declared.deals_draft.ResolvedTrades.{ResolvedTrades}
+use Rattle.matching_core.proofs.SymbolDealsLemmas.{other-trade}
+use Rattle.record_verdict.specs.declared.scopes.Admission.{Admission}
+use Rattle.record_verdict.specs.BeforeRule.{finding_or_sound, IsBeforeRule}
+use Rattle.record_verdict.specs.Scopes.{unadmitted_order_finding}
+use Rattle.day_trades.specs.declared.symbol_trades.OpenSymbol.{OpenSymbol}
+use Rattle.day_trades.specs.declared.symbol_trades.SymbolTrades.{SymbolTrades}
+use Rattle.day_trades.specs.declared.symbol_trades.SymbolTrades.TheVariants as kept
+use Rattle.day_trades.specs.SymbolTrades.{IsOpenSymbol, IsSymbolTrades, scope_by}
+
+-- a trade of another symbol changes nothing
+pub other-known : (admission : Admission) (entries : List OrderRecord) (trades : List TradeRecord) (symbol : List ℕ) (known : SymbolTrades) (x : TradeRecord) → same_name x.symbol symbol ≡ false
+    → IsSymbolTrades admission entries trades symbol known → IsSymbolTrades admission entries (trades ++ x ∷ []) symbol known
+other-known admission entries trades symbol (kept.Found finding) x other is = is
+other-known admission entries trades symbol (kept.Open open_symbol) x other is = record {
+  well_formed = is.well_formed;
+  orders_are = is.orders_are;
+  admitted = is.admitted;
+  deals_are = other-trade open_symbol.history symbol open_symbol.deals trades x other is.deals_are;
+}
+
+-- nor do trades of other symbols
+pub others-known : (admission : Admission) (entries : List OrderRecord) (before trades : List TradeRecord) (symbol : List ℕ) (known : SymbolTrades)
+    → All (λ (name : List ℕ). same_name name symbol ≡ false) (map (λ (trade : TradeRecord). trade.symbol) trades)
+    → IsSymbolTrades admission entries before symbol known → IsSymbolTrades admission entries (before ++ trades) symbol known
+others-known admission entries before [] symbol known others is = subst (λ (xs : List TradeRecord). IsSymbolTrades admission entries xs symbol known) (sym (append-nil before)) is
+others-known admission entries before (x ∷ xs) symbol known others is =
+    let more : IsSymbolTrades admission entries (before ++ x ∷ []) symbol known =
+    other-known admission entries before symbol known x (All-head (λ (name : List ℕ). same_name name symbol ≡ false) x.symbol (map (λ (trade : TradeRecord). trade.symbol) xs) others) is in
+    subst (λ (ts : List TradeRecord). IsSymbolTrades admission entries ts symbol known) (append_assoc before (x ∷ []) xs)
+    (others-known admission entries (before ++ x ∷ []) xs symbol known (All-tail (λ (name : List ℕ). same_name name symbol ≡ false) x.symbol (map (λ (trade : TradeRecord). trade.symbol) xs) others) more)
+
+-- what open trades come to
+pub comes-open : (admission : Admission) (entries : List OrderRecord) (trades : List TradeRecord) (symbol : List ℕ) (open_symbol : OpenSymbol) (resolved : ResolvedTrades)
+    → IsOpenSymbol admission entries trades symbol open_symbol → resolved.history ≡ open_symbol.history → resolved.count ≡ length trades
+    → trades_finding open_symbol.history symbol trades ≡ resolved.finding → (resolved.finding ≡ None → resolved.deals.items ≡ deals_of_symbol open_symbol.history symbol trades)
+    → IsBeforeRule (scope_by admission symbol) entries (Ok trades) (finding_or_sound resolved resolved.finding)
+comes-open admission entries trades symbol open_symbol resolved is history counted found deals = go resolved.finding refl
+  where
+    admits : unadmitted_order_finding admission (order_list symbol entries) ≡ None
+    admits = ap (unadmitted_order_finding admission) (sym is.orders_are) ∙ is.admitted
+
+    unsound : trades_finding (order_list symbol entries) symbol trades ≡ resolved.finding
+    unsound = ap (λ (orders : List Order). trades_finding orders symbol trades) (sym is.orders_are) ∙ found
+
+    go : (f : Option Finding) → resolved.finding ≡ f → IsBeforeRule (scope_by admission symbol) entries (Ok trades) (finding_or_sound resolved f)
+    go None none = record {
+      none = rw (is.well_formed, admits, unsound, none) refl;
+      orders = history ∙ is.orders_are;
+      deals = deals none ∙ ap (λ (orders : List Order). deals_of_symbol orders symbol trades) is.orders_are;
+      count = counted;
+    }
+    go (Some finding) some = rw (is.well_formed, admits, unsound, some) refl
+
+-- the trade is one of the symbol
+abbrev is_of : List ℕ → ℕ × TradeRecord → Bool
+is_of symbol e = same_name e.1.symbol symbol
+
+-- there are no more deals than trades
+pub few-deals : (orders : List Order) (symbol : List ℕ) (trades : List TradeRecord) → length (deals_of_symbol orders symbol trades) ≤ length trades
+unfolding deals_of_symbol trades_of_symbol
+few-deals orders symbol trades =
+    omega (arith, length-map (trades_of_symbol symbol trades) (deal_of_trade orders), length-filter (is_of symbol) (enumerate_from 1 trades), count_by-le-length (is_of symbol) (enumerate_from 1 trades), length-enumerate_from 1 trades)

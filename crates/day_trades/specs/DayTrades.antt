@@ -1,0 +1,74 @@
+-- What is known of a day after its order log and some records of its trade log.
+use Rattle.std.specs.Prelude.{◌≡◌, ℕ, false, All, List, [], Some, length, map, slice_get}
+use Rattle.audit_base.specs.declared.records.OrderRecord.{OrderRecord}
+use Rattle.audit_base.specs.declared.records.TradeRecord.{TradeRecord}
+use Rattle.audit_base.specs.Histories.{symbol_of}
+use Rattle.audit_base.specs.Orders.{same_name}
+use Rattle.day_symbols.specs.Kept.{AreForEach}
+use Rattle.day_symbols.specs.Shares.{DayShare, symbols_in}
+use Rattle.day_symbols.specs.Symbols.{symbols_of_day}
+use Rattle.instruction_history.specs.declared.symbol_history.SymbolHistory.{SymbolHistory}
+use Rattle.instruction_history.specs.SymbolHistory.{ForRecords, HasFewRecords}
+use Rattle.record_verdict.specs.declared.scopes.Admission.{Admission}
+use Rattle.day_trades.specs.declared.day_trades.DayTrades.{DayTrades}
+use Rattle.day_trades.specs.declared.day_trades.EndedTrades.{EndedTrades}
+use Rattle.day_trades.specs.declared.symbol_trades.SymbolTrades.{SymbolTrades}
+use Rattle.day_trades.specs.SymbolTrades.{IsSymbolTrades}
+
+-- of each of these symbols this is known after these order records and these trades
+abbrev pub AreSymbolTrades : Admission → List OrderRecord → List TradeRecord → List (List ℕ)
+    → List SymbolTrades → Type 0
+AreSymbolTrades admission entries trades symbols parts =
+    AreForEach (IsSymbolTrades admission entries trades) symbols parts
+
+-- after these order records the day has been handed exactly these records of the trade log: it has
+-- the symbols of
+-- both, and of each symbol of the share what is known of it
+pub record IsDayTrades {M : Type 0} (share : DayShare) (admission : Admission)
+    (entries : List OrderRecord)
+    (day : DayTrades M) (trades : List TradeRecord) : Type 0 where
+  pub shared : day.share ≡ share
+  pub admits : day.admission ≡ admission
+  pub count : day.count ≡ length trades
+  pub symbols_are : day.symbols ≡ symbols_of_day entries trades
+  pub parts_are : AreSymbolTrades admission entries trades
+      (symbols_in share (symbols_of_day entries trades)) day.parts.items
+
+-- a fact of whatever trades the day has been handed
+abbrev pub ForTradesOf : {M : Type 0} → DayShare → Admission → List OrderRecord → DayTrades M
+    → (List TradeRecord → Type 0) → Type 0
+ForTradesOf share admission entries day P =
+    (trades : List TradeRecord) → IsDayTrades share admission entries day trades → P trades
+
+-- the day has these records: these are its symbols, and this is known of each of the share
+pub record HasTradesOf (share : DayShare) (admission : Admission) (entries : List OrderRecord)
+    (ended : EndedTrades) (trades : List TradeRecord) : Type 0 where
+  pub symbols_are : ended.symbols ≡ symbols_of_day entries trades
+  pub parts_are : AreSymbolTrades admission entries trades
+      (symbols_in share (symbols_of_day entries trades)) ended.parts.items
+  pub count : ended.count ≡ length trades
+
+-- this is known of whatever symbol no order record has, before any trade
+abbrev pub IsUnseen : Admission → SymbolTrades → Type 0
+IsUnseen admission part = (symbol : List ℕ) (entries : List OrderRecord)
+    → All (λ name. same_name name symbol ≡ false) (map symbol_of entries)
+    → IsSymbolTrades admission entries [] symbol part
+
+-- each history is one after fewer records than there are places
+abbrev pub AreFewRecords : List SymbolHistory → Type 0
+AreFewRecords histories = All HasFewRecords histories
+
+-- there is one for each history, and it is what is known of its symbol before any trade
+pub record AreBegun (admission : Admission) (histories : List SymbolHistory)
+    (parts : List SymbolTrades) : Type 0 where
+  pub same_length : length parts ≡ length histories
+  pub each : (i : ℕ) (history : SymbolHistory) (part : SymbolTrades)
+      → slice_get histories i ≡ Some history → slice_get parts i ≡ Some part
+      → ForRecords history (λ symbol entries. IsSymbolTrades admission entries [] symbol part)
+
+-- only what is known of the symbols has changed
+pub record KeepsAllButParts {M : Type 0} (old new : DayTrades M) : Type 0 where
+  pub shared : new.share ≡ old.share
+  pub admits : new.admission ≡ old.admission
+  pub count : new.count ≡ old.count
+  pub symbols_are : new.symbols ≡ old.symbols

@@ -1,0 +1,164 @@
+-- The verdicts on the symbols of a day, with one more.
+use Rattle.std.proofs.Common.{◌≡◌, ◌<◌, ◌+◌, ◌^◌, inl, inr, ℕ, Bool, true, false, Some, List, [], ◌∷◌, ◌++◌, Ok, length, length-append, append-nil, cond, take, not, refl, sym, ap, subst, ◌∙◌, arith}
+use Rattle.std.specs.Prelude.{count_by, slice_get, if◌then◌else◌}
+use Rattle.std.proofs.lemmas.Bool.{cases_lt}
+use Rattle.std.proofs.lemmas.List.{append_assoc, length-take-le, take_all, take_more}
+use Rattle.std.proofs.lemmas.List.Sums.{count_by-le-length, sum_by-append}
+use Rattle.std.proofs.lemmas.Option.{same_Some, slice_get_within, get_or_from_slice_get}
+use Rattle.audit_base.specs.declared.records.OrderRecord.{OrderRecord}
+use Rattle.audit_base.specs.declared.records.TradeRecord.{TradeRecord}
+use Rattle.audit_base.specs.declared.terms.Rule.{Rule}
+use Rattle.audit_report.specs.declared.verdicts.Verdict.{Verdict}
+use Rattle.audit_report.specs.Texts.{verdict_text}
+use Rattle.day_report.specs.declared.day_line.DayCounts.{DayCounts}
+use Rattle.day_report.specs.DayTexts.{symbol_lines}
+use Rattle.day_symbols.specs.Kept.{AreForEach}
+use Rattle.day_symbols.specs.Shares.{DayShare, symbols_in}
+use Rattle.day_symbols.specs.Symbols.{symbols_of_day}
+use Rattle.day_symbols.proofs.PlaceLemmas.{got-left, got-last}
+use Rattle.day_trades.specs.declared.day_trades.EndedTrades.{EndedTrades}
+use Rattle.day_trades.specs.declared.symbol_trades.SymbolTrades.{SymbolTrades}
+use Rattle.day_trades.specs.DayTrades.{HasTradesOf}
+use Rattle.day_trades.specs.SymbolTrades.{HasFewOfSymbol, IsSymbolTrades}
+use Rattle.day_verdicts.specs.declared.day_verdicts.JudgedSymbols.{JudgedSymbols}
+use Rattle.day_verdicts.specs.DayVerdicts.{AreVerdicts, counts_of, HasFewTradesOf, HasRoomForOne, is_acceptance, IsJudgedDay, IsJudgedUpTo, JudgesDay, JudgesOne, lines_of, with_verdict}
+use Rattle.record_verdict.specs.Judgements.{IsRecordVerdict, question}
+use Rattle.record_verdict.specs.Scopes.{admission_of}
+
+-- one more for a symbol more
+pub for-each-more : {X : Type 0} (P : List ℕ → X → Type 0) (symbols : List (List ℕ)) (kept : List X) (symbol : List ℕ) (one : X) → AreForEach P symbols kept → P symbol one → AreForEach P (symbols ++ symbol ∷ []) (kept ++ one ∷ [])
+for-each-more {X} P symbols kept symbol one are is = record {
+  same_length = omega (arith, length-append symbols (symbol ∷ []), length-append kept (one ∷ []), are.same_length);
+  each = each;
+}
+  where
+    each : (i : ℕ) (s : List ℕ) (x : X) → slice_get (symbols ++ symbol ∷ []) i ≡ Some s → slice_get (kept ++ one ∷ []) i ≡ Some x → P s x
+    each i s x got-s got-x = elim (cases_lt i (length symbols)) as (λ _. P s x) [
+      | inl less ↦
+          let less-x : i < length kept = omega (arith, less, are.same_length) in
+          are.each i s x (sym (got-left symbols (symbol ∷ []) i less) ∙ got-s) (sym (got-left kept (one ∷ []) i less-x) ∙ got-x)
+      | inr le ↦
+          let within : i < length (symbols ++ symbol ∷ []) = slice_get_within (symbols ++ symbol ∷ []) i s got-s in
+          let last : length symbols ≡ i = omega (arith, le, within, length-append symbols (symbol ∷ [])) in
+          let last-x : length kept ≡ i = are.same_length ∙ last in
+          let s-is : symbol ≡ s = same_Some symbol s (sym (got-last symbols symbol) ∙ ap (slice_get (symbols ++ symbol ∷ [])) last ∙ got-s) in
+          let x-is : one ≡ x = same_Some one x (sym (got-last kept one) ∙ ap (slice_get (kept ++ one ∷ [])) last-x ∙ got-x) in
+          subst (λ (z : List ℕ). P z x) s-is (subst (λ (z : X). P symbol z) x-is is)
+    ]
+
+-- the lines of one symbol more come last
+lines-more : (symbols : List (List ℕ)) (verdicts : List Verdict) (symbol : List ℕ) (v : Verdict) → length verdicts ≡ length symbols
+    → lines_of (symbols ++ symbol ∷ []) (verdicts ++ v ∷ []) ≡ lines_of symbols verdicts ++ symbol_lines symbol (verdict_text v)
+lines-more [] [] symbol v same = append-nil (symbol_lines symbol (verdict_text v))
+lines-more [] (w ∷ ws) symbol v same = absurd (omega (arith, same))
+lines-more (s ∷ ss) [] symbol v same = absurd (omega (arith, same))
+lines-more (s ∷ ss) (w ∷ ws) symbol v same =
+    let rest : length ws ≡ length ss = omega (arith, same) in
+    ap (λ (text : List ℕ). symbol_lines s (verdict_text w) ++ text) (lines-more ss ws symbol v rest)
+    ∙ sym (append_assoc (symbol_lines s (verdict_text w)) (lines_of ss ws) (symbol_lines symbol (verdict_text v)))
+
+-- the counts of one verdict more
+accepted-more : (verdicts : List Verdict) (v : Verdict) → count_by is_acceptance (verdicts ++ v ∷ []) ≡ count_by is_acceptance verdicts + (if is_acceptance v then 1 else 0)
+accepted-more verdicts v =
+    let one : ℕ = if is_acceptance v then 1 else 0 in
+    let alone : 0 + one ≡ one = omega arith in
+    sum_by-append (λ (w : Verdict). cond (is_acceptance w) 1 0) verdicts (v ∷ []) ∙ ap (λ (k : ℕ). count_by is_acceptance verdicts + k) alone
+
+flipped : (b : Bool) → 0 + cond (not b) 1 0 ≡ cond b 0 1
+flipped true = refl
+flipped false = refl
+
+rejected-more : (verdicts : List Verdict) (v : Verdict)
+    → count_by (λ (w : Verdict). not (is_acceptance w)) (verdicts ++ v ∷ []) ≡ count_by (λ (w : Verdict). not (is_acceptance w)) verdicts + (if is_acceptance v then 0 else 1)
+rejected-more verdicts v =
+    sum_by-append (λ (w : Verdict). cond (not (is_acceptance w)) 1 0) verdicts (v ∷ [])
+    ∙ ap (λ (k : ℕ). count_by (λ (w : Verdict). not (is_acceptance w)) verdicts + k) (flipped (is_acceptance v))
+
+counts-more : (verdicts : List Verdict) (v : Verdict) → counts_of (verdicts ++ v ∷ []) ≡ with_verdict (counts_of verdicts) v
+counts-more verdicts v = λ i. record {
+  symbols = length-append verdicts (v ∷ []) i;
+  accepted = accepted-more verdicts v i;
+  rejected = rejected-more verdicts v i;
+}
+
+-- what comes behind others
+behind-at : {X : Type 0} (before : List X) (x : X) (rest : List X) → slice_get (before ++ x ∷ rest) (length before) ≡ Some x
+behind-at [] x rest = refl
+behind-at (y ∷ ys) x rest = behind-at ys x rest
+
+-- the symbols of the share, by the records of the day
+abbrev pub shared_symbols : DayShare → List OrderRecord → List TradeRecord → List (List ℕ)
+shared_symbols share entries trades = symbols_in share (symbols_of_day entries trades)
+
+-- where the next symbol stands
+pub record IsNext (share : DayShare) (ended : EndedTrades) (n : ℕ) (part : SymbolTrades) (symbol : List ℕ) : Type 0 where
+  pub part_there : slice_get ended.parts.items n ≡ Some part
+  pub symbol_there : slice_get (symbols_in share ended.symbols) n ≡ Some symbol
+
+pub next-at : (share : DayShare) (ended : EndedTrades) (n : ℕ) (part : SymbolTrades) (symbol : List ℕ) (before rest : List SymbolTrades) → before ++ part ∷ rest ≡ ended.parts.items → n ≡ length before
+    → slice_get (symbols_in share ended.symbols) n ≡ Some symbol → IsNext share ended n part symbol
+next-at share ended n part symbol before rest parts at got = record {
+  part_there = ap (slice_get ended.parts.items) at ∙ ap (λ (xs : List SymbolTrades). slice_get xs (length before)) (sym parts) ∙ behind-at before part rest;
+  symbol_there = got;
+}
+
+-- what is known of it
+pub next-known : (rule : Rule) (share : DayShare) (ended : EndedTrades) (n : ℕ) (part : SymbolTrades) (symbol : List ℕ) → IsNext share ended n part symbol → (entries : List OrderRecord) (trades : List TradeRecord)
+    → HasTradesOf share (admission_of rule) entries ended trades → IsSymbolTrades (admission_of rule) entries trades symbol part
+next-known rule share ended n part symbol next entries trades has =
+    has.parts_are.each n symbol part (ap (λ (s : List (List ℕ)). slice_get (symbols_in share s) n) (sym has.symbols_are) ∙ next.symbol_there) next.part_there
+
+pub next-few : (rule : Rule) (share : DayShare) (ended : EndedTrades) (n : ℕ) (part : SymbolTrades) (symbol : List ℕ) → IsNext share ended n part symbol → HasFewTradesOf rule share ended → HasFewOfSymbol ended.count part
+next-few rule share ended n part symbol next few = record {
+  admission = admission_of rule;
+  entries = few.entries;
+  trades = few.trades;
+  symbol = symbol;
+  is = next-known rule share ended n part symbol next few.entries few.trades few.has;
+  counted = few.has.count;
+  few = few.few;
+}
+
+-- one symbol more was judged
+pub judged-next : (rule : Rule) (table : Bool) (share : DayShare) (ended : EndedTrades) (n : ℕ) (part : SymbolTrades) (symbol : List ℕ) (old new : JudgedSymbols)
+    → IsNext share ended n part symbol → JudgesOne (question rule symbol table) ended.count part old new → IsJudgedUpTo rule table share ended n old → IsJudgedUpTo rule table share ended (n + 1) new
+judged-next rule table share ended n part symbol old new next one is = λ entries trades has.
+    let symbols : List (List ℕ) = shared_symbols share entries trades in
+    let got : slice_get symbols n ≡ Some symbol = ap (λ (s : List (List ℕ)). slice_get (symbols_in share s) n) (sym has.symbols_are) ∙ next.symbol_there in
+    let before = is entries trades has in
+    let judged : IsRecordVerdict (question rule symbol table) entries (Ok trades) one.one = one.is entries trades (next-known rule share ended n part symbol next entries trades has) has.count in
+    let more : take (n + 1) symbols ≡ take n symbols ++ symbol ∷ [] = take_more symbols n [] (slice_get_within symbols n symbol got) ∙ ap (λ (s : List ℕ). take n symbols ++ s ∷ []) (get_or_from_slice_get symbols n symbol [] got) in
+    record {
+      verdicts = before.verdicts ++ one.one ∷ [];
+      verdicts_are = subst (λ (ss : List (List ℕ)). AreVerdicts rule table entries trades ss (before.verdicts ++ one.one ∷ [])) (sym more)
+          (for-each-more (λ (s : List ℕ) (v : Verdict). IsRecordVerdict (question rule s table) entries (Ok trades) v) (take n symbols) before.verdicts symbol one.one before.verdicts_are judged);
+      counts_are = one.adds.counts_are ∙ ap (λ (counts : DayCounts). with_verdict counts one.one) before.counts_are ∙ sym (counts-more before.verdicts one.one);
+      lines_are = one.adds.lines_are ∙ ap (λ (text : List ℕ). text ++ symbol_lines symbol (verdict_text one.one)) before.lines_are
+          ∙ sym (lines-more (take n symbols) before.verdicts symbol one.one before.verdicts_are.same_length)
+          ∙ ap (λ (ss : List (List ℕ)). lines_of ss (before.verdicts ++ one.one ∷ [])) (sym more);
+    }
+
+-- there is room to count one symbol more
+pub room-for : (rule : Rule) (table : Bool) (share : DayShare) (ended : EndedTrades) (n : ℕ) (judged : JudgedSymbols) → n < length ended.parts.items → length ended.parts.items < 2 ^ 64 → HasFewTradesOf rule share ended → IsJudgedUpTo rule table share ended n judged
+    → HasRoomForOne judged.counts
+room-for rule table share ended n judged lt few_parts few is =
+    let before = is few.entries few.trades few.has in
+    let symbols : List (List ℕ) = shared_symbols share few.entries few.trades in
+    let count : length (take n symbols) ≡ n = length-take-le n symbols (omega (arith, lt, few.has.parts_are.same_length)) in
+    let symbols_are : judged.counts.symbols ≡ length before.verdicts = ap (λ (counts : DayCounts). counts.symbols) before.counts_are in
+    let accepted_are : judged.counts.accepted ≡ count_by is_acceptance before.verdicts = ap (λ (counts : DayCounts). counts.accepted) before.counts_are in
+    let rejected_are : judged.counts.rejected ≡ count_by (λ (w : Verdict). not (is_acceptance w)) before.verdicts = ap (λ (counts : DayCounts). counts.rejected) before.counts_are in
+    record {
+      symbols_few = omega (arith, symbols_are, before.verdicts_are.same_length, count, lt, few_parts);
+      accepted_few = omega (arith, symbols_are, accepted_are, count_by-le-length is_acceptance before.verdicts);
+      rejected_few = omega (arith, symbols_are, rejected_are, count_by-le-length (λ (w : Verdict). not (is_acceptance w)) before.verdicts);
+    }
+
+-- all symbols were judged
+pub judged-all : (rule : Rule) (table : Bool) (share : DayShare) (ended : EndedTrades) (n : ℕ) (before rest : List SymbolTrades) (judged : JudgedSymbols) → before ++ rest ≡ ended.parts.items → length rest ≡ 0 → n ≡ length before
+    → IsJudgedUpTo rule table share ended n judged → JudgesDay rule table share ended judged
+judged-all rule table share ended n before rest judged parts none at is = λ entries trades has.
+    let symbols : List (List ℕ) = shared_symbols share entries trades in
+    let size : length before + length rest ≡ length ended.parts.items = sym (length-append before rest) ∙ ap length parts in
+    let whole : take n symbols ≡ symbols = take_all n symbols (omega (arith, size, none, at, has.parts_are.same_length)) in
+    subst (λ (ss : List (List ℕ)). IsJudgedDay rule table entries trades ss judged) whole (is entries trades has)

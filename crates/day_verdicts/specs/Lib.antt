@@ -1,0 +1,2 @@
+-- What a reader must believe: the verdicts on the symbols of a day, and its text.
+pub mod DayVerdicts
