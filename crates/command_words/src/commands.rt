@@ -1,7 +1,7 @@
 //! The words of each command. The first word names the command. A function gives the request
 //! where the words behind it are those of its command, and nothing, with no memory taken, where
 //! they are not.
-ghost use Rattle.std.specs.Prelude.{◌≡◌, ◌+◌, ◌<◌, ◌≤◌, length, map, IfOk, IfSome, IsErr, IsSome, IsTrue};
+ghost use Rattle.std.specs.Prelude.{◌≡◌, ◌≤◌, length, map, IfOk, IfSome, IsErr, IsSome, IsTrue};
 ghost use Rattle.audit_base.specs.RuleKinds.{asks_for_greatest, has_table};
 ghost use Rattle.std.specs.String.{string_bytes};
 ghost use Rattle.command_words.specs.WordForms.{nth_word};
