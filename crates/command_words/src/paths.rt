@@ -41,7 +41,7 @@ pub fn path_of(alloc: Global, word: &str) -> Result<PathText, NoMemory>
     Ok(PathText { text })
 }
 
-/// Whether the words at a place and behind it are paths, as ORDERS and TRADES are.
+/// Whether the words at a place and after it are paths, as ORDERS and TRADES are.
 pub fn names_logs(words: &[String], place: usize) -> bool
     requires { place + 1 < length words.now }
     ensures { result ≡ spec.names_logs (map string_bytes words.now) place }
@@ -56,7 +56,7 @@ pub struct LogPaths {
     pub trades: PathText,
 }
 
-/// The paths that the words at a place and behind it are.
+/// The paths that the words at a place and after it are.
 pub fn log_paths(alloc: Global, words: &[String], place: usize) -> Result<LogPaths, NoMemory>
     requires { place + 1 < length words.now }
     ensures orders { IfOk result (λ paths.

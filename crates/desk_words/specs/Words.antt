@@ -38,7 +38,7 @@ day_logs words said = record {
 abbrev pub table_fits_rule : Bool → Rule → Bool
 table_fits_rule table the_rule = not table || has_table the_rule
 
--- RULE, and what the words behind all others say as options, `--table` where the rule has one
+-- RULE, and what the words after all others say as options, `--table` where the rule has one
 abbrev pub rule_and_options : List ℕ → List (List ℕ) → Option (Rule × DeskOptions)
 rule_and_options word behind =
     when_some (rule_named word) (λ the_rule.

@@ -1,5 +1,5 @@
 //! The words of each command. The first word names the command. A function gives the request
-//! where the words behind it are those of its command, and nothing, with no memory taken, where
+//! where the words after it are those of its command, and nothing, with no memory taken, where
 //! they are not.
 ghost use Rattle.std.specs.Prelude.{◌≡◌, ◌≤◌, length, map, IfOk, IfSome, IsErr, IsSome, IsTrue};
 ghost use Rattle.std.specs.String.{string_bytes};
@@ -48,7 +48,7 @@ fn desk_command_in(words: &[String]) -> Option<DeskCommand>
     desk_command_named(first.as_str())
 }
 
-/// ORDERS and TRADES, behind the command and one other word, with the forms that options give
+/// ORDERS and TRADES, after the command and one other word, with the forms that options give
 /// them.
 fn day_logs(alloc: Global, words: &[String], said: &DeskOptions) -> Result<DayLogs, NoMemory>
     requires { 4 ≤ length words.now }
@@ -63,7 +63,7 @@ fn day_logs(alloc: Global, words: &[String], said: &DeskOptions) -> Result<DayLo
     })
 }
 
-/// RULE, and what the words behind all others say as options, `--table` where the rule has one.
+/// RULE, and what the words after all others say as options, `--table` where the rule has one.
 fn rule_and_options(word: &str, behind: &[String]) -> Option<(Rule, DeskOptions)>
     ensures options { result ≡ spec.rule_and_options word.now (map string_bytes behind.now) }
     ensures table { IfSome result

@@ -6,7 +6,7 @@ ghost use Rattle.desk_words.specs.ShareWords as spec;
 use command_words::word_forms::unpadded_number;
 use day_symbols::shares::{MOST_SHARES, Share};
 
-/// The text before its first `/`, and the text behind it.
+/// The text before its first `/`, and the text after it.
 fn cut_at_slash(text: &str) -> Option<(&str, &str)>
     ensures { option_map (λ cut. (cut.0.now, cut.1.now)) result ≡ cut_at spec.is_slash text.now }
 {

@@ -40,7 +40,7 @@ fn help_of_each_command(rt: HostRuntime) -> Result<(), Fail> {
 }
 
 #[test]
-fn whole_help_has_each_command_behind_an_empty_line(rt: HostRuntime) -> Result<(), Fail> {
+fn whole_help_has_each_command_after_an_empty_line(rt: HostRuntime) -> Result<(), Fail> {
     let mut whole = Vec::new(rt.alloc());
     append_help(None, &mut whole)?;
     let mut joined = Vec::new(rt.alloc());

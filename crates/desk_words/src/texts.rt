@@ -90,9 +90,9 @@ fn command_help(command: DeskCommand) -> &'static [u8]
     }
 }
 
-/// Appends an empty line, and a text behind it.
+/// Appends an empty line, and a text after it.
 #[tactic(auto, using(std::proofs::Common::append_assoc))]
-fn append_behind_empty_line(text: &[u8], out: &mut Vec<u8>) -> Result<(), NoMemory>
+fn append_after_empty_line(text: &[u8], out: &mut Vec<u8>) -> Result<(), NoMemory>
     ensures { OnOk result (out.new.items ≡ out.old.items ++ 10 ∷ text.now) }
 {
     out.push(b'\n')?;
@@ -106,8 +106,8 @@ fn append_whole_help(out: &mut Vec<u8>) -> Result<(), NoMemory>
     ensures { OnOk result (out.new.items ≡ out.old.items ++ text.whole_help) }
 {
     out.extend_from_slice(audit_help())?;
-    append_behind_empty_line(session_help(), out)?;
-    append_behind_empty_line(help_help(), out)
+    append_after_empty_line(session_help(), out)?;
+    append_after_empty_line(help_help(), out)
 }
 
 /// Appends what each command does, or what one of them does. After `NoMemory` nothing is known
