@@ -1,14 +1,15 @@
 -- The phases of a day, as one word of a command line gives them: 1 to 64 parts KIND@FIRST,
 -- joined by commas, the FIRST of the first being 1 and the others rising. The code of `,` is
--- 44, of `@` 64, and of `0` 48.
-use Rattle.std.specs.Prelude.{ℕ, Bool, ◌==◌, Option, None, Some, option_map, option_and_then, List, [], ◌∷◌, length, slice_index, codes, nat_le, nat_lt, if◌then◌else◌}
+-- 44, and of `@` 64.
+use Rattle.std.specs.Prelude.{ℕ, Bool, ◌==◌, Option, None, Some, option_map, option_and_then, List, [], ◌∷◌, length, codes, nat_le, nat_lt, if◌then◌else◌}
 use Rattle.std.specs.List.{slice_split, position_or_len, before_first, after_first}
 use Rattle.audit_base.specs.Least.{first_answer, only_if}
 use Rattle.session_audit.specs.declared.phases.PhaseKind.{PhaseKind}
 use Rattle.session_audit.specs.declared.phases.PhaseKind.TheVariants as kind
 use Rattle.session_audit.specs.declared.phases.Phase.{Phase}
 use Rattle.session_audit.specs.Phases.{last_place}
-use Rattle.command_words.specs.WordForms.{word_equals, number_upto}
+use Rattle.command_words.specs.WordForms.{word_equals, unpadded_number}
+
 -- the byte that joins parts
 pub use Rattle.audit_base.specs.Names.{is_comma}
 
@@ -28,7 +29,7 @@ kind_named word = first_answer (only_if (word_equals word (codes "uniform")) kin
 
 -- FIRST is from 1 to 4,294,967,295, in digits of which the first is no zero
 abbrev pub first_place_named : List ℕ → Option ℕ
-first_place_named word = if slice_index word 0 == 48 then None else number_upto last_place word
+first_place_named word = unpadded_number last_place word
 
 -- the phase of a KIND and a FIRST, where both are there
 abbrev pub phase_of_kind : Option PhaseKind → Option ℕ → Option Phase

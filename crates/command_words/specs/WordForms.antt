@@ -1,5 +1,5 @@
 -- What single words of a command line are. The code of `-` is 45.
-use Rattle.std.specs.Prelude.{ℕ, Bool, not, ◌==◌, ◌&&◌, Option, List, [], ◌∷◌, length, slice_index, slice_index_or, codes, nat_le, option_and_then}
+use Rattle.std.specs.Prelude.{ℕ, Bool, not, ◌==◌, ◌&&◌, Option, None, List, [], ◌∷◌, length, slice_index, slice_index_or, codes, nat_le, option_and_then, if◌then◌else◌}
 use Rattle.std.specs.Cmp.Lexicographic.{pointwise}
 use Rattle.audit_base.specs.Digits.{digits_form}
 use Rattle.audit_base.specs.Least.{first_answer, only_if}
@@ -58,3 +58,7 @@ form_named word = first_answer (only_if (word_equals word (codes "csv")) Csv
 abbrev pub number_upto : ℕ → List ℕ → Option ℕ
 number_upto most word =
     option_and_then (λ n. only_if (nat_le 1 n && nat_le n most) n) (digits_form 10 word)
+
+-- the same number, where the first of its digits is no zero; the code of `0` is 48
+abbrev pub unpadded_number : ℕ → List ℕ → Option ℕ
+unpadded_number most word = if slice_index word 0 == 48 then None else number_upto most word

@@ -1,14 +1,14 @@
 //! The words of each command. The first word names the command. A function gives the request
 //! where the words behind it are those of its command, and nothing, with no memory taken, where
 //! they are not.
-ghost use Rattle.std.specs.Prelude.{◌≡◌, ◌+◌, ◌<◌, ◌≤◌, length, map, IfOk, IfSome, IsErr, IsSome, IsTrue};
+ghost use Rattle.std.specs.Prelude.{◌≡◌, ◌≤◌, length, map, IfOk, IfSome, IsErr, IsSome, IsTrue};
 ghost use Rattle.audit_base.specs.RuleKinds.{asks_for_greatest, has_table};
 ghost use Rattle.std.specs.String.{string_bytes};
 ghost use Rattle.command_words.specs.WordForms.{nth_word};
 ghost use Rattle.command_words.specs.Words as spec;
 
 use super::options::{Options, options_in, or_csv};
-use super::paths::{PathText, path_of};
+use super::paths::{LogPaths, log_paths, names_logs, path_of};
 use super::phase_words::phases_named;
 use super::requests::Request;
 use super::word_forms::{
@@ -65,34 +65,6 @@ pub(crate) fn command_in(words: &[String]) -> Option<Command>
 {
     let first = words.first()?;
     command_named(first.as_str())
-}
-
-/// Whether the words at a place and behind it are paths, as ORDERS and TRADES are.
-fn names_logs(words: &[String], place: usize) -> bool
-    requires { place + 1 < length words.now }
-    ensures { result ≡ spec.names_logs (map string_bytes words.now) place }
-{
-    is_path(word_at(words, place)) && is_path(word_at(words, place + 1))
-}
-
-/// The paths of both logs.
-#[derive(Drop)]
-struct LogPaths {
-    orders: PathText,
-    trades: PathText,
-}
-
-/// The paths that the words at a place and behind it are.
-fn log_paths(alloc: Global, words: &[String], place: usize) -> Result<LogPaths, NoMemory>
-    requires { place + 1 < length words.now }
-    ensures orders { IfOk result (λ paths.
-        paths.orders ≡ nth_word (map string_bytes words.now) place) }
-    ensures trades { IfOk result
-        (λ paths. paths.trades ≡ nth_word (map string_bytes words.now) (place + 1)) }
-{
-    let orders = path_of(alloc, word_at(words, place))?;
-    let trades = path_of(alloc, word_at(words, place + 1))?;
-    Ok(LogPaths { orders, trades })
 }
 
 /// The symbol that a word is, and what the words behind all others say as options.

@@ -10,8 +10,8 @@
 
 pub mod arguments;
 mod commands;
-mod options;
+pub mod options;
 pub mod paths;
-mod phase_words;
+pub mod phase_words;
 pub mod requests;
 pub mod word_forms;

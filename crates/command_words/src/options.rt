@@ -9,24 +9,24 @@ use audit_base::terms::Form;
 
 /// What options say.
 #[derive(Clone, Copy)]
-pub(crate) struct Options {
+pub struct Options {
     /// The form of the order log, if one is given.
-    pub(crate) orders_form: Option<Form>,
+    pub orders_form: Option<Form>,
     /// The form of the trade log, if one is given.
-    pub(crate) trades_form: Option<Form>,
+    pub trades_form: Option<Form>,
     /// Whether `--table` is given.
-    pub(crate) table: bool,
+    pub table: bool,
 }
 
 /// The form of a log: csv where none is given.
-pub(crate) fn or_csv(form: Option<Form>) -> Form
+pub fn or_csv(form: Option<Form>) -> Form
     ensures { result ≡ spec.or_csv form }
 {
     form.unwrap_or(Form::Csv)
 }
 
 /// Nothing is said.
-fn no_options() -> Options
+pub fn no_options() -> Options
     ensures { result ≡ spec.no_options }
 {
     Options {
@@ -37,14 +37,14 @@ fn no_options() -> Options
 }
 
 /// Whether the word is an option that has no value.
-fn is_table_option(word: &str) -> bool
+pub fn is_table_option(word: &str) -> bool
     ensures { result ≡ spec.is_table_option word.now }
 {
     is_word(word, b"--table")
 }
 
 /// What is said with `--table` too, unless it was said before.
-fn with_table(said: Options) -> Option<Options>
+pub fn with_table(said: Options) -> Option<Options>
     ensures { result ≡ spec.with_table said }
 {
     if said.table {
@@ -83,7 +83,7 @@ fn with_trades_form(said: Options, form: Form) -> Option<Options>
 }
 
 /// What is said with an option and its value too.
-fn with_form_option(word: &str, value: &str, said: Options) -> Option<Options>
+pub fn with_form_option(word: &str, value: &str, said: Options) -> Option<Options>
     ensures { result ≡ spec.with_form_option word.now value.now said }
 {
     if is_word(word, b"--orders-form") {
@@ -97,7 +97,7 @@ fn with_form_option(word: &str, value: &str, said: Options) -> Option<Options>
 
 /// What these words say as options. There is nothing where a word is no option, a value is
 /// missing, or an option is given twice.
-pub(crate) fn options_in(words: &[String]) -> Option<Options>
+pub fn options_in(words: &[String]) -> Option<Options>
     ensures { result ≡ spec.options_in (map string_bytes words.now) }
 {
     let Some((word, rest)) = words.split_first() else {

@@ -4,7 +4,7 @@ ghost use Rattle.std.specs.Prelude.{◌≡◌, ◌<◌, ◌∷◌, length, optio
 ghost use Rattle.session_audit.specs.Phases.{ArePhases};
 ghost use Rattle.command_words.specs.PhaseWords as spec;
 
-use super::word_forms::{is_word, number_upto};
+use super::word_forms::{is_word, unpadded_number};
 use audit_base::faults::NoMemory;
 use session_audit::phases::{Phase, PhaseKind, PhaseList};
 use std::alloc::Global;
@@ -32,10 +32,7 @@ fn kind_named(word: &str) -> Option<PhaseKind>
 fn first_place_named(word: &str) -> Option<u32>
     ensures { result ≡ spec.first_place_named word.now }
 {
-    match word.as_bytes() {
-        [b'0', ..] => None,
-        _ => number_upto(word, u32::MAX),
-    }
+    unpadded_number(word, u32::MAX)
 }
 
 /// The text before its first `@`, and the text behind it.
@@ -134,7 +131,7 @@ fn phases_within(
 /// KIND is `uniform`, `maximum` or `continuous` and FIRST is from 1 to 4,294,967,295, without
 /// zeros at its front. The first FIRST is 1, and they rise. A word that gives none takes no
 /// memory.
-pub(crate) fn phases_named(alloc: Global, word: &str) -> Result<Option<PhaseList>, NoMemory>
+pub fn phases_named(alloc: Global, word: &str) -> Result<Option<PhaseList>, NoMemory>
     ensures phases { IfOk result (λ phases. phases ≡ spec.phases_named word.now) }
     ensures memory { IsErr result → IsSome (spec.phases_named word.now) }
     ensures day { IfOk result (λ made. IfSome made ArePhases) }

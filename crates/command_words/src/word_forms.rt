@@ -108,3 +108,13 @@ pub(crate) fn number_upto(word: &str, most: u32) -> Option<u32>
     }
     None
 }
+
+/// The number from 1 to a greatest one that the word writes, without zeros at its front.
+pub fn unpadded_number(word: &str, most: u32) -> Option<u32>
+    ensures { result ≡ spec.unpadded_number most word.now }
+{
+    match word.as_bytes() {
+        [b'0', ..] => None,
+        _ => number_upto(word, most),
+    }
+}

@@ -1,0 +1,105 @@
+-- What the words of a command line of `desk` without the program's name ask for, where they are
+-- well-formed. The first word names the command; there is one definition a command of what its
+-- words ask for.
+use Rattle.std.specs.Prelude.{ℕ, Bool, not, ◌==◌, ◌&&◌, ◌||◌, Option, None, Some, List, [], ◌∷◌, length, drop, codes, nat_le, if◌then◌else◌, IsTrue}
+use Rattle.audit_base.specs.Least.{first_answer, only_if}
+use Rattle.audit_base.specs.RuleKinds.{has_table}
+use Rattle.audit_base.specs.declared.terms.Rule.{Rule}
+use Rattle.session_audit.specs.Phases.{ArePhases}
+use Rattle.command_words.specs.Options.{or_csv}
+use Rattle.command_words.specs.PhaseWords.{phases_named}
+use Rattle.command_words.specs.WordForms.{nth_word, rule_named, word_equals}
+use Rattle.command_words.specs.Words.{names_logs, when_both, when_some}
+use Rattle.desk_words.specs.declared.commands.DeskCommand.{DeskCommand}
+use Rattle.desk_words.specs.declared.commands.DeskCommand.TheVariants as command
+use Rattle.desk_words.specs.declared.options.DeskOptions.{DeskOptions}
+use Rattle.desk_words.specs.declared.requests.DayLogs.{DayLogs}
+use Rattle.desk_words.specs.declared.requests.DeskRequest.{DeskRequest}
+use Rattle.desk_words.specs.declared.requests.DeskRequest.TheVariants.{Audit, Session, Help, Version}
+use Rattle.desk_words.specs.Options.{desk_options_in}
+
+-- the command that a word names
+abbrev pub desk_command_named : List ℕ → Option DeskCommand
+desk_command_named word = first_answer (only_if (word_equals word (codes "audit")) command.Audit
+    ∷ only_if (word_equals word (codes "session")) command.Session
+    ∷ only_if (word_equals word (codes "help")) command.Help ∷ [])
+
+-- ORDERS and TRADES, which follow the command and one other word, with the forms that options
+-- give them
+abbrev pub day_logs : List (List ℕ) → DeskOptions → DayLogs
+day_logs words said = record {
+  orders = nth_word words 2;
+  trades = nth_word words 3;
+  orders_form = or_csv said.common.orders_form;
+  trades_form = or_csv said.common.trades_form;
+}
+
+-- a table is asked for only where the rule has one
+abbrev pub table_fits_rule : Bool → Rule → Bool
+table_fits_rule table the_rule = not table || has_table the_rule
+
+-- RULE, and what the words after all others say as options, `--table` where the rule has one
+abbrev pub rule_and_options : List ℕ → List (List ℕ) → Option (Rule × DeskOptions)
+rule_and_options word behind =
+    when_some (rule_named word) (λ the_rule.
+    when_some (desk_options_in behind) (λ said.
+    only_if (table_fits_rule said.common.table the_rule) (the_rule, said)))
+
+-- `audit RULE ORDERS TRADES` and options
+abbrev pub desk_audit_asked : List (List ℕ) → Option DeskRequest
+desk_audit_asked words =
+    if nat_le 4 (length words) && names_logs words 2 then
+    when_both (rule_and_options (nth_word words 1) (drop 4 words)) (λ the_rule said.
+    Some (Audit the_rule (day_logs words said) said.common.table said.share))
+    else None
+
+-- `session PHASES ORDERS TRADES` and options
+abbrev pub desk_session_asked : List (List ℕ) → Option DeskRequest
+desk_session_asked words =
+    if nat_le 4 (length words) && names_logs words 2 then
+    when_some (desk_options_in (drop 4 words)) (λ said.
+    when_some (phases_named (nth_word words 1)) (λ phases.
+    Some (Session phases (day_logs words said) said.common.table said.share)))
+    else None
+
+-- `help`, or `help COMMAND`
+abbrev pub help_asked : List (List ℕ) → Option DeskRequest
+help_asked words =
+    if length words == 1 then Some (Help None)
+    else (if length words == 2 then
+    when_some (desk_command_named (nth_word words 1)) (λ about. Some (Help (Some about)))
+    else None)
+
+-- what the words of a command ask for, one row a command
+abbrev pub desk_asked_by : DeskCommand → List (List ℕ) → Option DeskRequest
+desk_asked_by command.Audit words = desk_audit_asked words
+desk_asked_by command.Session words = desk_session_asked words
+desk_asked_by command.Help words = help_asked words
+
+-- what a word asks for that is no command and has no others beside it: `--help`, as `help`,
+-- and `--version`
+abbrev pub lone_word_asks : List ℕ → Option DeskRequest
+lone_word_asks word = first_answer (only_if (word_equals word (codes "--help")) (Help None)
+    ∷ only_if (word_equals word (codes "--version")) Version ∷ [])
+
+-- what words ask for whose first names no command
+abbrev pub asked_without_command : List (List ℕ) → Option DeskRequest
+asked_without_command words =
+    if length words == 1 then lone_word_asks (nth_word words 0) else None
+
+-- what words ask for by the command that the first of them names, if it names one
+abbrev pub asked_by_first : Option DeskCommand → List (List ℕ) → Option DeskRequest
+asked_by_first None words = asked_without_command words
+asked_by_first (Some named) words = desk_asked_by named words
+
+-- what words ask for; nothing where they are not well-formed
+abbrev pub desk_request_of : List (List ℕ) → Option DeskRequest
+desk_request_of words = asked_by_first (desk_command_named (nth_word words 0)) words
+
+-- what well-formed words ask for is a table only of a rule that has one, and phases that are
+-- those of a day
+abbrev pub MayBeAskedOfDesk : DeskRequest → Type 0
+MayBeAskedOfDesk (Audit rule logs table share) = IsTrue (table_fits_rule table rule)
+MayBeAskedOfDesk (Session phases logs table share) = ArePhases phases
+MayBeAskedOfDesk (Help about) = Unit {0}
+MayBeAskedOfDesk Version = Unit {0}

@@ -1,0 +1,202 @@
+//! The words of each command. The first word names the command. A function gives the request
+//! where the words after it are those of its command, and nothing, with no memory taken, where
+//! they are not.
+ghost use Rattle.std.specs.Prelude.{◌≡◌, ◌≤◌, length, map, IfOk, IfSome, IsErr, IsSome, IsTrue};
+ghost use Rattle.std.specs.String.{string_bytes};
+ghost use Rattle.command_words.specs.WordForms.{nth_word};
+ghost use Rattle.desk_words.specs.Words as spec;
+
+use super::options::{DeskOptions, desk_options_in};
+use super::requests::{DayLogs, DeskRequest};
+use audit_base::faults::NoMemory;
+use audit_base::terms::Rule;
+use command_words::options::or_csv;
+use command_words::paths::{LogPaths, log_paths, names_logs};
+use command_words::phase_words::phases_named;
+use command_words::word_forms::{is_word, rule_named, word_at};
+use std::alloc::Global;
+
+/// The commands, each with a word of its own.
+#[derive(Clone, Copy, Debug, PartialEq, Eq)]
+pub enum DeskCommand {
+    Audit,
+    Session,
+    Help,
+}
+
+/// The command that a word names.
+fn desk_command_named(word: &str) -> Option<DeskCommand>
+    ensures { result ≡ spec.desk_command_named word.now }
+{
+    if is_word(word, b"audit") {
+        return Some(DeskCommand::Audit);
+    }
+    if is_word(word, b"session") {
+        return Some(DeskCommand::Session);
+    }
+    if is_word(word, b"help") {
+        return Some(DeskCommand::Help);
+    }
+    None
+}
+
+/// The command that the first word names, where there is one.
+fn desk_command_in(words: &[String]) -> Option<DeskCommand>
+    ensures { result ≡ spec.desk_command_named (nth_word (map string_bytes words.now) 0) }
+{
+    let first = words.first()?;
+    desk_command_named(first.as_str())
+}
+
+/// ORDERS and TRADES, after the command and one other word, with the forms that options give
+/// them.
+fn day_logs(alloc: Global, words: &[String], said: &DeskOptions) -> Result<DayLogs, NoMemory>
+    requires { 4 ≤ length words.now }
+    ensures { IfOk result (λ logs. logs ≡ spec.day_logs (map string_bytes words.now) said.now) }
+{
+    let LogPaths { orders, trades } = log_paths(alloc, words, 2)?;
+    Ok(DayLogs {
+        orders,
+        trades,
+        orders_form: or_csv(said.common.orders_form),
+        trades_form: or_csv(said.common.trades_form),
+    })
+}
+
+/// RULE, and what the words after all others say as options, `--table` where the rule has one.
+fn rule_and_options(word: &str, behind: &[String]) -> Option<(Rule, DeskOptions)>
+    ensures options { result ≡ spec.rule_and_options word.now (map string_bytes behind.now) }
+    ensures table { IfSome result
+        (λ both. IsTrue (spec.table_fits_rule both.1.common.table both.0)) }
+{
+    let rule = rule_named(word)?;
+    let said = desk_options_in(behind)?;
+    if said.common.table && !rule.has_table() {
+        return None;
+    }
+    Some((rule, said))
+}
+
+/// `audit RULE ORDERS TRADES` with its options.
+fn desk_audit_request(alloc: Global, words: &[String]) -> Result<Option<DeskRequest>, NoMemory>
+    ensures request { IfOk result
+        (λ made. made ≡ spec.desk_audit_asked (map string_bytes words.now)) }
+    ensures memory { IsErr result → IsSome (spec.desk_audit_asked (map string_bytes words.now)) }
+    ensures asked { IfOk result (λ made. IfSome made spec.MayBeAskedOfDesk) }
+{
+    if words.len() < 4 || !names_logs(words, 2) {
+        return Ok(None);
+    }
+    let Some((rule, said)) = rule_and_options(word_at(words, 1), &words[4..]) else {
+        return Ok(None);
+    };
+    let logs = day_logs(alloc, words, &said)?;
+    Ok(Some(DeskRequest::Audit {
+        rule,
+        logs,
+        table: said.common.table,
+        share: said.share,
+    }))
+}
+
+/// `session PHASES ORDERS TRADES` with its options. The phases are read last, since they take
+/// memory where they are well-formed.
+fn desk_session_request(alloc: Global, words: &[String]) -> Result<Option<DeskRequest>, NoMemory>
+    ensures request { IfOk result
+        (λ made. made ≡ spec.desk_session_asked (map string_bytes words.now)) }
+    ensures memory { IsErr result
+        → IsSome (spec.desk_session_asked (map string_bytes words.now)) }
+    ensures asked { IfOk result (λ made. IfSome made spec.MayBeAskedOfDesk) }
+{
+    if words.len() < 4 || !names_logs(words, 2) {
+        return Ok(None);
+    }
+    let Some(said) = desk_options_in(&words[4..]) else {
+        return Ok(None);
+    };
+    let Some(phases) = phases_named(alloc, word_at(words, 1))? else {
+        return Ok(None);
+    };
+    let logs = day_logs(alloc, words, &said)?;
+    Ok(Some(DeskRequest::Session {
+        phases,
+        logs,
+        table: said.common.table,
+        share: said.share,
+    }))
+}
+
+/// `help`, or `help COMMAND`. Takes no memory.
+fn help_request(words: &[String]) -> Option<DeskRequest>
+    ensures request { result ≡ spec.help_asked (map string_bytes words.now) }
+    ensures asked { IfSome result spec.MayBeAskedOfDesk }
+{
+    if words.len() == 1 {
+        return Some(DeskRequest::Help(None));
+    }
+    if words.len() != 2 {
+        return None;
+    }
+    let about = desk_command_named(word_at(words, 1))?;
+    Some(DeskRequest::Help(Some(about)))
+}
+
+/// What a word asks for that is no command and has no others beside it. Takes no memory.
+fn lone_word_request(word: &str) -> Option<DeskRequest>
+    ensures request { result ≡ spec.lone_word_asks word.now }
+    ensures asked { IfSome result spec.MayBeAskedOfDesk }
+{
+    if is_word(word, b"--help") {
+        return Some(DeskRequest::Help(None));
+    }
+    if is_word(word, b"--version") {
+        return Some(DeskRequest::Version);
+    }
+    None
+}
+
+/// What words ask for whose first names no command. Takes no memory.
+fn request_without_command(words: &[String]) -> Option<DeskRequest>
+    ensures request { result ≡ spec.asked_without_command (map string_bytes words.now) }
+    ensures asked { IfSome result spec.MayBeAskedOfDesk }
+{
+    if words.len() != 1 {
+        return None;
+    }
+    lone_word_request(word_at(words, 0))
+}
+
+/// What the words of a command ask for, one arm a command.
+fn desk_request_by(
+    alloc: Global,
+    command: DeskCommand,
+    words: &[String],
+) -> Result<Option<DeskRequest>, NoMemory>
+    ensures request { IfOk result
+        (λ made. made ≡ spec.desk_asked_by command (map string_bytes words.now)) }
+    ensures memory { IsErr result
+        → IsSome (spec.desk_asked_by command (map string_bytes words.now)) }
+    ensures asked { IfOk result (λ made. IfSome made spec.MayBeAskedOfDesk) }
+{
+    match command {
+        DeskCommand::Audit => desk_audit_request(alloc, words),
+        DeskCommand::Session => desk_session_request(alloc, words),
+        DeskCommand::Help => Ok(help_request(words)),
+    }
+}
+
+/// What words ask for, if they are well-formed.
+pub(crate) fn desk_request_in(
+    alloc: Global,
+    words: &[String],
+) -> Result<Option<DeskRequest>, NoMemory>
+    ensures request { IfOk result
+        (λ made. made ≡ spec.desk_request_of (map string_bytes words.now)) }
+    ensures memory { IsErr result → IsSome (spec.desk_request_of (map string_bytes words.now)) }
+    ensures asked { IfOk result (λ made. IfSome made spec.MayBeAskedOfDesk) }
+{
+    match desk_command_in(words) {
+        Some(command) => desk_request_by(alloc, command, words),
+        None => Ok(request_without_command(words)),
+    }
+}

@@ -1,0 +1,19 @@
+//! The words of the program `desk`: what it is asked, read by hand, and what it writes for words
+//! alone.
+//!
+//! Exactly the well-formed words are taken, and words that are not well-formed take no memory.
+//! `requests` has what words may ask for, and `read_desk_words`, which says what they do;
+//! `commands` reads the words of each command, by `options` (what follows the other words),
+//! `share_words` (a share of a day) and the crate `command_words`, whose words these are but
+//! for the share. `texts` has the usage line, the help and the version.
+#![tactic(auto)]
+
+pub mod commands;
+mod options;
+pub mod requests;
+mod share_words;
+#[cfg(test)]
+mod text_rows;
+pub mod texts;
+#[cfg(test)]
+mod word_rows;

@@ -1,0 +1,76 @@
+//! The options of a command of `desk`: they follow its positional words, in any order, each at
+//! most once, and the value of an option is the next word.
+ghost use Rattle.std.specs.Prelude.{◌≡◌, map};
+ghost use Rattle.std.specs.String.{string_bytes};
+ghost use Rattle.desk_words.specs.Options as spec;
+
+use super::share_words::share_named;
+use command_words::options::{Options, is_table_option, no_options, with_form_option, with_table};
+use command_words::word_forms::is_word;
+use day_symbols::shares::Share;
+
+/// What options say.
+#[derive(Clone, Copy)]
+pub(crate) struct DeskOptions {
+    /// What the options say that `auditor` has too.
+    pub(crate) common: Options,
+    /// The share of the day, if one is given.
+    pub(crate) share: Option<Share>,
+}
+
+/// Nothing is said.
+fn no_desk_options() -> DeskOptions
+    ensures { result ≡ spec.no_desk_options }
+{
+    DeskOptions {
+        common: no_options(),
+        share: None,
+    }
+}
+
+/// What is said with `--table` too, unless it was said before.
+fn with_day_table(said: DeskOptions) -> Option<DeskOptions>
+    ensures { result ≡ spec.with_day_table said }
+{
+    let common = with_table(said.common)?;
+    Some(DeskOptions { common, ..said })
+}
+
+/// What is said with a share too, unless one was given before.
+fn with_share(said: DeskOptions, share: Share) -> Option<DeskOptions>
+    ensures { result ≡ spec.with_share said share }
+{
+    if said.share.is_some() {
+        return None;
+    }
+    Some(DeskOptions {
+        share: Some(share),
+        ..said
+    })
+}
+
+/// What is said with an option and its value too.
+fn with_value_option(word: &str, value: &str, said: DeskOptions) -> Option<DeskOptions>
+    ensures { result ≡ spec.with_value_option word.now value.now said }
+{
+    if is_word(word, b"--share") {
+        return with_share(said, share_named(value)?);
+    }
+    let common = with_form_option(word, value, said.common)?;
+    Some(DeskOptions { common, ..said })
+}
+
+/// What these words say as options. There is nothing where a word is no option, a value is
+/// missing, or an option is given twice.
+pub(crate) fn desk_options_in(words: &[String]) -> Option<DeskOptions>
+    ensures { result ≡ spec.desk_options_in (map string_bytes words.now) }
+{
+    let Some((word, rest)) = words.split_first() else {
+        return Some(no_desk_options());
+    };
+    if is_table_option(word.as_str()) {
+        return with_day_table(desk_options_in(rest)?);
+    }
+    let (value, rest) = rest.split_first()?;
+    with_value_option(word.as_str(), value.as_str(), desk_options_in(rest)?)
+}

@@ -1,0 +1,75 @@
+//! What the words of a command line of `desk` ask for. Exactly the well-formed words are taken.
+ghost use Rattle.std.specs.Prelude.{◌≡◌, None, Some, map, IfOk, IsErrOf};
+ghost use Rattle.std.specs.String.{string_bytes};
+ghost use Rattle.desk_words.specs.Words as spec;
+
+use super::commands::{DeskCommand, desk_request_in};
+use audit_base::terms::{Form, Rule};
+use command_words::paths::PathText;
+use command_words::requests::WordsFault;
+use day_symbols::shares::Share;
+use session_audit::phases::PhaseList;
+use std::alloc::Global;
+
+/// The logs of a day of many symbols. A path is a word of one byte or more that does not begin
+/// with `-`.
+#[derive(Drop)]
+pub struct DayLogs {
+    pub orders: PathText,
+    pub trades: PathText,
+    pub orders_form: Form,
+    pub trades_form: Form,
+}
+
+/// What well-formed words ask for. Where there is no share, the whole day is asked for.
+#[derive(Drop)]
+pub enum DeskRequest {
+    /// To judge the trades of each symbol by a rule. A table is asked for only where the rule
+    /// has one.
+    Audit {
+        rule: Rule,
+        logs: DayLogs,
+        table: bool,
+        share: Option<Share>,
+    },
+    /// To judge the trades of each symbol on a day of 1 to 64 phases.
+    Session {
+        phases: PhaseList,
+        logs: DayLogs,
+        table: bool,
+        share: Option<Share>,
+    },
+    /// To write what each command does, or one of them.
+    Help(Option<DeskCommand>),
+    /// To write which version of the program this is.
+    Version,
+}
+
+/// What the words ask for, one row a command:
+///
+/// - `audit RULE ORDERS TRADES`, and after them, in any order and each at most once,
+///   `--orders-form FORM`, `--trades-form FORM`, `--share K/N` and, where the rule has one,
+///   `--table`;
+/// - `session PHASES ORDERS TRADES`, and after them the same options;
+/// - `help`, which `--help` asks for too, and `help COMMAND`, COMMAND being `audit`, `session`
+///   or `help`;
+/// - `--version`.
+///
+/// RULE, FORM and PHASES are those of `read_words` of `command_words`. K/N is two decimal
+/// numbers without leading zeros, joined by `/`, where K is from 1 to N, and N at most 65,536.
+/// `Usage` comes exactly where the words are not well-formed, and takes no memory. `Memory`
+/// comes only where they are, and there was not enough.
+pub fn read_desk_words(alloc: Global, words: &[String]) -> Result<DeskRequest, WordsFault>
+    ensures request { IfOk result
+        (λ request. spec.desk_request_of (map string_bytes words.now) ≡ Some request) }
+    ensures usage { IsErrOf result WordsFault.Usage
+        → spec.desk_request_of (map string_bytes words.now) ≡ None }
+    ensures decided { spec.desk_request_of (map string_bytes words.now) ≡ None
+        → IsErrOf result WordsFault.Usage }
+    ensures asked { IfOk result spec.MayBeAskedOfDesk }
+{
+    match desk_request_in(alloc, words)? {
+        Some(request) => Ok(request),
+        None => Err(WordsFault::Usage),
+    }
+}

@@ -1,0 +1,54 @@
+//! What is written for words alone.
+use crate::commands::DeskCommand;
+use crate::texts::{append_help, desk_usage_text, version_text};
+use std::test::Fail;
+
+#[test]
+fn lines_of_usage_and_version(rt: HostRuntime) {
+    let usage = "usage: audit RULE ORDERS TRADES | session PHASES ORDERS TRADES | help [COMMAND]\n";
+    assert_eq!(rt; desk_usage_text(), usage.as_bytes());
+    assert!(rt; version_text().starts_with(b"desk (Mekdrox) "));
+}
+
+/// How the help of each command begins and ends.
+const HELPS: [(DeskCommand, &str, &str); 3] = [
+    (
+        DeskCommand::Audit,
+        "audit RULE ORDERS TRADES\n",
+        "Example: desk audit uniform orders.csv trades.csv --share 1/4\n",
+    ),
+    (
+        DeskCommand::Session,
+        "session PHASES ORDERS TRADES\n",
+        "Example: desk session uniform@1,continuous@5001 orders.csv trades.csv\n",
+    ),
+    (
+        DeskCommand::Help,
+        "help [COMMAND]\n",
+        "Example: desk help audit\n",
+    ),
+];
+
+#[test]
+fn help_of_each_command(rt: HostRuntime) -> Result<(), Fail> {
+    for &(command, first, last) in &HELPS {
+        let mut help = Vec::new(rt.alloc());
+        append_help(Some(command), &mut help)?;
+        assert!(rt; help.starts_with(first.as_bytes()) && help.ends_with(last.as_bytes()));
+    }
+    Ok(())
+}
+
+#[test]
+fn whole_help_has_each_command_after_an_empty_line(rt: HostRuntime) -> Result<(), Fail> {
+    let mut whole = Vec::new(rt.alloc());
+    append_help(None, &mut whole)?;
+    let mut joined = Vec::new(rt.alloc());
+    append_help(Some(DeskCommand::Audit), &mut joined)?;
+    joined.push(b'\n')?;
+    append_help(Some(DeskCommand::Session), &mut joined)?;
+    joined.push(b'\n')?;
+    append_help(Some(DeskCommand::Help), &mut joined)?;
+    assert_eq!(rt; whole.as_slice(), joined.as_slice());
+    Ok(())
+}

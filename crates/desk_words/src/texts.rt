@@ -1,0 +1,125 @@
+//! What `desk` writes for words alone: how its command line is used, what each command does, and
+//! which version it is.
+ghost use Rattle.std.specs.Prelude.{◌≡◌, ◌++◌, ◌∷◌, OnOk};
+ghost use Rattle.desk_words.specs.Texts as text;
+
+use super::commands::DeskCommand;
+use audit_base::faults::NoMemory;
+
+/// The line that says how the command line is used.
+pub fn desk_usage_text() -> &'static [u8]
+    ensures { result.now ≡ text.desk_usage_line }
+{
+    b"usage: audit RULE ORDERS TRADES | session PHASES ORDERS TRADES | help [COMMAND]\n"
+}
+
+/// The version of the program, which is that of the file `VERSION`, and the line that
+/// `rt version` prints of the kit that the program is proved with.
+pub fn version_text() -> &'static [u8]
+    ensures { result.now ≡ text.version_text }
+{
+    b"desk (Mekdrox) 1.0.0
+rattle-kit-13f logic dac8208d650f15bf
+"
+}
+
+/// What `audit` does.
+#[tactic(auto, unfolding(crate::specs::Texts::audit_help))]
+fn audit_help() -> &'static [u8]
+    ensures { result.now ≡ text.audit_help }
+{
+    b"audit RULE ORDERS TRADES
+    Judges the trades of each symbol of a day by a rule. Writes how many symbols are
+    accepted and rejected, then each symbol's report, the symbol before each line.
+    RULE                matching, fair, uniform, maximum or continuous
+    ORDERS              the path of the order log
+    TRADES              the path of the trade log
+    --orders-form FORM  the form of the order log: csv, as without it, or fix
+    --trades-form FORM  the form of the trade log: csv, as without it, or fix
+    --table             adds what each order of an accepted symbol traded, or, under
+                        continuous, each pair of orders; not with matching or fair
+    --share K/N         judges only the symbols with the numbers K, K + N, K + 2N and
+                        so on, counted from 1 as they appear; 1 <= K <= N <= 65536
+    Example: desk audit uniform orders.csv trades.csv --share 1/4
+"
+}
+
+/// What `session` does.
+#[tactic(auto, unfolding(crate::specs::Texts::session_help))]
+fn session_help() -> &'static [u8]
+    ensures { result.now ≡ text.session_help }
+{
+    b"session PHASES ORDERS TRADES
+    Judges the trades of each symbol by the phases of a day. Writes how many symbols
+    are accepted and rejected, then each symbol's report, the symbol before each line.
+    PHASES              1 to 64 parts KIND@FIRST, joined by commas: KIND is uniform,
+                        maximum or continuous, and FIRST the place of the order record
+                        with which the phase begins; the first is 1, and they rise
+    ORDERS              the path of the order log
+    TRADES              the path of the trade log
+    --orders-form FORM  the form of the order log: csv, as without it, or fix
+    --trades-form FORM  the form of the trade log: csv, as without it, or fix
+    --table             adds what each order of an accepted symbol traded over the day
+    --share K/N         judges only the symbols with the numbers K, K + N, K + 2N and
+                        so on, counted from 1 as they appear; 1 <= K <= N <= 65536
+    Example: desk session uniform@1,continuous@5001 orders.csv trades.csv
+"
+}
+
+/// What `help` does.
+#[tactic(auto, unfolding(crate::specs::Texts::help_help))]
+fn help_help() -> &'static [u8]
+    ensures { result.now ≡ text.help_help }
+{
+    b"help [COMMAND]
+    Writes what each command does, or what COMMAND does: audit, session or help.
+    --help alone does as help, and --version writes the version of the program and
+    the kit that it is proved with.
+    Example: desk help audit
+"
+}
+
+/// What a command does, with its words, its options and an example.
+fn command_help(command: DeskCommand) -> &'static [u8]
+    ensures { result.now ≡ text.command_help command }
+{
+    match command {
+        DeskCommand::Audit => audit_help(),
+        DeskCommand::Session => session_help(),
+        DeskCommand::Help => help_help(),
+    }
+}
+
+/// Appends an empty line, and a text after it.
+#[tactic(auto, using(std::proofs::Common::append_assoc))]
+fn append_after_empty_line(text: &[u8], out: &mut Vec<u8>) -> Result<(), NoMemory>
+    ensures { OnOk result (out.new.items ≡ out.old.items ++ 10 ∷ text.now) }
+{
+    out.push(b'\n')?;
+    out.extend_from_slice(text)?;
+    Ok(())
+}
+
+/// Appends what each command does, with an empty line between two.
+#[tactic(auto, using(crate::proofs::TextLemmas::joined_texts))]
+fn append_whole_help(out: &mut Vec<u8>) -> Result<(), NoMemory>
+    ensures { OnOk result (out.new.items ≡ out.old.items ++ text.whole_help) }
+{
+    out.extend_from_slice(audit_help())?;
+    append_after_empty_line(session_help(), out)?;
+    append_after_empty_line(help_help(), out)
+}
+
+/// Appends what each command does, or what one of them does. After `NoMemory` nothing is known
+/// of `out`.
+pub fn append_help(about: Option<DeskCommand>, out: &mut Vec<u8>) -> Result<(), NoMemory>
+    ensures { OnOk result (out.new.items ≡ out.old.items ++ text.help_text about) }
+{
+    match about {
+        Some(command) => {
+            out.extend_from_slice(command_help(command))?;
+            Ok(())
+        }
+        None => append_whole_help(out),
+    }
+}

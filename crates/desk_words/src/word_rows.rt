@@ -1,0 +1,396 @@
+//! Words that are well-formed, with what they ask for, and words that are not.
+use crate::commands::DeskCommand;
+use crate::requests::{DayLogs, DeskRequest, read_desk_words};
+use audit_base::faults::NoMemory;
+use audit_base::terms::{Form, Rule};
+use command_words::requests::WordsFault;
+use day_symbols::shares::Share;
+use session_audit::phases::Phase;
+use std::alloc::Global;
+use std::test::Fail;
+
+/// The words of a line, which one space each divides.
+fn words_of(alloc: Global, line: &str) -> Result<Vec<String>, NoMemory> {
+    let mut words = Vec::new(alloc);
+    for word in line.split(' ') {
+        words.push(String::from_str(alloc, word)?)?;
+    }
+    Ok(words)
+}
+
+/// Why a row does not hold.
+#[derive(Debug, Drop)]
+enum RowFault {
+    /// This line asks for something else than its row says.
+    Differs(String),
+    /// There was not enough memory to try the row.
+    Memory,
+}
+
+impl From<NoMemory> for RowFault {
+    fn from(_fault: NoMemory) -> RowFault {
+        RowFault::Memory
+    }
+}
+
+/// That this line asks for something else than its row says.
+fn difference(alloc: Global, line: &str) -> Result<RowFault, NoMemory> {
+    Ok(RowFault::Differs(String::from_str(alloc, line)?))
+}
+
+/// Nothing is wrong with the row of this line, where it holds.
+fn check_row(alloc: Global, line: &str, holds: bool) -> Result<(), RowFault> {
+    if holds {
+        return Ok(());
+    }
+    Err(difference(alloc, line)?)
+}
+
+/// A line that asks for a day of the logs `o` and `t`.
+struct DayRow {
+    line: &'static str,
+    orders_form: Form,
+    trades_form: Form,
+    table: bool,
+    share: Option<(u32, u32)>,
+}
+
+impl DayRow {
+    /// Whether this is the share of the row.
+    fn has_share(&self, share: Option<Share>) -> bool {
+        match (self.share, share) {
+            (None, None) => true,
+            (Some((number, count)), Some(share)) => Share::of(number, count) == Some(share),
+            _ => false,
+        }
+    }
+
+    /// Whether these are the logs of the row.
+    fn has_logs(&self, logs: &DayLogs) -> bool {
+        logs.orders.as_str() == "o"
+            && logs.trades.as_str() == "t"
+            && logs.orders_form == self.orders_form
+            && logs.trades_form == self.trades_form
+    }
+
+    /// Whether this is what the row asks for of its logs.
+    fn has(&self, logs: &DayLogs, table: bool, share: Option<Share>) -> bool {
+        self.has_logs(logs) && table == self.table && self.has_share(share)
+    }
+}
+
+/// Lines that ask for an audit by `uniform`.
+const AUDITS: [DayRow; 6] = [
+    DayRow {
+        line: "audit uniform o t",
+        orders_form: Form::Csv,
+        trades_form: Form::Csv,
+        table: false,
+        share: None,
+    },
+    DayRow {
+        line: "audit uniform o t --table",
+        orders_form: Form::Csv,
+        trades_form: Form::Csv,
+        table: true,
+        share: None,
+    },
+    DayRow {
+        line: "audit uniform o t --share 1/65536 --trades-form fix",
+        orders_form: Form::Csv,
+        trades_form: Form::Fix,
+        table: false,
+        share: Some((1, 65_536)),
+    },
+    DayRow {
+        line: "audit uniform o t --share 65536/65536",
+        orders_form: Form::Csv,
+        trades_form: Form::Csv,
+        table: false,
+        share: Some((65_536, 65_536)),
+    },
+    DayRow {
+        line: "audit uniform o t --table --share 2/3 --orders-form fix --trades-form csv",
+        orders_form: Form::Fix,
+        trades_form: Form::Csv,
+        table: true,
+        share: Some((2, 3)),
+    },
+    DayRow {
+        line: "audit uniform o t --trades-form fix --share 1/1 --table --orders-form fix",
+        orders_form: Form::Fix,
+        trades_form: Form::Fix,
+        table: true,
+        share: Some((1, 1)),
+    },
+];
+
+/// Lines that ask for a day of two phases, the second from the fifth place on.
+const SESSIONS: [DayRow; 2] = [
+    DayRow {
+        line: "session uniform@1,continuous@5 o t",
+        orders_form: Form::Csv,
+        trades_form: Form::Csv,
+        table: false,
+        share: None,
+    },
+    DayRow {
+        line: "session uniform@1,continuous@5 o t --share 10/10 --table --orders-form fix",
+        orders_form: Form::Fix,
+        trades_form: Form::Csv,
+        table: true,
+        share: Some((10, 10)),
+    },
+];
+
+/// Whether this asks for an audit by `uniform`, and for what the row says.
+fn is_audit_of(row: &DayRow, asked: &Result<DeskRequest, WordsFault>) -> bool {
+    match asked {
+        Ok(
+            DeskRequest::Audit {
+                rule,
+                logs,
+                table,
+                share,
+            },
+        ) => *rule == Rule::Uniform && row.has(logs, *table, *share),
+        _ => false,
+    }
+}
+
+fn check_audits(alloc: Global, rows: &[DayRow]) -> Result<(), RowFault> {
+    for row in rows {
+        let words = words_of(alloc, row.line)?;
+        let asked = read_desk_words(alloc, &words);
+        check_row(alloc, row.line, is_audit_of(row, &asked))?;
+    }
+    Ok(())
+}
+
+/// Whether these are two phases, the second from the fifth place on.
+fn are_two_phases(phases: &[Phase]) -> bool {
+    match phases {
+        [first, second] => first.first == 1 && second.first == 5,
+        _ => false,
+    }
+}
+
+/// Whether this asks for a day of two such phases, and for what the row says.
+fn is_session_of(row: &DayRow, asked: &Result<DeskRequest, WordsFault>) -> bool {
+    match asked {
+        Ok(
+            DeskRequest::Session {
+                phases,
+                logs,
+                table,
+                share,
+            },
+        ) => are_two_phases(phases.as_slice()) && row.has(logs, *table, *share),
+        _ => false,
+    }
+}
+
+fn check_sessions(alloc: Global, rows: &[DayRow]) -> Result<(), RowFault> {
+    for row in rows {
+        let words = words_of(alloc, row.line)?;
+        let asked = read_desk_words(alloc, &words);
+        check_row(alloc, row.line, is_session_of(row, &asked))?;
+    }
+    Ok(())
+}
+
+/// The rules by their words, and whether they have a table.
+const RULES: [(&str, Rule, bool); 5] = [
+    ("audit matching o t", Rule::Matching, false),
+    ("audit fair o t", Rule::Fair, false),
+    ("audit uniform o t --table", Rule::Uniform, true),
+    ("audit maximum o t --table", Rule::Maximum, true),
+    ("audit continuous o t --table", Rule::Continuous, true),
+];
+
+fn check_rules(alloc: Global, rows: &[(&str, Rule, bool)]) -> Result<(), RowFault> {
+    for &(line, wanted, with_table) in rows {
+        let words = words_of(alloc, line)?;
+        let holds = match read_desk_words(alloc, &words) {
+            Ok(DeskRequest::Audit { rule, table, .. }) => rule == wanted && table == with_table,
+            _ => false,
+        };
+        check_row(alloc, line, holds)?;
+    }
+    Ok(())
+}
+
+/// Lines that ask for help, and of which command.
+const HELPS: [(&str, Option<DeskCommand>); 5] = [
+    ("help", None),
+    ("--help", None),
+    ("help audit", Some(DeskCommand::Audit)),
+    ("help session", Some(DeskCommand::Session)),
+    ("help help", Some(DeskCommand::Help)),
+];
+
+fn check_helps(alloc: Global, rows: &[(&str, Option<DeskCommand>)]) -> Result<(), RowFault> {
+    for &(line, wanted) in rows {
+        let words = words_of(alloc, line)?;
+        let holds = match read_desk_words(alloc, &words) {
+            Ok(DeskRequest::Help(about)) => about == wanted,
+            _ => false,
+        };
+        check_row(alloc, line, holds)?;
+    }
+    Ok(())
+}
+
+/// Lines of no command, and of `help` with other words.
+const OTHER_WORDS: [&str; 18] = [
+    "",
+    "audits",
+    "Audit uniform o t",
+    "offences uniform Z o t",
+    "page uniform Z o t",
+    "digest o t",
+    "orders 7 4",
+    "plain o",
+    "contents o t",
+    "expect uniform Z o",
+    "help audit session",
+    "help offences",
+    "help --help",
+    "help ",
+    "--help help",
+    "--version --version",
+    "version",
+    "-h",
+];
+
+/// Lines of `audit` whose rule, paths or options are wrong.
+const AUDIT_WORDS: [&str; 28] = [
+    "audit",
+    "audit uniform",
+    "audit uniform o",
+    "audit best o t",
+    "audit uniform Z o t",
+    "audit uniform o t more",
+    "audit uniform -o t",
+    "audit uniform o -t",
+    "audit uniform o ",
+    "audit uniform  t",
+    "audit matching o t --table",
+    "audit fair o t --share 1/2 --table",
+    "audit uniform o t --table --table",
+    "audit uniform o t --table --share 1/2 --table",
+    "audit uniform o t --orders-form",
+    "audit uniform o t --orders-form=fix",
+    "audit uniform o t --orders-form FIX",
+    "audit uniform o t --orders-form fix --orders-form csv",
+    "audit uniform o t --trades-form fix --share 1/2 --trades-form fix",
+    "audit uniform o t --share 1/2 --share 1/2",
+    "audit uniform o t --share 1/2 --table --share 2/2",
+    "audit uniform o --table t",
+    "audit --table uniform o t",
+    "audit uniform o t --page",
+    "audit continuous o t --resting-price",
+    "audit continuous o t --trade-times",
+    "audit uniform o t --records",
+    "audit uniform o t --form csv",
+];
+
+/// Words that are no share.
+const SHARE_WORDS: [&str; 24] = [
+    "audit uniform o t --share",
+    "audit uniform o t --share ",
+    "audit uniform o t --share=1/2",
+    "audit uniform o t --share 1",
+    "audit uniform o t --share 1/",
+    "audit uniform o t --share /2",
+    "audit uniform o t --share /",
+    "audit uniform o t --share 0/1",
+    "audit uniform o t --share 0/0",
+    "audit uniform o t --share 2/1",
+    "audit uniform o t --share 1/0",
+    "audit uniform o t --share 1/65537",
+    "audit uniform o t --share 65537/65537",
+    "audit uniform o t --share 01/2",
+    "audit uniform o t --share 1/02",
+    "audit uniform o t --share 00/1",
+    "audit uniform o t --share 1/2/3",
+    "audit uniform o t --share 1//2",
+    "audit uniform o t --share 1-2",
+    "audit uniform o t --share +1/2",
+    "audit uniform o t --share 1/+2",
+    "audit uniform o t --share 1/2,",
+    "audit uniform o t --share 1/4294967297",
+    "audit uniform o t --share 1 / 2",
+];
+
+/// Lines of `session` whose phases, paths or options are wrong.
+const SESSION_WORDS: [&str; 14] = [
+    "session",
+    "session uniform@1",
+    "session uniform@1 o",
+    "session uniform o t",
+    "session uniform@2 o t",
+    "session uniform@1,maximum@1 o t",
+    "session matching@1 o t",
+    "session Z uniform@1 o t",
+    "session uniform@1 o t more",
+    "session uniform@1 o -t",
+    "session uniform@1 o t --table --table",
+    "session uniform@1 o t --share 3/2",
+    "session uniform@1 o t --resting-price",
+    "session uniform@1 o t --page",
+];
+
+fn check_usage(alloc: Global, lines: &[&str]) -> Result<(), RowFault> {
+    for line in lines {
+        let words = words_of(alloc, line)?;
+        let holds = match read_desk_words(alloc, &words) {
+            Err(fault) => fault == WordsFault::Usage,
+            Ok(_) => false,
+        };
+        check_row(alloc, line, holds)?;
+    }
+    Ok(())
+}
+
+#[test]
+fn audits_of_a_day(rt: HostRuntime) -> Result<(), Fail> {
+    check_audits(rt.alloc(), &AUDITS)?;
+    Ok(check_rules(rt.alloc(), &RULES)?)
+}
+
+#[test]
+fn days_of_phases(rt: HostRuntime) -> Result<(), Fail> {
+    Ok(check_sessions(rt.alloc(), &SESSIONS)?)
+}
+
+#[test]
+fn help_and_version(rt: HostRuntime) -> Result<(), Fail> {
+    check_helps(rt.alloc(), &HELPS)?;
+    let words = words_of(rt.alloc(), "--version")?;
+    let asked = read_desk_words(rt.alloc(), &words);
+    assert!(rt; matches!(&asked, Ok(DeskRequest::Version)));
+    Ok(())
+}
+
+#[test]
+fn words_of_no_command(rt: HostRuntime) -> Result<(), Fail> {
+    let asked = read_desk_words(rt.alloc(), &[]);
+    assert!(rt; matches!(&asked, Err(WordsFault::Usage)));
+    Ok(check_usage(rt.alloc(), &OTHER_WORDS)?)
+}
+
+#[test]
+fn words_of_audits_that_are_not_well_formed(rt: HostRuntime) -> Result<(), Fail> {
+    Ok(check_usage(rt.alloc(), &AUDIT_WORDS)?)
+}
+
+#[test]
+fn words_that_are_no_share(rt: HostRuntime) -> Result<(), Fail> {
+    Ok(check_usage(rt.alloc(), &SHARE_WORDS)?)
+}
+
+#[test]
+fn words_of_days_that_are_not_well_formed(rt: HostRuntime) -> Result<(), Fail> {
+    Ok(check_usage(rt.alloc(), &SESSION_WORDS)?)
+}
