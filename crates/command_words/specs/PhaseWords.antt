@@ -9,7 +9,6 @@ use Rattle.session_audit.specs.declared.phases.PhaseKind.TheVariants as kind
 use Rattle.session_audit.specs.declared.phases.Phase.{Phase}
 use Rattle.session_audit.specs.Phases.{last_place}
 use Rattle.command_words.specs.WordForms.{word_equals, unpadded_number}
-
 -- the byte that joins parts
 pub use Rattle.audit_base.specs.Names.{is_comma}
 
