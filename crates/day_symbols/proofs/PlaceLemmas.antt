@@ -7,7 +7,7 @@ use Rattle.std.proofs.lemmas.List.Elements.{filter-append}
 use Rattle.std.proofs.lemmas.Nat.{div-add-mod', mod-mul-add, mul-le}
 use Rattle.std.proofs.lemmas.Option.{none-some, same_Some, slice_get_within}
 use Rattle.std.proofs.Math.Nat.{add-mul, zero-mul}
-use Rattle.day_symbols.specs.Shares.{DayShare, IsDayShare, indices_in, is_in_share, place_in}
+use Rattle.day_symbols.specs.Shares.{DayShare, IsDayShare, indices_in, is_in_share, share_place}
 
 -- one number more
 range-more : (a n : ℕ) → range_with_len a (suc n) ≡ range_with_len a n ++ (a + n) ∷ []
@@ -27,10 +27,10 @@ pub indices-more : (share : DayShare) (n : ℕ) → indices_in share (suc n) ≡
 indices-more share n = passing-more (is_in_share share) n
 
 -- the next place, behind an index of the share and behind another one
-pub place-more : (share : DayShare) (n : ℕ) → is_in_share share n ≡ true → place_in share (suc n) ≡ place_in share n + 1
+pub place-more : (share : DayShare) (n : ℕ) → is_in_share share n ≡ true → share_place share (suc n) ≡ share_place share n + 1
 place-more share n is = ap length (indices-more share n ∙ ap (λ (b : Bool). indices_in share n ++ cond b (n ∷ []) []) is) ∙ length-append (indices_in share n) (n ∷ [])
 
-pub place-same : (share : DayShare) (n : ℕ) → is_in_share share n ≡ false → place_in share (suc n) ≡ place_in share n
+pub place-same : (share : DayShare) (n : ℕ) → is_in_share share n ≡ false → share_place share (suc n) ≡ share_place share n
 place-same share n other =
     ap length (indices-more share n ∙ ap (λ (b : Bool). indices_in share n ++ cond b (n ∷ []) []) other ∙ append-nil (indices_in share n))
 
@@ -48,19 +48,19 @@ got-last (y ∷ ys) x = got-last ys x
 -- Indices and their places.
 
 -- an index of the share stands at its place
-pub place-at : (share : DayShare) (n i : ℕ) → is_in_share share i ≡ true → i < n → slice_get (indices_in share n) (place_in share i) ≡ Some i
+pub place-at : (share : DayShare) (n i : ℕ) → is_in_share share i ≡ true → i < n → slice_get (indices_in share n) (share_place share i) ≡ Some i
 place-at share zero i is lt = absurd (omega (arith, lt))
-place-at share (suc n) i is lt = elim (cases_lt i n) as (λ _. slice_get (indices_in share (suc n)) (place_in share i) ≡ Some i) [
+place-at share (suc n) i is lt = elim (cases_lt i n) as (λ _. slice_get (indices_in share (suc n)) (share_place share i) ≡ Some i) [
   | inl less ↦
-      let earlier : slice_get (indices_in share n) (place_in share i) ≡ Some i = place-at share n i is less in
-      ap (λ (xs : List ℕ). slice_get xs (place_in share i)) (indices-more share n)
-      ∙ got-left (indices_in share n) (cond (is_in_share share n) (n ∷ []) []) (place_in share i) (slice_get_within (indices_in share n) (place_in share i) i earlier)
+      let earlier : slice_get (indices_in share n) (share_place share i) ≡ Some i = place-at share n i is less in
+      ap (λ (xs : List ℕ). slice_get xs (share_place share i)) (indices-more share n)
+      ∙ got-left (indices_in share n) (cond (is_in_share share n) (n ∷ []) []) (share_place share i) (slice_get_within (indices_in share n) (share_place share i) i earlier)
       ∙ earlier
   | inr more ↦
       let same : i ≡ n = omega (arith, lt, more) in
       let here : is_in_share share n ≡ true = ap (is_in_share share) (sym same) ∙ is in
-      ap (λ (xs : List ℕ). slice_get xs (place_in share i)) (indices-more share n ∙ ap (λ (b : Bool). indices_in share n ++ cond b (n ∷ []) []) here)
-      ∙ ap (λ (k : ℕ). slice_get (indices_in share n ++ n ∷ []) (place_in share k)) same
+      ap (λ (xs : List ℕ). slice_get xs (share_place share i)) (indices-more share n ∙ ap (λ (b : Bool). indices_in share n ++ cond b (n ∷ []) []) here)
+      ∙ ap (λ (k : ℕ). slice_get (indices_in share n ++ n ∷ []) (share_place share k)) same
       ∙ got-last (indices_in share n) n
       ∙ ap (λ (k : ℕ). Some k) (sym same)
 ]
@@ -69,7 +69,7 @@ place-at share (suc n) i is lt = elim (cases_lt i n) as (λ _. slice_get (indice
 pub record IsIndexAt (share : DayShare) (n j i : ℕ) : Type 0 where
   pub shared : is_in_share share i ≡ true
   pub inside : i < n
-  pub place : place_in share i ≡ j
+  pub place : share_place share i ≡ j
 
 wider : (share : DayShare) (n j i : ℕ) → IsIndexAt share n j i → IsIndexAt share (suc n) j i
 wider share n j i at = record { shared = at.shared; inside = omega (arith, at.inside); place = at.place }
@@ -87,7 +87,7 @@ index-behind share n j i true is before there = elim (cases_lt j (length (indice
       record {
         shared = ap (is_in_share share) (sym same) ∙ is;
         inside = omega (arith, same);
-        place = ap (place_in share) (sym same) ∙ last;
+        place = ap (share_place share) (sym same) ∙ last;
       }
 ]
 
@@ -100,8 +100,8 @@ index-at share (suc n) j i got =
 -- A place is a quotient.
 
 -- how many of the numbers below n leave r, where w is divided by
-abbrev passed : ℕ → ℕ → ℕ → ℕ
-passed w r n = length (filter (λ i. i % w == r) (range_with_len 0 n))
+abbrev count_leaving : ℕ → ℕ → ℕ → ℕ
+count_leaving w r n = length (filter (λ i. i % w == r) (range_with_len 0 n))
 
 -- so many, each w apart, lead from r up to n
 record AreBetween (w r n c : ℕ) : Type 0 where
@@ -127,39 +127,39 @@ unequal k n apart low = elim (cases_lt n k) as (λ _. n < k) [
 ]
 
 -- one number more
-between-step : (w r n : ℕ) → r < w → (b : Bool) → (n % w == r) ≡ b → AreBetween w r n (passed w r n) → AreBetween w r (suc n) (length (filter (λ i. i % w == r) (range_with_len 0 n) ++ cond b (n ∷ []) []))
+between-step : (w r n : ℕ) → r < w → (b : Bool) → (n % w == r) ≡ b → AreBetween w r n (count_leaving w r n) → AreBetween w r (suc n) (length (filter (λ i. i % w == r) (range_with_len 0 n) ++ cond b (n ∷ []) []))
 between-step w r n less true passes between =
     let rest : n % w ≡ r = eqb-true (n % w) r passes in
     let parts : n / w * w + r ≡ n = ap (λ (k : ℕ). n / w * w + k) (sym rest) ∙ div-add-mod' n w in
-    let count : passed w r n ≡ n / w = same-quotient w r n (passed w r n) (n / w) less parts between in
-    let at : passed w r n * w ≡ n / w * w = ap (λ (k : ℕ). k * w) count in
-    let longer : length (filter (λ i. i % w == r) (range_with_len 0 n) ++ n ∷ []) ≡ passed w r n + 1 = length-append (filter (λ i. i % w == r) (range_with_len 0 n)) (n ∷ []) in
+    let count : count_leaving w r n ≡ n / w = same-quotient w r n (count_leaving w r n) (n / w) less parts between in
+    let at : count_leaving w r n * w ≡ n / w * w = ap (λ (k : ℕ). k * w) count in
+    let longer : length (filter (λ i. i % w == r) (range_with_len 0 n) ++ n ∷ []) ≡ count_leaving w r n + 1 = length-append (filter (λ i. i % w == r) (range_with_len 0 n)) (n ∷ []) in
     rw longer record {
-      low = omega (arith, add-mul (passed w r n) 1 w, at, parts, less);
-      high = omega (arith, add-mul (passed w r n) 1 w, at, parts, less);
+      low = omega (arith, add-mul (count_leaving w r n) 1 w, at, parts, less);
+      high = omega (arith, add-mul (count_leaving w r n) 1 w, at, parts, less);
     }
 between-step w r n less false fails between =
-    let apart : passed w r n * w + r ≡ n → ⊥ = λ same.
-    let rest : n % w ≡ r = ap (λ (k : ℕ). k % w) (sym same) ∙ mod-mul-add (passed w r n) w r less in
+    let apart : count_leaving w r n * w + r ≡ n → ⊥ = λ same.
+    let rest : n % w ≡ r = ap (λ (k : ℕ). k % w) (sym same) ∙ mod-mul-add (count_leaving w r n) w r less in
     let passes : (n % w == r) ≡ true = eq-eqb (n % w) r rest in
     cc in
-    let longer : length (filter (λ i. i % w == r) (range_with_len 0 n) ++ []) ≡ passed w r n = ap length (append-nil (filter (λ i. i % w == r) (range_with_len 0 n))) in
-    let above : n < passed w r n * w + r = unequal (passed w r n * w + r) n apart between.low in
+    let longer : length (filter (λ i. i % w == r) (range_with_len 0 n) ++ []) ≡ count_leaving w r n = ap length (append-nil (filter (λ i. i % w == r) (range_with_len 0 n))) in
+    let above : n < count_leaving w r n * w + r = unequal (count_leaving w r n * w + r) n apart between.low in
     rw longer record { low = omega (arith, above); high = omega (arith, between.high) }
 
-between-all : (w r n : ℕ) → r < w → AreBetween w r n (passed w r n)
+between-all : (w r n : ℕ) → r < w → AreBetween w r n (count_leaving w r n)
 between-all w r zero less =
-    let none : passed w r 0 * w ≡ 0 = zero-mul w in
+    let none : count_leaving w r 0 * w ≡ 0 = zero-mul w in
     record { low = omega arith; high = omega (arith, none, less) }
 between-all w r (suc n) less =
     subst (λ (xs : List ℕ). AreBetween w r (suc n) (length xs)) (sym (passing-more (λ i. i % w == r) n))
     (between-step w r n less (n % w == r) refl (between-all w r n less))
 
 -- the place of an index of the share is the quotient by the number of shares
-pub place-is : (share : DayShare) (i : ℕ) → IsDayShare share → is_in_share share i ≡ true → place_in share i ≡ i / share.count
+pub place-is : (share : DayShare) (i : ℕ) → IsDayShare share → is_in_share share i ≡ true → share_place share i ≡ i / share.count
 place-is share i shares is =
     let less : share.number - 1 < share.count = omega (arith, shares.first, shares.among) in
     let rest : i % share.count ≡ share.number - 1 = eqb-true (i % share.count) (share.number - 1) is in
-    same-quotient share.count (share.number - 1) i (place_in share i) (i / share.count) less
+    same-quotient share.count (share.number - 1) i (share_place share i) (i / share.count) less
     (ap (λ (k : ℕ). i / share.count * share.count + k) (sym rest) ∙ div-add-mod' i share.count)
     (between-all share.count (share.number - 1) i less)

@@ -39,8 +39,8 @@ abbrev pub indices_in : DayShare → ℕ → List ℕ
 indices_in share count = filter (is_in_share share) (range_with_len 0 count)
 
 -- how many symbols of the share stand before the one at an index
-abbrev pub place_in : DayShare → ℕ → ℕ
-place_in share index = length (indices_in share index)
+abbrev pub share_place : DayShare → ℕ → ℕ
+share_place share index = length (indices_in share index)
 
 -- the symbols of a share, in their order
 abbrev pub symbols_in : DayShare → List (List ℕ) → List (List ℕ)

@@ -28,7 +28,7 @@ impl Model for Share {
 
 impl Share {
     ghost use Rattle.std.specs.Prelude.{◌≡◌, ◌<◌, true, length, option_map, slice_get};
-    ghost use Rattle.day_symbols.specs.Shares.{is_in_share, is_looked_at, place_in, day_share_of, symbols_in, whole_day};
+    ghost use Rattle.day_symbols.specs.Shares.{is_in_share, is_looked_at, share_place, day_share_of, symbols_in, whole_day};
 
     /// The share number/count, where there is one.
     pub fn of(number: u32, count: u32) -> Option<Share>
@@ -60,7 +60,7 @@ impl Share {
     /// How many symbols of the share stand before the one at this index, which is in the share.
     pub fn place(self, index: usize) -> usize
         requires { is_in_share self index ≡ true }
-        ensures { result ≡ place_in self index }
+        ensures { result ≡ share_place self index }
     {
         index / self.count as usize
     }

@@ -11,7 +11,7 @@ use Rattle.audit_base.specs.declared.records.TradeRecord.{TradeRecord}
 use Rattle.audit_base.specs.Histories.{symbol_of}
 use Rattle.audit_base.specs.Orders.{same_name}
 use Rattle.day_symbols.specs.Kept.{HasRoomAt}
-use Rattle.day_symbols.specs.Shares.{DayShare, is_in_share, place_in, symbols_in}
+use Rattle.day_symbols.specs.Shares.{DayShare, is_in_share, share_place, symbols_in}
 use Rattle.day_symbols.specs.Symbols.{distinct_names, symbols_of_day, symbols_of_logs}
 use Rattle.day_symbols.proofs.KeptLemmas.{AreAtPlaces, OthersStay}
 use Rattle.day_symbols.proofs.MetLemmas.{inside-step, outside-step, room-met, room-within}
@@ -124,10 +124,10 @@ outside-more share admission parts entries trades x index got outside are =
     (outside-step (known_after admission entries trades) (known_after admission entries (trades ++ x ∷ [])) share (symbols_of_logs entries trades) x.symbol parts index (others-stay admission entries trades x) got outside are)
 
 -- the symbol of a trade was met, and what is known of it has this place
-pub record IsMetInside (share : DayShare) (admission : Admission) (entries : List OrderRecord) (trades : List TradeRecord) (x : TradeRecord) (room : List SymbolTrades) (index place : ℕ) : Type 0 where
+pub record IsTradeMet (share : DayShare) (admission : Admission) (entries : List OrderRecord) (trades : List TradeRecord) (x : TradeRecord) (room : List SymbolTrades) (index place : ℕ) : Type 0 where
   pub got : slice_get (distinct_names (symbols_of_logs entries trades ++ x.symbol ∷ [])) index ≡ Some x.symbol
   pub inside : is_in_share share index ≡ true
-  pub at : place ≡ place_in share index
+  pub at : place ≡ share_place share index
   pub places : AreAtPlaces (known_after admission entries trades) share (distinct_names (symbols_of_logs entries trades ++ x.symbol ∷ [])) room
   pub within : place < length room
 
@@ -139,14 +139,14 @@ unseen-known admission entries trades own one others unseen =
 
 pub met-inside : (share own_share : DayShare) (admission own_admission : Admission) (old room : List SymbolTrades) (entries : List OrderRecord) (trades : List TradeRecord) (x : TradeRecord) (symbols new : List (List ℕ)) (index place : ℕ)
     → own_share ≡ share → own_admission ≡ admission → symbols ≡ symbols_of_day entries trades → ((names : List (List ℕ)) → symbols ≡ distinct_names names → new ≡ distinct_names (names ++ x.symbol ∷ []))
-    → slice_get new index ≡ Some x.symbol → is_in_share own_share index ≡ true → place ≡ place_in own_share index → HasRoomAt (IsUnseen own_admission) place old room
-    → AreSymbolTrades admission entries trades (symbols_in share (symbols_of_day entries trades)) old → IsMetInside share admission entries trades x room index place
+    → slice_get new index ≡ Some x.symbol → is_in_share own_share index ≡ true → place ≡ share_place own_share index → HasRoomAt (IsUnseen own_admission) place old room
+    → AreSymbolTrades admission entries trades (symbols_in share (symbols_of_day entries trades)) old → IsTradeMet share admission entries trades x room index place
 met-inside share own_share admission own_admission old room entries trades x symbols new index place shared admits symbols_are meets there inside at makes are =
     let met : new ≡ distinct_names (symbols_of_logs entries trades ++ x.symbol ∷ []) = meets (symbols_of_logs entries trades) symbols_are in
     let got : slice_get (distinct_names (symbols_of_logs entries trades ++ x.symbol ∷ [])) index ≡ Some x.symbol = ap (λ (s : List (List ℕ)). slice_get s index) (sym met) ∙ there in
     let inside_it : is_in_share share index ≡ true = ap (λ (s : DayShare). is_in_share s index) (sym shared) ∙ inside in
-    let at_it : place ≡ place_in share index = at ∙ ap (λ (s : DayShare). place_in s index) shared in
-    let makes_it : HasRoomAt (IsUnseen admission) (place_in share index) old room =
+    let at_it : place ≡ share_place share index = at ∙ ap (λ (s : DayShare). share_place s index) shared in
+    let makes_it : HasRoomAt (IsUnseen admission) (share_place share index) old room =
     subst (λ (k : ℕ). HasRoomAt (IsUnseen admission) k old room) at_it (subst (λ (a : Admission). HasRoomAt (IsUnseen a) place old room) admits makes) in
     let places = room-met (known_after admission entries trades) (IsUnseen admission) share (symbols_of_logs entries trades) x.symbol old room index (λ others one unseen. unseen-known admission entries trades x.symbol one others unseen) got inside_it makes_it are in
     record {
@@ -159,10 +159,10 @@ met-inside share own_share admission own_admission old room entries trades x sym
 
 -- it has taken the trade
 pub has-taken : (share : DayShare) (admission : Admission) (entries : List OrderRecord) (trades : List TradeRecord) (x : TradeRecord) (room : List SymbolTrades) (index place number : ℕ) (was now : SymbolTrades)
-    → IsMetInside share admission entries trades x room index place → slice_get room place ≡ Some was → number ≡ length trades + 1 → TakesTradeOf was now number x
+    → IsTradeMet share admission entries trades x room index place → slice_get room place ≡ Some was → number ≡ length trades + 1 → TakesTradeOf was now number x
     → AreSymbolTrades admission entries (trades ++ x ∷ []) (symbols_in share (symbols_of_day entries (trades ++ x ∷ []))) (set room place now)
 has-taken share admission entries trades x room index place number was now met there at takes =
     let done = inside-step (known_after admission entries trades) (known_after admission entries (trades ++ x ∷ [])) share (symbols_of_logs entries trades) x.symbol room index was now (others-stay admission entries trades x)
     met.got met.inside (ap (slice_get room) (sym met.at) ∙ there) (λ is. takes admission entries trades x.symbol is (is-same x.symbol x.symbol refl) at) met.places in
     subst (λ (k : ℕ). AreSymbolTrades admission entries (trades ++ x ∷ []) (symbols_in share (symbols_of_day entries (trades ++ x ∷ []))) (set room k now)) (sym met.at)
-    (subst (λ (symbols : List (List ℕ)). AreSymbolTrades admission entries (trades ++ x ∷ []) (symbols_in share symbols) (set room (place_in share index) now)) (sym (traded-more entries trades x)) done)
+    (subst (λ (symbols : List (List ℕ)). AreSymbolTrades admission entries (trades ++ x ∷ []) (symbols_in share symbols) (set room (share_place share index) now)) (sym (traded-more entries trades x)) done)

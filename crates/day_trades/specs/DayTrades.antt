@@ -24,7 +24,7 @@ AreSymbolTrades admission entries trades symbols parts =
 -- after these order records the day has been handed exactly these records of the trade log: it has
 -- the symbols of
 -- both, and of each symbol of the share what is known of it
-pub record IsDayTrades {M : Type 0} (share : DayShare) (admission : Admission)
+pub record IsDayBehind {M : Type 0} (share : DayShare) (admission : Admission)
     (entries : List OrderRecord)
     (day : DayTrades M) (trades : List TradeRecord) : Type 0 where
   pub shared : day.share ≡ share
@@ -34,11 +34,16 @@ pub record IsDayTrades {M : Type 0} (share : DayShare) (admission : Admission)
   pub parts_are : AreSymbolTrades admission entries trades
       (symbols_in share (symbols_of_day entries trades)) day.parts.items
 
--- a fact of whatever trades the day has been handed
-abbrev pub ForTradesOf : {M : Type 0} → DayShare → Admission → List OrderRecord → DayTrades M
-    → (List TradeRecord → Type 0) → Type 0
-ForTradesOf share admission entries day P =
-    (trades : List TradeRecord) → IsDayTrades share admission entries day trades → P trades
+-- the day has been handed exactly these records of the trade log, after whatever order records it
+-- may have, and it
+-- may have some
+pub record IsDayTrades {M : Type 0} (share : DayShare) (admission : Admission)
+    (may_have : List OrderRecord → Type 0)
+    (day : DayTrades M) (trades : List TradeRecord) : Type 0 where
+  pub entries : List OrderRecord
+  pub has : may_have entries
+  pub behind : (others : List OrderRecord) → may_have others
+      → IsDayBehind share admission others day trades
 
 -- the day has these records: these are its symbols, and this is known of each of the share
 pub record HasTradesOf (share : DayShare) (admission : Admission) (entries : List OrderRecord)
@@ -47,6 +52,15 @@ pub record HasTradesOf (share : DayShare) (admission : Admission) (entries : Lis
   pub parts_are : AreSymbolTrades admission entries trades
       (symbols_in share (symbols_of_day entries trades)) ended.parts.items
   pub count : ended.count ≡ length trades
+
+-- whatever trades the day has been handed, and whatever order records it may have, it ends with
+-- what is known of them
+abbrev pub EndsDay : {M : Type 0} → DayShare → Admission → (List OrderRecord → Type 0)
+    → DayTrades M → EndedTrades → Type 0
+EndsDay share admission may_have day ended =
+    (entries : List OrderRecord) (trades : List TradeRecord) → may_have entries
+    → IsDayTrades share admission may_have day trades
+    → HasTradesOf share admission entries ended trades
 
 -- this is known of whatever symbol no order record has, before any trade
 abbrev pub IsUnseen : Admission → SymbolTrades → Type 0

@@ -1,5 +1,5 @@
 //! What is known of the symbols of a day, trade by trade.
-ghost use Rattle.std.specs.Prelude.{◌≡◌, ◌+◌, ◌<◌, ◌∷◌, [], List, IfOk, OnOk, slice_get, Some, length};
+ghost use Rattle.std.specs.Prelude.{⊤, ◌≡◌, ◌+◌, ◌<◌, ◌∷◌, [], List, IfOk, OnOk, slice_get, Some, length};
 ghost use Rattle.audit_base.specs.declared.records.OrderRecord.{OrderRecord as AnEntry};
 ghost use Rattle.log_source.specs.Collectors.{HasPlace};
 ghost use Rattle.log_source.specs.Handing.{HandsOnMore};
@@ -9,7 +9,7 @@ ghost use Rattle.day_symbols.specs.Shares.{DayShare, whole_day};
 ghost use Rattle.instruction_history.specs.declared.symbol_history.SymbolHistory.{SymbolHistory as AHistory};
 ghost use Rattle.record_verdict.specs.declared.scopes.Admission.{Admission as AnAdmission};
 ghost use Rattle.record_verdict.specs.declared.scopes.Admission.TheVariants.{All as AdmitsAll};
-ghost use Rattle.day_trades.specs.DayTrades.{AreBegun, AreFewRecords, ForTradesOf, HasTradesOf, IsDayTrades, IsUnseen, KeepsAllButParts};
+ghost use Rattle.day_trades.specs.DayTrades.{AreBegun, AreFewRecords, EndsDay, IsDayTrades, IsUnseen, KeepsAllButParts};
 
 use crate::symbol_trades::SymbolTrades;
 use audit_base::faults::NoMemory;
@@ -24,7 +24,8 @@ use seeded_hash::seed::HashSeed;
 use std::alloc::Global;
 use std::marker::{Brand, PhantomData};
 
-/// The share of a day that is audited, which orders its rule admits, and the order records, for proofs alone. What
+/// The share of a day that is audited, which orders its rule admits, and which order records it may have, for proofs
+/// alone. What
 /// hands records to collectors of any kind can say of one only which records it has been handed, and not which day
 /// it was made for. So the type of a day says that. Whoever makes one picks them, at `Brand`, and nothing of them
 /// is there when the program runs.
@@ -33,7 +34,7 @@ pub trait AuditedDay {
 
     ghost admission: { AnAdmission };
 
-    ghost entries: { List AnEntry };
+    ghost may_have: { List AnEntry → Type 0 };
 }
 
 impl AuditedDay for Brand {
@@ -41,7 +42,7 @@ impl AuditedDay for Brand {
 
     ghost admission = { AdmitsAll };
 
-    ghost entries = { [] };
+    ghost may_have = { λ _. ⊤ };
 }
 
 /// What is known of a day after its order log and some records of its trade log: its symbols, and of each that is in
@@ -98,8 +99,10 @@ impl<M: AuditedDay> DayTrades<M> {
     ) -> Result<DayTrades<M>, NoMemory>
         requires share { share ≡ M.share }
         requires admission { admission ≡ M.admission }
-        requires orders { HasOrders M.share orders M.entries }
-        ensures { IfOk result (λ day. IsDayTrades M.share M.admission M.entries day []) }
+        requires orders { (entries : List AnEntry)
+            → M.may_have entries → HasOrders M.share orders entries }
+        requires some { (entries : List AnEntry) × M.may_have entries }
+        ensures { IfOk result (λ day. IsDayTrades M.share M.admission M.may_have day []) }
     {
         let EndedOrders { symbols, histories } = orders;
         let parts = begin(alloc, seed, admission, histories)?;
@@ -131,8 +134,8 @@ impl<M: AuditedDay> DayTrades<M> {
 
     /// Takes the next record of the log. After `NoMemory` nothing is known of the day.
     fn take_trade(&mut self, trade: &TradeRecord) -> Result<(), NoMemory>
-        requires { HasPlace (IsDayTrades M.share M.admission M.entries) self.old }
-        ensures { let has_taken = IsDayTrades M.share M.admission M.entries in
+        requires { HasPlace (IsDayTrades M.share M.admission M.may_have) self.old }
+        ensures { let has_taken = IsDayTrades M.share M.admission M.may_have in
             OnOk result (HandsOnMore (has_taken self.old) (has_taken self.new) (trade.now ∷ [])) }
     {
         self.count += 1;
@@ -147,8 +150,7 @@ impl<M: AuditedDay> DayTrades<M> {
 
     /// The symbols of the day and what is known of those in the share. Takes no memory.
     pub fn end(self) -> EndedTrades
-        ensures { ForTradesOf M.share M.admission M.entries self
-            (HasTradesOf M.share M.admission M.entries result) }
+        ensures { EndsDay M.share M.admission M.may_have self result }
     {
         let DayTrades {
             symbols,
@@ -169,7 +171,7 @@ impl<M: AuditedDay> Collector for DayTrades<M> {
 
     type Entry = TradeRecord;
 
-    ghost has_taken = { IsDayTrades M.share M.admission M.entries };
+    ghost has_taken = { IsDayTrades M.share M.admission M.may_have };
 
     ghost wants = { λ day symbol. is_looked_at day.share day.symbols symbol };
 

@@ -21,7 +21,7 @@ use Rattle.day_trades.specs.declared.symbol_trades.SymbolTrades.{SymbolTrades}
 use Rattle.day_trades.specs.DayTrades.{HasTradesOf}
 use Rattle.day_trades.specs.SymbolTrades.{HasFewOfSymbol, IsSymbolTrades}
 use Rattle.day_verdicts.specs.declared.day_verdicts.JudgedSymbols.{JudgedSymbols}
-use Rattle.day_verdicts.specs.DayVerdicts.{AreVerdicts, counts_of, HasFewTradesOf, HasRoomForOne, is_acceptance, IsJudgedDay, IsJudgedUpTo, JudgesDay, JudgesOne, lines_of_day, with_verdict}
+use Rattle.day_verdicts.specs.DayVerdicts.{AreVerdicts, counts_of, HasFewTradesOf, HasRoomForOne, is_acceptance, IsJudgedDay, IsJudgedUpTo, JudgesShare, JudgesOne, day_lines_of, with_verdict}
 use Rattle.record_verdict.specs.Judgements.{IsRecordVerdict, question}
 use Rattle.record_verdict.specs.Scopes.{admission_of}
 
@@ -48,14 +48,14 @@ for-each-more {X} P symbols kept symbol one are is = record {
 
 -- the lines of one symbol more come last
 lines-more : (symbols : List (List ℕ)) (verdicts : List Verdict) (symbol : List ℕ) (v : Verdict) → length verdicts ≡ length symbols
-    → lines_of_day (symbols ++ symbol ∷ []) (verdicts ++ v ∷ []) ≡ lines_of_day symbols verdicts ++ symbol_lines symbol (verdict_text v)
+    → day_lines_of (symbols ++ symbol ∷ []) (verdicts ++ v ∷ []) ≡ day_lines_of symbols verdicts ++ symbol_lines symbol (verdict_text v)
 lines-more [] [] symbol v same = append-nil (symbol_lines symbol (verdict_text v))
 lines-more [] (w ∷ ws) symbol v same = absurd (omega (arith, same))
 lines-more (s ∷ ss) [] symbol v same = absurd (omega (arith, same))
 lines-more (s ∷ ss) (w ∷ ws) symbol v same =
     let rest : length ws ≡ length ss = omega (arith, same) in
     ap (λ (text : List ℕ). symbol_lines s (verdict_text w) ++ text) (lines-more ss ws symbol v rest)
-    ∙ sym (append_assoc (symbol_lines s (verdict_text w)) (lines_of_day ss ws) (symbol_lines symbol (verdict_text v)))
+    ∙ sym (append_assoc (symbol_lines s (verdict_text w)) (day_lines_of ss ws) (symbol_lines symbol (verdict_text v)))
 
 -- the counts of one verdict more
 accepted-more : (verdicts : List Verdict) (v : Verdict) → count_by is_acceptance (verdicts ++ v ∷ []) ≡ count_by is_acceptance verdicts + (if is_acceptance v then 1 else 0)
@@ -135,7 +135,7 @@ judged-next rule table share ended n part symbol old new next one is = λ entrie
       counts_are = one.adds.counts_are ∙ ap (λ (counts : DayCounts). with_verdict counts one.one) before.counts_are ∙ sym (counts-more before.verdicts one.one);
       lines_are = one.adds.lines_are ∙ ap (λ (text : List ℕ). text ++ symbol_lines symbol (verdict_text one.one)) before.lines_are
           ∙ sym (lines-more (take n symbols) before.verdicts symbol one.one before.verdicts_are.same_length)
-          ∙ ap (λ (ss : List (List ℕ)). lines_of_day ss (before.verdicts ++ one.one ∷ [])) (sym more);
+          ∙ ap (λ (ss : List (List ℕ)). day_lines_of ss (before.verdicts ++ one.one ∷ [])) (sym more);
     }
 
 -- there is room to count one symbol more
@@ -156,7 +156,7 @@ room-for rule table share ended n judged lt few_parts few is =
 
 -- all symbols were judged
 pub judged-all : (rule : Rule) (table : Bool) (share : DayShare) (ended : EndedTrades) (n : ℕ) (before rest : List SymbolTrades) (judged : JudgedSymbols) → before ++ rest ≡ ended.parts.items → length rest ≡ 0 → n ≡ length before
-    → IsJudgedUpTo rule table share ended n judged → JudgesDay rule table share ended judged
+    → IsJudgedUpTo rule table share ended n judged → JudgesShare rule table share ended judged
 judged-all rule table share ended n before rest judged parts none at is = λ entries trades has.
     let symbols : List (List ℕ) = shared_symbols share entries trades in
     let size : length before + length rest ≡ length ended.parts.items = sym (length-append before rest) ∙ ap length parts in

@@ -46,11 +46,11 @@ counts_of verdicts = record {
 
 -- the lines of each symbol, one after another: those of the text of its verdict, with the symbol
 -- before each
-abbrev pub lines_of_day : List (List ℕ) → List Verdict → List ℕ
-lines_of_day [] verdicts = []
-lines_of_day (symbol ∷ symbols) [] = []
-lines_of_day (symbol ∷ symbols) (the_verdict ∷ verdicts) =
-    symbol_lines symbol (verdict_text the_verdict) ++ lines_of_day symbols verdicts
+abbrev pub day_lines_of : List (List ℕ) → List Verdict → List ℕ
+day_lines_of [] verdicts = []
+day_lines_of (symbol ∷ symbols) [] = []
+day_lines_of (symbol ∷ symbols) (the_verdict ∷ verdicts) =
+    symbol_lines symbol (verdict_text the_verdict) ++ day_lines_of symbols verdicts
 
 -- these are the counts and the lines of the verdicts on these symbols
 pub record IsJudgedDay (rule : Rule) (table : Bool) (entries : List OrderRecord)
@@ -59,7 +59,7 @@ pub record IsJudgedDay (rule : Rule) (table : Bool) (entries : List OrderRecord)
   pub verdicts : List Verdict
   pub verdicts_are : AreVerdicts rule table entries trades symbols verdicts
   pub counts_are : judged.counts ≡ counts_of verdicts
-  pub lines_are : judged.lines.items ≡ lines_of_day symbols verdicts
+  pub lines_are : judged.lines.items ≡ day_lines_of symbols verdicts
 
 -- What functions pass on: one symbol after another.
 
@@ -114,8 +114,8 @@ IsJudgedUpTo rule table share ended n judged =
 
 -- whatever records the day has, these are the counts and lines of the verdicts on the symbols of
 -- the share
-abbrev pub JudgesDay : Rule → Bool → DayShare → EndedTrades → JudgedSymbols → Type 0
-JudgesDay rule table share ended judged = (entries : List OrderRecord) (trades : List TradeRecord)
+abbrev pub JudgesShare : Rule → Bool → DayShare → EndedTrades → JudgedSymbols → Type 0
+JudgesShare rule table share ended judged = (entries : List OrderRecord) (trades : List TradeRecord)
     → HasTradesOf share (admission_of rule) entries ended trades
     → IsJudgedDay rule table entries trades
     (symbols_in share (symbols_of_day entries trades)) judged

@@ -118,7 +118,7 @@ pub fn judge_day(
     ended: EndedTrades,
 ) -> Result<JudgedSymbols, NoMemory>
     requires { day.HasFewTradesOf rule share ended }
-    ensures { IfOk result (day.JudgesDay rule table share ended) }
+    ensures { IfOk result (day.JudgesShare rule table share ended) }
 {
     let EndedTrades {
         symbols,

@@ -5,3 +5,4 @@
 #![tactic(auto)]
 
 pub mod day_verdicts;
+pub mod whole_days;

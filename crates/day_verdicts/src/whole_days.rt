@@ -1,0 +1,116 @@
+//! The verdicts on a day whose records are there as a whole.
+ghost use Rattle.std.specs.Prelude.{◌≡◌, ◌<◌, ◌-◌, ◌^◌, List, IfOk, length};
+ghost use Rattle.audit_base.specs.declared.records.OrderRecord.{OrderRecord as AnEntry};
+ghost use Rattle.day_orders.specs.DayOrders.{HasOrders, IsDayOrders};
+ghost use Rattle.day_symbols.specs.Shares.{symbols_in};
+ghost use Rattle.day_symbols.specs.Symbols.{symbols_of_day};
+ghost use Rattle.day_trades.specs.DayTrades.{HasTradesOf, IsDayTrades};
+ghost use Rattle.day_verdicts.specs.DayVerdicts.{IsJudgedDay};
+
+use crate::day_verdicts::{JudgedSymbols, judge_day};
+use audit_base::faults::NoMemory;
+use audit_base::records::{OrderRecord, TradeRecord};
+use audit_base::terms::Rule;
+use day_orders::day_orders::{AuditedShare, DayOrders, EndedOrders};
+use day_symbols::shares::Share;
+use day_trades::day_trades::{AuditedDay, DayTrades, EndedTrades};
+use log_source::collector::Collector;
+use record_verdict::scopes::Admission;
+use seeded_hash::seed::HashSeed;
+use std::alloc::Global;
+use std::marker::Brand;
+
+/// The order log of a day that has been handed these records.
+fn orders_handed<D: AuditedShare>(
+    alloc: Global,
+    share: Share,
+    entries: &[OrderRecord],
+) -> Result<DayOrders<D>, NoMemory>
+    requires share { share ≡ D.share }
+    requires few { length entries.now < 2 ^ 32 - 1 }
+    ensures { IfOk result (λ day. IsDayOrders D.share day entries.now) }
+{
+    let mut day = DayOrders::new(alloc, HashSeed::fixed(), share);
+    for entry in entries {
+        day.take(*entry)?;
+    }
+    Ok(day)
+}
+
+/// What the order records of a day come to.
+fn orders_of<D: AuditedShare>(
+    alloc: Global,
+    share: Share,
+    entries: &[OrderRecord],
+) -> Result<EndedOrders, NoMemory>
+    requires share { share ≡ D.share }
+    requires few { length entries.now < 2 ^ 32 - 1 }
+    ensures { IfOk result (λ ended. HasOrders share ended entries.now) }
+{
+    let day = orders_handed::<D>(alloc, share, entries)?;
+    Ok(day.end())
+}
+
+/// The trade log of a day that has been handed these records.
+fn trades_handed<M: AuditedDay>(
+    alloc: Global,
+    share: Share,
+    admission: Admission,
+    orders: EndedOrders,
+    trades: &[TradeRecord],
+) -> Result<DayTrades<M>, NoMemory>
+    requires share { share ≡ M.share }
+    requires admission { admission ≡ M.admission }
+    requires orders { (entries : List AnEntry)
+        → M.may_have entries → HasOrders M.share orders entries }
+    requires some { (entries : List AnEntry) × M.may_have entries }
+    requires few { length trades.now < 2 ^ 32 - 1 }
+    ensures { IfOk result (λ day. IsDayTrades M.share M.admission M.may_have day trades.now) }
+{
+    let mut day = DayTrades::after(alloc, HashSeed::fixed(), share, admission, orders)?;
+    for trade in trades {
+        day.take(*trade)?;
+    }
+    Ok(day)
+}
+
+/// What the trades of a day come to, behind these orders.
+fn trades_of<M: AuditedDay>(
+    alloc: Global,
+    share: Share,
+    admission: Admission,
+    orders: EndedOrders,
+    trades: &[TradeRecord],
+) -> Result<EndedTrades, NoMemory>
+    requires share { share ≡ M.share }
+    requires admission { admission ≡ M.admission }
+    requires orders { (entries : List AnEntry)
+        → M.may_have entries → HasOrders M.share orders entries }
+    requires some { (entries : List AnEntry) × M.may_have entries }
+    requires few { length trades.now < 2 ^ 32 - 1 }
+    ensures { IfOk result (λ ended. (entries : List AnEntry) → M.may_have entries
+        → HasTradesOf M.share M.admission entries ended trades.now) }
+{
+    let day = trades_handed::<M>(alloc, share, admission, orders, trades)?;
+    Ok(day.end())
+}
+
+/// The verdicts of a rule on the symbols of a share of these records, in one pass over each list: of each symbol the
+/// verdict that it has by itself, counted and written in the order of the symbols.
+pub fn judge_records_of_day(
+    alloc: Global,
+    rule: Rule,
+    table: bool,
+    share: Share,
+    entries: &[OrderRecord],
+    trades: &[TradeRecord],
+) -> Result<JudgedSymbols, NoMemory>
+    requires few_entries { length entries.now < 2 ^ 32 - 1 }
+    requires few_trades { length trades.now < 2 ^ 32 - 1 }
+    ensures { let symbols = symbols_in share (symbols_of_day entries.now trades.now) in
+        IfOk result (IsJudgedDay rule table entries.now trades.now symbols) }
+{
+    let orders = orders_of::<Brand>(alloc, share, entries)?;
+    let ended = trades_of::<Brand>(alloc, share, Admission::of(rule), orders, trades)?;
+    judge_day(alloc, rule, table, share, ended)
+}
