@@ -10,50 +10,52 @@ use Rattle.audit_base.specs.Orders.{is_uncancelled_on}
 
 -- what an order asks for at a price, if it is a bid that no record cancels
 abbrev pub demand_of_order : ℕ → Order → ℕ
-demand_of_order p o = if is_uncancelled_on Buy o && nat_le p o.limit then o.quantity else 0
+demand_of_order price o = if is_uncancelled_on Buy o && nat_le price o.limit then o.quantity else 0
 
 -- what an order offers at a price, if it is an ask that no record cancels
 abbrev pub supply_of_order : ℕ → Order → ℕ
-supply_of_order p o = if is_uncancelled_on Sell o && nat_le o.limit p then o.quantity else 0
+supply_of_order price o = if is_uncancelled_on Sell o && nat_le o.limit price then o.quantity else 0
 
 -- what an order offers below a price, if it is an ask that no record cancels
 abbrev pub supply_below_of_order : ℕ → Order → ℕ
-supply_below_of_order p o = if is_uncancelled_on Sell o && nat_lt o.limit p then o.quantity else 0
+supply_below_of_order price o =
+    if is_uncancelled_on Sell o && nat_lt o.limit price then o.quantity else 0
 
--- Demand: the quantity of the bids with limit at least p
+-- Demand: the quantity of the bids with limit at least the price
 abbrev pub demand : List Order → ℕ → ℕ
-demand orders p = sum_by (demand_of_order p) orders
+demand orders price = sum_by (demand_of_order price) orders
 
--- Supply: the quantity of the asks with limit at most p
+-- Supply: the quantity of the asks with limit at most the price
 abbrev pub supply : List Order → ℕ → ℕ
-supply orders p = sum_by (supply_of_order p) orders
+supply orders price = sum_by (supply_of_order price) orders
 
--- the quantity of the asks with limit below p
+-- the quantity of the asks with limit below the price
 abbrev pub supply_below : List Order → ℕ → ℕ
-supply_below orders p = sum_by (supply_below_of_order p) orders
+supply_below orders price = sum_by (supply_below_of_order price) orders
 
--- Cut: the demand at p, and the quantity of the asks with limit below p
+-- Cut: the demand at a price, and the quantity of the asks with limit below it
 abbrev pub cut : List Order → ℕ → ℕ
-cut orders p = demand orders p + supply_below orders p
+cut orders price = demand orders price + supply_below orders price
 
 -- executable volume: the smaller of demand and supply, which is what can trade at this one price
 abbrev pub executable_volume : List Order → ℕ → ℕ
-executable_volume orders p = min (demand orders p) (supply orders p)
+executable_volume orders price = min (demand orders price) (supply orders price)
 
 -- the least cut over all prices from 0 to 10^18, and the least price that reaches it
 pub record IsLeastCut (orders : List Order) (c : Cut) : Type 0 where
-  pub reached : IsLeast (λ q. (q ≤ 10 ^ 18) × (cut orders q ≡ c.volume)) c.price
-  pub least : (q : ℕ) → q ≤ 10 ^ 18 → c.volume ≤ cut orders q
+  pub reached : IsLeast (λ price. (price ≤ 10 ^ 18) × (cut orders price ≡ c.volume)) c.price
+  pub least : (price : ℕ) → price ≤ 10 ^ 18 → c.volume ≤ cut orders price
 
 -- the greatest executable volume over these prices, and the least price that reaches it
 pub record IsGreatestExecutableVolume (orders : List Order) (c : Cut) : Type 0 where
-  pub reached : IsLeast (λ q. (q ≤ 10 ^ 18) × (executable_volume orders q ≡ c.volume)) c.price
-  pub greatest : (q : ℕ) → q ≤ 10 ^ 18 → executable_volume orders q ≤ c.volume
+  pub reached : IsLeast (λ price. (price ≤ 10 ^ 18)
+      × (executable_volume orders price ≡ c.volume)) c.price
+  pub greatest : (price : ℕ) → price ≤ 10 ^ 18 → executable_volume orders price ≤ c.volume
 
--- Bound: the least price from 0 to 10^18 at which the cut (under `uniform`,
--- the executable volume) is the volume
+-- Bound: the least price from 0 to 10^18 at which the volume is the cut
+-- (under `uniform`, the executable volume)
 abbrev pub IsBoundPrice : VolumeRule → List Order → ℕ → ℕ → Type 0
-IsBoundPrice of_volume.Maximum orders volume p =
-    IsLeast (λ q. (q ≤ 10 ^ 18) × (cut orders q ≡ volume)) p
-IsBoundPrice of_volume.Uniform orders volume p =
-    IsLeast (λ q. (q ≤ 10 ^ 18) × (executable_volume orders q ≡ volume)) p
+IsBoundPrice of_volume.Maximum orders volume bound =
+    IsLeast (λ price. (price ≤ 10 ^ 18) × (cut orders price ≡ volume)) bound
+IsBoundPrice of_volume.Uniform orders volume bound =
+    IsLeast (λ price. (price ≤ 10 ^ 18) × (executable_volume orders price ≡ volume)) bound

@@ -1,4 +1,5 @@
--- The first offence under the rules of a call, and what shows it.
+-- The first offence under the rules of a call, and what shows it. An order and a deal are named by
+-- their indices in the order list and in the list of deals.
 use Rattle.std.specs.Prelude.{◌≡◌, ◌<◌, ℕ, ◌+◌, Bool, false, ◌==◌, ◌&&◌, not, nat_lt, is_some, List, [], ◌∷◌, Option, None, Some, take, length, MatchOption, IsSomeAnd}
 use Rattle.std.specs.Option.{option_or}
 use Rattle.audit_base.specs.declared.terms.Side.{Side}
@@ -23,65 +24,66 @@ use Rattle.audit_base.specs.Rules.{Only}
 use Rattle.audit_base.specs.RuleKinds.{volume_rule_of_call, rule_of_volume, asks_one_price}
 use Rattle.audit_base.specs.Shows.{finding_at_trade, with_traded_number, show_order, show_if_found, show_place}
 
--- First part: the least deal up to which the deals aren't a matching (or,
--- under `uniform`, haven't one price).
+-- First part: the least deal up to which the deals aren't a matching
+-- (or, under `uniform`, haven't one price).
 
 -- some record cancels the order
 abbrev pub is_cancelled : List Order → ℕ → Bool
-is_cancelled orders i = is_some (order_at orders i).cancelled
+is_cancelled orders order = is_some (order_at orders order).cancelled
 
 -- the price is within the limits of the deal's own orders
 abbrev pub keeps_limits : List Order → Deal → Bool
 keeps_limits orders d = is_price_within (order_at orders d.bid) (order_at orders d.ask) d
 
--- The findings 7 to 11 at the deal at k. Orders are shown with what they trade up to this deal.
+-- The findings 7 to 11 at a deal. Orders are shown with what they trade up to this deal.
 
--- 7: the bid, or else the ask, is one that some record cancels
+-- finding 7: the bid, or else the ask, is one that some record cancels
 unfoldable pub call_inactive_finding : List Order → List Deal → ℕ → Option Finding
-call_inactive_finding orders deals k =
-    let d = deal_at deals k in let so_far = traded (take (k + 1) deals) in
+call_inactive_finding orders deals deal =
+    let d = deal_at deals deal in let so_far = traded (take (deal + 1) deals) in
     first_answer (only_if (is_cancelled orders d.bid)
     (finding_at_trade property.Inactive d (show_order orders so_far d.bid) None)
     ∷ only_if (is_cancelled orders d.ask)
     (finding_at_trade property.Inactive d (show_order orders so_far d.ask) None) ∷ [])
 
--- 8: the price is outside a limit
+-- finding 8: the price is outside a limit
 unfoldable pub call_limit_finding : List Order → List Deal → ℕ → Option Finding
-call_limit_finding orders deals k =
-    let d = deal_at deals k in let so_far = traded (take (k + 1) deals) in
+call_limit_finding orders deals deal =
+    let d = deal_at deals deal in let so_far = traded (take (deal + 1) deals) in
     only_if (not (keeps_limits orders d))
     (finding_at_trade property.Limit d (show_order orders so_far d.bid)
     (show_order orders so_far d.ask))
 
--- 9: one price is asked for, and the price is not that of the first deal
+-- finding 9: one price is asked for, and the price is not that of the first deal
 unfoldable pub uniform_price_finding : Bool → List Deal → ℕ → Option Finding
-uniform_price_finding uniform deals k = let d = deal_at deals k in
+uniform_price_finding uniform deals deal = let d = deal_at deals deal in
     only_if (uniform && not (d.price == (deal_at deals 0).price))
     (finding_at_trade property.UniformPrice d
     (show_place which.Trades (deal_at deals 0).place) None)
 
--- 10 and 11: up to the deal at k the order at i, which it names, trades more than its quantity
+-- findings 10 and 11: the order, which the deal names, trades more than its quantity
+-- up to this deal
 abbrev pub quantity_finding : Property → List Order → List Deal → ℕ → ℕ → Option Finding
-quantity_finding property orders deals k i = let so_far = traded (take (k + 1) deals) in
-    only_if (nat_lt (quantity_at orders i) (so_far i))
-    (finding_at_trade property (deal_at deals k) (show_order orders so_far i) None)
+quantity_finding broken orders deals deal order = let so_far = traded (take (deal + 1) deals) in
+    only_if (nat_lt (quantity_at orders order) (so_far order))
+    (finding_at_trade broken (deal_at deals deal) (show_order orders so_far order) None)
 
--- 10, of the deal's bid
+-- finding 10, of the deal's bid
 unfoldable pub bid_quantity_finding : List Order → List Deal → ℕ → Option Finding
-bid_quantity_finding orders deals k =
-    quantity_finding property.BuyQuantity orders deals k (deal_at deals k).bid
+bid_quantity_finding orders deals deal =
+    quantity_finding property.BuyQuantity orders deals deal (deal_at deals deal).bid
 
--- 11, of the deal's ask
+-- finding 11, of the deal's ask
 unfoldable pub ask_quantity_finding : List Order → List Deal → ℕ → Option Finding
-ask_quantity_finding orders deals k =
-    quantity_finding property.SellQuantity orders deals k (deal_at deals k).ask
+ask_quantity_finding orders deals deal =
+    quantity_finding property.SellQuantity orders deals deal (deal_at deals deal).ask
 
--- the first of these at the deal at k
+-- the first of these at a deal
 abbrev pub matching_finding : Bool → List Order → List Deal → ℕ → Option Finding
-matching_finding uniform orders deals k =
-    first_answer (call_inactive_finding orders deals k ∷ call_limit_finding orders deals k
-    ∷ uniform_price_finding uniform deals k ∷ bid_quantity_finding orders deals k
-    ∷ ask_quantity_finding orders deals k
+matching_finding uniform orders deals deal =
+    first_answer (call_inactive_finding orders deals deal ∷ call_limit_finding orders deals deal
+    ∷ uniform_price_finding uniform deals deal ∷ bid_quantity_finding orders deals deal
+    ∷ ask_quantity_finding orders deals deal
     ∷ [])
 
 -- the offence of the first part, if there is one
@@ -94,43 +96,45 @@ matching_offence uniform orders deals =
 -- short, that is not fully traded (LeavesQty, FIX tag 151, above 0): no record cancels the order,
 -- and its Traded in the whole log is below its quantity
 abbrev pub is_short : List Order → List Deal → Side → ℕ → Bool
-is_short orders deals side i =
-    is_uncancelled_on side (order_at orders i) && nat_lt (traded deals i) (quantity_at orders i)
+is_short orders deals side order =
+    is_uncancelled_on side (order_at orders order)
+    && nat_lt (traded deals order) (quantity_at orders order)
 
 -- the best short order of a side
 unfoldable pub best_short : List Order → List Deal → Side → Option ℕ
 best_short orders deals side = best_order orders (is_short orders deals side)
 
--- a short order is better than the order at i
+-- some short order of the side is better than this order
 unfoldable pub is_outranked_by_short : List Order → List Deal → Side → ℕ → Bool
-is_outranked_by_short orders deals side i =
-    any_below (λ j. is_short orders deals side j && better (order_at orders j) (order_at orders i))
+is_outranked_by_short orders deals side order =
+    any_below (λ other. is_short orders deals side other
+    && better (order_at orders other) (order_at orders order))
     (length orders)
 
--- 12 and 13: the order at i, which the deal at k names, is outranked by a short order of its side.
+-- findings 12 and 13: the order, which the deal names, is outranked by a short order of its side.
 -- The best of these is shown, and the order, with what they trade in the whole log
 abbrev pub call_priority_finding : Property → Side → List Order → List Deal → ℕ → ℕ → Option Finding
-call_priority_finding property side orders deals k i =
-    only_if (is_outranked_by_short orders deals side i)
-    (finding_at_trade property (deal_at deals k)
+call_priority_finding broken side orders deals deal order =
+    only_if (is_outranked_by_short orders deals side order)
+    (finding_at_trade broken (deal_at deals deal)
     (show_if_found orders (traded deals) (best_short orders deals side))
-    (show_order orders (traded deals) i))
+    (show_order orders (traded deals) order))
 
--- 12, of the deal's bid
+-- finding 12, of the deal's bid
 unfoldable pub bid_priority_finding : List Order → List Deal → ℕ → Option Finding
-bid_priority_finding orders deals k =
-    call_priority_finding property.BuyPriority Buy orders deals k (deal_at deals k).bid
+bid_priority_finding orders deals deal =
+    call_priority_finding property.BuyPriority Buy orders deals deal (deal_at deals deal).bid
 
--- 13, of the deal's ask
+-- finding 13, of the deal's ask
 unfoldable pub ask_priority_finding : List Order → List Deal → ℕ → Option Finding
-ask_priority_finding orders deals k =
-    call_priority_finding property.SellPriority Sell orders deals k (deal_at deals k).ask
+ask_priority_finding orders deals deal =
+    call_priority_finding property.SellPriority Sell orders deals deal (deal_at deals deal).ask
 
 -- the offence of the second part, if there is one
 abbrev pub fair_offence : List Order → List Deal → Option Finding
 fair_offence orders deals =
-    least_answer (λ k. option_or (bid_priority_finding orders deals k)
-    (ask_priority_finding orders deals k))
+    least_answer (λ deal. option_or (bid_priority_finding orders deals deal)
+    (ask_priority_finding orders deals deal))
     (length deals)
 
 -- Third part: the volume isn't the greatest that the rule allows.
@@ -140,9 +144,9 @@ abbrev pub IsGreatestUnder : VolumeRule → List Order → ℕ → Type 0
 IsGreatestUnder of_volume.Uniform orders v = IsGreatestUniformVolume orders v
 IsGreatestUnder of_volume.Maximum orders v = IsGreatestVolume orders v
 
--- 14: the volume is below the greatest. The place of the finding is one more than the number of
--- trades of the whole log. It shows the best short bid and the best short ask, with what they
--- trade in the whole log and their dues
+-- finding 14: the volume is below the greatest. The place of the finding is one more than the
+-- number of trades of the whole log. It shows the best short bid and the best short ask, with what
+-- they trade in the whole log and their dues
 pub record IsVolumeOffence (the_rule : VolumeRule) (orders : List Order) (deals : List Deal)
     (count : ℕ) (finding : Finding) : Type 0 where
   pub most : ℕ

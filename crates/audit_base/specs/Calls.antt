@@ -20,14 +20,14 @@ pub record IsMatchingDeal (orders : List Order) (d : Deal) : Type 0 where
 -- Matching: each deal is such a deal, and no order trades more than its quantity
 pub record Matching (orders : List Order) (deals : List Deal) : Type 0 where
   pub kept : All (IsMatchingDeal orders) deals
-  pub within : EachIndex orders (λ i. traded deals i ≤ quantity_at orders i)
+  pub within : EachIndex orders (λ order. traded deals order ≤ quantity_at orders order)
 
 -- Fair: of the orders of a side that no record cancels, each that is better than one that trades is
 -- fully traded
 pub record Fair (orders : List Order) (deals : List Deal) : Type 0 where
-  pub fills : (side : Side) (i j : ℕ) → IsUncancelledOn orders side i
-      → IsUncancelledOn orders side j
-      → Better orders i j → 0 < traded deals j → traded deals i ≡ quantity_at orders i
+  pub fills : (side : Side) (order other : ℕ) → IsUncancelledOn orders side order
+      → IsUncancelledOn orders side other → Better orders order other → 0 < traded deals other
+      → traded deals order ≡ quantity_at orders order
 
 -- OnePrice: there is a price that every deal has. A list with no deals has one price
 pub record OnePrice (deals : List Deal) : Type 0 where

@@ -1,9 +1,9 @@
 -- The words of continuous trading, in which each order meets at its own record those that rest.
 --
--- The words take a ledger: ledger p o is what the order at o has traded in deals whose cause
--- is below the place p. What is left and what rests are said of the moment before the record
--- at p; what is active is said of the moment after it, which is that before p + 1.
--- The second part says the same words of a list of deals.
+-- An order is named by its index in the order list. The words take a ledger: `ledger place order`
+-- is what the order has traded in deals whose cause is below the place. What is left and what
+-- rests are said of the moment before the record at a place; what is active is said of the moment
+-- after it, which is that before place + 1. The second part says the same words of a list of deals.
 use Rattle.std.specs.Prelude.{ℕ, zero, suc, ◌-◌, max, Bool, true, false, ◌==◌, ◌&&◌, ◌||◌, not, nat_lt, nat_le, List, [], ◌∷◌, Option, None, Some, sum_by, if◌then◌else◌}
 use Rattle.audit_base.specs.declared.orders.Order.{Order}
 use Rattle.audit_base.specs.declared.orders.Deal.{Deal}
@@ -25,23 +25,23 @@ resting_order orders d =
 
 -- what an order trades in deals of causes below a place
 unfoldable pub traded_before : List Order → List Deal → ℕ → ℕ → ℕ
-traded_before orders deals p i =
-    sum_by (λ d. if names_order i d && nat_lt (cause orders d) p then d.quantity else 0) deals
+traded_before orders deals place order = sum_by
+    (λ d. if names_order order d && nat_lt (cause orders d) place then d.quantity else 0) deals
 
--- what an order trades in T(p), the deals of cause p
+-- what an order trades in T(place), the deals whose cause is the place
 unfoldable pub traded_at : List Order → List Deal → ℕ → ℕ → ℕ
-traded_at orders deals p i =
-    sum_by (λ d. if names_order i d && (cause orders d == p) then d.quantity else 0) deals
+traded_at orders deals place order =
+    sum_by (λ d. if names_order order d && (cause orders d == place) then d.quantity else 0) deals
 
--- no record below p cancels the order
+-- no record below the place cancels the order
 abbrev pub uncancelled_before : Option ℕ → ℕ → Bool
-uncancelled_before None p = true
-uncancelled_before (Some c) p = nat_le p c
+uncancelled_before None place = true
+uncancelled_before (Some cancelled) place = nat_le place cancelled
 
 -- the order is cancelled at its own place: it was never placed
 abbrev pub is_cancelled_at_place : Option ℕ → ℕ → Bool
 is_cancelled_at_place None place = false
-is_cancelled_at_place (Some c) place = c == place
+is_cancelled_at_place (Some cancelled) place = cancelled == place
 
 -- the chain that begins with a target: the target, its target, and so on.
 -- A target is a lower index, so at most n steps lead back from an index below n
@@ -52,96 +52,108 @@ chain_within (suc n) orders (Some t) = t ∷ chain_within n orders (order_at ord
 
 -- the chain of an order
 unfoldable pub chain : List Order → ℕ → List ℕ
-chain orders i = chain_within (suc i) orders (order_at orders i).target
+chain orders order = chain_within (suc order) orders (order_at orders order).target
 
 -- Before: what the orders of its chain have traded before the order's own place
 unfoldable pub chain_traded_in_ledger : List Order → (ℕ → ℕ → ℕ) → ℕ → ℕ
-chain_traded_in_ledger orders ledger i = sum_by (ledger (place_at orders i)) (chain orders i)
+chain_traded_in_ledger orders ledger order =
+    sum_by (ledger (place_at orders order)) (chain orders order)
 
 -- Size, where it is known whether the order entered: its quantity less Before, or 0
 abbrev pub size_where_entered : Bool → List Order → (ℕ → ℕ → ℕ) → ℕ → ℕ
-size_where_entered entered orders ledger i =
-    if entered then quantity_at orders i - chain_traded_in_ledger orders ledger i else 0
+size_where_entered entered orders ledger order =
+    if entered then quantity_at orders order - chain_traded_in_ledger orders ledger order else 0
 
--- Rests before p, where it is known whether the order entered: its life is Rests,
--- its place is below p, no record below p cancels it, and it has not traded its whole Size
+-- Rests before a place, where it is known whether the order entered: its life is Rests,
+-- its own place is below this one, no record below this one cancels it,
+-- and it has not traded its whole Size
 abbrev pub rests_before_where_entered : Bool → List Order → (ℕ → ℕ → ℕ) → ℕ → ℕ → Bool
-rests_before_where_entered entered orders ledger p i =
-    (may_rest (order_at orders i).life && nat_lt (place_at orders i) p)
-    && (uncancelled_before (order_at orders i).cancelled p
-    && nat_lt (ledger p i) (size_where_entered entered orders ledger i))
+rests_before_where_entered entered orders ledger place order =
+    (may_rest (order_at orders order).life && nat_lt (place_at orders order) place)
+    && (uncancelled_before (order_at orders order).cancelled place
+    && nat_lt (ledger place order) (size_where_entered entered orders ledger order))
 
 -- the order was placed: it isn't cancelled at its own place
 abbrev pub is_placed_order : List Order → ℕ → Bool
-is_placed_order orders i =
-    not (is_cancelled_at_place (order_at orders i).cancelled (place_at orders i))
+is_placed_order orders order =
+    not (is_cancelled_at_place (order_at orders order).cancelled (place_at orders order))
 
 -- whether an order with this target entered, in at most n steps back
 abbrev pub entered_within : ℕ → List Order → (ℕ → ℕ → ℕ) → ℕ → Option ℕ → Bool
-entered_within zero orders ledger i target = false
-entered_within (suc n) orders ledger i None = is_placed_order orders i
-entered_within (suc n) orders ledger i (Some t) = is_placed_order orders i
+entered_within zero orders ledger order target = false
+entered_within (suc n) orders ledger order None = is_placed_order orders order
+entered_within (suc n) orders ledger order (Some t) = is_placed_order orders order
     && rests_before_where_entered
     (entered_within n orders ledger t (order_at orders t).target) orders ledger
-    (place_at orders i) t
+    (place_at orders order) t
 
 -- Entered: the order was placed, and it has no target or its target rests before its own place
 unfoldable pub entered_in_ledger : List Order → (ℕ → ℕ → ℕ) → ℕ → Bool
-entered_in_ledger orders ledger i =
-    entered_within (suc i) orders ledger i (order_at orders i).target
+entered_in_ledger orders ledger order =
+    entered_within (suc order) orders ledger order (order_at orders order).target
 
--- Size: what an order may trade, its quantity less Before where it entered
--- and this is above 0, else 0
+-- Size: what an order may trade, its quantity less Before
+-- where it entered and this is above 0, else 0
 unfoldable pub size_in_ledger : List Order → (ℕ → ℕ → ℕ) → ℕ → ℕ
-size_in_ledger orders ledger i =
-    size_where_entered (entered_in_ledger orders ledger i) orders ledger i
+size_in_ledger orders ledger order =
+    size_where_entered (entered_in_ledger orders ledger order) orders ledger order
 
--- Left before p: Size less what the order has traded
+-- Left before a place: Size less what the order has traded
 abbrev pub left_before_in_ledger : List Order → (ℕ → ℕ → ℕ) → ℕ → ℕ → ℕ
-left_before_in_ledger orders ledger p i = size_in_ledger orders ledger i - ledger p i
+left_before_in_ledger orders ledger place order =
+    size_in_ledger orders ledger order - ledger place order
 
--- Rests before p
+-- Rests before a place
 unfoldable pub rests_before_in_ledger : List Order → (ℕ → ℕ → ℕ) → ℕ → ℕ → Bool
-rests_before_in_ledger orders ledger p i =
-    rests_before_where_entered (entered_in_ledger orders ledger i) orders ledger p i
+rests_before_in_ledger orders ledger place order =
+    rests_before_where_entered (entered_in_ledger orders ledger order) orders ledger place order
 
--- Active after the record at p: the order rests then, or it is the order at p itself,
--- no record up to p cancels it, and something is left
+-- Active after the record at a place: the order rests then, or it is the order of this record,
+-- no record up to the place cancels it, and something is left
 unfoldable pub active_after_in_ledger : List Order → (ℕ → ℕ → ℕ) → ℕ → ℕ → Bool
-active_after_in_ledger orders ledger p i = rests_before_in_ledger orders ledger (suc p) i
-    || ((place_at orders i == p) && uncancelled_before (order_at orders i).cancelled (suc p)
-    && nat_lt 0 (left_before_in_ledger orders ledger (suc p) i))
+active_after_in_ledger orders ledger place order =
+    rests_before_in_ledger orders ledger (suc place) order
+    || ((place_at orders order == place)
+    && uncancelled_before (order_at orders order).cancelled (suc place)
+    && nat_lt 0 (left_before_in_ledger orders ledger (suc place) order))
 
 -- The second part: the words of a list of deals.
 
--- what an order trades in deals of causes up to i
+-- what an order trades in deals of causes up to a place
 abbrev pub traded_after : List Order → List Deal → ℕ → ℕ → ℕ
-traded_after orders deals i o = traded_before orders deals (suc i) o
+traded_after orders deals place order = traded_before orders deals (suc place) order
 
--- Before(o), Entered(o) and Size(o)
+-- Before(order), Entered(order) and Size(order)
 abbrev pub chain_traded_quantity : List Order → List Deal → ℕ → ℕ
-chain_traded_quantity orders deals o = chain_traded_in_ledger orders (traded_before orders deals) o
+chain_traded_quantity orders deals order =
+    chain_traded_in_ledger orders (traded_before orders deals) order
 
 abbrev pub has_entered : List Order → List Deal → ℕ → Bool
-has_entered orders deals o = entered_in_ledger orders (traded_before orders deals) o
+has_entered orders deals order = entered_in_ledger orders (traded_before orders deals) order
 
 abbrev pub size_of_order : List Order → List Deal → ℕ → ℕ
-size_of_order orders deals o = size_in_ledger orders (traded_before orders deals) o
+size_of_order orders deals order = size_in_ledger orders (traded_before orders deals) order
 
--- Left(i - 1, o) and Left(i, o): what is left before record i, and after it
+-- Left(place - 1, order) and Left(place, order): what is left before the record at a place,
+-- and after it
 abbrev pub left_before : List Order → List Deal → ℕ → ℕ → ℕ
-left_before orders deals i o = left_before_in_ledger orders (traded_before orders deals) i o
+left_before orders deals place order =
+    left_before_in_ledger orders (traded_before orders deals) place order
 
 abbrev pub left_after : List Order → List Deal → ℕ → ℕ → ℕ
-left_after orders deals i o = left_before_in_ledger orders (traded_before orders deals) (suc i) o
+left_after orders deals place order =
+    left_before_in_ledger orders (traded_before orders deals) (suc place) order
 
--- Rests(i - 1, o) and Rests(i, o): whether it rests before record i, and after it
+-- Rests(place - 1, order) and Rests(place, order): whether it rests before the record, and after it
 abbrev pub rests_before : List Order → List Deal → ℕ → ℕ → Bool
-rests_before orders deals i o = rests_before_in_ledger orders (traded_before orders deals) i o
+rests_before orders deals place order =
+    rests_before_in_ledger orders (traded_before orders deals) place order
 
 abbrev pub rests_after : List Order → List Deal → ℕ → ℕ → Bool
-rests_after orders deals i o = rests_before_in_ledger orders (traded_before orders deals) (suc i) o
+rests_after orders deals place order =
+    rests_before_in_ledger orders (traded_before orders deals) (suc place) order
 
--- Active(i, o): whether it is active after record i
+-- Active(place, order): whether it is active after the record
 abbrev pub active_after : List Order → List Deal → ℕ → ℕ → Bool
-active_after orders deals i o = active_after_in_ledger orders (traded_before orders deals) i o
+active_after orders deals place order =
+    active_after_in_ledger orders (traded_before orders deals) place order

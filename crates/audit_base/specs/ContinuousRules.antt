@@ -13,36 +13,37 @@ pub record KeepsLimits (orders : List Order) (d : Deal) : Type 0 where
   pub least : limit_at orders d.ask ≤ d.price
   pub most : d.price ≤ limit_at orders d.bid
 
--- Conservation at place i: each deal of cause i keeps both limits, its resting order rests before
--- i, and no order has traded more than its Size up to i
-pub record Conservation (orders : List Order) (deals : List Deal) (i : ℕ) : Type 0 where
-  pub limits : All (λ d. cause orders d ≡ i → KeepsLimits orders d) deals
-  pub resting : All (λ d. cause orders d ≡ i
-      → IsTrue (rests_before orders deals i (resting_order orders d))) deals
-  pub within : EachIndex orders (λ k. traded_after orders deals i k ≤ size_of_order orders deals k)
+-- Conservation at a place: each deal of this cause keeps both limits, its resting order rests
+-- before the place, and no order has traded more than its Size up to the place
+pub record Conservation (orders : List Order) (deals : List Deal) (place : ℕ) : Type 0 where
+  pub limits : All (λ d. cause orders d ≡ place → KeepsLimits orders d) deals
+  pub resting : All (λ d. cause orders d ≡ place
+      → IsTrue (rests_before orders deals place (resting_order orders d))) deals
+  pub within : EachIndex orders
+      (λ order. traded_after orders deals place order ≤ size_of_order orders deals order)
 
--- Priority at place i: each order that rests before i and is better than the resting order
--- of a deal of cause i has nothing left after i
+-- Priority at a place: each order that rests before the place and is better than the resting order
+-- of a deal of this cause has nothing left after the place
 abbrev pub Priority : List Order → List Deal → ℕ → Type 0
-Priority orders deals i = All (λ d. cause orders d ≡ i
-    → EachIndex orders (λ k. IsTrue (rests_before orders deals i k)
-    → Better orders k (resting_order orders d) → left_after orders deals i k ≡ 0)) deals
+Priority orders deals place = All (λ d. cause orders d ≡ place
+    → EachIndex orders (λ order. IsTrue (rests_before orders deals place order)
+    → Better orders order (resting_order orders d) → left_after orders deals place order ≡ 0)) deals
 
--- Spread at place i: no bid and ask that are both active after i have a bid limit
+-- Spread at a place: no bid and ask that are both active after the place have a bid limit
 -- of at least the ask limit
 abbrev pub Spread : List Order → List Deal → ℕ → Type 0
-Spread orders deals i = (b a : ℕ) → b < length orders → a < length orders
-    → side_at orders b ≡ Buy → side_at orders a ≡ Sell
-    → IsTrue (active_after orders deals i b) → IsTrue (active_after orders deals i a)
-    → limit_at orders b < limit_at orders a
+Spread orders deals place = (bid ask : ℕ) → bid < length orders → ask < length orders
+    → side_at orders bid ≡ Buy → side_at orders ask ≡ Sell
+    → IsTrue (active_after orders deals place bid) → IsTrue (active_after orders deals place ask)
+    → limit_at orders bid < limit_at orders ask
 
 -- the three things at one place
-pub record ConformsAt (orders : List Order) (deals : List Deal) (i : ℕ) : Type 0 where
-  pub conservation : Conservation orders deals i
-  pub priority : Priority orders deals i
-  pub spread : Spread orders deals i
+pub record ConformsAt (orders : List Order) (deals : List Deal) (place : ℕ) : Type 0 where
+  pub conservation : Conservation orders deals place
+  pub priority : Priority orders deals place
+  pub spread : Spread orders deals place
 
 -- Conforms (continuous): each deal names a bid and an ask, and at each place the three things hold
 pub record ConformsContinuous (orders : List Order) (deals : List Deal) : Type 0 where
   pub named : All (NamesOrders orders) deals
-  pub each : (i : ℕ) → ConformsAt orders deals i
+  pub each : (place : ℕ) → ConformsAt orders deals place

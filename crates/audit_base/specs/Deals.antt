@@ -7,20 +7,20 @@ use Rattle.audit_base.specs.Orders.{side_at}
 
 -- the deal names the order at this index
 abbrev pub names_order : ℕ → Deal → Bool
-names_order i d = (d.bid == i) || (d.ask == i)
+names_order order d = (d.bid == order) || (d.ask == order)
 
 -- the quantity of a deal that belongs to this order
 abbrev pub quantity_traded_by : ℕ → Deal → ℕ
-quantity_traded_by i d = if names_order i d then d.quantity else 0
+quantity_traded_by order d = if names_order order d then d.quantity else 0
 
 -- Traded: the quantities of the deals that name an order, added
 abbrev pub traded : List Deal → ℕ → ℕ
-traded deals i = sum_by (quantity_traded_by i) deals
+traded deals order = sum_by (quantity_traded_by order) deals
 
 -- the numbers are what each order of the list trades in these deals
 pub record AreTotals (orders : List Order) (deals : List Deal) (totals : List ℕ) : Type 0 where
   pub count : length totals ≡ length orders
-  pub each : (i : ℕ) → i < length orders → slice_index totals i ≡ traded deals i
+  pub each : (order : ℕ) → order < length orders → slice_index totals order ≡ traded deals order
 
 -- Pair: the quantities of the deals that name both a bid and an ask, added
 abbrev pub pair : List Deal → ℕ → ℕ → ℕ
@@ -35,7 +35,7 @@ abbrev pub deal_past_end : Deal
 deal_past_end = record { place = 0; bid = 0; ask = 0; quantity = 0; price = 0 }
 
 abbrev pub deal_at : List Deal → ℕ → Deal
-deal_at deals k = slice_index_or deals k deal_past_end
+deal_at deals deal = slice_index_or deals deal deal_past_end
 
 -- the price is from the limit of this ask to that of this bid
 abbrev pub is_price_within : Order → Order → Deal → Bool

@@ -58,33 +58,35 @@ pub record IsExpectedMaximum (orders : List Order) (deals : List Deal) : Type 0 
 
 -- a limit of one side meets one of the other: the bid's is at least the ask's
 abbrev pub limits_meet : Side → ℕ → ℕ → Bool
-limits_meet Buy a b = nat_le b a
-limits_meet Sell a b = nat_le a b
+limits_meet Buy limit other = nat_le other limit
+limits_meet Sell limit other = nat_le limit other
 
 -- two orders are of opposite sides and their limits meet
 abbrev pub orders_meet : Order → Order → Bool
-orders_meet o r = same_side (other_side o.side) r.side && limits_meet o.side o.limit r.limit
+orders_meet first second =
+    same_side (other_side first.side) second.side && limits_meet first.side first.limit second.limit
 
--- what the order at n finds of the one at r: its Left, where it is of the other side,
--- meets n and rests before the record of n
+-- what the incoming order finds of a resting one: its Left, where it is of the other side,
+-- meets the incoming one and rests before the record of the incoming one
 unfoldable pub available_quantity : List Order → (ℕ → ℕ → ℕ) → ℕ → ℕ → ℕ
-available_quantity orders ledger n r =
-    if orders_meet (order_at orders n) (order_at orders r)
-    && rests_before_in_ledger orders ledger (place_at orders n) r
-    then left_before_in_ledger orders ledger (place_at orders n) r else 0
+available_quantity orders ledger incoming resting =
+    if orders_meet (order_at orders incoming) (order_at orders resting)
+    && rests_before_in_ledger orders ledger (place_at orders incoming) resting
+    then left_before_in_ledger orders ledger (place_at orders incoming) resting else 0
 
--- what it finds of all orders that are better than the one at r
+-- what it finds of all orders that are better than the resting one
 abbrev pub available_quantity_ahead : List Order → (ℕ → ℕ → ℕ) → ℕ → ℕ → ℕ
-available_quantity_ahead orders ledger n r =
-    sum_below (λ k. if better (order_at orders k) (order_at orders r)
-    then available_quantity orders ledger n k else 0) (length orders)
+available_quantity_ahead orders ledger incoming resting =
+    sum_below (λ ahead. if better (order_at orders ahead) (order_at orders resting)
+    then available_quantity orders ledger incoming ahead else 0) (length orders)
 
--- what the two trade: the smaller of what n finds of r, and what the better
--- ones leave of the Size of n
+-- what the two trade: the smaller of what the incoming order finds of the resting one, and what
+-- the better ones leave of the Size of the incoming order
 abbrev pub incoming_share : List Order → (ℕ → ℕ → ℕ) → ℕ → ℕ → ℕ
-incoming_share orders ledger n r =
-    min (available_quantity orders ledger n r)
-    (size_in_ledger orders ledger n - available_quantity_ahead orders ledger n r)
+incoming_share orders ledger incoming resting =
+    min (available_quantity orders ledger incoming resting)
+    (size_in_ledger orders ledger incoming
+    - available_quantity_ahead orders ledger incoming resting)
 
 -- the same of a bid and an ask, of which the later is the incoming one
 unfoldable pub pair_share : List Order → (ℕ → ℕ → ℕ) → ℕ → ℕ → ℕ

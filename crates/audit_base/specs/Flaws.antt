@@ -26,12 +26,14 @@ quantity_property Sell = property.SellQuantity
 
 -- an order with what it has traded
 abbrev pub show_traded : List Order → TradedOrder → Option Shown
-show_traded orders t = Some (shown.Order (with_traded_number (order_at orders t.index) t.traded))
+show_traded orders traded_order =
+    Some (shown.Order (with_traded_number (order_at orders traded_order.index) traded_order.traded))
 
 -- a short order with its due
 abbrev pub show_due : List Order → DueOrder → Option Shown
-show_due orders d =
-    Some (shown.Due (with_traded_number (order_at orders d.order.index) d.order.traded) d.due)
+show_due orders due_order = Some (shown.Due
+    (with_traded_number (order_at orders due_order.order.index) due_order.order.traded)
+    due_order.due)
 
 -- the property that is broken
 abbrev pub property_of_evidence : Evidence → Property
@@ -41,10 +43,10 @@ property_of_evidence UnknownTarget = property.UnknownTarget
 property_of_evidence (Unpaired first) = property.Unpaired
 property_of_evidence (DuplicateTrade earlier) = property.DuplicateTrade
 property_of_evidence (UnknownOrder side key) = property.UnknownOrder
-property_of_evidence (Inactive order) = property.Inactive
+property_of_evidence (Inactive traded_order) = property.Inactive
 property_of_evidence (Limit bid ask) = property.Limit
 property_of_evidence (UniformPrice first) = property.UniformPrice
-property_of_evidence (Quantity side order) = quantity_property side
+property_of_evidence (Quantity side traded_order) = quantity_property side
 property_of_evidence (Priority side ahead own) = priority_property side
 property_of_evidence (Volume short bid ask) = property.Volume
 property_of_evidence (Spread bid ask) = property.Spread
@@ -58,10 +60,10 @@ log_of_evidence UnknownTarget = which.Orders
 log_of_evidence (Unpaired first) = which.Trades
 log_of_evidence (DuplicateTrade earlier) = which.Trades
 log_of_evidence (UnknownOrder side key) = which.Trades
-log_of_evidence (Inactive order) = which.Trades
+log_of_evidence (Inactive traded_order) = which.Trades
 log_of_evidence (Limit bid ask) = which.Trades
 log_of_evidence (UniformPrice first) = which.Trades
-log_of_evidence (Quantity side order) = which.Trades
+log_of_evidence (Quantity side traded_order) = which.Trades
 log_of_evidence (Priority side ahead own) = which.Trades
 log_of_evidence (Volume short bid ask) = which.Trades
 log_of_evidence (Spread bid ask) = which.Orders
@@ -75,10 +77,10 @@ first_shown orders UnknownTarget = None
 first_shown orders (Unpaired first) = option_and_then (show_place which.Trades) first
 first_shown orders (DuplicateTrade earlier) = show_place which.Trades earlier
 first_shown orders (UnknownOrder side key) = Some (shown.Unknown side key)
-first_shown orders (Inactive order) = show_traded orders order
+first_shown orders (Inactive traded_order) = show_traded orders traded_order
 first_shown orders (Limit bid ask) = show_traded orders bid
 first_shown orders (UniformPrice first) = show_place which.Trades first
-first_shown orders (Quantity side order) = show_traded orders order
+first_shown orders (Quantity side traded_order) = show_traded orders traded_order
 first_shown orders (Priority side ahead own) = show_traded orders ahead
 first_shown orders (Volume short bid ask) = option_and_then (show_due orders) bid
 first_shown orders (Spread bid ask) = show_traded orders bid
@@ -92,10 +94,10 @@ second_shown orders UnknownTarget = None
 second_shown orders (Unpaired first) = None
 second_shown orders (DuplicateTrade earlier) = None
 second_shown orders (UnknownOrder side key) = None
-second_shown orders (Inactive order) = None
+second_shown orders (Inactive traded_order) = None
 second_shown orders (Limit bid ask) = show_traded orders ask
 second_shown orders (UniformPrice first) = None
-second_shown orders (Quantity side order) = None
+second_shown orders (Quantity side traded_order) = None
 second_shown orders (Priority side ahead own) = show_traded orders own
 second_shown orders (Volume short bid ask) = option_and_then (show_due orders) ask
 second_shown orders (Spread bid ask) = show_traded orders ask
@@ -110,10 +112,10 @@ short_volume_of UnknownTarget = None
 short_volume_of (Unpaired first) = None
 short_volume_of (DuplicateTrade earlier) = None
 short_volume_of (UnknownOrder side key) = None
-short_volume_of (Inactive order) = None
+short_volume_of (Inactive traded_order) = None
 short_volume_of (Limit bid ask) = None
 short_volume_of (UniformPrice first) = None
-short_volume_of (Quantity side order) = None
+short_volume_of (Quantity side traded_order) = None
 short_volume_of (Priority side ahead own) = None
 short_volume_of (Spread bid ask) = None
 short_volume_of InstantOrder = None
@@ -137,13 +139,14 @@ IsEvidenceInside orders UnknownTarget = Unit {0}
 IsEvidenceInside orders (Unpaired first) = Unit {0}
 IsEvidenceInside orders (DuplicateTrade earlier) = Unit {0}
 IsEvidenceInside orders (UnknownOrder side key) = Unit {0}
-IsEvidenceInside orders (Inactive order) = order.index < length orders
+IsEvidenceInside orders (Inactive traded_order) = traded_order.index < length orders
 IsEvidenceInside orders (Limit bid ask) = (bid.index < length orders) × (ask.index < length orders)
 IsEvidenceInside orders (UniformPrice first) = Unit {0}
-IsEvidenceInside orders (Quantity side order) = order.index < length orders
+IsEvidenceInside orders (Quantity side traded_order) = traded_order.index < length orders
 IsEvidenceInside orders (Priority side ahead own) =
     (ahead.index < length orders) × (own.index < length orders)
-IsEvidenceInside orders (Volume short bid ask) = IfSome bid (λ d. d.order.index < length orders)
-    × IfSome ask (λ d. d.order.index < length orders)
+IsEvidenceInside orders (Volume short bid ask) =
+    IfSome bid (λ due_order. due_order.order.index < length orders)
+    × IfSome ask (λ due_order. due_order.order.index < length orders)
 IsEvidenceInside orders (Spread bid ask) = (bid.index < length orders) × (ask.index < length orders)
 IsEvidenceInside orders InstantOrder = Unit {0}

@@ -73,8 +73,8 @@ fits_side None target = true
 fits_side (Some side) None = false
 fits_side (Some side) (Some target) = same_side side target
 
--- The history of a symbol: its order records, each with its place
--- in the log, from 1 over all symbols.
+-- The history of a symbol: its order records, each with its place in the log,
+-- from 1 over all symbols.
 
 abbrev pub history : List ℕ → List OrderRecord → List (ℕ × OrderRecord)
 history symbol entries = filter (λ e. same_name (symbol_of e.1) symbol) (enumerate_from 1 entries)
@@ -107,7 +107,7 @@ target_of records k =
     && ends_order (key_at records j) (history_entry records k)
     && fits_side (side_of (history_entry records k)) (side_of (history_entry records j))) k
 
--- 1: the key is that of an earlier record, cancels and replacements included
+-- finding 1: the key is that of an earlier record, cancels and replacements included
 abbrev pub duplicate_id_finding : List (ℕ × OrderRecord) → ℕ → Option Finding
 duplicate_id_finding records k =
     option_map (λ j. finding_at_record property.DuplicateId which.Orders
@@ -115,7 +115,7 @@ duplicate_id_finding records k =
     (show_place which.Orders (history_entry_place records j)) None)
     (earlier_entry_with_key records k)
 
--- 2: the time is earlier than that of the history's record before it
+-- finding 2: the time is earlier than that of the history's record before it
 abbrev pub time_back_finding : List (ℕ × OrderRecord) → ℕ → Option Finding
 time_back_finding records zero = None
 time_back_finding records (suc j) =
@@ -124,8 +124,8 @@ time_back_finding records (suc j) =
     (finding_at_record property.TimeBack which.Orders (history_entry_place records (suc j))
     (show_place which.Orders (history_entry_place records j)) None)
 
--- 3: a cancel's target is no earlier order of its firm, or a replacement's
--- none of its firm and side
+-- finding 3: a cancel's target is no earlier order of its firm,
+-- or a replacement's is none of its firm and side
 abbrev pub unknown_target_finding : List (ℕ × OrderRecord) → ℕ → Option Finding
 unknown_target_finding records k =
     only_if (is_some (target_key (history_entry records k)) && is_none (target_of records k))
@@ -218,17 +218,20 @@ order_list symbol entries = let records = history symbol entries in
 -- Regular: no `cancelled` is below the order's own place or is the place of an order of the other
 -- side, and each target has a `cancelled` that is at most the place of the order that names it
 pub record Regular (orders : List Order) : Type 0 where
-  pub own : (i c : ℕ) → i < length orders → (order_at orders i).cancelled ≡ Some c
-      → place_at orders i ≤ c
-  pub same_sides : (i j : ℕ) → i < length orders → j < length orders
-      → (order_at orders i).cancelled ≡ Some (place_at orders j)
-      → side_at orders j ≡ side_at orders i
-  pub targets : (i t : ℕ) → i < length orders → (order_at orders i).target ≡ Some t
-      → (c : ℕ) × ((order_at orders t).cancelled ≡ Some c) × (c ≤ place_at orders i)
+  pub own : (order place : ℕ) → order < length orders
+      → (order_at orders order).cancelled ≡ Some place
+      → place_at orders order ≤ place
+  pub same_sides : (order other : ℕ) → order < length orders → other < length orders
+      → (order_at orders order).cancelled ≡ Some (place_at orders other)
+      → side_at orders other ≡ side_at orders order
+  pub targets : (order target : ℕ) → order < length orders
+      → (order_at orders order).target ≡ Some target
+      → (place : ℕ) × ((order_at orders target).cancelled ≡ Some place)
+      × (place ≤ place_at orders order)
 
--- 16: the least order of the history whose life isn't Rests
+-- finding 16: the least order of the history whose life isn't Rests
 abbrev pub instant_order_finding : List Order → Option Finding
 instant_order_finding orders =
-    option_map (λ i. finding_at_record property.InstantOrder which.Orders
-    (place_at orders i) None None)
-    (least_with (λ i. not (may_rest (order_at orders i).life)) (length orders))
+    option_map (λ order. finding_at_record property.InstantOrder which.Orders
+    (place_at orders order) None None)
+    (least_with (λ order. not (may_rest (order_at orders order).life)) (length orders))

@@ -51,36 +51,38 @@ order_past_end = record {
 
 -- the order at an index
 abbrev pub order_at : List Order → ℕ → Order
-order_at orders i = slice_index_or orders i order_past_end
+order_at orders order = slice_index_or orders order order_past_end
 
 -- its place, its side, its quantity and its limit
 abbrev pub place_at : List Order → ℕ → ℕ
-place_at orders i = (order_at orders i).place
+place_at orders order = (order_at orders order).place
 
 abbrev pub side_at : List Order → ℕ → Side
-side_at orders i = (order_at orders i).side
+side_at orders order = (order_at orders order).side
 
 abbrev pub quantity_at : List Order → ℕ → ℕ
-quantity_at orders i = (order_at orders i).quantity
+quantity_at orders order = (order_at orders order).quantity
 
 abbrev pub limit_at : List Order → ℕ → ℕ
-limit_at orders i = (order_at orders i).limit
+limit_at orders order = (order_at orders order).limit
 
 -- an order list: places rise strictly, there are fewer than 2^32 orders, each target is a lower
 -- index of the same side, and the life of an order with a target is always Rests
 pub record IsOrderList (orders : List Order) : Type 0 where
-  pub rising : AllPairs (λ o p. o.place < p.place) orders
+  pub rising : AllPairs (λ first second. first.place < second.place) orders
   pub few : length orders < 2 ^ 32
-  pub targets : (i t : ℕ) → i < length orders → (order_at orders i).target ≡ Some t
-      → (t < i) × (side_at orders t ≡ side_at orders i)
-  pub resting : (i t : ℕ) → i < length orders → (order_at orders i).target ≡ Some t
-      → (order_at orders i).life ≡ Rests
+  pub targets : (order target : ℕ) → order < length orders
+      → (order_at orders order).target ≡ Some target
+      → (target < order) × (side_at orders target ≡ side_at orders order)
+  pub resting : (order target : ℕ) → order < length orders
+      → (order_at orders order).target ≡ Some target
+      → (order_at orders order).life ≡ Rests
 
 -- an order of a side that no record cancels
-pub record IsUncancelledOn (orders : List Order) (side : Side) (i : ℕ) : Type 0 where
-  pub inside : i < length orders
-  pub of_side : side_at orders i ≡ side
-  pub uncancelled : (order_at orders i).cancelled ≡ None
+pub record IsUncancelledOn (orders : List Order) (side : Side) (order : ℕ) : Type 0 where
+  pub inside : order < length orders
+  pub of_side : side_at orders order ≡ side
+  pub uncancelled : (order_at orders order).cancelled ≡ None
 
 -- the same as a test of the order
 abbrev pub is_uncancelled_on : Side → Order → Bool
@@ -88,18 +90,20 @@ is_uncancelled_on side o = is_none o.cancelled && same_side side o.side
 
 -- no two orders have one key
 abbrev pub HaveOwnKeys : List Order → Type 0
-HaveOwnKeys orders = AllPairs (λ o p. o.key ≢ p.key) orders
+HaveOwnKeys orders = AllPairs (λ first second. first.key ≢ second.key) orders
 
 -- the order that has a key, of either side and of one side
 abbrev pub order_with_key : List Order → Key → Option ℕ
-order_with_key orders key = least_with (λ i. same_key (order_at orders i).key key) (length orders)
+order_with_key orders key =
+    least_with (λ order. same_key (order_at orders order).key key) (length orders)
 
 abbrev pub order_on_side_with_key : List Order → Side → Key → Option ℕ
 order_on_side_with_key orders side key =
-    least_with (λ i. same_side side (side_at orders i) && same_key (order_at orders i).key key)
+    least_with (λ order. same_side side (side_at orders order)
+    && same_key (order_at orders order).key key)
     (length orders)
 
--- an order, or the record of one, of life Market has this price
+-- if the life is Market, the price is the market price of the side
 abbrev pub HasMarketPriceIfMarket : Life → Side → ℕ → Type 0
 HasMarketPriceIfMarket life side price = life ≡ Market → price ≡ market_price side
 

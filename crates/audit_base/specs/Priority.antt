@@ -14,25 +14,27 @@ better_limit Sell a b = nat_lt a b
 -- of two orders of this side, the first has the better limit,
 -- or the same limit and the smaller place
 abbrev pub outranks : Side → Order → Order → Bool
-outranks side o p =
-    better_limit side o.limit p.limit || ((o.limit == p.limit) && nat_lt o.place p.place)
+outranks side first second =
+    better_limit side first.limit second.limit
+    || ((first.limit == second.limit) && nat_lt first.place second.place)
 
 -- Better (source: price-time priority): both are of one side, and the first outranks the second
 abbrev pub better : Order → Order → Bool
-better o p = same_side o.side p.side && outranks o.side o p
+better first second = same_side first.side second.side && outranks first.side first second
 
 -- the same of two orders of a list
 abbrev pub Better : List Order → ℕ → ℕ → Type 0
-Better orders i j = IsTrue (better (order_at orders i) (order_at orders j))
+Better orders order other = IsTrue (better (order_at orders order) (order_at orders other))
 
 -- the orders of a side that no record cancels, each once, best first
 pub record IsRanked (orders : List Order) (side : Side) (ranks : List ℕ) : Type 0 where
   pub only : All (IsUncancelledOn orders side) ranks
-  pub each : (i : ℕ) → IsUncancelledOn orders side i → Contains ranks i
+  pub each : (order : ℕ) → IsUncancelledOn orders side order → Contains ranks order
   pub best_first : AllPairs (Better orders) ranks
 
 -- the best of the orders that pass a test of their index: it passes, and none that passes is better
 unfoldable pub best_order : List Order → (ℕ → Bool) → Option ℕ
-best_order orders test = least_with (λ i. test i
-    && not (any_below (λ j. test j && better (order_at orders j) (order_at orders i))
+best_order orders test = least_with (λ order. test order
+    && not (any_below (λ other. test other
+    && better (order_at orders other) (order_at orders order))
     (length orders))) (length orders)

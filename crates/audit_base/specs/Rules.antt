@@ -16,14 +16,14 @@ Conforms rule.Uniform orders deals = ConformsUniform orders deals
 Conforms rule.Maximum orders deals = ConformsMaximum orders deals
 Conforms rule.Continuous orders deals = ConformsContinuous orders deals
 
--- Only: there is a conforming list of deals, and in each conforming list the order at i trades n.
+-- Only: there is a conforming list of deals, and in each conforming list the order trades n.
 -- This n is the due of the order
-pub record Only (the_rule : Rule) (orders : List Order) (i n : ℕ) : Type 0 where
+pub record Only (the_rule : Rule) (orders : List Order) (order n : ℕ) : Type 0 where
   pub some : List Deal
   pub ranges : DealsInRange some
   pub conforms : Conforms the_rule orders some
   pub each : (deals : List Deal) → DealsInRange deals → Conforms the_rule orders deals
-      → traded deals i ≡ n
+      → traded deals order ≡ n
 
 -- OnlyPair: the same of a bid and an ask
 pub record OnlyPair (the_rule : Rule) (orders : List Order) (bid ask n : ℕ) : Type 0 where

@@ -14,11 +14,11 @@ use Rattle.audit_base.specs.declared.findings.Shown.{Shown}
 use Rattle.audit_base.specs.declared.findings.Shown.TheVariants as shown
 use Rattle.audit_base.specs.Orders.{order_at}
 
--- a finding without volumes: a property, the place of the offending record
--- in its log, and what shows it
+-- a finding without volumes: a property, the place of the offending record in its log,
+-- and what shows it
 abbrev pub finding_at_record : Property → Which → ℕ → Option Shown → Option Shown → Finding
-finding_at_record property log place first second = record {
-  property = property;
+finding_at_record broken log place first second = record {
+  property = broken;
   log = log;
   place = place;
   first = first;
@@ -28,8 +28,8 @@ finding_at_record property log place first second = record {
 
 -- such a finding at a trade, by its deal
 abbrev pub finding_at_trade : Property → Deal → Option Shown → Option Shown → Finding
-finding_at_trade property d first second =
-    finding_at_record property which.Trades d.place first second
+finding_at_trade broken d first second =
+    finding_at_record broken which.Trades d.place first second
 
 -- an order with a traded number
 abbrev pub with_traded_number : Order → ℕ → OrderLine
@@ -44,11 +44,12 @@ with_traded_number o traded = record {
 
 -- the order at an index, with its traded number
 abbrev pub show_order : List Order → (ℕ → ℕ) → ℕ → Option Shown
-show_order orders traded i = Some (shown.Order (with_traded_number (order_at orders i) (traded i)))
+show_order orders traded order =
+    Some (shown.Order (with_traded_number (order_at orders order) (traded order)))
 
 -- the same of an order that was looked for, if it was found
 abbrev pub show_if_found : List Order → (ℕ → ℕ) → Option ℕ → Option Shown
-show_if_found orders traded i = option_and_then (show_order orders traded) i
+show_if_found orders traded found = option_and_then (show_order orders traded) found
 
 -- another record of a log
 abbrev pub show_place : Which → ℕ → Option Shown

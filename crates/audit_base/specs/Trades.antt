@@ -1,5 +1,5 @@
--- Sound trades: those of the symbol have ids of their own, and each names a bid
--- and an ask of the history.
+-- Sound trades: those of the symbol have ids of their own, and each names
+-- a bid and an ask of the history.
 use Rattle.std.specs.Prelude.{◌≡◌, ◌<◌, ◌≤◌, ◌^◌, ℕ, All, List, [], Option, None, Some, is_none, option_map, filter, map, length, slice_index_or, unwrap_or}
 use Rattle.std.specs.Option.{option_or}
 use Rattle.std.specs.List.{enumerate_from}
@@ -35,10 +35,10 @@ trade_past_end = (
 )
 
 abbrev pub trade_at : List (ℕ × TradeRecord) → ℕ → TradeRecord
-trade_at listed k = (slice_index_or listed k trade_past_end).1
+trade_at listed trade = (slice_index_or listed trade trade_past_end).1
 
 abbrev pub trade_place : List (ℕ × TradeRecord) → ℕ → ℕ
-trade_place listed k = (slice_index_or listed k trade_past_end).0
+trade_place listed trade = (slice_index_or listed trade trade_past_end).0
 
 -- what the numbers of a trade may be: a quantity from 1 to 10^12, and a price from 0 to 10^18 - 1
 pub record TradeInRange (t : TradeRecord) : Type 0 where
@@ -50,28 +50,31 @@ pub record TradeInRange (t : TradeRecord) : Type 0 where
 abbrev pub TradesInRange : List TradeRecord → Type 0
 TradesInRange trades = All TradeInRange trades
 
--- 5: the trade id is that of an earlier trade of the symbol
+-- finding 5: the trade id is that of an earlier trade of the symbol
 unfoldable pub duplicate_trade_finding : List (ℕ × TradeRecord) → ℕ → Option Finding
-duplicate_trade_finding listed k =
-    option_map (λ j. finding_at_record property.DuplicateTrade which.Trades (trade_place listed k)
-    (show_place which.Trades (trade_place listed j)) None)
-    (least_with (λ j. same_name (trade_at listed j).trade (trade_at listed k).trade) k)
+duplicate_trade_finding listed trade =
+    option_map
+    (λ earlier. finding_at_record property.DuplicateTrade which.Trades (trade_place listed trade)
+    (show_place which.Trades (trade_place listed earlier)) None)
+    (least_with
+    (λ earlier. same_name (trade_at listed earlier).trade (trade_at listed trade).trade) trade)
 
--- 6: the buy key is that of no bid, or else the sell key that of no ask
+-- finding 6: the buy key is that of no bid, or else the sell key that of no ask
 unfoldable pub unknown_order_finding : List Order → List (ℕ × TradeRecord) → ℕ → Option Finding
-unknown_order_finding orders listed k = let t = trade_at listed k in
+unknown_order_finding orders listed trade = let t = trade_at listed trade in
     option_or (only_if (is_none (order_on_side_with_key orders Buy t.buy))
-    (finding_at_record property.UnknownOrder which.Trades (trade_place listed k)
+    (finding_at_record property.UnknownOrder which.Trades (trade_place listed trade)
     (Some (shown.Unknown Buy t.buy)) None))
     (only_if (is_none (order_on_side_with_key orders Sell t.sell))
-    (finding_at_record property.UnknownOrder which.Trades (trade_place listed k)
+    (finding_at_record property.UnknownOrder which.Trades (trade_place listed trade)
     (Some (shown.Unknown Sell t.sell)) None))
 
 -- the finding at the least trade of the symbol that fails 5 or 6, and at it 5 before 6
 unfoldable pub trades_finding : List Order → List ℕ → List TradeRecord → Option Finding
 trades_finding orders symbol trades = let listed = trades_of_symbol symbol trades in
     least_answer
-    (λ k. option_or (duplicate_trade_finding listed k) (unknown_order_finding orders listed k))
+    (λ trade. option_or (duplicate_trade_finding listed trade)
+    (unknown_order_finding orders listed trade))
     (length listed)
 
 -- Sound trades: no trade of the symbol fails

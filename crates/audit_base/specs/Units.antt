@@ -7,39 +7,41 @@ use Rattle.audit_base.specs.Sums.{count_upto}
 use Rattle.audit_base.specs.Orders.{order_at, quantity_at, is_uncancelled_on}
 use Rattle.audit_base.specs.Priority.{outranks}
 
--- the quantity of the order o, if no record cancels it and it is of the side
--- and better than the order p
+-- the quantity of the first order, if no record cancels it and it is of the side and better
+-- than the second
 abbrev pub quantity_if_ahead : Side → Order → Order → ℕ
-quantity_if_ahead side o p = if is_uncancelled_on side o && outranks side o p then o.quantity else 0
+quantity_if_ahead side first second =
+    if is_uncancelled_on side first && outranks side first second then first.quantity else 0
 
--- the quantity of all orders of the side that are better than the one at i
+-- the quantity of all orders of the side that are better than this one
 abbrev pub total_quantity_ahead : List Order → Side → ℕ → ℕ
-total_quantity_ahead orders side i =
-    sum_by (λ o. quantity_if_ahead side o (order_at orders i)) orders
+total_quantity_ahead orders side order =
+    sum_by (λ o. quantity_if_ahead side o (order_at orders order)) orders
 
--- of v units, what the better orders of the side leave for the one at i, up to its quantity
+-- of v units, what the better orders of the side leave for this one, up to its quantity
 abbrev pub due_by_rank : List Order → Side → ℕ → ℕ → ℕ
-due_by_rank orders side v i = min (quantity_at orders i) (v - total_quantity_ahead orders side i)
+due_by_rank orders side v order =
+    min (quantity_at orders order) (v - total_quantity_ahead orders side order)
 
--- unit j of a side belongs to the order at i: all better orders have together less than
--- j, and with it at least j
+-- a unit of a side, by its number from 1, belongs to the order: all better orders have together
+-- less than this number, and with the order at least as much
 abbrev pub has_unit : List Order → Side → ℕ → ℕ → Bool
-has_unit orders side i j =
-    nat_lt (total_quantity_ahead orders side i) j
-    && nat_le j (total_quantity_ahead orders side i + quantity_at orders i)
+has_unit orders side order unit =
+    nat_lt (total_quantity_ahead orders side order) unit
+    && nat_le unit (total_quantity_ahead orders side order + quantity_at orders order)
 
--- how many units of a bid and an ask meet under `uniform`, where v units trade:
--- unit j of the bids meets unit j of the asks
+-- how many units of a bid are paired with units of an ask under `uniform`, where v units trade:
+-- each unit of the bids is paired with the unit of the asks that has the same number
 abbrev pub uniform_units : List Order → ℕ → ℕ → ℕ → ℕ
 uniform_units orders v bid ask =
-    count_upto (λ j. has_unit orders Buy bid j && has_unit orders Sell ask j) v
+    count_upto (λ unit. has_unit orders Buy bid unit && has_unit orders Sell ask unit) v
 
--- and under `maximum`: unit v + 1 - j of the bids meets unit j of the asks
+-- the same under `maximum`: each unit of the asks is paired with unit `v + 1 - unit` of the bids
 abbrev pub maximum_units : List Order → ℕ → ℕ → ℕ → ℕ
 maximum_units orders v bid ask =
-    count_upto (λ j. has_unit orders Buy bid (v + 1 - j) && has_unit orders Sell ask j) v
+    count_upto (λ unit. has_unit orders Buy bid (v + 1 - unit) && has_unit orders Sell ask unit) v
 
--- the same of any two indices: 0 where they are not a bid and an ask that no record cancels
+-- these units where both are a bid and an ask that no record cancels, else 0
 abbrev pub if_both_uncancelled : List Order → (ℕ → ℕ → ℕ) → ℕ → ℕ → ℕ
 if_both_uncancelled orders units bid ask =
     if is_uncancelled_on Buy (order_at orders bid) && is_uncancelled_on Sell (order_at orders ask)

@@ -1,4 +1,4 @@
--- The verdict on two logs that have been read: the first stage with an answer decides.
+-- The finding on the records of two logs, or none: the first stage with an answer decides.
 use Rattle.std.specs.Prelude.{◌≡◌, ℕ, List, [], ◌∷◌, Option, None, Some, Result, Ok, Err, length, MatchOption, option_and_then}
 use Rattle.audit_base.specs.declared.terms.Rule.{Rule}
 use Rattle.audit_base.specs.declared.records.OrderRecord.{OrderRecord}
@@ -19,8 +19,8 @@ abbrev pub instant_finding_of_rule : Rule → List Order → Option Finding
 instant_finding_of_rule the_rule orders =
     option_and_then (λ call. instant_order_finding orders) (call_rule the_rule)
 
--- finding 4: a trade log that has been read is its trades, or this finding
--- where its reports don't pair
+-- finding 4: a trade log that has been read is its trades,
+-- or this finding where its reports don't pair
 abbrev pub pairing_finding : Result (List TradeRecord) Finding → Option Finding
 pairing_finding (Ok trades) = None
 pairing_finding (Err finding) = Some finding
@@ -42,22 +42,22 @@ finding_before_rule the_rule symbol entries trades =
 
 -- First offence of a rule; `count` is the number of trades of the whole log
 abbrev pub IsFirstOffence : Rule → List Order → List Deal → ℕ → Finding → Type 0
-IsFirstOffence the_rule orders deals count f =
-    MatchOption (call_rule the_rule) (IsContinuousOffence orders deals f)
-    (λ call. IsCallOffence call orders deals count f)
+IsFirstOffence the_rule orders deals count finding =
+    MatchOption (call_rule the_rule) (IsContinuousOffence orders deals finding)
+    (λ call. IsCallOffence call orders deals count finding)
 
 -- what the rule says: nothing where the deals conform, else the first offence
 abbrev pub IsRuleFinding : Rule → List Order → List Deal → ℕ → Option Finding → Type 0
-IsRuleFinding the_rule orders deals count verdict =
-    MatchOption verdict (Conforms the_rule orders deals)
+IsRuleFinding the_rule orders deals count found =
+    MatchOption found (Conforms the_rule orders deals)
     (IsFirstOffence the_rule orders deals count)
 
--- Verdict, after both logs have been read: nothing (the logs are accepted), or the one finding
+-- the finding on the records of two logs, or none, where the logs are accepted
 abbrev pub IsRecordFinding : Rule → List ℕ → List OrderRecord → Result (List TradeRecord) Finding
     → Option Finding → Type 0
-IsRecordFinding the_rule symbol entries trades verdict =
+IsRecordFinding the_rule symbol entries trades found =
     let orders = order_list symbol entries in
     MatchOption (finding_before_rule the_rule symbol entries trades)
     (IsRuleFinding the_rule orders (deals_of_symbol orders symbol (paired_trades trades))
-    (length (paired_trades trades)) verdict)
-    (λ finding. verdict ≡ Some finding)
+    (length (paired_trades trades)) found)
+    (λ finding. found ≡ Some finding)

@@ -6,8 +6,8 @@ ghost use Rattle.std.specs.Char.{is_ascii_digit};
 ghost use Rattle.std.specs.Str.Parse.{digits_value};
 ghost use Rattle.audit_base.specs.Digits as form;
 
-/// Whether each byte is a decimal digit. All are looked at, so that a known number
-/// of bytes are tested at once.
+/// Whether each byte is a decimal digit.
+/// All are looked at, so that a known number of bytes are tested at once.
 pub fn are_digits(text: &[u8]) -> bool
     ensures { result ≡ list_all is_ascii_digit text.now }
 {

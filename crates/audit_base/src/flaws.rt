@@ -198,8 +198,8 @@ impl Evidence {
 }
 
 impl Flaw {
-    /// The finding, of a flaw that names no order, as what is wrong
-    /// with a record of a log by itself does.
+    /// The finding, of a flaw that names no order, as what is wrong with a record of a log
+    /// by itself does.
     pub fn finding(self) -> Finding
         requires { spec.IsEvidenceInside [] self.evidence }
         ensures { result ≡ spec.finding_of [] self }

@@ -233,8 +233,8 @@ pub fn read_name(text: &[u8]) -> Option<Name>
     }
 }
 
-/// Whether a text is a name whose bytes are known to be such as a name may
-/// hold. Only its size is asked.
+/// Whether a text is a name whose bytes are known to be such as a name may hold.
+/// Only its size is asked.
 pub fn is_name_by_size(text: &[u8]) -> bool
     requires { IsTrue (list_all form.is_name_byte text.now) }
     ensures { result ≡ form.is_name text.now }

@@ -75,8 +75,8 @@ impl OrderRecord {
         }
     }
 
-    /// The key that a cancel or a replacement names: its own firm,
-    /// and the target's id. None of a new order.
+    /// The key that a cancel or a replacement names: its own firm, and the target's id.
+    /// None of a new order.
     pub fn target_key(&self) -> Option<Key>
         ensures { result ≡ history.target_key self.now }
     {

@@ -90,16 +90,16 @@ impl Rule {
         }
     }
 
-    /// Whether the rule asks for the greatest volume, so that a certificate
-    /// can show that it is reached.
+    /// Whether the rule asks for the greatest volume,
+    /// so that a certificate can show that it is reached.
     pub fn asks_for_greatest(self) -> bool
         ensures { result ≡ kinds.asks_for_greatest self }
     {
         self.volume_rule().is_some()
     }
 
-    /// Whether the rule determines what each order trades, so that a table can show
-    /// it and trades can be expected.
+    /// Whether the rule determines what each order trades,
+    /// so that a table can show it and trades can be expected.
     pub fn has_table(self) -> bool
         ensures { result ≡ kinds.has_table self }
     {

@@ -38,8 +38,8 @@ pub record HaveOneLimit (orders trades : Source) : Type 0 where
 abbrev pub IsUntouched : Reading → Which → Type 0
 IsUntouched r log = r.after log ≡ r.before log
 
--- the trade log was read to its end, and this holds of the records of
--- both logs, or of its first bad place
+-- the trade log was read to its end, and this holds of the records of both logs, or of its first
+-- bad place
 abbrev pub ReadsTrades : Reading → Source → (Result (List TradeRecord) Finding → Type 0)
     → (BadPlace → Type 0) → Type 0
 ReadsTrades r trades of_trades of_bad =

@@ -44,8 +44,8 @@ IsUnread meaning r log name unread.ReadFault = IsReadFault r (step_of r log name
 IsUnread meaning r log name unread.TooLong = IsTooLong r (step_of r log name)
 IsUnread meaning r log name unread.Memory = Unit {0}
 
--- a log was handed to a collector, which has been handed exactly the records that its bytes mean,
--- or it was not for a cause
+-- what came of handing a log to a collector: the collector, which has been handed exactly the
+-- records that the bytes mean, or why the log was not read into records
 abbrev pub CollectsLog : {K R : Type 0} → (K → List R → Type 0)
     → (List ℕ → Result (List R) BadPlace) → Reading → Which → List ℕ → Result K Unread
     → Type 0
@@ -62,8 +62,8 @@ pub record HasLogTrades {R : Type 0} (has_taken : List R → Type 0)
   pub has : has_taken trades
   pub says : said ≡ Ok (Ok trades)
 
--- what came of the trades of a log: a collector that has been handed
--- exactly them, or finding 4 in their place
+-- what came of the trades of a log: a collector that has been handed exactly them, or finding 4 in
+-- their place
 abbrev pub HasCollected : {K R : Type 0} → (K → List R → Type 0) → Collected K
     → Result (Result (List R) Finding) BadPlace → Type 0
 HasCollected has_taken (collected.Trades collector) said =
@@ -84,13 +84,13 @@ CollectsTrades has_taken meaning r log name result =
     (λ kept. IsReadAs r log name (λ bytes. HasCollected has_taken kept (meaning bytes)))
     (IsUnread meaning r log name)
 
--- what a log that was not taken whole is not read for
+-- why a log was not read, by why it was not taken whole
 abbrev pub unread_of_take : TakeFault → Unread
 unread_of_take take.Fault = unread.ReadFault
 unread_of_take take.TooLong = unread.TooLong
 unread_of_take take.Memory = unread.Memory
 
--- the same of a log that was taken
+-- why a log that was taken was not read
 abbrev pub unread_of_log : LogFault → Unread
 unread_of_log (fault.Bad bad) = unread.Bad bad
 unread_of_log fault.Memory = unread.Memory

@@ -43,8 +43,8 @@ abbrev pub paired_reports : Result (List Report) BadPlace
 paired_reports (Ok reports) = Ok (pairing reports)
 paired_reports (Err bad) = Err bad
 
--- what a trade log says: its trades, or finding 4 in their place where its reports
--- do not pair; or its first bad place
+-- what a trade log says: its trades, or finding 4 in their place where its reports do not pair;
+-- or its first bad place
 abbrev pub trades_of_trade_log : Form → List ℕ → Result (Result (List TradeRecord) Finding) BadPlace
 trades_of_trade_log Csv bytes = trades_without_pairing (csv.csv_trade_records bytes)
 trades_of_trade_log Fix bytes = paired_reports (fix.fix_report_records bytes)
@@ -56,8 +56,8 @@ pub record HaveRecords (orders trades : Log) (entries : List OrderRecord)
   pub trades_are : trades_of_trade_log trades.form trades.bytes ≡ Ok paired
 
 -- of two logs: an order log out of its grammar is answered by its first bad place,
--- and the trade log is not looked at; else a trade log out of its grammar is by
--- its own; else the records of both are
+-- and the trade log is not looked at; else a trade log out of its grammar is answered
+-- by its own; else the records of both are
 abbrev pub OfLogs : (List OrderRecord → Result (List TradeRecord) Finding → Type 0)
     → (Which → BadPlace → Type 0) → Log → Log → Type 0
 OfLogs of_records of_bad orders trades =

@@ -63,8 +63,8 @@ pub record IsRead (r : Reading) (step : LogStep) (bytes : List ℕ) : Type 0 whe
   pub taken : length bytes ≡ step.after.taken
   pub known : r.tells ≡ true → r.log_of step.log step.name ≡ Some bytes
 
--- The log was started once and could not be read: its faults rose, or the
--- shelf knows that it lacks the log.
+-- The log was started once and could not be read: its faults rose,
+-- or the shelf knows that it lacks the log.
 pub record IsReadFault (r : Reading) (step : LogStep) : Type 0 where
   pub once : IsStartedOnce step
   pub cause : RoseOrIsFull step.before.faults step.after.faults

@@ -13,12 +13,13 @@ use fix_messages::logs::{fix_orders_of, fix_reports_of};
 use fix_messages::pairing::{Paired, TradeList, pair_reports};
 use std::alloc::Global;
 
-/// The records of an order log of at most 67,108,864 bytes, in order. `Bad` comes
-/// exactly where the log is bad, with its first bad place. There are as few records as
-/// `judge` asks for, also of a trade log.
+/// The records of an order log of at most 67,108,864 bytes, in order. `Bad` comes exactly where the
+/// log is bad, with its first bad place. There are as few records as `judge` asks for, also of a
+/// trade log.
 pub fn decode_orders(alloc: Global, form: Form, bytes: &[u8]) -> Result<Vec<OrderRecord>, LogFault>
     requires within { length bytes.now ≤ longest_log }
-    ensures says { MatchResult result (λ entries. records_of_order_log form bytes.now ≡ Ok entries.items)
+    ensures says { MatchResult result
+        (λ entries. records_of_order_log form bytes.now ≡ Ok entries.items)
         (IsDecodeFault (records_of_order_log form bytes.now)) }
     ensures few { IfOk result (λ entries. vec_len entries < 2 ^ 32 - 1) }
 {
@@ -32,7 +33,8 @@ pub fn decode_orders(alloc: Global, form: Form, bytes: &[u8]) -> Result<Vec<Orde
 /// where a report has no partner. `Bad` comes as for an order log.
 pub fn decode_trades(alloc: Global, form: Form, bytes: &[u8]) -> Result<Paired, LogFault>
     requires within { length bytes.now ≤ longest_log }
-    ensures says { MatchResult result (λ paired. trades_of_trade_log form bytes.now ≡ Ok (result_of_paired paired))
+    ensures says { MatchResult result
+        (λ paired. trades_of_trade_log form bytes.now ≡ Ok (result_of_paired paired))
         (IsDecodeFault (trades_of_trade_log form bytes.now)) }
     ensures few { IfOk result
         (λ paired. length (paired_trades (result_of_paired paired)) < 2 ^ 32 - 1) }

@@ -35,8 +35,8 @@ pub fn records_are_in_range()
     fix_laws::records_are_in_range();
 }
 
-/// Each record of a good order log, in either form and of any
-/// length, has at least nine bytes of it.
+/// Each record of a good order log, in either form and of any length,
+/// has at least nine bytes of it.
 pub fn order_logs_have_nine_bytes()
     ensures { OrderLogsHaveNineBytes }
 {

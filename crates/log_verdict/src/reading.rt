@@ -175,7 +175,8 @@ fn collect_pairs<F: Shelf, K: Collector<Entry = TradeRecord>>(
     requires fresh { K.has_taken collector [] }
     ensures logs { KeepsShelfLogs F.Shelf shelf.old shelf.new }
     ensures only { TouchesOnly (reading_by source.now F.Shelf shelf.old shelf.new) Which.Trades }
-    ensures read { CollectsTrades K.has_taken (λ bytes. paired_reports (fix.fix_report_records bytes))
+    ensures read { CollectsTrades K.has_taken
+        (λ bytes. paired_reports (fix.fix_report_records bytes))
         (reading_by source.now F.Shelf shelf.old shelf.new) Which.Trades
         source.now.name.now result }
     ensures within { result ≢ Err Unread.TooLong

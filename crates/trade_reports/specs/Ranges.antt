@@ -1,5 +1,5 @@
--- What the numbers of a trade report may be, and that the trades
--- of reports keep it, as a statement.
+-- What the numbers of a trade report may be, and, as a statement,
+-- that the trades of reports keep it.
 use Rattle.std.specs.Prelude.{IfOk, All, List}
 use Rattle.audit_base.specs.RecordRanges.{AreInRange}
 use Rattle.audit_base.specs.Trades.{TradesInRange}

@@ -72,8 +72,8 @@ impl FirstReports {
         self.earlier.is_empty()
     }
 
-    /// Takes out the report with the id, if one waits, where the report
-    /// that came last has another id.
+    /// Takes out the report with the id, if one waits,
+    /// where the report that came last has another id.
     pub fn take_earlier(&mut self, id: &Name) -> Option<PlacedReport>
         requires { latest_has_id (latest_waiting self.old) id.now ≡ false }
         ensures first { result ≡ first_report_in self.old id.now }

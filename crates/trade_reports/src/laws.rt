@@ -12,8 +12,8 @@ pub fn reports_are_paired_again()
     ensures { (trades : List TradeRecord) → pairing (flat_map reports_of trades) ≡ Ok trades }
 {}
 
-/// Reports with quantities from 1 to 10^12 and prices from 0 to 10^18 - 1
-/// pair into trades with such.
+/// Reports with quantities from 1 to 10^12 and prices from 0 to 10^18 - 1 pair
+/// into trades with such numbers.
 pub fn paired_trades_are_in_range()
     ensures { PairedTradesAreInRange }
 {}

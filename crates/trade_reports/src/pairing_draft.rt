@@ -27,8 +27,8 @@ pub struct PairingDraft<K> {
     trades: K,
 }
 
-// Hands on the trade of a pair. Where the collector does not look at trades
-// of its symbol, none is made.
+// Hands on the trade of a pair. Where the collector does not look at trades of its symbol,
+// none is made.
 fn hand_on_pair<K: Collector<Entry = TradeRecord>>(
     trades: &mut K,
     first: &Report,
@@ -149,9 +149,9 @@ impl<K: Collector<Entry = TradeRecord>> PairingDraft<K> {
         }
     }
 
-    /// The collector, which has been handed exactly the trades of the reports,
-    /// or finding 4 in their place: what the pairing of all reports gives,
-    /// for every list that the draft has been handed. There are no more trades than reports.
+    /// The collector, which has been handed exactly the trades of the reports, or finding 4 in
+    /// their place: what the pairing of all reports gives, for every list that the draft has been
+    /// handed. There are no more trades than reports.
     pub fn end(self) -> Result<K, Finding>
         ensures pairs { (reports : List Report) → IsPairingDraft K.has_taken self reports
             → IsPairedAs K.has_taken (pairing reports) result }

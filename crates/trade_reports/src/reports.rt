@@ -59,8 +59,8 @@ pub struct PlacedReport {
     pub report: Report,
 }
 
-/// A report that no other agrees with, by its place, and the place of the first report
-/// of its pair where it is the second.
+/// A report that no other agrees with, by its place, and the place of the first report of its pair
+/// where it is the second.
 #[derive(Clone, Copy)]
 pub struct UnpairedReport {
     pub place: u32,
@@ -90,8 +90,8 @@ impl PlacedReport {
     }
 }
 
-// Keeps a report. Room for a report is made ready where this is called,
-// so it is a function apart from the writing over one that is kept.
+// Keeps a report. Room for a report is made ready where this is called, so it is a function apart
+// from the writing over one that is kept.
 fn keep(kept: &mut Option<PlacedReport>, place: u32, report: &Report)
     ensures { kept.new ≡ Some (report_at place report.now) }
 {
