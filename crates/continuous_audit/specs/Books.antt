@@ -90,9 +90,9 @@ abbrev pub AreBooksForNext : List Order → List Deal → ℕ → Books → Type
 AreBooksForNext orders deals n b = AreBooksBefore orders deals (next_order_place orders n) b
 
 -- empty books, before the first order
-pub record AreEmptyBooks (standing : BooksSoFar) : Type 0 where
-  pub bid_side : standing.books.bids.side ≡ Buy
-  pub ask_side : standing.books.asks.side ≡ Sell
-  pub bids : standing.books.bids.resting ≡ []
-  pub asks : standing.books.asks.resting ≡ []
-  pub start : standing.start ≡ 0
+pub record AreEmptyBooks (books_so_far : BooksSoFar) : Type 0 where
+  pub bid_side : books_so_far.books.bids.side ≡ Buy
+  pub ask_side : books_so_far.books.asks.side ≡ Sell
+  pub bids : books_so_far.books.bids.resting ≡ []
+  pub asks : books_so_far.books.asks.resting ≡ []
+  pub start : books_so_far.start ≡ 0

@@ -6,7 +6,7 @@ use Rattle.audit_base.specs.Orders.{order_at, place_at}
 use Rattle.audit_base.specs.Continuous.{chain, traded_before, chain_traded_quantity, left_before}
 use Rattle.audit_base.specs.Deals.{NamesOrders}
 use Rattle.audit_base.specs.ContinuousRules.{ConformsAt}
-use Rattle.continuous_audit.specs.declared.sheet.Sheet.{Sheet}
+use Rattle.continuous_audit.specs.declared.order_numbers.Sheet.{Sheet}
 use Rattle.continuous_audit.specs.Scans.{number_in}
 
 -- a record up to p ends an order
@@ -24,32 +24,32 @@ abbrev pub flag_in : List Bool → ℕ → Bool
 flag_in flags i = slice_index_or flags i false
 
 -- of the first m orders, those whose flag is set have such a chain
-pub record HaveChainsEnded (orders : List Order) (m : ℕ) (closed : List Bool) : Type 0 where
-  pub count : length closed ≡ length orders
-  pub is : (x : ℕ) → x < m → flag_in closed x ≡ true → HasChainEnded orders x
+pub record HaveChainsEnded (orders : List Order) (m : ℕ) (chain_ended : List Bool) : Type 0 where
+  pub count : length chain_ended ≡ length orders
+  pub is : (x : ℕ) → x < m → flag_in chain_ended x ≡ true → HasChainEnded orders x
 
 -- Before of an order is at most 2^72 for each order ahead of it in the list
 abbrev pub IsBeforeBounded : List ℕ → Type 0
-IsBeforeBounded before = (x : ℕ) → number_in before x ≤ x * 2 ^ 72
+IsBeforeBounded chain_traded = (x : ℕ) → number_in chain_traded x ≤ x * 2 ^ 72
 
 -- whatever the deals are, the sheet has a place for each order, no Before is too great, and of the
 -- first m orders those whose flag is set have such a chain
-pub record IsOpenSheet (orders : List Order) (m : ℕ) (sheet : Sheet) : Type 0 where
-  pub before_count : length sheet.before.items ≡ length orders
-  pub sizes_count : length sheet.sizes.items ≡ length orders
-  pub left_count : length sheet.left.items ≡ length orders
-  pub closed : HaveChainsEnded orders m sheet.closed.items
-  pub bounded : IsBeforeBounded sheet.before.items
+pub record IsOpenSheet (orders : List Order) (m : ℕ) (order_numbers : Sheet) : Type 0 where
+  pub chain_traded_count : length order_numbers.chain_traded.items ≡ length orders
+  pub sizes_count : length order_numbers.sizes.items ≡ length orders
+  pub left_count : length order_numbers.left.items ≡ length orders
+  pub chain_ended : HaveChainsEnded orders m order_numbers.chain_ended.items
+  pub bounded : IsBeforeBounded order_numbers.chain_traded.items
 
 -- before the order at n comes, where the rule holds at each earlier place: what the orders have
 -- traded, and of the earlier ones Before and what is left
 pub record IsKnownBeforeOpening (orders : List Order) (deals : List Deal) (n : ℕ)
-    (traded : List ℕ) (sheet : Sheet) : Type 0 where
+    (traded : List ℕ) (order_numbers : Sheet) : Type 0 where
   pub conforms : (i : ℕ) → i < place_at orders n → ConformsAt orders deals i
   pub named : All (NamesOrders orders) deals
   pub traded_is : (x : ℕ) → x < length orders
       → number_in traded x ≡ traded_before orders deals (place_at orders n) x
-  pub before_is : (x : ℕ) → x < n → number_in sheet.before.items x
+  pub chain_traded_is : (x : ℕ) → x < n → number_in order_numbers.chain_traded.items x
       ≡ chain_traded_quantity orders deals x
   pub left_is : (x : ℕ) → x < n
-      → number_in sheet.left.items x ≡ left_before orders deals (place_at orders n) x
+      → number_in order_numbers.left.items x ≡ left_before orders deals (place_at orders n) x

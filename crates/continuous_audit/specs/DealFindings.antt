@@ -12,7 +12,7 @@ use Rattle.audit_base.specs.Continuous.{is_cancelled_at_place}
 use Rattle.continuous_audit.specs.declared.checking.Account.{Account}
 use Rattle.continuous_audit.specs.declared.checking.Accounts.{Accounts}
 use Rattle.continuous_audit.specs.declared.checking.Arrival.{Arrival}
-use Rattle.continuous_audit.specs.declared.sheet.Sheet.{Sheet}
+use Rattle.continuous_audit.specs.declared.order_numbers.Sheet.{Sheet}
 pub use Rattle.audit_base.specs.Orders.{may_rest}
 pub use Rattle.audit_base.specs.Continuous.{uncancelled_before}
 
@@ -39,21 +39,21 @@ is_over_size account = nat_lt account.size account.traded
 -- the first property that a deal does not keep: 7 its resting order rests, and its incoming one
 -- entered; 8 its price is within the limits; 10 and 11 neither order trades more than its Size
 abbrev pub deal_evidence : Deal → Order → Order → Arrival → Accounts → Option Evidence
-deal_evidence d bid ask coming known = first_answer
-    (only_if (not (resting_waits bid ask coming.place known))
+deal_evidence d bid ask deal_record known = first_answer
+    (only_if (not (resting_waits bid ask deal_record.place known))
     (Inactive (resting_account bid ask known).shown)
-    ∷ only_if (not coming.entered) (Inactive (incoming_account bid ask known).shown)
+    ∷ only_if (not deal_record.entered) (Inactive (incoming_account bid ask known).shown)
     ∷ only_if (not (is_price_within bid ask d)) (Limit known.bid.shown known.ask.shown)
     ∷ only_if (is_over_size known.bid) (Quantity Buy known.bid.shown)
     ∷ only_if (is_over_size known.ask) (Quantity Sell known.ask.shown) ∷ [])
 
 -- what is known of the order at an index that has traded this much
 abbrev pub account_of : Sheet → ℕ → ℕ → Account
-account_of sheet i traded = record {
-  shown = record { index = i; traded = traded + slice_index_or sheet.before.items i 0 };
+account_of order_numbers i traded = record {
+  shown = record { index = i; traded = traded + slice_index_or order_numbers.chain_traded.items i 0 };
   traded = traded;
-  size = slice_index_or sheet.sizes.items i 0;
-  left = slice_index_or sheet.left.items i 0;
+  size = slice_index_or order_numbers.sizes.items i 0;
+  left = slice_index_or order_numbers.left.items i 0;
 }
 
 -- an order is placed, and its target rests if it has one
@@ -66,4 +66,4 @@ waits_in orders left p t = waits (order_at orders t) p (slice_index_or left t 0)
 
 -- a quantity less what is taken of it, or 0
 abbrev pub size_left : Bool → ℕ → ℕ → ℕ
-size_left entered quantity before = if entered then quantity - before else 0
+size_left entered quantity chain_traded = if entered then quantity - chain_traded else 0

@@ -20,12 +20,12 @@ use Rattle.continuous_audit.specs.Scans.{number_in}
 -- the number that is shown with an order: what it has traded, and its Before added
 abbrev pub shown_number : Numbers → ℕ → ℕ
 shown_number numbers x = number_in numbers.running.traded.items x
-    + number_in numbers.sheet.before.items x
+    + number_in numbers.order_numbers.chain_traded.items x
 
 -- the two numbers are there for the order, and their sum fits 128 bits
 pub record HasShownNumber (numbers : Numbers) (x : ℕ) : Type 0 where
   pub traded_inside : x < length numbers.running.traded.items
-  pub before_inside : x < length numbers.sheet.before.items
+  pub chain_traded_inside : x < length numbers.order_numbers.chain_traded.items
   pub fits : shown_number numbers x < 2 ^ 128
 
 -- an order with the number that is shown with it

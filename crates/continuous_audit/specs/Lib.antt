@@ -2,7 +2,7 @@
 pub mod Audits
 -- What private functions pass on.
 pub mod Books
-pub mod Causes
+pub mod IncomingDeals
 pub mod Chains
 pub mod DealFindings
 pub mod Endings
@@ -15,5 +15,5 @@ pub mod Pairs
 pub mod Progress
 pub mod Records
 pub mod Scans
-pub mod Sheets
+pub mod OrderNumbers
 pub mod Spreads

@@ -7,7 +7,7 @@ use Rattle.audit_base.specs.Continuous.{resting_order, traded_before}
 use Rattle.order_book.specs.declared.books.Resting.{Resting}
 use Rattle.continuous_audit.specs.declared.market.Market.{Market}
 use Rattle.continuous_audit.specs.declared.scanning.RunningTotals.{RunningTotals}
-use Rattle.continuous_audit.specs.Causes.{AreCauses}
+use Rattle.continuous_audit.specs.IncomingDeals.{AreCauses}
 use Rattle.continuous_audit.specs.Endings.{AreEndings}
 use Rattle.continuous_audit.specs.Holding.{IsFilledInFront, resting_left_before, resting_left_after_deals}
 use Rattle.continuous_audit.specs.Records.{ConformsBelow, conservation_at}
@@ -18,7 +18,7 @@ use Rattle.continuous_audit.specs.Scans.{AreRunningTotals, IsLeftRefreshed, IsSp
 pub record IsMarket (m : Market) : Type 0 where
   pub list : IsOrderList m.orders.now
   pub deal_list : IsDealList m.orders.now m.deals.now
-  pub causes : AreCauses m.orders.now m.deals.now m.causes.now
+  pub incoming_deals : AreCauses m.orders.now m.deals.now m.incoming_deals.now
   pub endings : AreEndings m.orders.now m.endings.now
 
 -- the rule holds at each place before that of the order at n
@@ -31,20 +31,20 @@ IsConserved m n = conservation_at m.orders.now m.deals.now n ≡ None
 
 -- what each order has traded in the deals of the first n orders
 pub record HaveTraded (m : Market) (n : ℕ) (running : RunningTotals) : Type 0 where
-  pub totals : AreRunningTotals m.orders.now m.deals.now m.causes.now running.at
+  pub totals : AreRunningTotals m.orders.now m.deals.now m.incoming_deals.now running.at
       running.traded.items
-  pub split : IsSplitAt m.causes.now n running.at
+  pub split : IsSplitAt m.incoming_deals.now n running.at
 
 -- what is left of the orders of the deals from a cause on, as far as these are added, is their size
 -- less what they have traded, and of the others what it was
 abbrev pub IsLeftRefreshedIn : Market → ℕ → RunningTotals → List ℕ → List ℕ → List ℕ → Type 0
 IsLeftRefreshedIn m start running sizes old new =
-    IsLeftRefreshed m.deals.now m.causes.now start running.at
+    IsLeftRefreshed m.deals.now m.incoming_deals.now start running.at
     sizes running.traded.items old new
 
 -- the deal of the cause at an index, and its resting order
 abbrev pub caused_deal_at : Market → ℕ → Deal
-caused_deal_at m i = deal_at m.deals.now (cause_deal_at m.causes.now i)
+caused_deal_at m i = deal_at m.deals.now (cause_deal_at m.incoming_deals.now i)
 
 abbrev pub resting_order_at : Market → ℕ → ℕ
 resting_order_at m i = resting_order m.orders.now (caused_deal_at m i)

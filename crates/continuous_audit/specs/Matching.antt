@@ -13,7 +13,7 @@ use Rattle.continuous_audit.specs.Chains.{IsOpenSheet}
 use Rattle.continuous_audit.specs.Fills.{quantity_filled}
 use Rattle.continuous_audit.specs.Pairs.{AreSharedPairs, IsFillPairInRange}
 use Rattle.continuous_audit.specs.Scans.{number_in}
-use Rattle.continuous_audit.specs.Sheets.{IsBlankSheet}
+use Rattle.continuous_audit.specs.OrderNumbers.{IsBlankSheet}
 use Rattle.continuous_audit.specs.declared.fills.Fill.{Fill}
 
 -- these deals are the Expected trades, and they conform
@@ -33,20 +33,20 @@ pub record AreFillsApplied (fills : List Fill)
 -- the pairs, the orders in the books and the one that waits to enter are together at most n
 pub record AreTradesSoFar (orders : List Order) (n waiting : ℕ) (t : TradesSoFar) : Type 0 where
   pub traded_count : length t.traded.items ≡ length orders
-  pub sheet : IsOpenSheet orders n t.sheet
+  pub order_numbers : IsOpenSheet orders n t.order_numbers
   pub traded_fits : (x : ℕ) → number_in t.traded.items x ≤ n * 10 ^ 12
   pub dealt : All (IsFillPairInRange (length orders)) t.pairs.items
-  pub few : length t.pairs.items + resting_count t.standing.books + waiting ≤ n
+  pub few : length t.pairs.items + resting_count t.books_so_far.books + waiting ≤ n
 
 -- under these deals, of the first n orders before place q, where the books hold these amounts
 pub record IsMatchedUnder (orders : List Order) (deals : List Deal) (n q : ℕ) (amount : ℕ → ℕ)
     (t : TradesSoFar) : Type 0 where
   pub traded_is : (x : ℕ) → x < length orders
       → number_in t.traded.items x ≡ traded_before orders deals q x
-  pub before_is : (x : ℕ) → x < n → number_in t.sheet.before.items x
+  pub chain_traded_is : (x : ℕ) → x < n → number_in t.order_numbers.chain_traded.items x
       ≡ chain_traded_quantity orders deals x
-  pub left_is : (x : ℕ) → x < n → number_in t.sheet.left.items x ≡ left_before orders deals q x
-  pub books : AreBooksOfAmounts orders amount t.standing.books
+  pub left_is : (x : ℕ) → x < n → number_in t.order_numbers.left.items x ≡ left_before orders deals q x
+  pub books : AreBooksOfAmounts orders amount t.books_so_far.books
   pub pairs : AreSharedPairs orders deals n t.pairs.items
 
 -- before place q, where the order at n is the next
@@ -63,6 +63,6 @@ MatchedAfter orders n t = (deals : List Deal) → AreExpectedDeals orders deals
 -- before the first of this many orders
 pub record AreTradesAtStart (count : ℕ) (t : TradesSoFar) : Type 0 where
   pub traded : t.traded.items ≡ replicate count 0
-  pub sheet : IsBlankSheet count t.sheet
-  pub standing : AreEmptyBooks t.standing
+  pub order_numbers : IsBlankSheet count t.order_numbers
+  pub books_so_far : AreEmptyBooks t.books_so_far
   pub pairs : t.pairs.items ≡ []

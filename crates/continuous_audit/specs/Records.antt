@@ -8,7 +8,7 @@ use Rattle.audit_base.specs.Continuous.{traded_before, chain_traded_quantity, ha
 use Rattle.audit_base.specs.ContinuousRules.{ConformsAt}
 use Rattle.audit_base.specs.Least.{least_answer}
 use Rattle.audit_base.specs.ContinuousOffences.{conservation_finding, resting_priority_finding}
-use Rattle.continuous_audit.specs.declared.sheet.Sheet.{Sheet}
+use Rattle.continuous_audit.specs.declared.order_numbers.Sheet.{Sheet}
 use Rattle.continuous_audit.specs.Holding.{IsUncrossedBefore}
 use Rattle.continuous_audit.specs.Chains.{IsBeforeBounded}
 use Rattle.continuous_audit.specs.Scans.{AreTotalsSmall, number_in}
@@ -24,11 +24,11 @@ pub record ConformsAndIsUncrossed (orders : List Order) (deals : List Deal) (q :
 
 -- Before of each of the first m orders
 pub record AreBeforeNumbers (orders : List Order) (deals : List Deal) (m : ℕ)
-    (before : List ℕ) : Type 0 where
-  pub count : length before ≡ length orders
-  pub is : (x : ℕ) → x < m → number_in before x ≡ chain_traded_quantity orders deals x
-  pub fits : (x : ℕ) → number_in before x ≤ 2 ^ 126
-  pub bounded : IsBeforeBounded before
+    (chain_traded : List ℕ) : Type 0 where
+  pub count : length chain_traded ≡ length orders
+  pub is : (x : ℕ) → x < m → number_in chain_traded x ≡ chain_traded_quantity orders deals x
+  pub fits : (x : ℕ) → number_in chain_traded x ≤ 2 ^ 126
+  pub bounded : IsBeforeBounded chain_traded
 
 -- Size of each of the first m orders
 pub record AreSizes (orders : List Order) (deals : List Deal) (m : ℕ)
@@ -45,11 +45,11 @@ pub record AreLeftBefore (orders : List Order) (deals : List Deal) (m q : ℕ)
 -- before the deals of the order at n: whether it entered, Before and Size of each order up to it,
 -- and what is left of the earlier ones
 pub record IsKnownBeforeDeals (orders : List Order) (deals : List Deal) (n : ℕ) (entered : Bool)
-    (sheet : Sheet) : Type 0 where
+    (order_numbers : Sheet) : Type 0 where
   pub arrived : entered ≡ has_entered orders deals n
-  pub before : AreBeforeNumbers orders deals (suc n) sheet.before.items
-  pub sizes : AreSizes orders deals (suc n) sheet.sizes.items
-  pub left : AreLeftBefore orders deals n (place_at orders n) sheet.left.items
+  pub chain_traded : AreBeforeNumbers orders deals (suc n) order_numbers.chain_traded.items
+  pub sizes : AreSizes orders deals (suc n) order_numbers.sizes.items
+  pub left : AreLeftBefore orders deals n (place_at orders n) order_numbers.left.items
 
 -- what each order has traded before place q
 pub record AreTradedBefore (orders : List Order) (deals : List Deal) (q : ℕ)

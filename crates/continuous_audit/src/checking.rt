@@ -100,15 +100,15 @@ pub fn deal_evidence(
     deal: &Deal,
     bid: &ListedOrder<'_>,
     ask: &ListedOrder<'_>,
-    coming: Arrival,
+    deal_record: Arrival,
     known: Accounts,
 ) -> Option<Evidence>
-    ensures { result ≡ by_deal.deal_evidence deal.now bid.now ask.now coming known }
+    ensures { result ≡ by_deal.deal_evidence deal.now bid.now ask.now deal_record known }
 {
-    if !resting_waits(bid, ask, coming.place, known) {
+    if !resting_waits(bid, ask, deal_record.place, known) {
         return Some(Evidence::Inactive(resting_account(bid, ask, known).shown));
     }
-    if !coming.entered {
+    if !deal_record.entered {
         return Some(Evidence::Inactive(incoming_account(bid, ask, known).shown));
     }
     if !is_within(deal, bid, ask) {

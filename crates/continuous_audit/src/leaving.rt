@@ -44,16 +44,16 @@ pub fn refresh_left(
     left: &mut Vec<u64>,
 )
     requires from { start ≤ running.now.at }
-    requires ends { running.now.at ≤ length market.now.causes.now }
-    requires deals { HasDeals market.now.deals.now market.now.causes.now (vec_len left.old) }
+    requires ends { running.now.at ≤ length market.now.incoming_deals.now }
+    requires deals { HasDeals market.now.deals.now market.now.incoming_deals.now (vec_len left.old) }
     requires sizes_count { length sizes.now ≡ vec_len left.old }
     requires traded_count { vec_len running.now.traded ≡ vec_len left.old }
     ensures refreshed { IsLeftRefreshedIn market.now start running.now sizes.now left.old.items
         left.new.items }
 {
-    let (deals, causes) = (market.deals, market.causes);
+    let (deals, incoming_deals) = (market.deals, market.incoming_deals);
     for at in start..running.at {
-        let deal = &deals[causes[at].deal as usize];
+        let deal = &deals[incoming_deals[at].deal as usize];
         let bid_left = left_at(sizes, &running.traded, deal.bid);
         let ask_left = left_at(sizes, &running.traded, deal.ask);
         set_left(left, deal.bid, deal.ask, bid_left, ask_left);

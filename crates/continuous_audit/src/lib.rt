@@ -3,7 +3,7 @@
 
 pub mod auditing;
 mod books;
-mod causes;
+mod incoming_deals;
 mod chains;
 mod checking;
 mod endings;
@@ -14,10 +14,10 @@ mod leaving;
 mod market;
 mod matching;
 mod numbers;
-mod opening;
+mod arrival;
 mod pairs;
 mod passing;
 mod scanning;
-mod sheet;
+mod order_numbers;
 mod spreading;
 mod state;

@@ -6,7 +6,7 @@ ghost use Rattle.continuous_audit.specs.Records.{IsKnownBeforeDeals, conservatio
 
 use super::checking::{Accounts, Arrival, deal_evidence};
 use super::market::Market;
-use super::sheet::Sheet;
+use super::order_numbers::Sheet;
 use audit_base::flaws::Flaw;
 use matching_core::checking::add_deal;
 
@@ -21,7 +21,7 @@ pub struct RunningTotals {
 /// Adds what the deals of the order at `order` trade, up to the first that has a flaw.
 pub fn check_deals(
     market: &Market<'_>,
-    sheet: &Sheet,
+    order_numbers: &Sheet,
     order: usize,
     entered: bool,
     running: &mut RunningTotals,
@@ -29,33 +29,33 @@ pub fn check_deals(
     requires market { IsMarket market.now }
     requires order { order < length market.now.orders.now }
     requires known { IsKnownBeforeDeals market.now.orders.now market.now.deals.now
-        order entered sheet.now }
+        order entered order_numbers.now }
     requires traded { HaveTraded market.now order running.old }
     ensures traded { result ≡ None → HaveTraded market.now (suc order) running.new }
     ensures from { result ≡ None → running.old.at ≤ running.new.at }
     ensures found { IsFindingOfFlaw market.now.orders.now result
         (conservation_at market.now.orders.now market.now.deals.now order) }
 {
-    let (orders, deals, causes) = (market.orders, market.deals, market.causes);
-    let coming = Arrival {
+    let (orders, deals, incoming_deals) = (market.orders, market.deals, market.incoming_deals);
+    let deal_record = Arrival {
         place: orders.at(order).place(),
         entered,
     };
-    while running.at < causes.len() {
-        let cause = causes[running.at];
-        if cause.order as usize != order {
+    while running.at < incoming_deals.len() {
+        let incoming = incoming_deals[running.at];
+        if incoming.order as usize != order {
             return None;
         }
-        let deal = &deals[cause.deal as usize];
+        let deal = &deals[incoming.deal as usize];
         let quantity = deal.quantity.value() as u128;
         let traded = &mut running.traded;
         let (bid_traded, ask_traded) = add_deal(traded, deal.bid, deal.ask, quantity);
         let known = Accounts {
-            bid: sheet.account(deal.bid, bid_traded),
-            ask: sheet.account(deal.ask, ask_traded),
+            bid: order_numbers.account(deal.bid, bid_traded),
+            ask: order_numbers.account(deal.ask, ask_traded),
         };
         let (bid, ask) = (orders.at(deal.bid), orders.at(deal.ask));
-        if let Some(evidence) = deal_evidence(deal, &bid, &ask, coming, known) {
+        if let Some(evidence) = deal_evidence(deal, &bid, &ask, deal_record, known) {
             let place = deal.place;
             return Some(Flaw { place, evidence });
         }

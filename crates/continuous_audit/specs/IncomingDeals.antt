@@ -6,7 +6,7 @@ use Rattle.audit_base.specs.declared.orders.Order.{Order}
 use Rattle.audit_base.specs.declared.orders.Deal.{Deal}
 use Rattle.audit_base.specs.Deals.{deal_at, quantity_traded_by}
 use Rattle.audit_base.specs.Continuous.{incoming_order}
-use Rattle.continuous_audit.specs.declared.causes.Cause.{Cause}
+use Rattle.continuous_audit.specs.declared.incoming_deals.Cause.{Cause}
 
 -- how causes compare
 abbrev pub cause_cmp : Cause → Cause → Ordering
@@ -26,13 +26,13 @@ abbrev pub CauseBefore : Cause → Cause → Type 0
 CauseBefore a b = (a.order < b.order) ⊎ ((a.order ≡ b.order) × (a.deal < b.deal))
 
 -- each deal once, with its incoming order, those of earlier orders first
-pub record AreCauses (orders : List Order) (deals : List Deal) (causes : List Cause) : Type 0 where
-  pub only : All (λ c. (c.deal < length deals) × (c ≡ cause_of orders deals c.deal)) causes
-  pub each : (k : ℕ) → k < length deals → Contains causes (cause_of orders deals k)
-  pub rising : AllPairs CauseBefore causes
-  pub sums : (f : Cause → ℕ) → sum_by f causes ≡ sum_by f (causes_upto orders deals (length deals))
+pub record AreCauses (orders : List Order) (deals : List Deal) (incoming_deals : List Cause) : Type 0 where
+  pub only : All (λ c. (c.deal < length deals) × (c ≡ cause_of orders deals c.deal)) incoming_deals
+  pub each : (k : ℕ) → k < length deals → Contains incoming_deals (cause_of orders deals k)
+  pub rising : AllPairs CauseBefore incoming_deals
+  pub sums : (f : Cause → ℕ) → sum_by f incoming_deals ≡ sum_by f (causes_upto orders deals (length deals))
 
 -- what an order trades in the deals of the first causes
 abbrev pub running_total : List Deal → List Cause → ℕ → ℕ → ℕ
-running_total deals causes at x =
-    sum_by (λ c. quantity_traded_by x (deal_at deals c.deal)) (take at causes)
+running_total deals incoming_deals at x =
+    sum_by (λ c. quantity_traded_by x (deal_at deals c.deal)) (take at incoming_deals)
