@@ -7,7 +7,7 @@ ghost use Rattle.continuous_audit.specs.DealFindings.{enters, size_left, waits_i
 ghost use Rattle.continuous_audit.specs.OrderNumbers.{FitsOrder, IsOpeningOfOrder};
 ghost use Rattle.continuous_audit.specs.Scans.{AreTotalsSmall};
 
-use super::chains::{traded_by_chain, is_chain_ended};
+use super::chains::{is_chain_ended, traded_by_chain};
 use super::checking::waits;
 use super::order_numbers::Sheet;
 use audit_base::numbers::Quantity;
@@ -62,7 +62,12 @@ pub struct Opening {
 }
 
 /// What an order brings at its own record, from what the earlier ones have traded and have left.
-pub fn arrive_order(orders: &OrderList<'_>, traded: &[u128], order_numbers: &Sheet, order: usize) -> Opening
+pub fn arrive_order(
+    orders: &OrderList<'_>,
+    traded: &[u128],
+    order_numbers: &Sheet,
+    order: usize,
+) -> Opening
     requires list { IsOrderList orders.now }
     requires order { order < length orders.now }
     requires traded { AreTotalsSmall orders.now traded.now }

@@ -4,8 +4,8 @@ ghost use Rattle.audit_base.specs.Orders.{IsOrderList};
 ghost use Rattle.audit_base.specs.Deals.{IsDealList};
 ghost use Rattle.continuous_audit.specs.Audits.{IsContinuousOutcome};
 
-use super::incoming_deals::sort_incoming_deals;
 use super::endings::sort_endings;
+use super::incoming_deals::sort_incoming_deals;
 use super::market::Market;
 use super::state::State;
 use audit_base::faults::NoMemory;

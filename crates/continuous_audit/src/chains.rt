@@ -29,7 +29,12 @@ fn chain_total(orders: &OrderList<'_>, traded: &[u128], order: usize) -> u128
 
 /// Before of an order: what its chain has traded. Where the records of its target's chain end one
 /// another, as in every history, this is what the target has traded, and the target's own Before.
-pub fn traded_by_chain(orders: &OrderList<'_>, traded: &[u128], order_numbers: &Sheet, order: usize) -> u128
+pub fn traded_by_chain(
+    orders: &OrderList<'_>,
+    traded: &[u128],
+    order_numbers: &Sheet,
+    order: usize,
+) -> u128
     requires list { IsOrderList orders.now }
     requires order { order < length orders.now }
     requires traded { AreTotalsSmall orders.now traded.now }

@@ -12,8 +12,8 @@ ghost use Rattle.continuous_audit.specs.Matching.{AreTradesAtStart, AreTradesSoF
 use super::books::BooksSoFar;
 use super::endings::{Ending, sort_endings};
 use super::matching::{TradesSoFar, match_record};
-use super::pairs::{number_pairs, sort_pairs};
 use super::order_numbers::Sheet;
+use super::pairs::{number_pairs, sort_pairs};
 use audit_base::faults::NoMemory;
 use audit_base::orders::Deal;
 use matching_core::totals::zeros;

@@ -1,6 +1,6 @@
 //! What is judged: the orders and the deals, and which of them belong to which record.
-use super::incoming_deals::Cause;
 use super::endings::Ending;
+use super::incoming_deals::Cause;
 use audit_base::orders::Deal;
 use order_list::lists::OrderList;
 

@@ -8,13 +8,13 @@ ghost use Rattle.continuous_audit.specs.Fills.{fills_of, resting_after_fills, to
 ghost use Rattle.continuous_audit.specs.Matching.{AreFillsApplied, AreTradesSoFar, MatchedAfter, MatchedBefore};
 ghost use Rattle.continuous_audit.specs.Scans.{number_in};
 
+use super::arrival::arrive_order;
 use super::books::{Books, BooksSoFar};
 use super::endings::Ending;
 use super::fills::{Fill, take_fills};
 use super::leaving::set_amount;
-use super::arrival::arrive_order;
-use super::pairs::{FillPair, push_pairs};
 use super::order_numbers::Sheet;
+use super::pairs::{FillPair, push_pairs};
 use super::spreading::enter_own;
 use audit_base::faults::NoMemory;
 use audit_base::terms::Side;
@@ -115,7 +115,11 @@ fn trade_order(
         &mut so_far.books_so_far.books,
         &mut so_far.fills,
     )?;
-    apply_fills(&so_far.fills, &mut so_far.traded, &mut so_far.order_numbers.left);
+    apply_fills(
+        &so_far.fills,
+        &mut so_far.traded,
+        &mut so_far.order_numbers.left,
+    );
     set_total(&mut so_far.traded, order, (arrival.size - left) as u128);
     set_amount(&mut so_far.order_numbers.left, order, left);
     push_pairs(own.side(), order, &so_far.fills, &mut so_far.pairs)

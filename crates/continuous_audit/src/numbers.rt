@@ -6,11 +6,11 @@ ghost use Rattle.continuous_audit.specs.Progress.{AreNumbersAtStart, AreNumbersF
 ghost use Rattle.continuous_audit.specs.Records.{conservation_at};
 ghost use Rattle.continuous_audit.specs.Scans.{number_in};
 
+use super::arrival::arrive_order;
 use super::leaving::{left_at, refresh_left, set_amount};
 use super::market::Market;
-use super::arrival::arrive_order;
-use super::scanning::{RunningTotals, check_deals};
 use super::order_numbers::Sheet;
+use super::scanning::{RunningTotals, check_deals};
 use audit_base::faults::NoMemory;
 use audit_base::flaws::{Flaw, TradedOrder};
 use matching_core::totals::zeros;
@@ -61,11 +61,22 @@ impl Numbers {
             (conservation_at market.now.orders.now market.now.deals.now order) }
         ensures dealt { result ≡ None → HasDealt market.now order self.new }
     {
-        let arrival = arrive_order(market.orders, &self.running.traded, &self.order_numbers, order);
+        let arrival = arrive_order(
+            market.orders,
+            &self.running.traded,
+            &self.order_numbers,
+            order,
+        );
         self.order_numbers.note(order, &arrival);
         self.start = self.running.at;
         let entered = arrival.entered;
-        if let Some(flaw) = check_deals(market, &self.order_numbers, order, entered, &mut self.running) {
+        if let Some(flaw) = check_deals(
+            market,
+            &self.order_numbers,
+            order,
+            entered,
+            &mut self.running,
+        ) {
             return Some(flaw);
         }
         let order_numbers = &mut self.order_numbers;

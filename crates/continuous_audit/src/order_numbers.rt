@@ -5,8 +5,8 @@ ghost use Rattle.continuous_audit.specs.DealFindings.{account_of};
 ghost use Rattle.continuous_audit.specs.Scans.{number_in};
 ghost use Rattle.continuous_audit.specs.OrderNumbers.{IsBlankSheet, IsOpeningNoted};
 
-use super::checking::Account;
 use super::arrival::Opening;
+use super::checking::Account;
 use audit_base::faults::NoMemory;
 use audit_base::flaws::TradedOrder;
 use matching_core::totals::zeros;
