@@ -1,4 +1,4 @@
--- What the first of the sorted causes add up to.
+-- What the first of the incoming deals add up to.
 use Rattle.std.proofs.Common.{◌≡◌, ◌≢◌, ◌<◌, ◌≤◌, ◌+◌, ℕ, zero, suc, List, [], ◌∷◌, ◌++◌, length, Bool, true, false, cond, refl, sym, ap, ◌∙◌, arith, inl, inr, subst, All, AllPairs, get_or, take, sum_by, eqb, is_lt, IsPermutation, IsSorted, add-one}
 use Rattle.std.specs.Prelude.{nat_lt, nat_le, ◌==◌, ◌&&◌, ◌||◌, Contains}
 use Rattle.std.specs.Cmp.{IsStrictWeakOrder}
@@ -68,7 +68,7 @@ sooner a b apart h = elim (cases_lt a.order b.order) [
   | inr le ↦ inr (grind (arith, nat_tests), elim (cases_lt a.deal b.deal) [ inl lt ↦ lt | inr ge ↦ absurd (apart (grind (arith, nat_tests))) ])
 ]
 
--- the sorted causes
+-- the incoming deals, sorted
 pub are-incoming_deals : (orders : List Order) (deals : List Deal) (incoming_deals : List Cause) → IsPermutation (causes_upto orders deals (length deals)) incoming_deals → IsSorted cause_cmp incoming_deals → AreCauses orders deals incoming_deals
 are-incoming_deals orders deals incoming_deals moved in_order =
     let from = causes_upto orders deals (length deals) in
@@ -85,7 +85,7 @@ are-incoming_deals orders deals incoming_deals moved in_order =
     flips : (a b : ℕ) → eqb a b ≡ eqb b a
     flips a b = grind (arith, nat_tests)
 
--- a test that holds of the first causes alone picks their sum
+-- a test that holds of the first incoming deals alone picks their sum
 module _ (f : Cause → ℕ) (test : Cause → Bool) where
   picked : (cs : List Cause) (at : ℕ) → ((i : ℕ) (d : Cause) → i < at → i < length cs → test (get_or cs i d) ≡ true) → ((i : ℕ) (d : Cause) → at ≤ i → i < length cs → test (get_or cs i d) ≡ false)
       → sum_by (λ c. cond (test c) (f c) 0) cs ≡ sum_by f (take at cs)
@@ -140,7 +140,7 @@ pub incoming-inside : (orders : List Order) (d : Deal) → NamesOrders orders d 
 incoming-inside orders d n = cond_both (nat_lt (place_at orders d.bid) (place_at orders d.ask)) d.ask d.bid (λ x. x < length orders) (λ t. n.ask_inside) (λ t. n.bid_inside)
 
 module _ (orders : List Order) (list : IsOrderList orders) (deals : List Deal) (named : All (NamesOrders orders) deals) (incoming_deals : List Cause) (are : AreCauses orders deals incoming_deals) where
-  -- a sum over all causes of what is picked by a test of the place and the deal
+  -- a sum over all incoming deals of what is picked by a test of the place and the deal
   all-sum : (f : Cause → ℕ) → sum_by f incoming_deals ≡ sum_below (λ k. f (cause_of orders deals k)) (length deals)
   all-sum f = are.sums f ∙ upto-sum orders deals f (length deals)
 
@@ -155,7 +155,7 @@ module _ (orders : List Order) (list : IsOrderList orders) (deals : List Deal) (
   part : ℕ → Cause → ℕ
   part x c = quantity_traded_by x (deal_at deals c.deal)
 
-  -- the first causes, those of orders of places below p: what is traded before p
+  -- the first incoming deals, those of orders of places below p: what is traded before p
   pub running-before : (p at x : ℕ) → ((i : ℕ) (d : Cause) → i < at → i < length incoming_deals → place_at orders (get_or incoming_deals i d).order < p) → ((i : ℕ) (d : Cause) → at ≤ i → i < length incoming_deals → p ≤ place_at orders (get_or incoming_deals i d).order)
       → running_total deals incoming_deals at x ≡ traded_before orders deals p x
   unfolding traded_before part
@@ -170,7 +170,7 @@ module _ (orders : List Order) (list : IsOrderList orders) (deals : List Deal) (
       let d = get_or deals k e in nested (nat_lt (place_at orders (incoming_order orders d)) p) (names_order x d) d.quantity ∙ ap (λ (q : ℕ). cond (names_order x d && nat_lt q p) d.quantity 0) (incoming-cause orders d)) in
       sym one ∙ two ∙ three ∙ four ∙ five
 
-  -- up to the cause at an index, of the order at n: what is traded before its place, and in its
+  -- up to the incoming deal at an index, of the order at n: what is traded before its place, and in its
   -- deals up to this one
   module _ (at : ℕ) (e : Cause) (lt : at < length incoming_deals) where
     abbrev here : Cause

@@ -64,7 +64,7 @@ module _ (orders : List Order) (list : IsOrderList orders) where
   unfolding chain
   chain-ahead x inside = chain-ahead-within (suc x) x (order_at orders x).target inside (λ t e. list.targets x t inside e)
 
-  -- a chain is closed where it is empty, or the target is ended and the target's chain is closed
+  -- a chain is ended where it is empty, or the target is ended and the target's chain is ended
   pub chain_ended-none : (x : ℕ) → (order_at orders x).target ≡ None → HasChainEnded orders x
   chain_ended-none x e = subst (All (λ u. ends_by (order_at orders u).cancelled (place_at orders x) ≡ true)) (sym (chain-none orders list x e)) (All-nil (λ u. ends_by (order_at orders u).cancelled (place_at orders x) ≡ true))
 
@@ -133,7 +133,7 @@ module _ (orders : List Order) (list : IsOrderList orders) where
         ] in
         ap (λ (b : Bool). cond b d.quantity 0) same)
 
-    -- Before, where the chain of the target is closed
+    -- Before, where the chain of the target is ended
     pub before-kept : (n t : ℕ) → n < length orders → (order_at orders n).target ≡ Some t → HasChainEnded orders t → ((i : ℕ) → i < place_at orders n → ConformsAt orders deals i)
         → chain_traded_quantity orders deals n ≡ past (place_at orders n) t + chain_traded_quantity orders deals t
     before-kept n t inside e chain_ended conforms =

@@ -82,7 +82,7 @@ module _ (orders : List Order) (list : IsOrderList orders) (deals : List Deal) (
         omega (arith, few-incoming_deals);
   }
 
-  -- the first causes, those of the orders below m, where these are the orders of places below q
+  -- the first incoming deals, those of the orders below m, where these are the orders of places below q
   running-at : (q m at : ℕ) → IsSplitAt incoming_deals m at → ((k : ℕ) → k < length orders → k < m → place_at orders k < q) → ((k : ℕ) → k < length orders → m ≤ k → q ≤ place_at orders k) → (x : ℕ) → running_total deals incoming_deals at x ≡ traded_before orders deals q x
   running-at q m at split low high x = running-before orders list deals deal_list.named incoming_deals are q at x
       (λ i d lt below. subst (λ (c : Cause). place_at orders c.order < q) (sym (get_or-default incoming_deals i d cause_past_end below)) (low (cause_order_at incoming_deals i) (cause-inside orders list deals deal_list.named incoming_deals are i cause_past_end below) (split.early i lt below)))

@@ -28,7 +28,7 @@ module _ (orders : List Order) (list : IsOrderList orders) (deals : List Deal) (
   abbrev p : ℕ
   p = place_at orders n
 
-  -- where a deal of this cause is
+  -- where a deal of this cause is among the incoming deals
   pub located : (j : ℕ) → j < length deals → cause orders (deal_at deals j) ≡ p → (i : ℕ) × (start ≤ i) × (i < end) × (cause_deal_at incoming_deals i ≡ j)
   located j lt here =
       let has = are.each j lt in
@@ -42,7 +42,7 @@ module _ (orders : List Order) (list : IsOrderList orders) (deals : List Deal) (
         ap (λ (c : Cause). c.deal) is,
       )
 
-  -- the deal at a cause of the order
+  -- an incoming deal of the order
   pub of-cause : (i : ℕ) → start ≤ i → i < end → IsOfCause orders list deals deal_list.named n n_inside (cause_deal_at incoming_deals i)
   of-cause i from below =
       let h = are.only i cause_past_end (omega arith) in
@@ -128,7 +128,7 @@ pass-found-first orders list deals deal_list incoming_deals are n n_inside start
     (subst (λ (x : Resting). better (order_at orders x.index) (order_at orders (resting_order orders (deal_at deals (cause_deal_at incoming_deals at)))) ≡ true) is t)
     ∙ ap (λ (x : Resting). Some (finding_of orders (priority_flaw orders (traded_shown_after orders deals (place_at orders n)) (deal_at deals (cause_deal_at incoming_deals at)) x.index))) (sym is)
 
--- the order that the code reads of the deal of a cause
+-- the resting order that the code reads of an incoming deal
 pub resting-read : (orders : List Order) (deals : List Deal) (incoming_deals : List Cause) (are : AreCauses orders deals incoming_deals) (at : ℕ) → at < length incoming_deals → (d : Deal) → d ≡ get_or deals (cause_deal_at incoming_deals at) d → (r : ℕ) → r ≡ resting_order orders d → r < length orders
     → (o : Order) → o ≡ order_at orders r → o ≡ order_at orders (resting_order orders (deal_at deals (cause_deal_at incoming_deals at)))
 resting-read orders deals incoming_deals are at lt d d_read r r_is inside o o_read =

@@ -186,9 +186,9 @@ module _ (orders : List Order) (list : IsOrderList orders) (deals : List Deal) (
         finding-is k cause_here
         ∙ sym (λ i. option_map (finding_by d) (first_broken (rest i) (come i) (bid i) (ask i) (waits-here bt at' i) (a i) (keeps_limits orders d) (nat_lt (zb i) (tb i)) (nat_lt (za i) (ta i))))
 
-  -- deals of other causes have no finding, and those of this one are among its causes
+  -- deals of other causes have no finding, and those of this one are among the incoming deals
   module _ (start at : ℕ) (split : IsSplitAt incoming_deals n start) (clean : (i : ℕ) → start ≤ i → i < at → conservation_finding orders deals p (cause_deal_at incoming_deals i) ≡ None) where
-    -- a deal with a finding is at this cause or later
+    -- a deal with a finding is this incoming deal or a later one
     later-cause : (j : ℕ) → j < length deals → (conservation_finding orders deals p j ≡ None) ⊎ ((i : ℕ) × (at ≤ i) × (i < length incoming_deals) × (cause_order_at incoming_deals i ≡ n) × (cause_deal_at incoming_deals i ≡ j))
     later-cause j lt = elim (cases_eq (cause orders (deal_at deals j)) p) [
       | inr away ↦ inl (cond-false (cause orders (deal_at deals j) == p) _ None (ne_eqb _ _ away))

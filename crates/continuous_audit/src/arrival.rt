@@ -1,4 +1,4 @@
-//! What an order brings at its own record.
+//! The arrival of an order at its own record.
 ghost use Rattle.std.specs.Prelude.{◌≡◌, ◌<◌, ◌≤◌, ◌^◌, ℕ, List, None, Some, true, length};
 ghost use Rattle.audit_base.specs.Orders.{IsOrderList};
 ghost use Rattle.audit_base.specs.declared.orders.Deal.{Deal as ADeal};
@@ -51,8 +51,8 @@ fn size_left(entered: bool, quantity: Quantity, chain_traded: u128) -> u64
     }
 }
 
-/// What an order brings at its own record: whether it enters, its Before, whether the records of
-/// its chain end one another, and its Size.
+/// The arrival of an order: whether it enters, its Before (what its chain has traded), whether it is
+/// known that its record, or an earlier one, ends each order of its chain, and its Size.
 #[derive(Clone, Copy, Debug, Drop)]
 pub struct Opening {
     pub entered: bool,
@@ -61,7 +61,7 @@ pub struct Opening {
     pub size: u64,
 }
 
-/// What an order brings at its own record, from what the earlier ones have traded and have left.
+/// The arrival of an order at its own record, from what the earlier ones have traded and have left.
 pub fn arrive_order(
     orders: &OrderList<'_>,
     traded: &[u128],

@@ -83,7 +83,7 @@ fn resting_account(bid: &ListedOrder<'_>, ask: &ListedOrder<'_>, known: Accounts
     }
 }
 
-/// The account of the later one, which came.
+/// The account of the later one, the incoming order.
 fn incoming_account(bid: &ListedOrder<'_>, ask: &ListedOrder<'_>, known: Accounts) -> Account
     ensures { result ≡ by_deal.incoming_account bid.now ask.now known }
 {

@@ -17,7 +17,7 @@ pub struct Cause {
     pub deal: u32,
 }
 
-/// The order of a deal whose record is the cause.
+/// The incoming order of a deal: the later one of its two.
 pub fn incoming(orders: &OrderList<'_>, deal: &Deal) -> usize
     requires { NamesOrders orders.now deal.now }
     ensures same { result ≡ incoming_order orders.now deal.now }
@@ -75,7 +75,8 @@ pub fn sort_incoming_deals(
     requires few_orders { length orders.now < 2 ^ 32 }
     requires few_deals { length deals.now < 2 ^ 32 }
     requires named { All (NamesOrders orders.now) deals.now }
-    ensures { IfOk result (λ incoming_deals. AreCauses orders.now deals.now incoming_deals.items) }
+    ensures { IfOk result (λ incoming_deals.
+        AreCauses orders.now deals.now incoming_deals.items) }
 {
     let mut incoming_deals = collect_incoming_deals(alloc, orders, deals)?;
     incoming_deals.sort_unstable();

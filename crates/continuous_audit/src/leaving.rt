@@ -34,8 +34,8 @@ fn set_left(left: &mut Vec<u64>, bid: usize, ask: usize, bid_left: u64, ask_left
     left[ask] = ask_left;
 }
 
-/// Sets what is left of the orders of the deals from the causes at `start` on, as far
-/// as these are added.
+/// Sets what is left of the orders of the incoming deals from the one at `start` on, as far as these
+/// are added.
 pub fn refresh_left(
     market: &Market<'_>,
     start: usize,
@@ -45,7 +45,8 @@ pub fn refresh_left(
 )
     requires from { start ≤ running.now.at }
     requires ends { running.now.at ≤ length market.now.incoming_deals.now }
-    requires deals { HasDeals market.now.deals.now market.now.incoming_deals.now (vec_len left.old) }
+    requires deals { HasDeals market.now.deals.now market.now.incoming_deals.now
+        (vec_len left.old) }
     requires sizes_count { length sizes.now ≡ vec_len left.old }
     requires traded_count { vec_len running.now.traded ≡ vec_len left.old }
     ensures refreshed { IsLeftRefreshedIn market.now start running.now sizes.now left.old.items

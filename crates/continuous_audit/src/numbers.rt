@@ -16,7 +16,7 @@ use audit_base::flaws::{Flaw, TradedOrder};
 use matching_core::totals::zeros;
 use std::alloc::Global;
 
-/// What is known of the orders, and where the deals of the last one begin among the causes.
+/// What is known of the orders, and at which of the incoming deals those of the last one begin.
 #[derive(Drop)]
 pub struct Numbers {
     pub order_numbers: Sheet,

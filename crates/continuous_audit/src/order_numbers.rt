@@ -12,18 +12,18 @@ use audit_base::flaws::TradedOrder;
 use matching_core::totals::zeros;
 use std::alloc::Global;
 
-/// What is known of each order that has come, by its index.
+/// What is known of each order that has arrived, by its index.
 #[derive(Drop)]
 pub struct Sheet {
     pub chain_traded: Vec<u128>,
-    /// Whether the records of the chain of each order end one another.
+    /// Whether the record of each order, or an earlier one, ends each order of its chain, where set.
     pub chain_ended: Vec<bool>,
     pub sizes: Vec<u64>,
     pub left: Vec<u64>,
 }
 
 impl Sheet {
-    /// The sheet of this many orders, of which none has come.
+    /// The numbers of this many orders, of which none has arrived.
     pub fn new(alloc: Global, count: usize) -> Result<Sheet, NoMemory>
         ensures { IfOk result (IsBlankSheet count) }
     {
@@ -35,7 +35,7 @@ impl Sheet {
         })
     }
 
-    /// Notes what an order brings at its own record.
+    /// Notes the arrival of an order at its own record.
     pub fn note(&mut self, order: usize, arrival: &Opening)
         requires chain_traded { order < vec_len self.old.chain_traded }
         requires chain_ended { order < vec_len self.old.chain_ended }
@@ -67,7 +67,7 @@ impl Sheet {
         }
     }
 
-    /// Before of an order.
+    /// Before of an order: what its chain has traded.
     pub fn chain_traded_of(&self, order: usize) -> u128
         requires { order < vec_len self.now.chain_traded }
         ensures { result ≡ number_in self.now.chain_traded.items order }
@@ -75,7 +75,7 @@ impl Sheet {
         self.chain_traded[order]
     }
 
-    /// Whether the records of the chain of an order end one another, as far as is known.
+    /// Whether it is known that the record of an order, or an earlier one, ends each of its chain.
     pub fn is_chain_ended(&self, order: usize) -> bool
         requires { order < vec_len self.now.chain_ended }
         ensures { result ≡ flag_in self.now.chain_ended.items order }

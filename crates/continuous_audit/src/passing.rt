@@ -19,7 +19,7 @@ use audit_base::flaws::{Evidence, Flaw};
 use order_book::books::Resting;
 use rank_order::comparing::better;
 
-/// Whether an order outranks the resting order of the deal of a cause.
+/// Whether an order outranks the resting order of the deal at `at` of the incoming deals.
 fn outranks(market: &Market<'_>, over: usize, at: usize) -> bool
     requires market { IsMarket market.now }
     requires over { over < length market.now.orders.now }
@@ -35,7 +35,7 @@ fn outranks(market: &Market<'_>, over: usize, at: usize) -> bool
     better(&orders.at(over), &orders.at(index))
 }
 
-/// The flaw of the deal of a cause, which passes over the order at `over`.
+/// The flaw of the deal at `at` of the incoming deals, which passes over the order at `over`.
 fn priority_flaw(market: &Market<'_>, numbers: &Numbers, over: usize, at: usize) -> Flaw
     requires market { IsMarket market.now }
     requires at { at < length market.now.incoming_deals.now }

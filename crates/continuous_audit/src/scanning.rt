@@ -10,11 +10,11 @@ use super::order_numbers::Sheet;
 use audit_base::flaws::Flaw;
 use matching_core::checking::add_deal;
 
-/// What each order has traded in the first deals, by their causes.
+/// What each order has traded in the first of the incoming deals.
 #[derive(Drop)]
 pub struct RunningTotals {
     pub traded: Vec<u128>,
-    /// How many of the causes are added.
+    /// How many of the incoming deals are added.
     pub at: usize,
 }
 

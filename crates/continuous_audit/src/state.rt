@@ -15,7 +15,7 @@ use audit_base::findings::Finding;
 use audit_base::flaws::Flaw;
 use std::alloc::Global;
 
-/// What is known before an order comes: the numbers of the earlier ones, and what of them rests.
+/// What is known before an order arrives: the numbers of the earlier ones, and what of them rests.
 #[derive(Drop)]
 pub struct State {
     pub numbers: Numbers,
