@@ -51,8 +51,8 @@ fn size_left(entered: bool, quantity: Quantity, chain_traded: u128) -> u64
     }
 }
 
-/// The arrival of an order: whether it enters, its Before (what its chain has traded), whether it is
-/// known that its record, or an earlier one, ends each order of its chain, and its Size.
+/// The arrival of an order: whether it enters, its Before (what its chain has traded), whether it
+/// is known that its record, or an earlier one, ends each order of its chain, and its Size.
 #[derive(Clone, Copy, Debug, Drop)]
 pub struct Opening {
     pub entered: bool,

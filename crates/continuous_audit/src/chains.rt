@@ -27,8 +27,8 @@ fn chain_total(orders: &OrderList<'_>, traded: &[u128], order: usize) -> u128
     total
 }
 
-/// Before of an order: what its chain has traded. Where the chain of its target is known to be ended,
-/// as in every history, this is what the target has traded, and the target's own Before.
+/// Before of an order: what its chain has traded. Where the chain of its target is known to be
+/// ended, as in every history, this is what the target has traded, and the target's own Before.
 pub fn traded_by_chain(
     orders: &OrderList<'_>,
     traded: &[u128],
@@ -62,8 +62,8 @@ fn ends_by(cancelled: Option<u32>, place: u32) -> bool
     }
 }
 
-/// Whether the record of an order, or an earlier one, ends each order of its chain: false also where
-/// that is not known.
+/// Whether the record of an order, or an earlier one, ends each order of its chain: false also
+/// where that is not known.
 pub fn is_chain_ended(orders: &OrderList<'_>, order_numbers: &Sheet, order: usize) -> bool
     requires list { IsOrderList orders.now }
     requires order { order < length orders.now }

@@ -34,8 +34,8 @@ fn set_left(left: &mut Vec<u64>, bid: usize, ask: usize, bid_left: u64, ask_left
     left[ask] = ask_left;
 }
 
-/// Sets what is left of the orders of the incoming deals from the one at `start` on, as far as these
-/// are added.
+/// Sets what is left of the orders of the incoming deals from the one at `start` on, as far as
+/// these are added.
 pub fn refresh_left(
     market: &Market<'_>,
     start: usize,

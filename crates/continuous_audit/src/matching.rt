@@ -77,7 +77,8 @@ fn fill_order(
     fills: &mut Vec<Fill>,
 ) -> Result<u64, NoMemory>
     ensures fills { OnOk result (fills.new.items
-        ≡ fills_of own.now.side own.now.limit size (book_list (other_side own.now.side) books.old)) }
+        ≡ fills_of own.now.side own.now.limit size
+        (book_list (other_side own.now.side) books.old)) }
     ensures books { OnOk result (books.new ≡ books_with_list (other_side own.now.side)
         (resting_after_fills own.now.side own.now.limit size
         (book_list (other_side own.now.side) books.old))
@@ -144,7 +145,8 @@ pub fn match_record(
         (next_order_place orders.now (suc order))) }
     ensures counted { OnOk result (AreTradesSoFar orders.now (suc order) 0 so_far.new) }
     ensures matched { OnOk result
-        (MatchedBefore orders.now (suc order) (next_order_place orders.now (suc order)) so_far.new) }
+        (MatchedBefore orders.now (suc order)
+        (next_order_place orders.now (suc order)) so_far.new) }
 {
     trade_order(orders, order, so_far)?;
     let books_so_far = &mut so_far.books_so_far;

@@ -15,8 +15,9 @@ use std::alloc::Global;
 /// What is known of each order that has arrived, by its index.
 #[derive(Drop)]
 pub struct Sheet {
+    /// Before of each order: what its chain has traded.
     pub chain_traded: Vec<u128>,
-    /// Whether the record of each order, or an earlier one, ends each order of its chain, where set.
+    /// Set only where the record of the order, or an earlier one, ends each order of its chain.
     pub chain_ended: Vec<bool>,
     pub sizes: Vec<u64>,
     pub left: Vec<u64>,
@@ -75,7 +76,7 @@ impl Sheet {
         self.chain_traded[order]
     }
 
-    /// Whether it is known that the record of an order, or an earlier one, ends each of its chain.
+    /// Whether an order's flag is set: its record, or an earlier one, ends each order of its chain.
     pub fn is_chain_ended(&self, order: usize) -> bool
         requires { order < vec_len self.now.chain_ended }
         ensures { result ≡ flag_in self.now.chain_ended.items order }
