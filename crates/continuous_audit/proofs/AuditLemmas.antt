@@ -88,13 +88,13 @@ module _ (m : Market) (is : IsMarket m) where
       sizes = subst (AreSizes orders deals 0) (sym bare.numbers.order_numbers.sizes) (record { count = length-replicate {A = ℕ} (length orders) 0; is = λ x lt. absurd (omega arith) });
       left = subst (AreLeftBefore orders deals 0 (place_at orders 0)) (sym bare.numbers.order_numbers.left) (record { count = length-replicate {A = ℕ} (length orders) 0; is = λ x lt. absurd (omega arith) });
       running = record {
-        totals = subst (λ (at : ℕ). AreRunningTotals orders deals m.incoming_deals.now at state.numbers.running.traded.items) (sym bare.numbers.at) (subst (AreRunningTotals orders deals m.incoming_deals.now 0) (sym bare.numbers.traded) (record {
+        totals = subst (λ (at : ℕ). AreRunningTotals orders deals m.incoming_deals.now at state.numbers.running.traded.items) (sym bare.numbers.added) (subst (AreRunningTotals orders deals m.incoming_deals.now 0) (sym bare.numbers.traded) (record {
           inside = omega arith;
           count = length-replicate {A = ℕ} (length orders) 0;
           sums = λ x lt. zero-in (length orders) x;
           fits = λ x lt. let z = zero-in (length orders) x in omega arith;
         }));
-        split = subst (IsSplitAt m.incoming_deals.now 0) (sym bare.numbers.at) (record { early = λ i lt below. absurd (omega arith); late = λ i le below. omega arith });
+        split = subst (IsSplitAt m.incoming_deals.now 0) (sym bare.numbers.added) (record { early = λ i lt below. absurd (omega arith); late = λ i le below. omega arith });
       };
     };
     books = empty-hold orders is.list deals state.books_so_far bare.books_so_far;
@@ -147,6 +147,6 @@ module _ (m : Market) (is : IsMarket m) where
     last-totals = record {
       count = ready.known.running.totals.count;
       each = λ x lt.
-          let t = traded-at orders is.list deals is.deal_list m.incoming_deals.now is.incoming_deals q (length orders) state.numbers.running.at state.numbers.running.traded.items ready.known.running.split ready.known.running.totals (λ k inside below. below-ready (length orders) refl k inside) (λ k inside le. absurd (omega arith)) in
+          let t = traded-at orders is.list deals is.deal_list m.incoming_deals.now is.incoming_deals q (length orders) state.numbers.running.added state.numbers.running.traded.items ready.known.running.split ready.known.running.totals (λ k inside below. below-ready (length orders) refl k inside) (λ k inside le. absurd (omega arith)) in
           t.is x lt ∙ all-traded q (below-ready (length orders) refl) x;
     }

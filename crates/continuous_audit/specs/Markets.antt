@@ -31,15 +31,15 @@ IsConserved m order = conservation_at m.orders.now m.deals.now order ≡ None
 
 -- what each order has traded in the deals of the orders before this one
 pub record HaveTraded (m : Market) (order : ℕ) (running : RunningTotals) : Type 0 where
-  pub totals : AreRunningTotals m.orders.now m.deals.now m.incoming_deals.now running.at
+  pub totals : AreRunningTotals m.orders.now m.deals.now m.incoming_deals.now running.added
       running.traded.items
-  pub split : IsSplitAt m.incoming_deals.now order running.at
+  pub split : IsSplitAt m.incoming_deals.now order running.added
 
 -- what is left of the orders of the incoming deals from an index on, as far as these are added, is
 -- their size less what they have traded, and of the others what it was
 abbrev pub IsLeftRefreshedIn : Market → ℕ → RunningTotals → List ℕ → List ℕ → List ℕ → Type 0
 IsLeftRefreshedIn m start running sizes old new =
-    IsLeftRefreshed m.deals.now m.incoming_deals.now start running.at
+    IsLeftRefreshed m.deals.now m.incoming_deals.now start running.added
     sizes running.traded.items old new
 
 -- the deal at an index of the incoming deals, and its resting order

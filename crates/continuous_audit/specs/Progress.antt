@@ -33,7 +33,7 @@ AreNumbersAfter m order numbers =
 pub record HasDealt (m : Market) (order : ℕ) (numbers : Numbers) : Type 0 where
   pub conserved : IsConserved m order
   pub split : IsSplitAt m.incoming_deals.now order numbers.start
-  pub from : numbers.start ≤ numbers.running.at
+  pub from : numbers.start ≤ numbers.running.added
   pub known : AreNumbersAfter m order numbers
   pub traded : AreTradedBefore m.orders.now m.deals.now (suc (place_at m.orders.now order))
       numbers.running.traded.items
@@ -64,7 +64,7 @@ IsReadyNext m order state = IsReadyAt m order (next_order_place m.orders.now ord
 pub record AreNumbersAtStart (count : ℕ) (numbers : Numbers) : Type 0 where
   pub order_numbers : IsBlankSheet count numbers.order_numbers
   pub traded : numbers.running.traded.items ≡ replicate count 0
-  pub at : numbers.running.at ≡ 0
+  pub added : numbers.running.added ≡ 0
 
 pub record IsFirstState (count : ℕ) (state : State) : Type 0 where
   pub numbers : AreNumbersAtStart count state.numbers

@@ -43,8 +43,8 @@ pub fn refresh_left(
     sizes: &[u64],
     left: &mut Vec<u64>,
 )
-    requires from { start ≤ running.now.at }
-    requires ends { running.now.at ≤ length market.now.incoming_deals.now }
+    requires from { start ≤ running.now.added }
+    requires ends { running.now.added ≤ length market.now.incoming_deals.now }
     requires deals { HasDeals market.now.deals.now market.now.incoming_deals.now
         (vec_len left.old) }
     requires sizes_count { length sizes.now ≡ vec_len left.old }
@@ -53,7 +53,7 @@ pub fn refresh_left(
         left.new.items }
 {
     let (deals, incoming_deals) = (market.deals, market.incoming_deals);
-    for at in start..running.at {
+    for at in start..running.added {
         let deal = &deals[incoming_deals[at].deal as usize];
         let bid_left = left_at(sizes, &running.traded, deal.bid);
         let ask_left = left_at(sizes, &running.traded, deal.ask);

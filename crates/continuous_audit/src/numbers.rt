@@ -31,7 +31,7 @@ impl Numbers {
     {
         let order_numbers = Sheet::new(alloc, count)?;
         let traded = zeros(alloc, count)?;
-        let running = RunningTotals { traded, at: 0 };
+        let running = RunningTotals { traded, added: 0 };
         Ok(Numbers {
             order_numbers,
             running,
@@ -68,7 +68,7 @@ impl Numbers {
             order,
         );
         self.order_numbers.note(order, &arrival);
-        self.start = self.running.at;
+        self.start = self.running.added;
         let entered = arrival.entered;
         if let Some(flaw) = check_deals(
             market,

@@ -74,7 +74,7 @@ fn check_priority(
         (priority_at market.now.orders.now market.now.deals.now order) }
 {
     let over = best.index;
-    for at in numbers.start..numbers.running.at {
+    for at in numbers.start..numbers.running.added {
         if outranks(market, over, at) {
             return Some(priority_flaw(market, numbers, over, at));
         }

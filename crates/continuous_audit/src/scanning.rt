@@ -15,7 +15,7 @@ use matching_core::checking::add_deal;
 pub struct RunningTotals {
     pub traded: Vec<u128>,
     /// How many of the incoming deals are added.
-    pub at: usize,
+    pub added: usize,
 }
 
 /// Adds what the deals of the order at `order` trade, up to the first that has a flaw.
@@ -32,7 +32,7 @@ pub fn check_deals(
         order entered order_numbers.now }
     requires traded { HaveTraded market.now order running.old }
     ensures traded { result ≡ None → HaveTraded market.now (suc order) running.new }
-    ensures from { result ≡ None → running.old.at ≤ running.new.at }
+    ensures from { result ≡ None → running.old.added ≤ running.new.added }
     ensures found { IsFindingOfFlaw market.now.orders.now result
         (conservation_at market.now.orders.now market.now.deals.now order) }
 {
@@ -41,8 +41,8 @@ pub fn check_deals(
         place: orders.at(order).place(),
         entered,
     };
-    while running.at < incoming_deals.len() {
-        let incoming = incoming_deals[running.at];
+    while running.added < incoming_deals.len() {
+        let incoming = incoming_deals[running.added];
         if incoming.order as usize != order {
             return None;
         }
@@ -59,7 +59,7 @@ pub fn check_deals(
             let place = deal.place;
             return Some(Flaw { place, evidence });
         }
-        running.at += 1;
+        running.added += 1;
     }
     None
 }

@@ -15,20 +15,20 @@ pub returns-then-incoming-order-clause-found : goal.returns-then-incoming-order-
 returns-then-incoming-order-clause-found c = record {
   inside = tt;
   same = all-clean c.args.market.now.orders.now c.requires.market.list c.args.market.now.deals.now c.requires.market.deal_list c.args.market.now.incoming_deals.now c.requires.market.incoming_deals c.args.order c.requires.order
-      c.args.running.now.at c.loop-running.running.at c.requires.traded.split c.loop-running.invariant.clean (λ lt. c.if-incoming-order.true) c.loop-running.invariant.from;
+      c.args.running.now.added c.loop-running.running.added c.requires.traded.split c.loop-running.invariant.clean (λ lt. c.if-incoming-order.true) c.loop-running.invariant.from;
 }
 
 pub returns-clause-found : goal.returns-clause-found
 returns-clause-found c = record {
   inside = tt;
   same = all-clean c.args.market.now.orders.now c.requires.market.list c.args.market.now.deals.now c.requires.market.deal_list c.args.market.now.incoming_deals.now c.requires.market.incoming_deals c.args.order c.requires.order
-      c.args.running.now.at c.loop-running.running.at c.requires.traded.split c.loop-running.invariant.clean (λ lt. absurd (omega arith)) c.loop-running.invariant.from;
+      c.args.running.now.added c.loop-running.running.added c.requires.traded.split c.loop-running.invariant.clean (λ lt. absurd (omega arith)) c.loop-running.invariant.from;
 }
 
 pub returns-in-Some-clause-found : goal.returns-in-Some-clause-found
 returns-in-Some-clause-found c =
     let orders = c.args.market.now.orders.now in
-    let at = c.loop-running.running.at in
+    let at = c.loop-running.running.added in
     let d = c.index-deals-incoming.result in
     let deal_record : Arrival = record { place = c.place.result; entered = c.args.entered } in
     let accounts : Accounts = record { bid = c.account.result; ask = c.account-in-loop-running.result } in
@@ -42,7 +42,7 @@ returns-in-Some-clause-found c =
     record {
       inside = subst (λ (e : Option Evidence). IfSome e (IsEvidenceInside orders)) made inside;
       same = first-finding orders c.requires.market.list c.args.market.now.deals.now c.requires.market.deal_list c.args.market.now.incoming_deals.now c.requires.market.incoming_deals c.args.order c.requires.order
-          c.args.running.now.at at c.requires.traded.split c.loop-running.invariant.clean _ c.loop-running-test.true c.if-incoming-order.false
+          c.args.running.now.added at c.requires.traded.split c.loop-running.invariant.clean _ c.loop-running-test.true c.if-incoming-order.false
           (is ∙ ap (option_map (finding_by orders c.requires.market.list c.args.market.now.deals.now c.requires.market.deal_list c.args.market.now.incoming_deals.now c.requires.market.incoming_deals c.args.order c.requires.order d)) made);
     }
 
@@ -50,7 +50,7 @@ pub loop-running-preserved : goal.loop-running-preserved
 loop-running-preserved c =
     let orders = c.args.market.now.orders.now in
     let deals = c.args.market.now.deals.now in
-    let at = c.loop-running.running.at in
+    let at = c.loop-running.running.added in
     let d = c.index-deals-incoming.result in
     let deal_record : Arrival = record { place = c.place.result; entered = c.args.entered } in
     let accounts : Accounts = record { bid = c.account.result; ask = c.account-in-loop-running.result } in
