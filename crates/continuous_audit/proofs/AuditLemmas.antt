@@ -16,13 +16,13 @@ use Rattle.audit_base.proofs.SumLemmas.{sum_by-same}
 use Rattle.audit_base.proofs.ContinuousOffenceLemmas.{late-conforms}
 use Rattle.order_book.specs.declared.books.Resting.{Resting}
 use Rattle.continuous_audit.specs.declared.books.BooksSoFar.{BooksSoFar}
-use Rattle.continuous_audit.specs.declared.causes.Cause.{Cause}
+use Rattle.continuous_audit.specs.declared.incoming_deals.Cause.{Cause}
 use Rattle.continuous_audit.specs.declared.endings.Ending.{Ending}
 use Rattle.continuous_audit.specs.declared.market.Market.{Market}
 use Rattle.continuous_audit.specs.declared.state.State.{State}
 use Rattle.continuous_audit.specs.Markets.{IsMarket}
 use Rattle.continuous_audit.specs.Books.{AreEmptyBooks, AreBooksBefore, next_order_place}
-use Rattle.continuous_audit.specs.Causes.{AreCauses}
+use Rattle.continuous_audit.specs.IncomingDeals.{AreCauses}
 use Rattle.continuous_audit.specs.Chains.{HaveChainsEnded}
 use Rattle.continuous_audit.specs.Endings.{AreEndings}
 use Rattle.continuous_audit.specs.Holding.{IsListOfAmounts, resting_left_before}
@@ -54,16 +54,16 @@ module _ (orders : List Order) (list : IsOrderList orders) (deals : List Deal) w
     ranked = λ i j d lt below. absurd (omega arith);
   })
 
-  pub empty-hold : (standing : BooksSoFar) → AreEmptyBooks standing → AreBooksBefore orders deals (place_at orders 0) standing.books
-  empty-hold standing bare = record { bid_side = bare.bid_side; ask_side = bare.ask_side; bids = nothing-held Buy standing.books.bids.resting bare.bids; asks = nothing-held Sell standing.books.asks.resting bare.asks }
+  pub empty-hold : (books_so_far : BooksSoFar) → AreEmptyBooks books_so_far → AreBooksBefore orders deals (place_at orders 0) books_so_far.books
+  empty-hold books_so_far bare = record { bid_side = bare.bid_side; ask_side = bare.ask_side; bids = nothing-held Buy books_so_far.books.bids.resting bare.bids; asks = nothing-held Sell books_so_far.books.asks.resting bare.asks }
 
 -- a market, of the lists that the code has made
-pub market-read : (m : Market) (causes : List Cause) (endings : List Ending) → IsOrderList m.orders.now → IsDealList m.orders.now m.deals.now → m.causes.now ≡ causes → m.endings.now ≡ endings
-    → AreCauses m.orders.now m.deals.now causes → AreEndings m.orders.now endings → IsMarket m
-market-read m causes endings list deal_list causes_are endings_are made ends = record {
+pub market-read : (m : Market) (incoming_deals : List Cause) (endings : List Ending) → IsOrderList m.orders.now → IsDealList m.orders.now m.deals.now → m.incoming_deals.now ≡ incoming_deals → m.endings.now ≡ endings
+    → AreCauses m.orders.now m.deals.now incoming_deals → AreEndings m.orders.now endings → IsMarket m
+market-read m incoming_deals endings list deal_list incoming_deals_are endings_are made ends = record {
   list = list;
   deal_list = deal_list;
-  causes = subst (AreCauses m.orders.now m.deals.now) (sym causes_are) made;
+  incoming_deals = subst (AreCauses m.orders.now m.deals.now) (sym incoming_deals_are) made;
   endings = subst (AreEndings m.orders.now) (sym endings_are) ends;
 }
 
@@ -78,27 +78,27 @@ module _ (m : Market) (is : IsMarket m) where
   ready-first state bare = record {
     calm = calm-first orders deals (place_at orders 0) is.deal_list.named (first-place orders is.list deals);
     known = record {
-      before = subst (AreBeforeNumbers orders deals 0) (sym bare.numbers.sheet.before) (record {
+      chain_traded = subst (AreBeforeNumbers orders deals 0) (sym bare.numbers.order_numbers.chain_traded) (record {
         count = length-replicate {A = ℕ} (length orders) 0;
         is = λ x lt. absurd (omega arith);
         fits = λ x. let z = zero-in (length orders) x in omega arith;
         bounded = λ x. let z = zero-in (length orders) x in omega arith;
       });
-      closed = subst (HaveChainsEnded orders 0) (sym bare.numbers.sheet.closed) (record { count = length-replicate {A = Bool} (length orders) false; is = λ x lt. absurd (omega arith) });
-      sizes = subst (AreSizes orders deals 0) (sym bare.numbers.sheet.sizes) (record { count = length-replicate {A = ℕ} (length orders) 0; is = λ x lt. absurd (omega arith) });
-      left = subst (AreLeftBefore orders deals 0 (place_at orders 0)) (sym bare.numbers.sheet.left) (record { count = length-replicate {A = ℕ} (length orders) 0; is = λ x lt. absurd (omega arith) });
+      chain_ended = subst (HaveChainsEnded orders 0) (sym bare.numbers.order_numbers.chain_ended) (record { count = length-replicate {A = Bool} (length orders) false; is = λ x lt. absurd (omega arith) });
+      sizes = subst (AreSizes orders deals 0) (sym bare.numbers.order_numbers.sizes) (record { count = length-replicate {A = ℕ} (length orders) 0; is = λ x lt. absurd (omega arith) });
+      left = subst (AreLeftBefore orders deals 0 (place_at orders 0)) (sym bare.numbers.order_numbers.left) (record { count = length-replicate {A = ℕ} (length orders) 0; is = λ x lt. absurd (omega arith) });
       running = record {
-        totals = subst (λ (at : ℕ). AreRunningTotals orders deals m.causes.now at state.numbers.running.traded.items) (sym bare.numbers.at) (subst (AreRunningTotals orders deals m.causes.now 0) (sym bare.numbers.traded) (record {
+        totals = subst (λ (at : ℕ). AreRunningTotals orders deals m.incoming_deals.now at state.numbers.running.traded.items) (sym bare.numbers.added) (subst (AreRunningTotals orders deals m.incoming_deals.now 0) (sym bare.numbers.traded) (record {
           inside = omega arith;
           count = length-replicate {A = ℕ} (length orders) 0;
           sums = λ x lt. zero-in (length orders) x;
           fits = λ x lt. let z = zero-in (length orders) x in omega arith;
         }));
-        split = subst (IsSplitAt m.causes.now 0) (sym bare.numbers.at) (record { early = λ i lt below. absurd (omega arith); late = λ i le below. omega arith });
+        split = subst (IsSplitAt m.incoming_deals.now 0) (sym bare.numbers.added) (record { early = λ i lt below. absurd (omega arith); late = λ i le below. omega arith });
       };
     };
-    books = empty-hold orders is.list deals state.standing bare.standing;
-    dropped = record { inside = let e = bare.standing.start in omega arith; early = λ i lt below. let e = bare.standing.start in absurd (omega arith) };
+    books = empty-hold orders is.list deals state.books_so_far bare.books_so_far;
+    dropped = record { inside = let e = bare.books_so_far.start in omega arith; early = λ i lt below. let e = bare.books_so_far.start in absurd (omega arith) };
   }
 
   -- all places are below that which follows the last order
@@ -147,6 +147,6 @@ module _ (m : Market) (is : IsMarket m) where
     last-totals = record {
       count = ready.known.running.totals.count;
       each = λ x lt.
-          let t = traded-at orders is.list deals is.deal_list m.causes.now is.causes q (length orders) state.numbers.running.at state.numbers.running.traded.items ready.known.running.split ready.known.running.totals (λ k inside below. below-ready (length orders) refl k inside) (λ k inside le. absurd (omega arith)) in
+          let t = traded-at orders is.list deals is.deal_list m.incoming_deals.now is.incoming_deals q (length orders) state.numbers.running.added state.numbers.running.traded.items ready.known.running.split ready.known.running.totals (λ k inside below. below-ready (length orders) refl k inside) (λ k inside le. absurd (omega arith)) in
           t.is x lt ∙ all-traded q (below-ready (length orders) refl) x;
     }

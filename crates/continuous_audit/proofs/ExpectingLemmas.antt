@@ -28,9 +28,9 @@ pub matched-first : (orders : List Order) → IsOrderList orders → (t : Trades
     → IsMatchedUnder orders deals 0 (place_at orders 0) (resting_left_before orders (traded_before orders deals) (place_at orders 0)) t
 matched-first orders list t bare deals = record {
   traded_is = λ x lt. ap (λ (xs : List ℕ). number_in xs x) bare.traded ∙ zero-in (length orders) x ∙ sym (traded-none orders deals (place_at orders 0) x (first-place orders list deals x lt));
-  before_is = λ x lt. absurd (omega arith);
+  chain_traded_is = λ x lt. absurd (omega arith);
   left_is = λ x lt. absurd (omega arith);
-  books = empty-hold orders list deals t.standing bare.standing;
+  books = empty-hold orders list deals t.books_so_far bare.books_so_far;
   pairs = subst (AreSharedPairs orders deals 0) (sym bare.pairs) (record {
     each = λ k d lt. absurd (omega arith);
     complete = λ bid ask b a some. absurd (omega arith);

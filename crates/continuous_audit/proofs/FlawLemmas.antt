@@ -49,15 +49,15 @@ module _ (m : Market) (n : ℕ) (n_inside : n < length m.orders.now) (numbers : 
   pub shown-there : (x : ℕ) → x ≤ n → HasShownNumber numbers x
   shown-there x le =
       let traded = dealt.traded.small in
-      let before = dealt.known.before in
+      let chain_traded = dealt.known.chain_traded in
       record {
         traded_inside = let c = traded.count in omega arith;
-        before_inside = let c = before.count in omega arith;
-        fits = let t = traded.most x (omega arith) in let b = before.fits x in omega arith;
+        chain_traded_inside = let c = chain_traded.count in omega arith;
+        fits = let t = traded.most x (omega arith) in let b = chain_traded.fits x in omega arith;
       }
 
   shown-is : (x : ℕ) → x ≤ n → shown_number numbers x ≡ after x
-  shown-is x le = λ i. dealt.traded.is x (omega arith) i + dealt.known.before.is x (omega arith) i
+  shown-is x le = λ i. dealt.traded.is x (omega arith) i + dealt.known.chain_traded.is x (omega arith) i
 
   -- so a flaw that is made of them is that of the definition
   pub priority-after : (d : Deal) (over : ℕ) → over ≤ n → resting_order m.orders.now d ≤ n → priority_flaw m.orders.now (shown_number numbers) d over ≡ priority_flaw m.orders.now after d over

@@ -64,18 +64,18 @@ module _ (orders : List Order) (list : IsOrderList orders) where
   unfolding chain
   chain-ahead x inside = chain-ahead-within (suc x) x (order_at orders x).target inside (λ t e. list.targets x t inside e)
 
-  -- a chain is closed where it is empty, or the target is ended and the target's chain is closed
-  pub closed-none : (x : ℕ) → (order_at orders x).target ≡ None → HasChainEnded orders x
-  closed-none x e = subst (All (λ u. ends_by (order_at orders u).cancelled (place_at orders x) ≡ true)) (sym (chain-none orders list x e)) (All-nil (λ u. ends_by (order_at orders u).cancelled (place_at orders x) ≡ true))
+  -- a chain is ended where it is empty, or the target is ended and the target's chain is ended
+  pub chain_ended-none : (x : ℕ) → (order_at orders x).target ≡ None → HasChainEnded orders x
+  chain_ended-none x e = subst (All (λ u. ends_by (order_at orders u).cancelled (place_at orders x) ≡ true)) (sym (chain-none orders list x e)) (All-nil (λ u. ends_by (order_at orders u).cancelled (place_at orders x) ≡ true))
 
-  pub closed-some : (x t : ℕ) → x < length orders → (order_at orders x).target ≡ Some t → ends_by (order_at orders t).cancelled (place_at orders x) ≡ true → HasChainEnded orders t → HasChainEnded orders x
-  closed-some x t inside e ended closed =
+  pub chain_ended-some : (x t : ℕ) → x < length orders → (order_at orders x).target ≡ Some t → ends_by (order_at orders t).cancelled (place_at orders x) ≡ true → HasChainEnded orders t → HasChainEnded orders x
+  chain_ended-some x t inside e ended chain_ended =
       let lower = target-below orders list x inside t e in
       let up = place-rises orders list t x lower inside in
       subst (All (λ u. ends_by (order_at orders u).cancelled (place_at orders x) ≡ true)) (sym (chain-some orders list x t inside e))
       (All-cons (λ u. ends_by (order_at orders u).cancelled (place_at orders x) ≡ true) t (chain orders t) ended
       (All-weaker (λ u. ends_by (order_at orders u).cancelled (place_at orders t) ≡ true) (λ u. ends_by (order_at orders u).cancelled (place_at orders x) ≡ true)
-      (λ u is. ended-later (order_at orders u).cancelled (place_at orders t) (place_at orders x) (omega arith) is) (chain orders t) closed))
+      (λ u is. ended-later (order_at orders u).cancelled (place_at orders t) (place_at orders x) (omega arith) is) (chain orders t) chain_ended))
 
   module _ (deals : List Deal) (named : All (NamesOrders orders) deals) where
     abbrev past : ℕ → ℕ → ℕ
@@ -133,15 +133,15 @@ module _ (orders : List Order) (list : IsOrderList orders) where
         ] in
         ap (λ (b : Bool). cond b d.quantity 0) same)
 
-    -- Before, where the chain of the target is closed
+    -- Before, where the chain of the target is ended
     pub before-kept : (n t : ℕ) → n < length orders → (order_at orders n).target ≡ Some t → HasChainEnded orders t → ((i : ℕ) → i < place_at orders n → ConformsAt orders deals i)
         → chain_traded_quantity orders deals n ≡ past (place_at orders n) t + chain_traded_quantity orders deals t
-    before-kept n t inside e closed conforms =
+    before-kept n t inside e chain_ended conforms =
         let lower = target-below orders list n inside t e in
         let up = place-rises orders list t n lower inside in
         let t_in : t < length orders = omega arith in
         before-some orders list past n t inside e ∙ ap (λ (b : ℕ). past (place_at orders n) t + b) (sum_by-same (past (place_at orders n)) (past (place_at orders t)) (chain orders t) (λ k d lt.
-        trades-no-more (place_at orders n) t (get_or (chain orders t) k d) t_in (omega arith) (chain-ahead t t_in k d lt) (closed k d lt) conforms) ∙ sym (before-is orders list past t))
+        trades-no-more (place_at orders n) t (get_or (chain orders t) k d) t_in (omega arith) (chain-ahead t t_in k d lt) (chain_ended k d lt) conforms) ∙ sym (before-is orders list past t))
 
     -- Before, by going along the chain
     pub before-walked : (n : ℕ) (traded : List ℕ) → n < length orders → ((x : ℕ) → x < length orders → number_in traded x ≡ past (place_at orders n) x) → sum_by (number_in traded) (chain orders n) ≡ chain_traded_quantity orders deals n

@@ -1,6 +1,6 @@
 pub mod AuditLemmas
 pub mod BooksLemmas
-pub mod CauseLemmas
+pub mod IncomingLemmas
 pub mod ChainLemmas
 pub mod DealingLemmas
 pub mod FilledLemmas

@@ -11,16 +11,16 @@ use Rattle.audit_base.specs.Deals.{IsDealList}
 use Rattle.audit_base.specs.Continuous.{traded_before, chain_traded_quantity, size_of_order, left_after}
 use Rattle.audit_base.proofs.OrderLemmas.{place-rises}
 use Rattle.audit_base.proofs.OffenceLemmas.{get_or-default}
-use Rattle.continuous_audit.specs.declared.causes.Cause.{Cause}
+use Rattle.continuous_audit.specs.declared.incoming_deals.Cause.{Cause}
 use Rattle.continuous_audit.specs.declared.market.Market.{Market}
 use Rattle.continuous_audit.specs.declared.numbers.Numbers.{Numbers}
-use Rattle.continuous_audit.specs.declared.sheet.Sheet.{Sheet}
+use Rattle.continuous_audit.specs.declared.order_numbers.Sheet.{Sheet}
 use Rattle.continuous_audit.specs.Progress.{AreNumbers}
-use Rattle.continuous_audit.specs.Causes.{AreCauses, cause_of, causes_upto, running_total}
+use Rattle.continuous_audit.specs.IncomingDeals.{AreCauses, cause_of, causes_upto, running_total}
 use Rattle.continuous_audit.specs.Chains.{HaveChainsEnded, HasChainEnded, IsOpenSheet, IsKnownBeforeOpening, flag_in}
 use Rattle.continuous_audit.specs.Records.{AreBeforeNumbers, AreLeftBefore, AreSizes, AreTradedBefore, ConformsBelow}
 use Rattle.continuous_audit.specs.Scans.{AreTotalsSmall, AreRunningTotals, IsLeftRefreshed, IsSplitAt, cause_past_end, number_in, cause_order_at}
-use Rattle.continuous_audit.proofs.CauseLemmas.{cause-inside, running-before}
+use Rattle.continuous_audit.proofs.IncomingLemmas.{cause-inside, running-before}
 use Rattle.continuous_audit.proofs.RefreshLemmas.{refreshed-after}
 
 ones : (xs : List Cause) → sum_by (λ (c : Cause). 1) xs ≡ length xs
@@ -33,29 +33,29 @@ ones-upto orders deals (suc n) = omega (arith, ones-upto orders deals n, ones (c
 
 -- one number more
 module _ (orders : List Order) (deals : List Deal) (n : ℕ) (n_inside : n < length orders) where
-  pub before-more : (before ys : List ℕ) (b : ℕ) → AreBeforeNumbers orders deals n before → b ≡ chain_traded_quantity orders deals n → b ≤ n * 2 ^ 72 → length orders < 2 ^ 32 → ys ≡ slice_set before n b → AreBeforeNumbers orders deals (suc n) ys
-  before-more before ys b old is most few made = subst (AreBeforeNumbers orders deals (suc n)) (sym made) (record {
-    count = length-set {A = ℕ} before n b ∙ old.count;
+  pub before-more : (chain_traded ys : List ℕ) (b : ℕ) → AreBeforeNumbers orders deals n chain_traded → b ≡ chain_traded_quantity orders deals n → b ≤ n * 2 ^ 72 → length orders < 2 ^ 32 → ys ≡ slice_set chain_traded n b → AreBeforeNumbers orders deals (suc n) ys
+  before-more chain_traded ys b old is most few made = subst (AreBeforeNumbers orders deals (suc n)) (sym made) (record {
+    count = length-set {A = ℕ} chain_traded n b ∙ old.count;
     is = λ x lt. elim (cases_eq x n) [
-      | inl e ↦ subst (λ (y : ℕ). number_in (slice_set before n b) y ≡ chain_traded_quantity orders deals y) (sym e) (get_or-set_same {A = ℕ} before n b 0 (omega (arith, old.count)) ∙ is)
-      | inr ne ↦ get_or-set_other {A = ℕ} before n x b 0 ne ∙ old.is x (omega (arith, ne))
+      | inl e ↦ subst (λ (y : ℕ). number_in (slice_set chain_traded n b) y ≡ chain_traded_quantity orders deals y) (sym e) (get_or-set_same {A = ℕ} chain_traded n b 0 (omega (arith, old.count)) ∙ is)
+      | inr ne ↦ get_or-set_other {A = ℕ} chain_traded n x b 0 ne ∙ old.is x (omega (arith, ne))
     ];
     fits = λ x. elim (cases_eq x n) [
-      | inl e ↦ subst (λ (y : ℕ). number_in (slice_set before n b) y ≤ 2 ^ 126) (sym e) (let g = get_or-set_same {A = ℕ} before n b 0 (omega (arith, old.count)) in omega arith)
-      | inr ne ↦ let g = get_or-set_other {A = ℕ} before n x b 0 ne in let f = old.fits x in omega arith
+      | inl e ↦ subst (λ (y : ℕ). number_in (slice_set chain_traded n b) y ≤ 2 ^ 126) (sym e) (let g = get_or-set_same {A = ℕ} chain_traded n b 0 (omega (arith, old.count)) in omega arith)
+      | inr ne ↦ let g = get_or-set_other {A = ℕ} chain_traded n x b 0 ne in let f = old.fits x in omega arith
     ];
     bounded = λ x. elim (cases_eq x n) [
-      | inl e ↦ subst (λ (y : ℕ). number_in (slice_set before n b) y ≤ y * 2 ^ 72) (sym e) (let g = get_or-set_same {A = ℕ} before n b 0 (omega (arith, old.count)) in omega arith)
-      | inr ne ↦ let g = get_or-set_other {A = ℕ} before n x b 0 ne in let f = old.bounded x in omega arith
+      | inl e ↦ subst (λ (y : ℕ). number_in (slice_set chain_traded n b) y ≤ y * 2 ^ 72) (sym e) (let g = get_or-set_same {A = ℕ} chain_traded n b 0 (omega (arith, old.count)) in omega arith)
+      | inr ne ↦ let g = get_or-set_other {A = ℕ} chain_traded n x b 0 ne in let f = old.bounded x in omega arith
     ];
   })
 
-  pub closed-more : (closed ys : List Bool) (b : Bool) → HaveChainsEnded orders n closed → (b ≡ true → HasChainEnded orders n) → ys ≡ slice_set closed n b → HaveChainsEnded orders (suc n) ys
-  closed-more closed ys b old is made = subst (HaveChainsEnded orders (suc n)) (sym made) (record {
-    count = length-set {A = Bool} closed n b ∙ old.count;
+  pub chain_ended-more : (chain_ended ys : List Bool) (b : Bool) → HaveChainsEnded orders n chain_ended → (b ≡ true → HasChainEnded orders n) → ys ≡ slice_set chain_ended n b → HaveChainsEnded orders (suc n) ys
+  chain_ended-more chain_ended ys b old is made = subst (HaveChainsEnded orders (suc n)) (sym made) (record {
+    count = length-set {A = Bool} chain_ended n b ∙ old.count;
     is = λ x lt t. elim (cases_eq x n) [
-      | inl e ↦ subst (HasChainEnded orders) (sym e) (is (sym (ap (flag_in (slice_set closed n b)) e ∙ get_or-set_same {A = Bool} closed n b false (omega (arith, old.count))) ∙ t))
-      | inr ne ↦ old.is x (omega (arith, ne)) (sym (get_or-set_other {A = Bool} closed n x b false ne) ∙ t)
+      | inl e ↦ subst (HasChainEnded orders) (sym e) (is (sym (ap (flag_in (slice_set chain_ended n b)) e ∙ get_or-set_same {A = Bool} chain_ended n b false (omega (arith, old.count))) ∙ t))
+      | inr ne ↦ old.is x (omega (arith, ne)) (sym (get_or-set_other {A = Bool} chain_ended n x b false ne) ∙ t)
     ];
   })
 
@@ -68,27 +68,27 @@ module _ (orders : List Order) (deals : List Deal) (n : ℕ) (n_inside : n < len
     ];
   })
 
-module _ (orders : List Order) (list : IsOrderList orders) (deals : List Deal) (deal_list : IsDealList orders deals) (causes : List Cause) (are : AreCauses orders deals causes) where
-  few-causes : length causes ≤ length deals
-  few-causes = omega (arith, are.sums (λ c. 1), ones causes, ones-upto orders deals (length deals))
+module _ (orders : List Order) (list : IsOrderList orders) (deals : List Deal) (deal_list : IsDealList orders deals) (incoming_deals : List Cause) (are : AreCauses orders deals incoming_deals) where
+  few-incoming_deals : length incoming_deals ≤ length deals
+  few-incoming_deals = omega (arith, are.sums (λ c. 1), ones incoming_deals, ones-upto orders deals (length deals))
 
-  pub running-small : (at : ℕ) (traded : List ℕ) → AreRunningTotals orders deals causes at traded → AreTotalsSmall orders traded
+  pub running-small : (at : ℕ) (traded : List ℕ) → AreRunningTotals orders deals incoming_deals at traded → AreTotalsSmall orders traded
   running-small at traded run = record {
     count = run.count;
     most = λ x lt.
         let f = run.fits x lt in
         let i = run.inside in
         let few = deal_list.few in
-        omega (arith, few-causes);
+        omega (arith, few-incoming_deals);
   }
 
-  -- the first causes, those of the orders below m, where these are the orders of places below q
-  running-at : (q m at : ℕ) → IsSplitAt causes m at → ((k : ℕ) → k < length orders → k < m → place_at orders k < q) → ((k : ℕ) → k < length orders → m ≤ k → q ≤ place_at orders k) → (x : ℕ) → running_total deals causes at x ≡ traded_before orders deals q x
-  running-at q m at split low high x = running-before orders list deals deal_list.named causes are q at x
-      (λ i d lt below. subst (λ (c : Cause). place_at orders c.order < q) (sym (get_or-default causes i d cause_past_end below)) (low (cause_order_at causes i) (cause-inside orders list deals deal_list.named causes are i cause_past_end below) (split.early i lt below)))
-      (λ i d le below. subst (λ (c : Cause). q ≤ place_at orders c.order) (sym (get_or-default causes i d cause_past_end below)) (high (cause_order_at causes i) (cause-inside orders list deals deal_list.named causes are i cause_past_end below) (split.late i le below)))
+  -- the first incoming deals, those of the orders below m, where these are the orders of places below q
+  running-at : (q m at : ℕ) → IsSplitAt incoming_deals m at → ((k : ℕ) → k < length orders → k < m → place_at orders k < q) → ((k : ℕ) → k < length orders → m ≤ k → q ≤ place_at orders k) → (x : ℕ) → running_total deals incoming_deals at x ≡ traded_before orders deals q x
+  running-at q m at split low high x = running-before orders list deals deal_list.named incoming_deals are q at x
+      (λ i d lt below. subst (λ (c : Cause). place_at orders c.order < q) (sym (get_or-default incoming_deals i d cause_past_end below)) (low (cause_order_at incoming_deals i) (cause-inside orders list deals deal_list.named incoming_deals are i cause_past_end below) (split.early i lt below)))
+      (λ i d le below. subst (λ (c : Cause). q ≤ place_at orders c.order) (sym (get_or-default incoming_deals i d cause_past_end below)) (high (cause_order_at incoming_deals i) (cause-inside orders list deals deal_list.named incoming_deals are i cause_past_end below) (split.late i le below)))
 
-  pub traded-at : (q m at : ℕ) (traded : List ℕ) → IsSplitAt causes m at → AreRunningTotals orders deals causes at traded → ((k : ℕ) → k < length orders → k < m → place_at orders k < q) → ((k : ℕ) → k < length orders → m ≤ k → q ≤ place_at orders k) → AreTradedBefore orders deals q traded
+  pub traded-at : (q m at : ℕ) (traded : List ℕ) → IsSplitAt incoming_deals m at → AreRunningTotals orders deals incoming_deals at traded → ((k : ℕ) → k < length orders → k < m → place_at orders k < q) → ((k : ℕ) → k < length orders → m ≤ k → q ≤ place_at orders k) → AreTradedBefore orders deals q traded
   traded-at q m at traded split run low high = record {
     small = running-small at traded run;
     is = λ x lt. run.sums x lt ∙ running-at q m at split low high x;
@@ -98,13 +98,13 @@ module _ (orders : List Order) (list : IsOrderList orders) (deals : List Deal) (
     abbrev p : ℕ
     p = place_at orders n
 
-    pub traded-then : (at : ℕ) (traded : List ℕ) → IsSplitAt causes n at → AreRunningTotals orders deals causes at traded → AreTradedBefore orders deals p traded
+    pub traded-then : (at : ℕ) (traded : List ℕ) → IsSplitAt incoming_deals n at → AreRunningTotals orders deals incoming_deals at traded → AreTradedBefore orders deals p traded
     traded-then at traded split run = traded-at p n at traded split run (λ k inside lt. place-rises orders list k n lt n_inside) (λ k inside le. elim (cases_eq k n) [
       | inl e ↦ let same : place_at orders k ≡ p = ap (place_at orders) e in omega arith
       | inr ne ↦ let up = place-rises orders list n k (omega (arith, ne)) inside in omega arith
     ])
 
-    pub traded-now : (at : ℕ) (traded : List ℕ) → IsSplitAt causes (suc n) at → AreRunningTotals orders deals causes at traded → AreTradedBefore orders deals (suc p) traded
+    pub traded-now : (at : ℕ) (traded : List ℕ) → IsSplitAt incoming_deals (suc n) at → AreRunningTotals orders deals incoming_deals at traded → AreTradedBefore orders deals (suc p) traded
     traded-now at traded split run = traded-at (suc p) (suc n) at traded split run
         (λ k inside lt. elim (cases_eq k n) [
           | inl e ↦ let same : place_at orders k ≡ p = ap (place_at orders) e in omega arith
@@ -112,19 +112,19 @@ module _ (orders : List Order) (list : IsOrderList orders) (deals : List Deal) (
         ])
         (λ k inside le. let up = place-rises orders list n k (omega arith) inside in omega arith)
 
-    pub opening : (at : ℕ) (traded traded' : List ℕ) (sheet : Sheet) → traded' ≡ traded → ConformsBelow orders deals p → AreBeforeNumbers orders deals n sheet.before.items → AreLeftBefore orders deals n p sheet.left.items → IsSplitAt causes n at → AreRunningTotals orders deals causes at traded → IsKnownBeforeOpening orders deals n traded' sheet
-    opening at traded traded' sheet same conforms b l split run =
+    pub arrival : (at : ℕ) (traded traded' : List ℕ) (order_numbers : Sheet) → traded' ≡ traded → ConformsBelow orders deals p → AreBeforeNumbers orders deals n order_numbers.chain_traded.items → AreLeftBefore orders deals n p order_numbers.left.items → IsSplitAt incoming_deals n at → AreRunningTotals orders deals incoming_deals at traded → IsKnownBeforeOpening orders deals n traded' order_numbers
+    arrival at traded traded' order_numbers same conforms b l split run =
         let t = traded-then at traded split run in
         record {
           conforms = conforms;
           named = deal_list.named;
           traded_is = λ x lt. ap (λ (xs : List ℕ). number_in xs x) same ∙ t.is x lt;
-          before_is = b.is;
+          chain_traded_is = b.is;
           left_is = l.is;
         }
 
-    pub left-after_deals : (start at : ℕ) (sizes traded old new ys : List ℕ) (m : ℕ) → IsSplitAt causes n start → IsSplitAt causes (suc n) at → AreRunningTotals orders deals causes at traded → AreSizes orders deals (suc n) sizes → AreLeftBefore orders deals n p old
-        → IsLeftRefreshed deals causes start at sizes traded old new → m ≡ number_in sizes n - number_in traded n → ys ≡ slice_set new n m → AreLeftBefore orders deals (suc n) (suc p) ys
+    pub left-after_deals : (start at : ℕ) (sizes traded old new ys : List ℕ) (m : ℕ) → IsSplitAt incoming_deals n start → IsSplitAt incoming_deals (suc n) at → AreRunningTotals orders deals incoming_deals at traded → AreSizes orders deals (suc n) sizes → AreLeftBefore orders deals n p old
+        → IsLeftRefreshed deals incoming_deals start at sizes traded old new → m ≡ number_in sizes n - number_in traded n → ys ≡ slice_set new n m → AreLeftBefore orders deals (suc n) (suc p) ys
     left-after_deals start at sizes traded old new ys m split later run z l refreshed m_is made =
         let t = traded-now at traded later run in
         let long : length new ≡ length orders = refreshed.count ∙ l.count in
@@ -132,16 +132,16 @@ module _ (orders : List Order) (list : IsOrderList orders) (deals : List Deal) (
           count = length-set {A = ℕ} new n m ∙ long;
           is = λ x lt. elim (cases_eq x n) [
             | inl e ↦ subst (λ (y : ℕ). number_in (slice_set new n m) y ≡ left_after orders deals p y) (sym e) (get_or-set_same {A = ℕ} new n m 0 (omega (arith, long)) ∙ m_is ∙ (λ i. z.is n (omega arith) i - t.is n n_inside i))
-            | inr ne ↦ get_or-set_other {A = ℕ} new n x m 0 ne ∙ refreshed-after orders list deals deal_list causes are n n_inside start at run.inside split later sizes traded old new refreshed (λ y lt. z.is y (omega arith)) t.is l.is x (omega (arith, ne))
+            | inr ne ↦ get_or-set_other {A = ℕ} new n x m 0 ne ∙ refreshed-after orders list deals deal_list incoming_deals are n n_inside start at run.inside split later sizes traded old new refreshed (λ y lt. z.is y (omega arith)) t.is l.is x (omega (arith, ne))
           ];
         })
 
 -- whatever the deals are, of these numbers
-pub open-sheet : (m : Market) (n q : ℕ) (numbers : Numbers) → AreNumbers m n q numbers → IsOpenSheet m.orders.now n numbers.sheet
-open-sheet m n q numbers known = record {
-  before_count = known.before.count;
+pub numbers-bounded : (m : Market) (n q : ℕ) (numbers : Numbers) → AreNumbers m n q numbers → IsOpenSheet m.orders.now n numbers.order_numbers
+numbers-bounded m n q numbers known = record {
+  chain_traded_count = known.chain_traded.count;
   sizes_count = known.sizes.count;
   left_count = known.left.count;
-  closed = known.closed;
-  bounded = known.before.bounded;
+  chain_ended = known.chain_ended;
+  bounded = known.chain_traded.bounded;
 }

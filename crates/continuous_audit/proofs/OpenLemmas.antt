@@ -8,11 +8,11 @@ use Rattle.audit_base.specs.Continuous.{rests_before_in_ledger, traded_before, c
 use Rattle.audit_base.proofs.OrderLemmas.{place-rises}
 use Rattle.audit_base.proofs.LeastLemmas.{cases_Option}
 use Rattle.audit_base.proofs.ContinuousLemmas.{target-below, entered-none, entered-some, size-is}
-use Rattle.continuous_audit.specs.declared.opening.Opening.{Opening}
-use Rattle.continuous_audit.specs.declared.sheet.Sheet.{Sheet}
+use Rattle.continuous_audit.specs.declared.arrival.Opening.{Opening}
+use Rattle.continuous_audit.specs.declared.order_numbers.Sheet.{Sheet}
 use Rattle.continuous_audit.specs.DealFindings as by_deal
 use Rattle.continuous_audit.specs.Chains.{IsKnownBeforeOpening}
-use Rattle.continuous_audit.specs.Sheets.{IsOpeningOfOrder}
+use Rattle.continuous_audit.specs.OrderNumbers.{IsOpeningOfOrder}
 use Rattle.continuous_audit.specs.Scans.{number_in}
 use Rattle.continuous_audit.proofs.ScanLemmas.{waits-is}
 
@@ -20,32 +20,32 @@ and-true : (b c : Bool) → c ≡ true → (b && c) ≡ b
 and-true true c e = e
 and-true false c e = refl
 
-module _ (orders : List Order) (list : IsOrderList orders) (deals : List Deal) (n : ℕ) (n_inside : n < length orders) (traded : List ℕ) (sheet : Sheet) (is : IsKnownBeforeOpening orders deals n traded sheet) where
+module _ (orders : List Order) (list : IsOrderList orders) (deals : List Deal) (n : ℕ) (n_inside : n < length orders) (traded : List ℕ) (order_numbers : Sheet) (is : IsKnownBeforeOpening orders deals n traded order_numbers) where
   abbrev past : ℕ → ℕ → ℕ
   past = traded_before orders deals
 
-  pub entered-opened : (r : Bool) → ((order_at orders n).target ≡ None → r ≡ true) → ((t : ℕ) → (order_at orders n).target ≡ Some t → r ≡ by_deal.waits_in orders sheet.left.items (place_at orders n) t)
+  pub entered-arrived : (r : Bool) → ((order_at orders n).target ≡ None → r ≡ true) → ((t : ℕ) → (order_at orders n).target ≡ Some t → r ≡ by_deal.waits_in orders order_numbers.left.items (place_at orders n) t)
       → by_deal.enters (order_at orders n) r ≡ has_entered orders deals n
-  entered-opened r none some = elim (cases_Option (order_at orders n).target) [
+  entered-arrived r none some = elim (cases_Option (order_at orders n).target) [
     | inl e ↦ and-true (not (is_cancelled_at_place (order_at orders n).cancelled (place_at orders n))) r (none e) ∙ sym (entered-none orders list past n e)
     | inr found ↦
         let t = found.0 in
         let e : (order_at orders n).target ≡ Some t = found.1 in
         let lower = target-below orders list n n_inside t e in
-        let waits : by_deal.waits_in orders sheet.left.items (place_at orders n) t ≡ rests_before_in_ledger orders past (place_at orders n) t = waits-is orders past (place_at orders n) t (number_in sheet.left.items t) (place-rises orders list t n lower n_inside) (is.left_is t lower) in
+        let waits : by_deal.waits_in orders order_numbers.left.items (place_at orders n) t ≡ rests_before_in_ledger orders past (place_at orders n) t = waits-is orders past (place_at orders n) t (number_in order_numbers.left.items t) (place-rises orders list t n lower n_inside) (is.left_is t lower) in
         ap (λ (b : Bool). not (is_cancelled_at_place (order_at orders n).cancelled (place_at orders n)) && b) (some t e ∙ waits) ∙ sym (entered-some orders list past n t n_inside e)
   ]
 
   -- the same, in the words of the code: the order that it reads
-  pub opened : (o : Order) → o ≡ order_at orders n → (r : Bool) → (o.target ≡ None → r ≡ true) → ((t : ℕ) → o.target ≡ Some t → r ≡ by_deal.waits_in orders sheet.left.items o.place t)
-      → (opening : Opening) → opening.entered ≡ by_deal.enters o r → opening.before ≡ chain_traded_quantity orders deals n → opening.size ≡ by_deal.size_left opening.entered o.quantity opening.before
-      → IsOpeningOfOrder orders deals n opening
-  opened o o_is r none some opening e_is b_is z_is =
+  pub arrived : (o : Order) → o ≡ order_at orders n → (r : Bool) → (o.target ≡ None → r ≡ true) → ((t : ℕ) → o.target ≡ Some t → r ≡ by_deal.waits_in orders order_numbers.left.items o.place t)
+      → (arrival : Opening) → arrival.entered ≡ by_deal.enters o r → arrival.chain_traded ≡ chain_traded_quantity orders deals n → arrival.size ≡ by_deal.size_left arrival.entered o.quantity arrival.chain_traded
+      → IsOpeningOfOrder orders deals n arrival
+  arrived o o_is r none some arrival e_is b_is z_is =
       let target_is = ap (λ (x : Order). x.target) o_is in
       let place_is = ap (λ (x : Order). x.place) o_is in
-      let entry : opening.entered ≡ has_entered orders deals n = e_is ∙ ap (λ (x : Order). by_deal.enters x r) o_is ∙ entered-opened r (λ f. none (target_is ∙ f)) (λ t f. some t (target_is ∙ f) ∙ ap (λ (p : ℕ). by_deal.waits_in orders sheet.left.items p t) place_is) in
+      let entry : arrival.entered ≡ has_entered orders deals n = e_is ∙ ap (λ (x : Order). by_deal.enters x r) o_is ∙ entered-arrived r (λ f. none (target_is ∙ f)) (λ t f. some t (target_is ∙ f) ∙ ap (λ (p : ℕ). by_deal.waits_in orders order_numbers.left.items p t) place_is) in
       record {
         entered_is = entry;
-        before_is = b_is;
+        chain_traded_is = b_is;
         size_is = z_is ∙ (λ i. by_deal.size_left (entry i) (o_is i).quantity (b_is i)) ∙ sym (size-is orders list past n);
       }

@@ -44,10 +44,10 @@ books_with_fills side left b =
 abbrev pub resting_count : Books → ℕ
 resting_count b = length b.bids.resting + length b.asks.resting
 
--- each order in a book is before the one at n in the order list
-pub record AreBooksBelow (n : ℕ) (b : Books) : Type 0 where
-  pub bids : All (λ r. r.index < n) b.bids.resting
-  pub asks : All (λ r. r.index < n) b.asks.resting
+-- each order in a book is before this one in the order list
+pub record AreBooksBelow (order : ℕ) (b : Books) : Type 0 where
+  pub bids : All (λ r. r.index < order) b.bids.resting
+  pub asks : All (λ r. r.index < order) b.asks.resting
 
 -- both books hold these amounts
 pub record AreBooksOfAmounts (orders : List Order) (amount : ℕ → ℕ) (b : Books) : Type 0 where
@@ -56,43 +56,44 @@ pub record AreBooksOfAmounts (orders : List Order) (amount : ℕ → ℕ) (b : B
   pub bids : IsListOfAmounts orders Buy amount b.bids.resting
   pub asks : IsListOfAmounts orders Sell amount b.asks.resting
 
--- both books hold what rests before place q
+-- both books hold what rests before a place
 abbrev pub AreBooksBefore : List Order → List Deal → ℕ → Books → Type 0
-AreBooksBefore orders deals q b =
-    AreBooksOfAmounts orders (resting_left_before orders (traded_before orders deals) q) b
+AreBooksBefore orders deals place b =
+    AreBooksOfAmounts orders (resting_left_before orders (traded_before orders deals) place) b
 
--- both books hold what rests of the orders before that at n, after its deals
+-- both books hold what rests of the orders before this one, after its deals
 abbrev pub AreBooksAfterDeals : List Order → List Deal → ℕ → Books → Type 0
-AreBooksAfterDeals orders deals n b = AreBooksOfAmounts orders
-    (resting_left_after_deals orders deals (place_at orders n)) b
+AreBooksAfterDeals orders deals order b = AreBooksOfAmounts orders
+    (resting_left_after_deals orders deals (place_at orders order)) b
 
--- what rests after the record of the order at n, without this order
+-- what rests after the record of an order, without this order
 abbrev pub resting_left_without_own : List Order → List Deal → ℕ → ℕ → ℕ
-resting_left_without_own orders deals n k = if k == n then 0
-    else resting_left_before orders (traded_before orders deals) (suc (place_at orders n)) k
+resting_left_without_own orders deals own order = if order == own then 0
+    else resting_left_before orders (traded_before orders deals) (suc (place_at orders own)) order
 
 abbrev pub AreBooksWithoutOwn : List Order → List Deal → ℕ → Books → Type 0
-AreBooksWithoutOwn orders deals n b =
-    AreBooksOfAmounts orders (resting_left_without_own orders deals n) b
+AreBooksWithoutOwn orders deals order b =
+    AreBooksOfAmounts orders (resting_left_without_own orders deals order) b
 
--- both books hold what rests after the record of the order at n
+-- both books hold what rests after the record of an order
 abbrev pub AreBooksAfter : List Order → List Deal → ℕ → Books → Type 0
-AreBooksAfter orders deals n b = AreBooksBefore orders deals (suc (place_at orders n)) b
+AreBooksAfter orders deals order b = AreBooksBefore orders deals (suc (place_at orders order)) b
 
--- where the order at n comes, or one past the last place if there is none
+-- the place of the order at an index, or one past the last place if there is none
 abbrev pub next_order_place : List Order → ℕ → ℕ
 next_order_place orders zero = place_at orders 0
-next_order_place orders (suc n) = if nat_lt (suc n) (length orders) then place_at orders (suc n)
-    else suc (place_at orders n)
+next_order_place orders (suc order) =
+    if nat_lt (suc order) (length orders) then place_at orders (suc order)
+    else suc (place_at orders order)
 
--- both books hold what rests when the order at n comes
+-- both books hold what rests when this order arrives
 abbrev pub AreBooksForNext : List Order → List Deal → ℕ → Books → Type 0
-AreBooksForNext orders deals n b = AreBooksBefore orders deals (next_order_place orders n) b
+AreBooksForNext orders deals order b = AreBooksBefore orders deals (next_order_place orders order) b
 
 -- empty books, before the first order
-pub record AreEmptyBooks (standing : BooksSoFar) : Type 0 where
-  pub bid_side : standing.books.bids.side ≡ Buy
-  pub ask_side : standing.books.asks.side ≡ Sell
-  pub bids : standing.books.bids.resting ≡ []
-  pub asks : standing.books.asks.resting ≡ []
-  pub start : standing.start ≡ 0
+pub record AreEmptyBooks (books_so_far : BooksSoFar) : Type 0 where
+  pub bid_side : books_so_far.books.bids.side ≡ Buy
+  pub ask_side : books_so_far.books.asks.side ≡ Sell
+  pub bids : books_so_far.books.bids.resting ≡ []
+  pub asks : books_so_far.books.asks.resting ≡ []
+  pub start : books_so_far.start ≡ 0

@@ -6,50 +6,54 @@ use Rattle.audit_base.specs.Orders.{order_at, place_at}
 use Rattle.audit_base.specs.Continuous.{chain, traded_before, chain_traded_quantity, left_before}
 use Rattle.audit_base.specs.Deals.{NamesOrders}
 use Rattle.audit_base.specs.ContinuousRules.{ConformsAt}
-use Rattle.continuous_audit.specs.declared.sheet.Sheet.{Sheet}
+use Rattle.continuous_audit.specs.declared.order_numbers.Sheet.{Sheet}
 use Rattle.continuous_audit.specs.Scans.{number_in}
 
--- a record up to p ends an order
+-- a record up to a place ends an order
 abbrev pub ends_by : Option ℕ → ℕ → Bool
-ends_by None p = false
-ends_by (Some c) p = nat_le c p
+ends_by None place = false
+ends_by (Some end) place = nat_le end place
 
 -- the record of an order ends each order of its chain, or an earlier one does
 abbrev pub HasChainEnded : List Order → ℕ → Type 0
-HasChainEnded orders x =
-    All (λ u. ends_by (order_at orders u).cancelled (place_at orders x) ≡ true) (chain orders x)
+HasChainEnded orders order = All
+    (λ replaced. ends_by (order_at orders replaced).cancelled (place_at orders order) ≡ true)
+    (chain orders order)
 
 -- the flag at an index of a list
 abbrev pub flag_in : List Bool → ℕ → Bool
-flag_in flags i = slice_index_or flags i false
+flag_in flags index = slice_index_or flags index false
 
 -- of the first m orders, those whose flag is set have such a chain
-pub record HaveChainsEnded (orders : List Order) (m : ℕ) (closed : List Bool) : Type 0 where
-  pub count : length closed ≡ length orders
-  pub is : (x : ℕ) → x < m → flag_in closed x ≡ true → HasChainEnded orders x
+pub record HaveChainsEnded (orders : List Order) (m : ℕ) (chain_ended : List Bool) : Type 0 where
+  pub count : length chain_ended ≡ length orders
+  pub is : (order : ℕ) → order < m → flag_in chain_ended order ≡ true → HasChainEnded orders order
 
 -- Before of an order is at most 2^72 for each order ahead of it in the list
 abbrev pub IsBeforeBounded : List ℕ → Type 0
-IsBeforeBounded before = (x : ℕ) → number_in before x ≤ x * 2 ^ 72
+IsBeforeBounded chain_traded = (order : ℕ) → number_in chain_traded order ≤ order * 2 ^ 72
 
--- whatever the deals are, the sheet has a place for each order, no Before is too great, and of the
--- first m orders those whose flag is set have such a chain
-pub record IsOpenSheet (orders : List Order) (m : ℕ) (sheet : Sheet) : Type 0 where
-  pub before_count : length sheet.before.items ≡ length orders
-  pub sizes_count : length sheet.sizes.items ≡ length orders
-  pub left_count : length sheet.left.items ≡ length orders
-  pub closed : HaveChainsEnded orders m sheet.closed.items
-  pub bounded : IsBeforeBounded sheet.before.items
+-- whatever the deals are, there are numbers of each order, no Before is too great, and of the first
+-- m orders those whose flag is set have such a chain
+pub record IsOpenSheet (orders : List Order) (m : ℕ)
+    (order_numbers : Sheet) : Type 0 where
+  pub chain_traded_count : length order_numbers.chain_traded.items ≡ length orders
+  pub sizes_count : length order_numbers.sizes.items ≡ length orders
+  pub left_count : length order_numbers.left.items ≡ length orders
+  pub chain_ended : HaveChainsEnded orders m order_numbers.chain_ended.items
+  pub bounded : IsBeforeBounded order_numbers.chain_traded.items
 
--- before the order at n comes, where the rule holds at each earlier place: what the orders have
--- traded, and of the earlier ones Before and what is left
-pub record IsKnownBeforeOpening (orders : List Order) (deals : List Deal) (n : ℕ)
-    (traded : List ℕ) (sheet : Sheet) : Type 0 where
-  pub conforms : (i : ℕ) → i < place_at orders n → ConformsAt orders deals i
+-- before an order arrives, where the rule holds at each earlier place: what the orders have traded,
+-- and of the earlier ones Before and what is left
+pub record IsKnownBeforeOpening (orders : List Order) (deals : List Deal) (order : ℕ)
+    (traded : List ℕ) (order_numbers : Sheet) : Type 0 where
+  pub conforms : (place : ℕ) → place < place_at orders order → ConformsAt orders deals place
   pub named : All (NamesOrders orders) deals
-  pub traded_is : (x : ℕ) → x < length orders
-      → number_in traded x ≡ traded_before orders deals (place_at orders n) x
-  pub before_is : (x : ℕ) → x < n → number_in sheet.before.items x
-      ≡ chain_traded_quantity orders deals x
-  pub left_is : (x : ℕ) → x < n
-      → number_in sheet.left.items x ≡ left_before orders deals (place_at orders n) x
+  pub traded_is : (other : ℕ) → other < length orders
+      → number_in traded other ≡ traded_before orders deals (place_at orders order) other
+  pub chain_traded_is : (other : ℕ) → other < order
+      → number_in order_numbers.chain_traded.items other
+      ≡ chain_traded_quantity orders deals other
+  pub left_is : (other : ℕ) → other < order
+      → number_in order_numbers.left.items other
+      ≡ left_before orders deals (place_at orders order) other

@@ -9,11 +9,11 @@ use Rattle.continuous_audit.specs.declared.endings.Ending.{Ending}
 
 -- the order at an index, if a record ends it
 abbrev pub ending_at : ℕ → Option ℕ → List Ending
-ending_at i None = []
-ending_at i (Some place) = record { place = place; index = i } ∷ []
+ending_at index None = []
+ending_at index (Some place) = record { place = place; index = index } ∷ []
 
 abbrev pub endings_of : ℕ → Order → List Ending
-endings_of i o = ending_at i o.cancelled
+endings_of index order = ending_at index order.cancelled
 
 -- the endings of the first n orders
 abbrev pub endings_upto : List Order → ℕ → List Ending
@@ -32,37 +32,39 @@ pub record IsEnding (orders : List Order) (e : Ending) : Type 0 where
 -- all endings of the orders, by the places of the records
 pub record AreEndings (orders : List Order) (endings : List Ending) : Type 0 where
   pub only : All (IsEnding orders) endings
-  pub each : (k c : ℕ) → k < length orders → (order_at orders k).cancelled ≡ Some c
-      → Contains endings (record { place = c; index = k })
+  pub each : (order place : ℕ) → order < length orders → (order_at orders order).cancelled
+      ≡ Some place
+      → Contains endings (record { place = place; index = order })
   pub rising : AllPairs (λ a b. a.place ≤ b.place) endings
 
--- what is given for an ending past the end, and the place and the index of the ending at i
+-- what is given for an ending past the end, and the place and the index of the ending at an index
 abbrev pub ending_past_end : Ending
 ending_past_end = record { place = 0; index = 0 }
 
 abbrev pub ending_place_at : List Ending → ℕ → ℕ
-ending_place_at endings i = (slice_index_or endings i ending_past_end).place
+ending_place_at endings index = (slice_index_or endings index ending_past_end).place
 
 abbrev pub ending_index_at : List Ending → ℕ → ℕ
-ending_index_at endings i = (slice_index_or endings i ending_past_end).index
+ending_index_at endings index = (slice_index_or endings index ending_past_end).index
 
 -- of the endings those before an index come before a place
-pub record AreEndingsDropped (endings : List Ending) (start q : ℕ) : Type 0 where
+pub record AreEndingsDropped (endings : List Ending) (start place : ℕ) : Type 0 where
   pub inside : start ≤ length endings
-  pub early : (i : ℕ) → i < start → i < length endings → ending_place_at endings i < q
+  pub early : (i : ℕ) → i < start → i < length endings → ending_place_at endings i < place
 
 -- those from one index on and below another come before a place, and no later one does
-pub record AreEndingsBelow (endings : List Ending) (start at upto : ℕ) : Type 0 where
-  pub from : start ≤ at
-  pub inside : at ≤ length endings
-  pub early : (i : ℕ) → start ≤ i → i < at → ending_place_at endings i < upto
-  pub next : at < length endings → upto ≤ ending_place_at endings at
+pub record AreEndingsBelow (endings : List Ending) (start end upto : ℕ) : Type 0 where
+  pub from : start ≤ end
+  pub inside : end ≤ length endings
+  pub early : (i : ℕ) → start ≤ i → i < end → ending_place_at endings i < upto
+  pub next : end < length endings → upto ≤ ending_place_at endings end
 
 -- the order is one of those from an index on and below another
 abbrev pub is_ended_between : List Ending → ℕ → ℕ → ℕ → Bool
-is_ended_between endings from at k =
-    any_below (λ i. nat_le from i && (ending_index_at endings i == k)) at
+is_ended_between endings from end order =
+    any_below (λ i. nat_le from i && (ending_index_at endings i == order)) end
 
 -- nothing of these, and of others what there is
 abbrev pub amount_without : List Ending → ℕ → ℕ → (ℕ → ℕ) → ℕ → ℕ
-amount_without endings from at amount k = if is_ended_between endings from at k then 0 else amount k
+amount_without endings from end amount order =
+    if is_ended_between endings from end order then 0 else amount order

@@ -34,7 +34,8 @@ resting_after_fills side limit size (x ∷ xs) = if trades_with side limit size 
 
 -- what an order trades in these fills, and what all of them trade
 abbrev pub quantity_filled : List Fill → ℕ → ℕ
-quantity_filled fills i = sum_by (λ f. if f.index == i then f.quantity else 0) fills
+quantity_filled fills order =
+    sum_by (λ fill. if fill.index == order then fill.quantity else 0) fills
 
 abbrev pub total_filled : List Fill → ℕ
-total_filled fills = sum_by (λ f. f.quantity) fills
+total_filled fills = sum_by (λ fill. fill.quantity) fills

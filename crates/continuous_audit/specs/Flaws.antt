@@ -19,25 +19,25 @@ use Rattle.continuous_audit.specs.Scans.{number_in}
 
 -- the number that is shown with an order: what it has traded, and its Before added
 abbrev pub shown_number : Numbers → ℕ → ℕ
-shown_number numbers x = number_in numbers.running.traded.items x
-    + number_in numbers.sheet.before.items x
+shown_number numbers order = number_in numbers.running.traded.items order
+    + number_in numbers.order_numbers.chain_traded.items order
 
 -- the two numbers are there for the order, and their sum fits 128 bits
-pub record HasShownNumber (numbers : Numbers) (x : ℕ) : Type 0 where
-  pub traded_inside : x < length numbers.running.traded.items
-  pub before_inside : x < length numbers.sheet.before.items
-  pub fits : shown_number numbers x < 2 ^ 128
+pub record HasShownNumber (numbers : Numbers) (order : ℕ) : Type 0 where
+  pub traded_inside : order < length numbers.running.traded.items
+  pub chain_traded_inside : order < length numbers.order_numbers.chain_traded.items
+  pub fits : shown_number numbers order < 2 ^ 128
 
 -- an order with the number that is shown with it
 abbrev pub order_with_shown : (ℕ → ℕ) → ℕ → TradedOrder
-order_with_shown shown x = record { index = x; traded = shown x }
+order_with_shown shown order = record { index = order; traded = shown order }
 
 -- the flaw of a deal that passes over the order at an index
 abbrev pub priority_flaw : List Order → (ℕ → ℕ) → Deal → ℕ → Flaw
-priority_flaw orders shown d over = record {
-  place = d.place;
-  evidence = Priority (side_at orders (resting_order orders d)) (order_with_shown shown over)
-      (order_with_shown shown (resting_order orders d));
+priority_flaw orders shown deal over = record {
+  place = deal.place;
+  evidence = Priority (side_at orders (resting_order orders deal)) (order_with_shown shown over)
+      (order_with_shown shown (resting_order orders deal));
 }
 
 -- the evidence that an order of a side and another one meet
@@ -45,18 +45,18 @@ abbrev pub spread_evidence : Side → TradedOrder → TradedOrder → Evidence
 spread_evidence Buy own other = Spread own other
 spread_evidence Sell own other = Spread other own
 
--- the flaw of the order at n, which meets another one at its own record
+-- the flaw of an order that meets another one at its own record
 abbrev pub spread_flaw : List Order → (ℕ → ℕ) → ℕ → ℕ → Flaw
-spread_flaw orders shown n other = record {
-  place = place_at orders n;
-  evidence = spread_evidence (side_at orders n)
-      (order_with_shown shown n) (order_with_shown shown other);
+spread_flaw orders shown order other = record {
+  place = place_at orders order;
+  evidence = spread_evidence (side_at orders order)
+      (order_with_shown shown order) (order_with_shown shown other);
 }
 
 -- the flaw of the spread, with what the orders have traded after the deals of the record
 abbrev pub spread_flaw_after : List Order → List Deal → ℕ → ℕ → Flaw
-spread_flaw_after orders deals n =
-    spread_flaw orders (traded_shown_after orders deals (place_at orders n)) n
+spread_flaw_after orders deals order =
+    spread_flaw orders (traded_shown_after orders deals (place_at orders order)) order
 
 -- the finding is that of the flaw, whose orders are in the list; there is none
 -- where there is no flaw
@@ -65,7 +65,7 @@ pub record IsFindingOfFlaw (orders : List Order) (flaw : Option Flaw) (finding :
   pub inside : IfSome flaw (λ f. IsEvidenceInside orders f.evidence)
   pub same : finding ≡ option_map (finding_of orders) flaw
 
--- the finding at the record of the order at n is that of this flaw
+-- the finding at the record of an order is that of this flaw
 abbrev pub IsFlawAt : Market → ℕ → Flaw → Type 0
-IsFlawAt m n flaw = IsFindingOfFlaw m.orders.now (Some flaw)
-    (finding_at_place m.orders.now m.deals.now (place_at m.orders.now n))
+IsFlawAt m order flaw = IsFindingOfFlaw m.orders.now (Some flaw)
+    (finding_at_place m.orders.now m.deals.now (place_at m.orders.now order))

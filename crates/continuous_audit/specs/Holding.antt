@@ -11,13 +11,14 @@ use Rattle.order_book.specs.declared.books.Resting.{Resting}
 use Rattle.order_book.specs.Books.{IsAheadInBook, best_resting}
 use Rattle.continuous_audit.specs.Scans.{number_in}
 
--- the order at i in a book, with this much left
+-- an order in a book, with this much left
 abbrev pub resting_with : List Order → ℕ → ℕ → Resting
-resting_with orders i n = record { index = i; limit = limit_at orders i; left = n }
+resting_with orders order left =
+    record { index = order; limit = limit_at orders order; left = left }
 
--- the order at i in a book, by what rests of each order
+-- an order in a book, by what rests of each order
 abbrev pub resting_with_amount : List Order → (ℕ → ℕ) → ℕ → Resting
-resting_with_amount orders amount i = resting_with orders i (amount i)
+resting_with_amount orders amount order = resting_with orders order (amount order)
 
 -- an order in a book is one of the side of which something rests
 pub record IsRestingOn (orders : List Order) (side : Side) (amount : ℕ → ℕ)
@@ -31,14 +32,15 @@ pub record IsRestingOn (orders : List Order) (side : Side) (amount : ℕ → ℕ
 pub record IsListOfAmounts (orders : List Order) (side : Side) (amount : ℕ → ℕ)
     (xs : List Resting) : Type 0 where
   pub only : All (IsRestingOn orders side amount) xs
-  pub each : (i : ℕ) → i < length orders → side_at orders i ≡ side → 0 < amount i
-      → Contains xs (resting_with_amount orders amount i)
+  pub each : (order : ℕ) → order < length orders → side_at orders order ≡ side → 0 < amount order
+      → Contains xs (resting_with_amount orders amount order)
   pub ranked : AllPairs (IsAheadInBook side) xs
 
--- what rests of an order before place p: its Left where it rests, else nothing
+-- what rests of an order before a place: its Left where it rests, else nothing
 unfoldable pub resting_left_before : List Order → (ℕ → ℕ → ℕ) → ℕ → ℕ → ℕ
-resting_left_before orders ledger p i =
-    if rests_before_in_ledger orders ledger p i then left_before_in_ledger orders ledger p i else 0
+resting_left_before orders ledger place order =
+    if rests_before_in_ledger orders ledger place order
+    then left_before_in_ledger orders ledger place order else 0
 
 -- with this much left of the first, which is taken out where this is nothing
 abbrev pub with_best_left : ℕ → List Resting → List Resting
@@ -56,20 +58,19 @@ pub record IsWithinBook (left : List ℕ) (r : Resting) : Type 0 where
   pub inside : r.index < length left
   pub most : number_in left r.index ≤ r.left
 
--- of the orders that rest before place p, no bid meets an ask
+-- of the orders that rest before a place, no bid meets an ask
 abbrev pub IsUncrossedBefore : List Order → (ℕ → ℕ → ℕ) → ℕ → Type 0
-IsUncrossedBefore orders ledger p = (b a : ℕ) → b < length orders → a < length orders
-    → side_at orders b ≡ Buy → side_at orders a ≡ Sell
-    → rests_before_in_ledger orders ledger p b ≡ true → rests_before_in_ledger orders ledger p a
-    ≡ true
-    → limit_at orders b < limit_at orders a
+IsUncrossedBefore orders ledger place = (bid ask : ℕ) → bid < length orders → ask < length orders
+    → side_at orders bid ≡ Buy → side_at orders ask ≡ Sell
+    → rests_before_in_ledger orders ledger place bid ≡ true
+    → rests_before_in_ledger orders ledger place ask ≡ true
+    → limit_at orders bid < limit_at orders ask
 
--- the order at n is active after its own record: no record up to it cancels it,
--- and something is left
+-- an order is active after its own record: no record up to it cancels it, and something is left
 abbrev pub is_active_after_own : List Order → (ℕ → ℕ → ℕ) → ℕ → Bool
-is_active_after_own orders ledger n =
-    uncancelled_before (order_at orders n).cancelled (suc (place_at orders n))
-    && nat_lt 0 (left_before_in_ledger orders ledger (suc (place_at orders n)) n)
+is_active_after_own orders ledger order =
+    uncancelled_before (order_at orders order).cancelled (suc (place_at orders order))
+    && nat_lt 0 (left_before_in_ledger orders ledger (suc (place_at orders order)) order)
 
 -- a limit of a side meets that of the first order of a book of the other side
 abbrev pub meets_first : Side → ℕ → Option Resting → Bool
@@ -90,10 +91,11 @@ pub record IsFilledInFront (orders : List Order) (side : Side) (before after : �
     (ys : List Resting) : Type 0 where
   pub amount : ℕ → ℕ
   pub holds : IsListOfAmounts orders side amount ys
-  pub either : (k : ℕ) → (amount k ≡ after k) ⊎ (amount k ≡ before k)
+  pub either : (order : ℕ) → (amount order ≡ after order) ⊎ (amount order ≡ before order)
   pub first_now : (y : Resting) → best_resting ys ≡ Some y → amount y.index ≡ after y.index
 
--- what rests of an order before place p, less what it trades in the deals of cause p
+-- what rests of an order before a place, less what it trades in the deals whose cause is this place
 abbrev pub resting_left_after_deals : List Order → List Deal → ℕ → ℕ → ℕ
-resting_left_after_deals orders deals p k =
-    resting_left_before orders (traded_before orders deals) p k - traded_at orders deals p k
+resting_left_after_deals orders deals place order =
+    resting_left_before orders
+    (traded_before orders deals) place order - traded_at orders deals place order

@@ -2,18 +2,18 @@
 pub mod Audits
 -- What private functions pass on.
 pub mod Books
-pub mod Causes
 pub mod Chains
 pub mod DealFindings
 pub mod Endings
 pub mod Fills
 pub mod Flaws
 pub mod Holding
+pub mod IncomingDeals
 pub mod Markets
 pub mod Matching
+pub mod OrderNumbers
 pub mod Pairs
 pub mod Progress
 pub mod Records
 pub mod Scans
-pub mod Sheets
 pub mod Spreads

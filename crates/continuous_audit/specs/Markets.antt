@@ -7,7 +7,7 @@ use Rattle.audit_base.specs.Continuous.{resting_order, traded_before}
 use Rattle.order_book.specs.declared.books.Resting.{Resting}
 use Rattle.continuous_audit.specs.declared.market.Market.{Market}
 use Rattle.continuous_audit.specs.declared.scanning.RunningTotals.{RunningTotals}
-use Rattle.continuous_audit.specs.Causes.{AreCauses}
+use Rattle.continuous_audit.specs.IncomingDeals.{AreCauses}
 use Rattle.continuous_audit.specs.Endings.{AreEndings}
 use Rattle.continuous_audit.specs.Holding.{IsFilledInFront, resting_left_before, resting_left_after_deals}
 use Rattle.continuous_audit.specs.Records.{ConformsBelow, conservation_at}
@@ -18,45 +18,45 @@ use Rattle.continuous_audit.specs.Scans.{AreRunningTotals, IsLeftRefreshed, IsSp
 pub record IsMarket (m : Market) : Type 0 where
   pub list : IsOrderList m.orders.now
   pub deal_list : IsDealList m.orders.now m.deals.now
-  pub causes : AreCauses m.orders.now m.deals.now m.causes.now
+  pub incoming_deals : AreCauses m.orders.now m.deals.now m.incoming_deals.now
   pub endings : AreEndings m.orders.now m.endings.now
 
--- the rule holds at each place before that of the order at n
+-- the rule holds at each place before that of an order
 abbrev pub ConformsBefore : Market → ℕ → Type 0
-ConformsBefore m n = ConformsBelow m.orders.now m.deals.now (place_at m.orders.now n)
+ConformsBefore m order = ConformsBelow m.orders.now m.deals.now (place_at m.orders.now order)
 
--- each deal of the order at n keeps the limits and the quantities of its orders
+-- each deal of an order keeps the limits and the quantities of both its orders
 abbrev pub IsConserved : Market → ℕ → Type 0
-IsConserved m n = conservation_at m.orders.now m.deals.now n ≡ None
+IsConserved m order = conservation_at m.orders.now m.deals.now order ≡ None
 
--- what each order has traded in the deals of the first n orders
-pub record HaveTraded (m : Market) (n : ℕ) (running : RunningTotals) : Type 0 where
-  pub totals : AreRunningTotals m.orders.now m.deals.now m.causes.now running.at
+-- what each order has traded in the deals of the orders before this one
+pub record HaveTraded (m : Market) (order : ℕ) (running : RunningTotals) : Type 0 where
+  pub totals : AreRunningTotals m.orders.now m.deals.now m.incoming_deals.now running.added
       running.traded.items
-  pub split : IsSplitAt m.causes.now n running.at
+  pub split : IsSplitAt m.incoming_deals.now order running.added
 
--- what is left of the orders of the deals from a cause on, as far as these are added, is their size
--- less what they have traded, and of the others what it was
+-- what is left of the orders of the incoming deals from an index on, as far as these are added, is
+-- their size less what they have traded, and of the others what it was
 abbrev pub IsLeftRefreshedIn : Market → ℕ → RunningTotals → List ℕ → List ℕ → List ℕ → Type 0
 IsLeftRefreshedIn m start running sizes old new =
-    IsLeftRefreshed m.deals.now m.causes.now start running.at
+    IsLeftRefreshed m.deals.now m.incoming_deals.now start running.added
     sizes running.traded.items old new
 
--- the deal of the cause at an index, and its resting order
+-- the deal at an index of the incoming deals, and its resting order
 abbrev pub caused_deal_at : Market → ℕ → Deal
-caused_deal_at m i = deal_at m.deals.now (cause_deal_at m.causes.now i)
+caused_deal_at m index = deal_at m.deals.now (cause_deal_at m.incoming_deals.now index)
 
 abbrev pub resting_order_at : Market → ℕ → ℕ
-resting_order_at m i = resting_order m.orders.now (caused_deal_at m i)
+resting_order_at m index = resting_order m.orders.now (caused_deal_at m index)
 
--- an order that is before the one at n in the order list, and is of the other side
-pub record IsOpposite (m : Market) (n : ℕ) (r : Resting) : Type 0 where
-  pub earlier : r.index < n
-  pub of_side : side_at m.orders.now r.index ≡ other_side (side_at m.orders.now n)
+-- an order in a book that is before this one in the order list, and is of the other side
+pub record IsOpposite (m : Market) (order : ℕ) (r : Resting) : Type 0 where
+  pub earlier : r.index < order
+  pub of_side : side_at m.orders.now r.index ≡ other_side (side_at m.orders.now order)
 
--- a list of the other side shows at its first order what is left after the deals of the order at n
+-- a list of the other side shows at its first order what is left after the deals of this order
 abbrev pub IsFilledAgainst : Market → ℕ → List Resting → Type 0
-IsFilledAgainst m n ys = IsFilledInFront m.orders.now (other_side (side_at m.orders.now n))
+IsFilledAgainst m order ys = IsFilledInFront m.orders.now (other_side (side_at m.orders.now order))
     (resting_left_before m.orders.now (traded_before m.orders.now m.deals.now)
-    (place_at m.orders.now n))
-    (resting_left_after_deals m.orders.now m.deals.now (place_at m.orders.now n)) ys
+    (place_at m.orders.now order))
+    (resting_left_after_deals m.orders.now m.deals.now (place_at m.orders.now order)) ys

@@ -1,4 +1,4 @@
--- What is known of the Expected trades before an order comes, and after it has traded.
+-- What is known of the Expected trades before an order arrives, and after it has traded.
 use Rattle.std.specs.Prelude.{◌≡◌, ◌<◌, ◌≤◌, ◌+◌, ◌-◌, ◌*◌, ◌^◌, ℕ, suc, List, [], All, length, replicate}
 use Rattle.audit_base.specs.declared.orders.Order.{Order}
 use Rattle.audit_base.specs.declared.orders.Deal.{Deal}
@@ -13,7 +13,7 @@ use Rattle.continuous_audit.specs.Chains.{IsOpenSheet}
 use Rattle.continuous_audit.specs.Fills.{quantity_filled}
 use Rattle.continuous_audit.specs.Pairs.{AreSharedPairs, IsFillPairInRange}
 use Rattle.continuous_audit.specs.Scans.{number_in}
-use Rattle.continuous_audit.specs.Sheets.{IsBlankSheet}
+use Rattle.continuous_audit.specs.OrderNumbers.{IsBlankSheet}
 use Rattle.continuous_audit.specs.declared.fills.Fill.{Fill}
 
 -- these deals are the Expected trades, and they conform
@@ -26,43 +26,47 @@ pub record AreFillsApplied (fills : List Fill)
     (old_traded old_left traded left : List ℕ) : Type 0 where
   pub traded_count : length traded ≡ length old_traded
   pub left_count : length left ≡ length old_left
-  pub traded_is : (x : ℕ) → number_in traded x ≡ number_in old_traded x + quantity_filled fills x
-  pub left_is : (x : ℕ) → number_in left x ≡ number_in old_left x - quantity_filled fills x
+  pub traded_is : (order : ℕ) → number_in traded order
+      ≡ number_in old_traded order + quantity_filled fills order
+  pub left_is : (order : ℕ) → number_in left order
+      ≡ number_in old_left order - quantity_filled fills order
 
 -- whatever the deals are: there is a number for each order, what was traded is not too great, and
 -- the pairs, the orders in the books and the one that waits to enter are together at most n
 pub record AreTradesSoFar (orders : List Order) (n waiting : ℕ) (t : TradesSoFar) : Type 0 where
   pub traded_count : length t.traded.items ≡ length orders
-  pub sheet : IsOpenSheet orders n t.sheet
-  pub traded_fits : (x : ℕ) → number_in t.traded.items x ≤ n * 10 ^ 12
+  pub order_numbers : IsOpenSheet orders n t.order_numbers
+  pub traded_fits : (order : ℕ) → number_in t.traded.items order ≤ n * 10 ^ 12
   pub dealt : All (IsFillPairInRange (length orders)) t.pairs.items
-  pub few : length t.pairs.items + resting_count t.standing.books + waiting ≤ n
+  pub few : length t.pairs.items + resting_count t.books_so_far.books + waiting ≤ n
 
--- under these deals, of the first n orders before place q, where the books hold these amounts
-pub record IsMatchedUnder (orders : List Order) (deals : List Deal) (n q : ℕ) (amount : ℕ → ℕ)
+-- under these deals, of the first n orders before a place, where the books hold these amounts
+pub record IsMatchedUnder (orders : List Order) (deals : List Deal) (n place : ℕ) (amount : ℕ → ℕ)
     (t : TradesSoFar) : Type 0 where
-  pub traded_is : (x : ℕ) → x < length orders
-      → number_in t.traded.items x ≡ traded_before orders deals q x
-  pub before_is : (x : ℕ) → x < n → number_in t.sheet.before.items x
-      ≡ chain_traded_quantity orders deals x
-  pub left_is : (x : ℕ) → x < n → number_in t.sheet.left.items x ≡ left_before orders deals q x
-  pub books : AreBooksOfAmounts orders amount t.standing.books
+  pub traded_is : (order : ℕ) → order < length orders
+      → number_in t.traded.items order ≡ traded_before orders deals place order
+  pub chain_traded_is : (order : ℕ) → order < n → number_in t.order_numbers.chain_traded.items order
+      ≡ chain_traded_quantity orders deals order
+  pub left_is : (order : ℕ) → order < n → number_in t.order_numbers.left.items order
+      ≡ left_before orders deals place order
+  pub books : AreBooksOfAmounts orders amount t.books_so_far.books
   pub pairs : AreSharedPairs orders deals n t.pairs.items
 
--- before place q, where the order at n is the next
+-- before a place, where this order is the next
 abbrev pub MatchedBefore : List Order → ℕ → ℕ → TradesSoFar → Type 0
-MatchedBefore orders n q t = (deals : List Deal) → AreExpectedDeals orders deals
-    → IsMatchedUnder orders deals n q (resting_left_before orders (traded_before orders deals) q) t
+MatchedBefore orders order place t = (deals : List Deal) → AreExpectedDeals orders deals
+    → IsMatchedUnder orders deals order place
+    (resting_left_before orders (traded_before orders deals) place) t
 
--- after the order at n has traded
+-- after an order has traded
 abbrev pub MatchedAfter : List Order → ℕ → TradesSoFar → Type 0
-MatchedAfter orders n t = (deals : List Deal) → AreExpectedDeals orders deals
-    → IsMatchedUnder orders deals (suc n) (suc (place_at orders n))
-    (resting_left_after_deals orders deals (place_at orders n)) t
+MatchedAfter orders order t = (deals : List Deal) → AreExpectedDeals orders deals
+    → IsMatchedUnder orders deals (suc order) (suc (place_at orders order))
+    (resting_left_after_deals orders deals (place_at orders order)) t
 
 -- before the first of this many orders
 pub record AreTradesAtStart (count : ℕ) (t : TradesSoFar) : Type 0 where
   pub traded : t.traded.items ≡ replicate count 0
-  pub sheet : IsBlankSheet count t.sheet
-  pub standing : AreEmptyBooks t.standing
+  pub order_numbers : IsBlankSheet count t.order_numbers
+  pub books_so_far : AreEmptyBooks t.books_so_far
   pub pairs : t.pairs.items ≡ []

@@ -17,12 +17,12 @@ abbrev pub fill_pair_past_end : FillPair
 fill_pair_past_end = record { bid = 0; ask = 0; quantity = 0 }
 
 abbrev pub fill_pair_at : List FillPair → ℕ → FillPair
-fill_pair_at pairs k = slice_index_or pairs k fill_pair_past_end
+fill_pair_at pairs index = slice_index_or pairs index fill_pair_past_end
 
 -- the pair of an incoming order of a side and a fill
 abbrev pub fill_pair : Side → ℕ → Fill → FillPair
-fill_pair Buy n f = record { bid = n; ask = f.index; quantity = f.quantity }
-fill_pair Sell n f = record { bid = f.index; ask = n; quantity = f.quantity }
+fill_pair Buy order fill = record { bid = order; ask = fill.index; quantity = fill.quantity }
+fill_pair Sell order fill = record { bid = fill.index; ask = order; quantity = fill.quantity }
 
 -- the bid and the ask of a pair
 abbrev pub fill_pair_orders : FillPair → ℕ × ℕ

@@ -1,4 +1,4 @@
--- What is known before an order comes, and what of it after its deals.
+-- What is known before an order arrives, and what of it after its deals.
 use Rattle.std.specs.Prelude.{◌≡◌, ◌≤◌, ℕ, suc, None, replicate}
 use Rattle.audit_base.specs.Orders.{place_at}
 use Rattle.continuous_audit.specs.declared.market.Market.{Market}
@@ -10,59 +10,62 @@ use Rattle.continuous_audit.specs.Endings.{AreEndingsDropped}
 use Rattle.continuous_audit.specs.Markets.{HaveTraded, IsConserved}
 use Rattle.continuous_audit.specs.Records.{AreBeforeNumbers, AreLeftBefore, AreSizes, AreTradedBefore, ConformsAndIsUncrossed, priority_at}
 use Rattle.continuous_audit.specs.Scans.{IsSplitAt}
-use Rattle.continuous_audit.specs.Sheets.{IsBlankSheet}
+use Rattle.continuous_audit.specs.OrderNumbers.{IsBlankSheet}
 
--- the numbers of the first n orders before place q
-pub record AreNumbers (m : Market) (n q : ℕ) (numbers : Numbers) : Type 0 where
-  pub before : AreBeforeNumbers m.orders.now m.deals.now n numbers.sheet.before.items
-  pub closed : HaveChainsEnded m.orders.now n numbers.sheet.closed.items
-  pub sizes : AreSizes m.orders.now m.deals.now n numbers.sheet.sizes.items
-  pub left : AreLeftBefore m.orders.now m.deals.now n q numbers.sheet.left.items
+-- the numbers of the first n orders before a place
+pub record AreNumbers (m : Market) (n place : ℕ) (numbers : Numbers) : Type 0 where
+  pub chain_traded : AreBeforeNumbers m.orders.now m.deals.now n
+      numbers.order_numbers.chain_traded.items
+  pub chain_ended : HaveChainsEnded m.orders.now n numbers.order_numbers.chain_ended.items
+  pub sizes : AreSizes m.orders.now m.deals.now n numbers.order_numbers.sizes.items
+  pub left : AreLeftBefore m.orders.now m.deals.now n place numbers.order_numbers.left.items
   pub running : HaveTraded m n numbers.running
 
--- before the order at n comes, at its own place; and after its deals
+-- the numbers before an order arrives, at its own place; and those after its deals
 abbrev pub AreNumbersFor : Market → ℕ → Numbers → Type 0
-AreNumbersFor m n numbers = AreNumbers m n (place_at m.orders.now n) numbers
+AreNumbersFor m order numbers = AreNumbers m order (place_at m.orders.now order) numbers
 
 abbrev pub AreNumbersAfter : Market → ℕ → Numbers → Type 0
-AreNumbersAfter m n numbers = AreNumbers m (suc n) (suc (place_at m.orders.now n)) numbers
+AreNumbersAfter m order numbers =
+    AreNumbers m (suc order) (suc (place_at m.orders.now order)) numbers
 
--- the deals of the order at n, each of which keeps the rules by itself, are those from the start on
-pub record HasDealt (m : Market) (n : ℕ) (numbers : Numbers) : Type 0 where
-  pub conserved : IsConserved m n
-  pub split : IsSplitAt m.causes.now n numbers.start
-  pub from : numbers.start ≤ numbers.running.at
-  pub known : AreNumbersAfter m n numbers
-  pub traded : AreTradedBefore m.orders.now m.deals.now (suc (place_at m.orders.now n))
+-- the deals of an order, each of which keeps the rules by itself, are those from the start on
+pub record HasDealt (m : Market) (order : ℕ) (numbers : Numbers) : Type 0 where
+  pub conserved : IsConserved m order
+  pub split : IsSplitAt m.incoming_deals.now order numbers.start
+  pub from : numbers.start ≤ numbers.running.added
+  pub known : AreNumbersAfter m order numbers
+  pub traded : AreTradedBefore m.orders.now m.deals.now (suc (place_at m.orders.now order))
       numbers.running.traded.items
 
--- before the order at n comes, at place q
-pub record IsReadyAt (m : Market) (n q : ℕ) (state : State) : Type 0 where
-  pub calm : ConformsAndIsUncrossed m.orders.now m.deals.now q
-  pub known : AreNumbers m n q state.numbers
-  pub books : AreBooksBefore m.orders.now m.deals.now q state.standing.books
-  pub dropped : AreEndingsDropped m.endings.now state.standing.start q
+-- before an order arrives, as of a place
+pub record IsReadyAt (m : Market) (order place : ℕ) (state : State) : Type 0 where
+  pub calm : ConformsAndIsUncrossed m.orders.now m.deals.now place
+  pub known : AreNumbers m order place state.numbers
+  pub books : AreBooksBefore m.orders.now m.deals.now place state.books_so_far.books
+  pub dropped : AreEndingsDropped m.endings.now state.books_so_far.start place
 
--- after the deals of the order at n, which show no finding
-pub record IsAfterDeals (m : Market) (n : ℕ) (state : State) : Type 0 where
-  pub dealt : HasDealt m n state.numbers
-  pub ranked : priority_at m.orders.now m.deals.now n ≡ None
-  pub holds : AreBooksAfterDeals m.orders.now m.deals.now n state.standing.books
-  pub dropped : AreEndingsDropped m.endings.now state.standing.start (place_at m.orders.now n)
+-- after the deals of an order, which show no finding
+pub record IsAfterDeals (m : Market) (order : ℕ) (state : State) : Type 0 where
+  pub dealt : HasDealt m order state.numbers
+  pub ranked : priority_at m.orders.now m.deals.now order ≡ None
+  pub holds : AreBooksAfterDeals m.orders.now m.deals.now order state.books_so_far.books
+  pub dropped : AreEndingsDropped m.endings.now state.books_so_far.start
+      (place_at m.orders.now order)
 
--- before the order at n comes, at its own place; and after the order before it
+-- before an order arrives, at its own place; and after the order before it
 abbrev pub IsReadyFor : Market → ℕ → State → Type 0
-IsReadyFor m n state = IsReadyAt m n (place_at m.orders.now n) state
+IsReadyFor m order state = IsReadyAt m order (place_at m.orders.now order) state
 
 abbrev pub IsReadyNext : Market → ℕ → State → Type 0
-IsReadyNext m n state = IsReadyAt m n (next_order_place m.orders.now n) state
+IsReadyNext m order state = IsReadyAt m order (next_order_place m.orders.now order) state
 
 -- before the first of this many orders
 pub record AreNumbersAtStart (count : ℕ) (numbers : Numbers) : Type 0 where
-  pub sheet : IsBlankSheet count numbers.sheet
+  pub order_numbers : IsBlankSheet count numbers.order_numbers
   pub traded : numbers.running.traded.items ≡ replicate count 0
-  pub at : numbers.running.at ≡ 0
+  pub added : numbers.running.added ≡ 0
 
 pub record IsFirstState (count : ℕ) (state : State) : Type 0 where
   pub numbers : AreNumbersAtStart count state.numbers
-  pub standing : AreEmptyBooks state.standing
+  pub books_so_far : AreEmptyBooks state.books_so_far

@@ -3,57 +3,67 @@ use Rattle.std.specs.Prelude.{◌≡◌, ◌<◌, ◌≤◌, ◌-◌, ◌*◌, �
 use Rattle.audit_base.specs.declared.orders.Order.{Order}
 use Rattle.audit_base.specs.declared.orders.Deal.{Deal}
 use Rattle.audit_base.specs.Deals.{names_order, deal_at}
-use Rattle.continuous_audit.specs.declared.causes.Cause.{Cause}
-use Rattle.continuous_audit.specs.Causes.{running_total}
+use Rattle.continuous_audit.specs.declared.incoming_deals.Cause.{Cause}
+use Rattle.continuous_audit.specs.IncomingDeals.{running_total}
 
 -- the number at an index of a list
 abbrev pub number_in : List ℕ → ℕ → ℕ
-number_in numbers i = slice_index_or numbers i 0
+number_in numbers index = slice_index_or numbers index 0
 
--- what is given for a cause past the end, and the order of the cause at an index
+-- what is given past the end of the incoming deals; and of the one at an index, the incoming order
+-- and the index of the deal
 abbrev pub cause_past_end : Cause
 cause_past_end = record { order = 0; deal = 0 }
 
 abbrev pub cause_order_at : List Cause → ℕ → ℕ
-cause_order_at causes i = (slice_index_or causes i cause_past_end).order
+cause_order_at incoming_deals index =
+    (slice_index_or incoming_deals index cause_past_end).order
 
 abbrev pub cause_deal_at : List Cause → ℕ → ℕ
-cause_deal_at causes i = (slice_index_or causes i cause_past_end).deal
+cause_deal_at incoming_deals index =
+    (slice_index_or incoming_deals index cause_past_end).deal
 
--- what each order has traded in the first causes
-pub record AreRunningTotals (orders : List Order) (deals : List Deal) (causes : List Cause)
-    (at : ℕ) (traded : List ℕ) : Type 0 where
-  pub inside : at ≤ length causes
+-- what each order has traded in the first of the incoming deals
+pub record AreRunningTotals (orders : List Order) (deals : List Deal)
+    (incoming_deals : List Cause) (added : ℕ) (traded : List ℕ) : Type 0 where
+  pub inside : added ≤ length incoming_deals
   pub count : length traded ≡ length orders
-  pub sums : (x : ℕ) → x < length orders → number_in traded x ≡ running_total deals causes at x
-  pub fits : (x : ℕ) → x < length orders → number_in traded x ≤ at * 10 ^ 12
+  pub sums : (order : ℕ) → order < length orders → number_in traded order
+      ≡ running_total deals incoming_deals added order
+  pub fits : (order : ℕ) → order < length orders → number_in traded order ≤ added * 10 ^ 12
 
--- the first causes are those of the orders below n
-pub record IsSplitAt (causes : List Cause) (n at : ℕ) : Type 0 where
-  pub early : (i : ℕ) → i < at → i < length causes → cause_order_at causes i < n
-  pub late : (i : ℕ) → at ≤ i → i < length causes → n ≤ cause_order_at causes i
+-- the incoming deals before an index are those of the orders before this one
+pub record IsSplitAt (incoming_deals : List Cause) (order index : ℕ) : Type 0 where
+  pub early : (i : ℕ) → i < index → i < length incoming_deals
+      → cause_order_at incoming_deals i < order
+  pub late : (i : ℕ) → index ≤ i → i < length incoming_deals
+      → order ≤ cause_order_at incoming_deals i
 
 -- how many steps lead back from a target at most
 abbrev pub steps_of : Option ℕ → ℕ
 steps_of None = 0
-steps_of (Some t) = suc t
+steps_of (Some target) = suc target
 
--- the causes name deals of the list, and these name orders below a count
-pub record HasDeals (deals : List Deal) (causes : List Cause) (count : ℕ) : Type 0 where
-  pub deal : (i : ℕ) → i < length causes → cause_deal_at causes i < length deals
-  pub bid : (i : ℕ) → i < length causes → (deal_at deals (cause_deal_at causes i)).bid < count
-  pub ask : (i : ℕ) → i < length causes → (deal_at deals (cause_deal_at causes i)).ask < count
+-- the incoming deals are deals of the list, and these name orders below a count
+pub record HasDeals (deals : List Deal) (incoming_deals : List Cause)
+    (count : ℕ) : Type 0 where
+  pub deal : (index : ℕ) → index < length incoming_deals
+      → cause_deal_at incoming_deals index < length deals
+  pub bid : (index : ℕ) → index < length incoming_deals
+      → (deal_at deals (cause_deal_at incoming_deals index)).bid < count
+  pub ask : (index : ℕ) → index < length incoming_deals
+      → (deal_at deals (cause_deal_at incoming_deals index)).ask < count
 
 -- what is left of the orders of these deals is their size less what they have traded, and of the
 -- others what it was
-pub record IsLeftRefreshed (deals : List Deal) (causes : List Cause) (start at : ℕ)
+pub record IsLeftRefreshed (deals : List Deal) (incoming_deals : List Cause) (start end : ℕ)
     (sizes traded old new : List ℕ) : Type 0 where
   pub count : length new ≡ length old
-  pub each : (x : ℕ) → (number_in new x ≡ number_in sizes x - number_in traded x)
-      ⊎ ((number_in new x ≡ number_in old x) × ((i : ℕ) → start ≤ i → i < at
-      → names_order x (deal_at deals (cause_deal_at causes i)) ≡ false))
+  pub each : (order : ℕ) → (number_in new order ≡ number_in sizes order - number_in traded order)
+      ⊎ ((number_in new order ≡ number_in old order) × ((index : ℕ) → start ≤ index → index < end
+      → names_order order (deal_at deals (cause_deal_at incoming_deals index)) ≡ false))
 
 -- what each order has traded is there, and at most 2^72
 pub record AreTotalsSmall (orders : List Order) (traded : List ℕ) : Type 0 where
   pub count : length traded ≡ length orders
-  pub most : (x : ℕ) → x < length orders → number_in traded x ≤ 2 ^ 72
+  pub most : (order : ℕ) → order < length orders → number_in traded order ≤ 2 ^ 72

@@ -10,15 +10,16 @@ use Rattle.continuous_audit.specs.Books.{AreBooksWithoutOwn}
 
 -- an order is active after its own record, where this much is left of it
 abbrev pub is_active_after_with : Order → ℕ → Bool
-is_active_after_with o left = uncancelled_before o.cancelled (suc o.place) && nat_lt 0 left
+is_active_after_with order left =
+    uncancelled_before order.cancelled (suc order.place) && nat_lt 0 left
 
 -- an order rests after its own record, where this much is left of it
 abbrev pub rests_after_with : Order → ℕ → Bool
-rests_after_with o left = may_rest o.life && is_active_after_with o left
+rests_after_with order left = may_rest order.life && is_active_after_with order left
 
--- this much is left of the order at n, which isn't in the books yet
-pub record IsAfterOwn (orders : List Order) (deals : List Deal) (n own_left : ℕ)
+-- this much is left of an order, which isn't in the books yet
+pub record IsAfterOwn (orders : List Order) (deals : List Deal) (order own_left : ℕ)
     (b : Books) : Type 0 where
   pub named : All (NamesOrders orders) deals
-  pub left_is : own_left ≡ left_after orders deals (place_at orders n) n
-  pub holds : AreBooksWithoutOwn orders deals n b
+  pub left_is : own_left ≡ left_after orders deals (place_at orders order) order
+  pub holds : AreBooksWithoutOwn orders deals order b

@@ -4,8 +4,8 @@ ghost use Rattle.audit_base.specs.Orders.{IsOrderList};
 ghost use Rattle.audit_base.specs.Deals.{IsDealList};
 ghost use Rattle.continuous_audit.specs.Audits.{IsContinuousOutcome};
 
-use super::causes::sort_causes;
 use super::endings::sort_endings;
+use super::incoming_deals::sort_incoming_deals;
 use super::market::Market;
 use super::state::State;
 use audit_base::faults::NoMemory;
@@ -33,12 +33,12 @@ pub fn audit_continuous(
     continuous_uniqueness();
     deals_in_range(deals);
     let volume = volume_of(deals);
-    let causes = sort_causes(alloc, orders, deals)?;
+    let incoming_deals = sort_incoming_deals(alloc, orders, deals)?;
     let endings = sort_endings(alloc, orders)?;
     let market = Market {
         orders,
         deals,
-        causes: &causes,
+        incoming_deals: &incoming_deals,
         endings: &endings,
     };
     let mut state = State::new(alloc, orders.len())?;

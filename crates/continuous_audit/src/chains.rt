@@ -6,7 +6,7 @@ ghost use Rattle.audit_base.specs.Continuous.{chain_traded_quantity, chain};
 ghost use Rattle.continuous_audit.specs.Chains.{HasChainEnded, IsOpenSheet, IsKnownBeforeOpening, ends_by};
 ghost use Rattle.continuous_audit.specs.Scans.{AreTotalsSmall, number_in};
 
-use super::sheet::Sheet;
+use super::order_numbers::Sheet;
 use order_list::lists::OrderList;
 
 /// What the orders of the chain of an order have traded: its target, the target's
@@ -27,21 +27,26 @@ fn chain_total(orders: &OrderList<'_>, traded: &[u128], order: usize) -> u128
     total
 }
 
-/// Before of an order: what its chain has traded. Where the records of its target's chain end one
-/// another, as in every history, this is what the target has traded, and the target's own Before.
-pub fn chain_before(orders: &OrderList<'_>, traded: &[u128], sheet: &Sheet, order: usize) -> u128
+/// Before of an order: what its chain has traded. Where the chain of its target is known to be
+/// ended, as in every history, this is what the target has traded, and the target's own Before.
+pub fn traded_by_chain(
+    orders: &OrderList<'_>,
+    traded: &[u128],
+    order_numbers: &Sheet,
+    order: usize,
+) -> u128
     requires list { IsOrderList orders.now }
     requires order { order < length orders.now }
     requires traded { AreTotalsSmall orders.now traded.now }
-    requires sheet { IsOpenSheet orders.now order sheet.now }
-    ensures before { (deals : List ADeal)
-        → IsKnownBeforeOpening orders.now deals order traded.now sheet.now
+    requires order_numbers { IsOpenSheet orders.now order order_numbers.now }
+    ensures chain_traded { (deals : List ADeal)
+        → IsKnownBeforeOpening orders.now deals order traded.now order_numbers.now
         → result ≡ chain_traded_quantity orders.now deals order }
     ensures bounded { result ≤ order * 2 ^ 72 }
 {
     if let Some(target) = orders.at(order).target() {
-        if sheet.is_closed(target) {
-            return traded[target] + sheet.before_of(target);
+        if order_numbers.is_chain_ended(target) {
+            return traded[target] + order_numbers.chain_traded_of(target);
         }
     }
     chain_total(orders, traded, order)
@@ -57,18 +62,19 @@ fn ends_by(cancelled: Option<u32>, place: u32) -> bool
     }
 }
 
-/// Whether the records of the chain of an order end one another.
-pub fn is_closed(orders: &OrderList<'_>, sheet: &Sheet, order: usize) -> bool
+/// Whether the record of an order, or an earlier one, ends each order of its chain: false also
+/// where that is not known.
+pub fn is_chain_ended(orders: &OrderList<'_>, order_numbers: &Sheet, order: usize) -> bool
     requires list { IsOrderList orders.now }
     requires order { order < length orders.now }
-    requires sheet { IsOpenSheet orders.now order sheet.now }
+    requires order_numbers { IsOpenSheet orders.now order order_numbers.now }
     ensures { result ≡ true → HasChainEnded orders.now order }
 {
     let own = orders.at(order);
     match own.target() {
         Some(target) => {
             let replaced = orders.at(target);
-            sheet.is_closed(target) && ends_by(replaced.cancelled(), own.place())
+            order_numbers.is_chain_ended(target) && ends_by(replaced.cancelled(), own.place())
         }
         None => true,
     }

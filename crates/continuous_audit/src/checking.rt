@@ -83,7 +83,7 @@ fn resting_account(bid: &ListedOrder<'_>, ask: &ListedOrder<'_>, known: Accounts
     }
 }
 
-/// The account of the later one, which came.
+/// The account of the later one, the incoming order.
 fn incoming_account(bid: &ListedOrder<'_>, ask: &ListedOrder<'_>, known: Accounts) -> Account
     ensures { result ≡ by_deal.incoming_account bid.now ask.now known }
 {
@@ -100,15 +100,15 @@ pub fn deal_evidence(
     deal: &Deal,
     bid: &ListedOrder<'_>,
     ask: &ListedOrder<'_>,
-    coming: Arrival,
+    deal_record: Arrival,
     known: Accounts,
 ) -> Option<Evidence>
-    ensures { result ≡ by_deal.deal_evidence deal.now bid.now ask.now coming known }
+    ensures { result ≡ by_deal.deal_evidence deal.now bid.now ask.now deal_record known }
 {
-    if !resting_waits(bid, ask, coming.place, known) {
+    if !resting_waits(bid, ask, deal_record.place, known) {
         return Some(Evidence::Inactive(resting_account(bid, ask, known).shown));
     }
-    if !coming.entered {
+    if !deal_record.entered {
         return Some(Evidence::Inactive(incoming_account(bid, ask, known).shown));
     }
     if !is_within(deal, bid, ask) {

@@ -12,8 +12,8 @@ ghost use Rattle.continuous_audit.specs.Matching.{AreTradesAtStart, AreTradesSoF
 use super::books::BooksSoFar;
 use super::endings::{Ending, sort_endings};
 use super::matching::{TradesSoFar, match_record};
+use super::order_numbers::Sheet;
 use super::pairs::{number_pairs, sort_pairs};
-use super::sheet::Sheet;
 use audit_base::faults::NoMemory;
 use audit_base::orders::Deal;
 use matching_core::totals::zeros;
@@ -25,11 +25,11 @@ fn no_trades(alloc: Global, count: usize) -> Result<TradesSoFar, NoMemory>
     ensures { IfOk result (AreTradesAtStart count) }
 {
     let traded = zeros(alloc, count)?;
-    let sheet = Sheet::new(alloc, count)?;
+    let order_numbers = Sheet::new(alloc, count)?;
     Ok(TradesSoFar {
         traded,
-        sheet,
-        standing: BooksSoFar::new(alloc),
+        order_numbers,
+        books_so_far: BooksSoFar::new(alloc),
         fills: Vec::new(alloc),
         pairs: Vec::new(alloc),
     })
@@ -44,7 +44,7 @@ fn match_records(
     requires list { IsOrderList orders.now }
     requires regular { Regular orders.now }
     requires endings { AreEndings orders.now endings.now }
-    requires dropped { AreEndingsDropped endings.now so_far.old.standing.start
+    requires dropped { AreEndingsDropped endings.now so_far.old.books_so_far.start
         (next_order_place orders.now 0) }
     requires counted { AreTradesSoFar orders.now 0 0 so_far.old }
     requires matched { MatchedBefore orders.now 0 (next_order_place orders.now 0) so_far.old }

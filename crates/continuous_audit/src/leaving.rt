@@ -34,8 +34,8 @@ fn set_left(left: &mut Vec<u64>, bid: usize, ask: usize, bid_left: u64, ask_left
     left[ask] = ask_left;
 }
 
-/// Sets what is left of the orders of the deals from the causes at `start` on, as far
-/// as these are added.
+/// Sets what is left of the orders of the incoming deals from the one at `start` on, as far as
+/// these are added.
 pub fn refresh_left(
     market: &Market<'_>,
     start: usize,
@@ -43,17 +43,18 @@ pub fn refresh_left(
     sizes: &[u64],
     left: &mut Vec<u64>,
 )
-    requires from { start ≤ running.now.at }
-    requires ends { running.now.at ≤ length market.now.causes.now }
-    requires deals { HasDeals market.now.deals.now market.now.causes.now (vec_len left.old) }
+    requires from { start ≤ running.now.added }
+    requires ends { running.now.added ≤ length market.now.incoming_deals.now }
+    requires deals { HasDeals market.now.deals.now market.now.incoming_deals.now
+        (vec_len left.old) }
     requires sizes_count { length sizes.now ≡ vec_len left.old }
     requires traded_count { vec_len running.now.traded ≡ vec_len left.old }
     ensures refreshed { IsLeftRefreshedIn market.now start running.now sizes.now left.old.items
         left.new.items }
 {
-    let (deals, causes) = (market.deals, market.causes);
-    for at in start..running.at {
-        let deal = &deals[causes[at].deal as usize];
+    let (deals, incoming_deals) = (market.deals, market.incoming_deals);
+    for at in start..running.added {
+        let deal = &deals[incoming_deals[at].deal as usize];
         let bid_left = left_at(sizes, &running.traded, deal.bid);
         let ask_left = left_at(sizes, &running.traded, deal.ask);
         set_left(left, deal.bid, deal.ask, bid_left, ask_left);

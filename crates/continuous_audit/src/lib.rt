@@ -1,23 +1,23 @@
 //! The rule of continuous trading.
 #![tactic(auto)]
 
+mod arrival;
 pub mod auditing;
 mod books;
-mod causes;
 mod chains;
 mod checking;
 mod endings;
 pub mod expecting;
 mod filling;
 mod fills;
+mod incoming_deals;
 mod leaving;
 mod market;
 mod matching;
 mod numbers;
-mod opening;
+mod order_numbers;
 mod pairs;
 mod passing;
 mod scanning;
-mod sheet;
 mod spreading;
 mod state;

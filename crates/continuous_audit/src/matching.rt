@@ -8,13 +8,13 @@ ghost use Rattle.continuous_audit.specs.Fills.{fills_of, resting_after_fills, to
 ghost use Rattle.continuous_audit.specs.Matching.{AreFillsApplied, AreTradesSoFar, MatchedAfter, MatchedBefore};
 ghost use Rattle.continuous_audit.specs.Scans.{number_in};
 
+use super::arrival::arrive_order;
 use super::books::{Books, BooksSoFar};
 use super::endings::Ending;
 use super::fills::{Fill, take_fills};
 use super::leaving::set_amount;
-use super::opening::open_order;
+use super::order_numbers::Sheet;
 use super::pairs::{FillPair, push_pairs};
-use super::sheet::Sheet;
 use super::spreading::enter_own;
 use audit_base::faults::NoMemory;
 use audit_base::terms::Side;
@@ -27,8 +27,8 @@ use order_list::lists::OrderList;
 #[derive(Drop)]
 pub struct TradesSoFar {
     pub traded: Vec<u128>,
-    pub sheet: Sheet,
-    pub standing: BooksSoFar,
+    pub order_numbers: Sheet,
+    pub books_so_far: BooksSoFar,
     /// What the last order trades.
     pub fills: Vec<Fill>,
     pub pairs: Vec<FillPair>,
@@ -77,7 +77,8 @@ fn fill_order(
     fills: &mut Vec<Fill>,
 ) -> Result<u64, NoMemory>
     ensures fills { OnOk result (fills.new.items
-        ≡ fills_of own.now.side own.now.limit size (book_list (other_side own.now.side) books.old)) }
+        ≡ fills_of own.now.side own.now.limit size
+        (book_list (other_side own.now.side) books.old)) }
     ensures books { OnOk result (books.new ≡ books_with_list (other_side own.now.side)
         (resting_after_fills own.now.side own.now.limit size
         (book_list (other_side own.now.side) books.old))
@@ -101,23 +102,27 @@ fn trade_order(
     requires order { order < length orders.now }
     requires counted { AreTradesSoFar orders.now order 0 so_far.old }
     requires matched { MatchedBefore orders.now order (place_at orders.now order) so_far.old }
-    ensures started { OnOk result (so_far.new.standing.start ≡ so_far.old.standing.start) }
+    ensures started { OnOk result (so_far.new.books_so_far.start ≡ so_far.old.books_so_far.start) }
     ensures counted { OnOk result (AreTradesSoFar orders.now (suc order)
-        (min 1 (number_in so_far.new.sheet.left.items order)) so_far.new) }
+        (min 1 (number_in so_far.new.order_numbers.left.items order)) so_far.new) }
     ensures matched { OnOk result (MatchedAfter orders.now order so_far.new) }
 {
-    let opening = open_order(orders, &so_far.traded, &so_far.sheet, order);
-    so_far.sheet.note(order, &opening);
+    let arrival = arrive_order(orders, &so_far.traded, &so_far.order_numbers, order);
+    so_far.order_numbers.note(order, &arrival);
     let own = orders.at(order);
     let left = fill_order(
         &own,
-        opening.size,
-        &mut so_far.standing.books,
+        arrival.size,
+        &mut so_far.books_so_far.books,
         &mut so_far.fills,
     )?;
-    apply_fills(&so_far.fills, &mut so_far.traded, &mut so_far.sheet.left);
-    set_total(&mut so_far.traded, order, (opening.size - left) as u128);
-    set_amount(&mut so_far.sheet.left, order, left);
+    apply_fills(
+        &so_far.fills,
+        &mut so_far.traded,
+        &mut so_far.order_numbers.left,
+    );
+    set_total(&mut so_far.traded, order, (arrival.size - left) as u128);
+    set_amount(&mut so_far.order_numbers.left, order, left);
     push_pairs(own.side(), order, &so_far.fills, &mut so_far.pairs)
 }
 
@@ -132,21 +137,22 @@ pub fn match_record(
     requires regular { Regular orders.now }
     requires order { order < length orders.now }
     requires endings { AreEndings orders.now endings.now }
-    requires dropped { AreEndingsDropped endings.now so_far.old.standing.start
+    requires dropped { AreEndingsDropped endings.now so_far.old.books_so_far.start
         (place_at orders.now order) }
     requires counted { AreTradesSoFar orders.now order 0 so_far.old }
     requires matched { MatchedBefore orders.now order (place_at orders.now order) so_far.old }
-    ensures dropped { OnOk result (AreEndingsDropped endings.now so_far.new.standing.start
+    ensures dropped { OnOk result (AreEndingsDropped endings.now so_far.new.books_so_far.start
         (next_order_place orders.now (suc order))) }
     ensures counted { OnOk result (AreTradesSoFar orders.now (suc order) 0 so_far.new) }
     ensures matched { OnOk result
-        (MatchedBefore orders.now (suc order) (next_order_place orders.now (suc order)) so_far.new) }
+        (MatchedBefore orders.now (suc order)
+        (next_order_place orders.now (suc order)) so_far.new) }
 {
     trade_order(orders, order, so_far)?;
-    let standing = &mut so_far.standing;
-    standing.drop_own(orders, endings, order);
-    let left = so_far.sheet.left[order];
-    enter_own(orders, order, left, &mut standing.books)?;
-    standing.drop_before_next(orders, endings, order);
+    let books_so_far = &mut so_far.books_so_far;
+    books_so_far.drop_own(orders, endings, order);
+    let left = so_far.order_numbers.left[order];
+    enter_own(orders, order, left, &mut books_so_far.books)?;
+    books_so_far.drop_before_next(orders, endings, order);
     Ok(())
 }

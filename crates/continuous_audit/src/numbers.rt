@@ -6,20 +6,20 @@ ghost use Rattle.continuous_audit.specs.Progress.{AreNumbersAtStart, AreNumbersF
 ghost use Rattle.continuous_audit.specs.Records.{conservation_at};
 ghost use Rattle.continuous_audit.specs.Scans.{number_in};
 
+use super::arrival::arrive_order;
 use super::leaving::{left_at, refresh_left, set_amount};
 use super::market::Market;
-use super::opening::open_order;
+use super::order_numbers::Sheet;
 use super::scanning::{RunningTotals, check_deals};
-use super::sheet::Sheet;
 use audit_base::faults::NoMemory;
 use audit_base::flaws::{Flaw, TradedOrder};
 use matching_core::totals::zeros;
 use std::alloc::Global;
 
-/// What is known of the orders, and where the deals of the last one begin among the causes.
+/// What is known of the orders, and at which of the incoming deals those of the last one begin.
 #[derive(Drop)]
 pub struct Numbers {
-    pub sheet: Sheet,
+    pub order_numbers: Sheet,
     pub running: RunningTotals,
     pub start: usize,
 }
@@ -29,11 +29,11 @@ impl Numbers {
     pub fn new(alloc: Global, count: usize) -> Result<Numbers, NoMemory>
         ensures { IfOk result (AreNumbersAtStart count) }
     {
-        let sheet = Sheet::new(alloc, count)?;
+        let order_numbers = Sheet::new(alloc, count)?;
         let traded = zeros(alloc, count)?;
-        let running = RunningTotals { traded, at: 0 };
+        let running = RunningTotals { traded, added: 0 };
         Ok(Numbers {
-            sheet,
+            order_numbers,
             running,
             start: 0,
         })
@@ -46,7 +46,7 @@ impl Numbers {
     {
         TradedOrder {
             index: order,
-            traded: self.running.traded[order] + self.sheet.before[order],
+            traded: self.running.traded[order] + self.order_numbers.chain_traded[order],
         }
     }
 
@@ -61,23 +61,34 @@ impl Numbers {
             (conservation_at market.now.orders.now market.now.deals.now order) }
         ensures dealt { result ≡ None → HasDealt market.now order self.new }
     {
-        let opening = open_order(market.orders, &self.running.traded, &self.sheet, order);
-        self.sheet.note(order, &opening);
-        self.start = self.running.at;
-        let entered = opening.entered;
-        if let Some(flaw) = check_deals(market, &self.sheet, order, entered, &mut self.running) {
+        let arrival = arrive_order(
+            market.orders,
+            &self.running.traded,
+            &self.order_numbers,
+            order,
+        );
+        self.order_numbers.note(order, &arrival);
+        self.start = self.running.added;
+        let entered = arrival.entered;
+        if let Some(flaw) = check_deals(
+            market,
+            &self.order_numbers,
+            order,
+            entered,
+            &mut self.running,
+        ) {
             return Some(flaw);
         }
-        let sheet = &mut self.sheet;
+        let order_numbers = &mut self.order_numbers;
         refresh_left(
             market,
             self.start,
             &self.running,
-            &sheet.sizes,
-            &mut sheet.left,
+            &order_numbers.sizes,
+            &mut order_numbers.left,
         );
-        let left = left_at(&sheet.sizes, &self.running.traded, order);
-        set_amount(&mut sheet.left, order, left);
+        let left = left_at(&order_numbers.sizes, &self.running.traded, order);
+        set_amount(&mut order_numbers.left, order, left);
         None
     }
 }

@@ -12,40 +12,40 @@ ghost use Rattle.continuous_audit.specs.Progress.{HasDealt};
 ghost use Rattle.continuous_audit.specs.Records.{priority_at};
 
 use super::books::Books;
-use super::causes::resting_of;
+use super::incoming_deals::resting_of;
 use super::market::Market;
 use super::numbers::Numbers;
 use audit_base::flaws::{Evidence, Flaw};
 use order_book::books::Resting;
 use rank_order::comparing::better;
 
-/// Whether an order outranks the resting order of the deal of a cause.
+/// Whether an order outranks the resting order of the deal at `at` of the incoming deals.
 fn outranks(market: &Market<'_>, over: usize, at: usize) -> bool
     requires market { IsMarket market.now }
     requires over { over < length market.now.orders.now }
-    requires at { at < length market.now.causes.now }
+    requires at { at < length market.now.incoming_deals.now }
     requires side { side_at market.now.orders.now over
         ≡ side_at market.now.orders.now (resting_order_at market.now at) }
     ensures { result ≡ better (order_at market.now.orders.now over)
         (order_at market.now.orders.now (resting_order_at market.now at)) }
 {
-    let (orders, deals, causes) = (market.orders, market.deals, market.causes);
-    let deal = &deals[causes[at].deal as usize];
+    let (orders, deals, incoming_deals) = (market.orders, market.deals, market.incoming_deals);
+    let deal = &deals[incoming_deals[at].deal as usize];
     let index = resting_of(orders, deal);
     better(&orders.at(over), &orders.at(index))
 }
 
-/// The flaw of the deal of a cause, which passes over the order at `over`.
+/// The flaw of the deal at `at` of the incoming deals, which passes over the order at `over`.
 fn priority_flaw(market: &Market<'_>, numbers: &Numbers, over: usize, at: usize) -> Flaw
     requires market { IsMarket market.now }
-    requires at { at < length market.now.causes.now }
+    requires at { at < length market.now.incoming_deals.now }
     requires over { HasShownNumber numbers.now over }
     requires resting { HasShownNumber numbers.now (resting_order_at market.now at) }
     ensures { result ≡ priority_flaw market.now.orders.now (shown_number numbers.now)
         (caused_deal_at market.now at) over }
 {
-    let (orders, deals, causes) = (market.orders, market.deals, market.causes);
-    let deal = &deals[causes[at].deal as usize];
+    let (orders, deals, incoming_deals) = (market.orders, market.deals, market.incoming_deals);
+    let deal = &deals[incoming_deals[at].deal as usize];
     let index = resting_of(orders, deal);
     let (side, first, second) = (
         orders.at(index).side(),
@@ -74,7 +74,7 @@ fn check_priority(
         (priority_at market.now.orders.now market.now.deals.now order) }
 {
     let over = best.index;
-    for at in numbers.start..numbers.running.at {
+    for at in numbers.start..numbers.running.added {
         if outranks(market, over, at) {
             return Some(priority_flaw(market, numbers, over, at));
         }
@@ -101,7 +101,7 @@ pub fn pass_deals(
         → AreBooksAfterDeals market.now.orders.now market.now.deals.now order books.new }
 {
     let side = market.orders.at(order).side().other();
-    books.fill(side, &numbers.sheet.left);
+    books.fill(side, &numbers.order_numbers.left);
     match books.best(side) {
         Some(best) => check_priority(market, order, numbers, best),
         None => None,

@@ -6,22 +6,22 @@ ghost use Rattle.continuous_audit.specs.Records.{IsKnownBeforeDeals, conservatio
 
 use super::checking::{Accounts, Arrival, deal_evidence};
 use super::market::Market;
-use super::sheet::Sheet;
+use super::order_numbers::Sheet;
 use audit_base::flaws::Flaw;
 use matching_core::checking::add_deal;
 
-/// What each order has traded in the first deals, by their causes.
+/// What each order has traded in the first of the incoming deals.
 #[derive(Drop)]
 pub struct RunningTotals {
     pub traded: Vec<u128>,
-    /// How many of the causes are added.
-    pub at: usize,
+    /// How many of the incoming deals are added.
+    pub added: usize,
 }
 
 /// Adds what the deals of the order at `order` trade, up to the first that has a flaw.
 pub fn check_deals(
     market: &Market<'_>,
-    sheet: &Sheet,
+    order_numbers: &Sheet,
     order: usize,
     entered: bool,
     running: &mut RunningTotals,
@@ -29,37 +29,37 @@ pub fn check_deals(
     requires market { IsMarket market.now }
     requires order { order < length market.now.orders.now }
     requires known { IsKnownBeforeDeals market.now.orders.now market.now.deals.now
-        order entered sheet.now }
+        order entered order_numbers.now }
     requires traded { HaveTraded market.now order running.old }
     ensures traded { result ≡ None → HaveTraded market.now (suc order) running.new }
-    ensures from { result ≡ None → running.old.at ≤ running.new.at }
+    ensures from { result ≡ None → running.old.added ≤ running.new.added }
     ensures found { IsFindingOfFlaw market.now.orders.now result
         (conservation_at market.now.orders.now market.now.deals.now order) }
 {
-    let (orders, deals, causes) = (market.orders, market.deals, market.causes);
-    let coming = Arrival {
+    let (orders, deals, incoming_deals) = (market.orders, market.deals, market.incoming_deals);
+    let deal_record = Arrival {
         place: orders.at(order).place(),
         entered,
     };
-    while running.at < causes.len() {
-        let cause = causes[running.at];
-        if cause.order as usize != order {
+    while running.added < incoming_deals.len() {
+        let incoming = incoming_deals[running.added];
+        if incoming.order as usize != order {
             return None;
         }
-        let deal = &deals[cause.deal as usize];
+        let deal = &deals[incoming.deal as usize];
         let quantity = deal.quantity.value() as u128;
         let traded = &mut running.traded;
         let (bid_traded, ask_traded) = add_deal(traded, deal.bid, deal.ask, quantity);
         let known = Accounts {
-            bid: sheet.account(deal.bid, bid_traded),
-            ask: sheet.account(deal.ask, ask_traded),
+            bid: order_numbers.account(deal.bid, bid_traded),
+            ask: order_numbers.account(deal.ask, ask_traded),
         };
         let (bid, ask) = (orders.at(deal.bid), orders.at(deal.ask));
-        if let Some(evidence) = deal_evidence(deal, &bid, &ask, coming, known) {
+        if let Some(evidence) = deal_evidence(deal, &bid, &ask, deal_record, known) {
             let place = deal.place;
             return Some(Flaw { place, evidence });
         }
-        running.at += 1;
+        running.added += 1;
     }
     None
 }

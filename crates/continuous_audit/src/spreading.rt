@@ -66,8 +66,8 @@ pub fn spread_of(orders: &OrderList<'_>, order: usize, left: u64, books: &Books)
     ensures finding { (deals : List ADeal) → IsAfterOwn orders.now deals order left books.now
         → IsUncrossedBefore orders.now (traded_before orders.now deals) (place_at orders.now order)
         → spread_finding orders.now deals (place_at orders.now order)
-        ≡ option_map (λ other. finding_of orders.now (spread_flaw_after orders.now deals order other))
-        result }
+        ≡ option_map (λ other. finding_of orders.now
+        (spread_flaw_after orders.now deals order other)) result }
     ensures upto { (other : ℕ) → result ≡ Some other → other ≤ order }
 {
     let own = orders.at(order);

@@ -15,11 +15,11 @@ use audit_base::findings::Finding;
 use audit_base::flaws::Flaw;
 use std::alloc::Global;
 
-/// What is known before an order comes: the numbers of the earlier ones, and what of them rests.
+/// What is known before an order arrives: the numbers of the earlier ones, and what of them rests.
 #[derive(Drop)]
 pub struct State {
     pub numbers: Numbers,
-    pub standing: BooksSoFar,
+    pub books_so_far: BooksSoFar,
 }
 
 impl State {
@@ -30,7 +30,7 @@ impl State {
         let numbers = Numbers::new(alloc, count)?;
         Ok(State {
             numbers,
-            standing: BooksSoFar::new(alloc),
+            books_so_far: BooksSoFar::new(alloc),
         })
     }
 
@@ -45,7 +45,7 @@ impl State {
         if let Some(flaw) = self.numbers.deal_order(market, order) {
             return Some(flaw);
         }
-        pass_deals(market, order, &self.numbers, &mut self.standing.books)
+        pass_deals(market, order, &self.numbers, &mut self.books_so_far.books)
     }
 
     /// The record of the order at `order`: its first flaw, if it has one, and else what is known
@@ -61,14 +61,14 @@ impl State {
             return Ok(Some(flaw));
         }
         let (orders, endings) = (market.orders, market.endings);
-        let standing = &mut self.standing;
-        standing.drop_own(orders, endings, order);
-        let left = self.numbers.sheet.left[order];
-        if let Some(other) = spread_of(orders, order, left, &standing.books) {
+        let books_so_far = &mut self.books_so_far;
+        books_so_far.drop_own(orders, endings, order);
+        let left = self.numbers.order_numbers.left[order];
+        if let Some(other) = spread_of(orders, order, left, &books_so_far.books) {
             return Ok(Some(spread_flaw(orders, &self.numbers, order, other)));
         }
-        enter_own(orders, order, left, &mut standing.books)?;
-        standing.drop_before_next(orders, endings, order);
+        enter_own(orders, order, left, &mut books_so_far.books)?;
+        books_so_far.drop_before_next(orders, endings, order);
         Ok(None)
     }
 

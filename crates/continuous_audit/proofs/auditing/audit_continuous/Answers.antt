@@ -9,10 +9,10 @@ use Rattle.continuous_audit.proofs.AuditLemmas.{market-read, ready-first, last-c
 use Rattle.continuous_audit.proofs.auditing.audit_continuous.Goals as goal
 
 pub first_offence-requires-clause-market : goal.first_offence-requires-clause-market
-first_offence-requires-clause-market c = market-read _ c.in_ok-causes.causes.items c.in_ok-endings.endings.items c.requires.order_list c.requires.deal_list c.deref.ensures.value c.deref-2.ensures.value c.in_ok-causes.ensures c.in_ok-endings.ensures
+first_offence-requires-clause-market c = market-read _ c.in_ok-incoming_deals.incoming_deals.items c.in_ok-endings.endings.items c.requires.order_list c.requires.deal_list c.deref.ensures.value c.deref-2.ensures.value c.in_ok-incoming_deals.ensures c.in_ok-endings.ensures
 
 pub first_offence-requires-clause-ready : goal.first_offence-requires-clause-ready
-first_offence-requires-clause-ready c = ready-first _ (market-read _ c.in_ok-causes.causes.items c.in_ok-endings.endings.items c.requires.order_list c.requires.deal_list c.deref.ensures.value c.deref-2.ensures.value c.in_ok-causes.ensures c.in_ok-endings.ensures) c.in_ok-state.state (subst (λ (n : ℕ). IsFirstState n c.in_ok-state.state) c.len.ensures c.in_ok-state.ensures)
+first_offence-requires-clause-ready c = ready-first _ (market-read _ c.in_ok-incoming_deals.incoming_deals.items c.in_ok-endings.endings.items c.requires.order_list c.requires.deal_list c.deref.ensures.value c.deref-2.ensures.value c.in_ok-incoming_deals.ensures c.in_ok-endings.ensures) c.in_ok-state.state (subst (λ (n : ℕ). IsFirstState n c.in_ok-state.state) c.len.ensures c.in_ok-state.ensures)
 
 pub returns-in-Some : goal.returns-in-Some
 returns-in-Some c =
@@ -24,7 +24,7 @@ pub returns : goal.returns
 returns c =
     let ready = c.in_ok-finding.ensures.done (ap Ok c.in_default.is) in
     let state = c.first_offence.new.self in
-    let market : IsMarket (record { orders = c.args.orders; deals = c.args.deals; causes = c.deref.result; endings = c.deref-2.result }) = market-read _ c.in_ok-causes.causes.items c.in_ok-endings.endings.items c.requires.order_list c.requires.deal_list c.deref.ensures.value c.deref-2.ensures.value c.in_ok-causes.ensures c.in_ok-endings.ensures in
+    let market : IsMarket (record { orders = c.args.orders; deals = c.args.deals; incoming_deals = c.deref.result; endings = c.deref-2.result }) = market-read _ c.in_ok-incoming_deals.incoming_deals.items c.in_ok-endings.endings.items c.requires.order_list c.requires.deal_list c.deref.ensures.value c.deref-2.ensures.value c.in_ok-incoming_deals.ensures c.in_ok-endings.ensures in
     let conforms = last-conforms _ market state ready in
     record {
       conforms = conforms;

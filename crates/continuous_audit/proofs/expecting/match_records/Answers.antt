@@ -11,7 +11,7 @@ loop-order-preserved c =
     let next = sym (add-one c.loop-order.order) in
     let after = c.in_ok-match_record.ensures in
     record {
-      dropped = subst (λ (m : ℕ). AreEndingsDropped c.args.endings.now new.standing.start (next_order_place orders m)) next after.dropped;
+      dropped = subst (λ (m : ℕ). AreEndingsDropped c.args.endings.now new.books_so_far.start (next_order_place orders m)) next after.dropped;
       counted = subst (λ (m : ℕ). AreTradesSoFar orders m 0 new) next after.counted;
       matched = subst (λ (m : ℕ). MatchedBefore orders m (next_order_place orders m) new) next after.matched;
     }

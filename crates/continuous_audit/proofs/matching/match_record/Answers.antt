@@ -26,15 +26,15 @@ returns-clause-matched c = λ deals expected.
     let n = c.args.order in
     let named = expected.conforms.named in
     let after = c.in_ok-trade_order.ensures.matched deals expected in
-    let left = c.trade_order.new.so_far.sheet.left.items in
-    let count = c.in_ok-trade_order.ensures.counted.sheet.left_count in
+    let left = c.trade_order.new.so_far.order_numbers.left.items in
+    let count = c.in_ok-trade_order.ensures.counted.order_numbers.left_count in
     let left_is : c.index-left.result.now ≡ number_in left n = c.index-left.ensures ∙ get_or-default left n c.index-left.result.now 0 (let inside = c.requires.order in omega arith) in
     let own : IsAfterOwn orders deals n c.index-left.result.now c.drop_own.new.self.books = record { named = named; left_is = left_is ∙ after.left_is n (omega arith); holds = c.drop_own.ensures.holds deals named after.books } in
     let above = next-above orders c.requires.list n c.requires.order in
     let next = next-first orders c.requires.list n c.requires.order in
     record {
       traded_is = λ x lt. after.traded_is x lt ∙ sym (traded-gap orders deals (suc (place_at orders n)) _ x above (no-cause orders c.requires.list deals named n c.requires.order _ above next));
-      before_is = after.before_is;
+      chain_traded_is = after.chain_traded_is;
       left_is = (left-next orders c.requires.list deals named n c.requires.order left (record { count = count; is = after.left_is })).is;
       books = c.drop_before_next.ensures.holds deals named (c.in_ok-enter_own.ensures.entered deals own);
       pairs = after.pairs;

@@ -6,11 +6,11 @@ use Rattle.continuous_audit.proofs.scanning.check_deals.Given as goal
 
 abbrev pub invariant-loop-running : goal.invariant-loop-running
 invariant-loop-running l = record {
-  from : l.initial.running.at ≤ l.running.at;
-  own : (i : ℕ) → l.initial.running.at ≤ i → i < l.running.at → cause_order_at l.causes i ≡ l.order;
-  totals : AreRunningTotals l.orders l.deals l.causes l.running.at l.running.traded.items;
-  clean : (i : ℕ) → l.initial.running.at ≤ i → i < l.running.at → conservation_finding l.orders l.deals (place_at l.orders l.order) (cause_deal_at l.causes i) ≡ None;
+  from : l.initial.running.added ≤ l.running.added;
+  own : (i : ℕ) → l.initial.running.added ≤ i → i < l.running.added → cause_order_at l.incoming_deals i ≡ l.order;
+  totals : AreRunningTotals l.orders l.deals l.incoming_deals l.running.added l.running.traded.items;
+  clean : (i : ℕ) → l.initial.running.added ≤ i → i < l.running.added → conservation_finding l.orders l.deals (place_at l.orders l.order) (cause_deal_at l.incoming_deals i) ≡ None;
 }
 
 abbrev pub decreases-loop-running : goal.decreases-loop-running
-decreases-loop-running l = length l.causes - l.running.at
+decreases-loop-running l = length l.incoming_deals - l.running.added

@@ -45,7 +45,7 @@ returns-in-Some-spread_of-clause-found c =
     let other = c.in-Some-spread_of.other in
     let after_deals = c.trade.ensures.after_deals c.in_default.is in
     let left = after_deals.dealt.known.left in
-    let left_is : c.index-left.result.now ≡ number_in numbers.sheet.left.items n = c.index-left.ensures ∙ get_or-default numbers.sheet.left.items n c.index-left.result.now 0 (let count = left.count in let inside = c.requires.order in omega arith) in
+    let left_is : c.index-left.result.now ≡ number_in numbers.order_numbers.left.items n = c.index-left.ensures ∙ get_or-default numbers.order_numbers.left.items n c.index-left.result.now 0 (let count = left.count in let inside = c.requires.order in omega arith) in
     let own : IsAfterOwn orders deals n c.index-left.result.now c.drop_own.new.self.books = record { named = c.requires.market.deal_list.named; left_is = left_is ∙ left.is n (omega arith); holds = c.drop_own.ensures.holds deals c.requires.market.deal_list.named after_deals.holds } in
     let is = c.spread_of.ensures.finding deals own c.requires.ready.calm.apart in
     let found = spread-shown orders deals (place_at orders n) _ after_deals.dealt.conserved after_deals.ranked (is ∙ ap (option_map (λ (x : ℕ). finding_of orders (spread_flaw_after orders deals n x))) c.in-Some-spread_of.is) in
@@ -62,7 +62,7 @@ returns-clause-ready c =
     let n = c.args.order in
     let after_deals = c.trade.ensures.after_deals c.in_default.is in
     let left = after_deals.dealt.known.left in
-    let left_is : c.index-left.result.now ≡ number_in c.trade.new.self.numbers.sheet.left.items n = c.index-left.ensures ∙ get_or-default c.trade.new.self.numbers.sheet.left.items n c.index-left.result.now 0 (let count = left.count in let inside = c.requires.order in omega arith) in
+    let left_is : c.index-left.result.now ≡ number_in c.trade.new.self.numbers.order_numbers.left.items n = c.index-left.ensures ∙ get_or-default c.trade.new.self.numbers.order_numbers.left.items n c.index-left.result.now 0 (let count = left.count in let inside = c.requires.order in omega arith) in
     let own : IsAfterOwn orders deals n c.index-left.result.now c.drop_own.new.self.books = record { named = c.requires.market.deal_list.named; left_is = left_is ∙ left.is n (omega arith); holds = c.drop_own.ensures.holds deals c.requires.market.deal_list.named after_deals.holds } in
     let spread_none : spread_finding orders deals (place_at orders n) ≡ None = c.spread_of.ensures.finding deals own c.requires.ready.calm.apart
     ∙ ap (option_map (λ (x : ℕ). finding_of orders (spread_flaw_after orders deals n x))) c.in_default-spread_of.is in
@@ -71,10 +71,10 @@ returns-clause-ready c =
           (none-shown orders deals (place_at orders n) after_deals.dealt.conserved after_deals.ranked spread_none)
           (quiet-apart orders c.requires.market.list deals n c.requires.order c.drop_own.new.self.books own.holds c.requires.ready.calm.apart spread_none);
       known = record {
-        before = after_deals.dealt.known.before;
-        closed = after_deals.dealt.known.closed;
+        chain_traded = after_deals.dealt.known.chain_traded;
+        chain_ended = after_deals.dealt.known.chain_ended;
         sizes = after_deals.dealt.known.sizes;
-        left = left-next c.args.market.now.orders.now c.requires.market.list c.args.market.now.deals.now c.requires.market.deal_list.named c.args.order c.requires.order c.trade.new.self.numbers.sheet.left.items left;
+        left = left-next c.args.market.now.orders.now c.requires.market.list c.args.market.now.deals.now c.requires.market.deal_list.named c.args.order c.requires.order c.trade.new.self.numbers.order_numbers.left.items left;
         running = after_deals.dealt.known.running;
       };
       books = c.drop_before_next.ensures.holds deals c.requires.market.deal_list.named (c.in_ok-enter_own.ensures.entered deals own);

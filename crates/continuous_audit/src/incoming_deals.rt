@@ -3,7 +3,7 @@ ghost use Rattle.std.specs.Prelude.{◌≡◌, ◌<◌, ◌^◌, All, IfOk, leng
 ghost use Rattle.audit_base.specs.Orders.{order_at, place_at};
 ghost use Rattle.audit_base.specs.Deals.{NamesOrders, IsDealList};
 ghost use Rattle.audit_base.specs.Continuous.{incoming_order, resting_order};
-ghost use Rattle.continuous_audit.specs.Causes.{AreCauses, causes_upto};
+ghost use Rattle.continuous_audit.specs.IncomingDeals.{AreCauses, causes_upto};
 
 use audit_base::faults::NoMemory;
 use audit_base::orders::Deal;
@@ -17,7 +17,7 @@ pub struct Cause {
     pub deal: u32,
 }
 
-/// The order of a deal whose record is the cause.
+/// The incoming order of a deal: the later one of its two.
 pub fn incoming(orders: &OrderList<'_>, deal: &Deal) -> usize
     requires { NamesOrders orders.now deal.now }
     ensures same { result ≡ incoming_order orders.now deal.now }
@@ -44,7 +44,7 @@ pub fn resting_of(orders: &OrderList<'_>, deal: &Deal) -> usize
 }
 
 /// The deals with their incoming orders, in log order.
-fn collect_causes(
+fn collect_incoming_deals(
     alloc: Global,
     orders: &OrderList<'_>,
     deals: &[Deal],
@@ -52,22 +52,22 @@ fn collect_causes(
     requires few_orders { length orders.now < 2 ^ 32 }
     requires few_deals { length deals.now < 2 ^ 32 }
     requires named { All (NamesOrders orders.now) deals.now }
-    ensures { IfOk result (λ causes.
-        causes.items ≡ causes_upto orders.now deals.now (length deals.now)) }
+    ensures { IfOk result (λ incoming_deals.
+        incoming_deals.items ≡ causes_upto orders.now deals.now (length deals.now)) }
 {
-    let mut causes = Vec::with_capacity(alloc, deals.len())?;
+    let mut incoming_deals = Vec::with_capacity(alloc, deals.len())?;
     for (index, deal) in deals.iter().enumerate() {
-        let cause = Cause {
+        let incoming_deal = Cause {
             order: incoming(orders, deal) as u32,
             deal: index as u32,
         };
-        causes.push(cause)?;
+        incoming_deals.push(incoming_deal)?;
     }
-    Ok(causes)
+    Ok(incoming_deals)
 }
 
 /// The deals by their incoming orders, and those of one order in the order of the log.
-pub fn sort_causes(
+pub fn sort_incoming_deals(
     alloc: Global,
     orders: &OrderList<'_>,
     deals: &[Deal],
@@ -75,9 +75,10 @@ pub fn sort_causes(
     requires few_orders { length orders.now < 2 ^ 32 }
     requires few_deals { length deals.now < 2 ^ 32 }
     requires named { All (NamesOrders orders.now) deals.now }
-    ensures { IfOk result (λ causes. AreCauses orders.now deals.now causes.items) }
+    ensures { IfOk result (λ incoming_deals.
+        AreCauses orders.now deals.now incoming_deals.items) }
 {
-    let mut causes = collect_causes(alloc, orders, deals)?;
-    causes.sort_unstable();
-    Ok(causes)
+    let mut incoming_deals = collect_incoming_deals(alloc, orders, deals)?;
+    incoming_deals.sort_unstable();
+    Ok(incoming_deals)
 }

@@ -1,15 +1,15 @@
-//! What an order brings at its own record.
+//! The arrival of an order at its own record.
 ghost use Rattle.std.specs.Prelude.{◌≡◌, ◌<◌, ◌≤◌, ◌^◌, ℕ, List, None, Some, true, length};
 ghost use Rattle.audit_base.specs.Orders.{IsOrderList};
 ghost use Rattle.audit_base.specs.declared.orders.Deal.{Deal as ADeal};
 ghost use Rattle.continuous_audit.specs.Chains.{IsKnownBeforeOpening, IsOpenSheet};
 ghost use Rattle.continuous_audit.specs.DealFindings.{enters, size_left, waits_in};
-ghost use Rattle.continuous_audit.specs.Sheets.{FitsOrder, IsOpeningOfOrder};
+ghost use Rattle.continuous_audit.specs.OrderNumbers.{FitsOrder, IsOpeningOfOrder};
 ghost use Rattle.continuous_audit.specs.Scans.{AreTotalsSmall};
 
-use super::chains::{chain_before, is_closed};
+use super::chains::{is_chain_ended, traded_by_chain};
 use super::checking::waits;
-use super::sheet::Sheet;
+use super::order_numbers::Sheet;
 use audit_base::numbers::Quantity;
 use order_list::listed::ListedOrder;
 use order_list::lists::OrderList;
@@ -25,60 +25,65 @@ fn enters(order: &ListedOrder<'_>, target_rests: bool) -> bool
 }
 
 /// Whether the target of an order rests before its place, or there is none.
-fn target_rests(orders: &OrderList<'_>, sheet: &Sheet, order: &ListedOrder<'_>) -> bool
+fn target_rests(orders: &OrderList<'_>, order_numbers: &Sheet, order: &ListedOrder<'_>) -> bool
     requires inside { (t : ℕ) → order.now.target ≡ Some t → t < length orders.now }
-    requires count { length sheet.now.left.items ≡ length orders.now }
+    requires count { length order_numbers.now.left.items ≡ length orders.now }
     ensures none { order.now.target ≡ None → result ≡ true }
     ensures some { (t : ℕ) → order.now.target ≡ Some t
-        → result ≡ waits_in orders.now sheet.now.left.items order.now.place t }
+        → result ≡ waits_in orders.now order_numbers.now.left.items order.now.place t }
 {
     match order.target() {
-        Some(index) => waits(&orders.at(index), order.place(), sheet.left[index]),
+        Some(index) => waits(&orders.at(index), order.place(), order_numbers.left[index]),
         None => true,
     }
 }
 
 /// What is left of a quantity of which this much is taken, and 0 where the order didn't enter.
-fn size_left(entered: bool, quantity: Quantity, before: u128) -> u64
-    ensures same { result ≡ size_left entered quantity before }
+fn size_left(entered: bool, quantity: Quantity, chain_traded: u128) -> u64
+    ensures same { result ≡ size_left entered quantity chain_traded }
     ensures most { result ≤ 10 ^ 12 }
 {
     let quantity = quantity.value();
-    if entered && before < quantity as u128 {
-        quantity - before as u64
+    if entered && chain_traded < quantity as u128 {
+        quantity - chain_traded as u64
     } else {
         0
     }
 }
 
-/// What an order brings at its own record: whether it enters, its Before, whether the records of
-/// its chain end one another, and its Size.
+/// The arrival of an order: whether it enters, its Before (what its chain has traded), whether it
+/// is known that its record, or an earlier one, ends each order of its chain, and its Size.
 #[derive(Clone, Copy, Debug, Drop)]
 pub struct Opening {
     pub entered: bool,
-    pub before: u128,
-    pub closed: bool,
+    pub chain_traded: u128,
+    pub chain_ended: bool,
     pub size: u64,
 }
 
-/// What an order brings at its own record, from what the earlier ones have traded and have left.
-pub fn open_order(orders: &OrderList<'_>, traded: &[u128], sheet: &Sheet, order: usize) -> Opening
+/// The arrival of an order at its own record, from what the earlier ones have traded and have left.
+pub fn arrive_order(
+    orders: &OrderList<'_>,
+    traded: &[u128],
+    order_numbers: &Sheet,
+    order: usize,
+) -> Opening
     requires list { IsOrderList orders.now }
     requires order { order < length orders.now }
     requires traded { AreTotalsSmall orders.now traded.now }
-    requires sheet { IsOpenSheet orders.now order sheet.now }
-    ensures opened { (deals : List ADeal)
-        → IsKnownBeforeOpening orders.now deals order traded.now sheet.now
+    requires order_numbers { IsOpenSheet orders.now order order_numbers.now }
+    ensures arrived { (deals : List ADeal)
+        → IsKnownBeforeOpening orders.now deals order traded.now order_numbers.now
         → IsOpeningOfOrder orders.now deals order result }
     ensures fits { FitsOrder orders.now order result }
 {
-    let before = chain_before(orders, traded, sheet, order);
-    let opened = orders.at(order);
-    let entered = enters(&opened, target_rests(orders, sheet, &opened));
+    let chain_traded = traded_by_chain(orders, traded, order_numbers, order);
+    let arrived = orders.at(order);
+    let entered = enters(&arrived, target_rests(orders, order_numbers, &arrived));
     Opening {
         entered,
-        before,
-        closed: is_closed(orders, sheet, order),
-        size: size_left(entered, opened.quantity(), before),
+        chain_traded,
+        chain_ended: is_chain_ended(orders, order_numbers, order),
+        size: size_left(entered, arrived.quantity(), chain_traded),
     }
 }

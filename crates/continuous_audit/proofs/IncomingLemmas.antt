@@ -1,4 +1,4 @@
--- What the first of the sorted causes add up to.
+-- What the first of the incoming deals add up to.
 use Rattle.std.proofs.Common.{◌≡◌, ◌≢◌, ◌<◌, ◌≤◌, ◌+◌, ℕ, zero, suc, List, [], ◌∷◌, ◌++◌, length, Bool, true, false, cond, refl, sym, ap, ◌∙◌, arith, inl, inr, subst, All, AllPairs, get_or, take, sum_by, eqb, is_lt, IsPermutation, IsSorted, add-one}
 use Rattle.std.specs.Prelude.{nat_lt, nat_le, ◌==◌, ◌&&◌, ◌||◌, Contains}
 use Rattle.std.specs.Cmp.{IsStrictWeakOrder}
@@ -19,8 +19,8 @@ use Rattle.audit_base.specs.Continuous.{cause, incoming_order, traded_before, tr
 use Rattle.audit_base.proofs.OffenceLemmas.{get_or-default}
 use Rattle.audit_base.proofs.OrderLemmas.{place-rises}
 use Rattle.audit_base.proofs.SumLemmas.{below-same, below-list, below-add, sum_by-same, AllPairs-head, AllPairs-tail, AllPairs-cons}
-use Rattle.continuous_audit.specs.declared.causes.Cause.{Cause}
-use Rattle.continuous_audit.specs.Causes.{AreCauses, CauseBefore, cause_cmp, cause_of, causes_upto, running_total}
+use Rattle.continuous_audit.specs.declared.incoming_deals.Cause.{Cause}
+use Rattle.continuous_audit.specs.IncomingDeals.{AreCauses, CauseBefore, cause_cmp, cause_of, causes_upto, running_total}
 
 module _ (orders : List Order) (deals : List Deal) where
   upto-only : (n : ℕ) → All (λ c. (c.deal < n) × (c ≡ cause_of orders deals c.deal)) (causes_upto orders deals n)
@@ -68,24 +68,24 @@ sooner a b apart h = elim (cases_lt a.order b.order) [
   | inr le ↦ inr (grind (arith, nat_tests), elim (cases_lt a.deal b.deal) [ inl lt ↦ lt | inr ge ↦ absurd (apart (grind (arith, nat_tests))) ])
 ]
 
--- the sorted causes
-pub are-causes : (orders : List Order) (deals : List Deal) (causes : List Cause) → IsPermutation (causes_upto orders deals (length deals)) causes → IsSorted cause_cmp causes → AreCauses orders deals causes
-are-causes orders deals causes moved in_order =
+-- the incoming deals, sorted
+pub are-incoming_deals : (orders : List Order) (deals : List Deal) (incoming_deals : List Cause) → IsPermutation (causes_upto orders deals (length deals)) incoming_deals → IsSorted cause_cmp incoming_deals → AreCauses orders deals incoming_deals
+are-incoming_deals orders deals incoming_deals moved in_order =
     let from = causes_upto orders deals (length deals) in
     let once = IsDistinct-from_apart same_deal from (λ i j d lt below. ne_eqb _ _ (λ e. let up = upto-rising orders deals (length deals) i j d lt below in absurd (omega arith))) in
     record {
-      only = All-permutation (λ (c : Cause). (c.deal < length deals) × (c ≡ cause_of orders deals c.deal)) from causes moved (upto-only orders deals (length deals));
-      each = λ k lt. Contains-permutation from causes (cause_of orders deals k) moved (upto-each orders deals (length deals) k lt);
+      only = All-permutation (λ (c : Cause). (c.deal < length deals) × (c ≡ cause_of orders deals c.deal)) from incoming_deals moved (upto-only orders deals (length deals));
+      each = λ k lt. Contains-permutation from incoming_deals (cause_of orders deals k) moved (upto-each orders deals (length deals) k lt);
       rising = λ i j d lt below.
-          let apart : (get_or causes i d).deal ≢ (get_or causes j d).deal = λ e. both_ways _ (apart_from_distinct same_deal causes i j d (IsDistinct-IsPermutation same_deal (λ r s. flips r.deal s.deal) from causes moved once) lt below) (eq-eqb _ _ e) in
-          sooner (get_or causes i d) (get_or causes j d) apart (sorted_far (λ (r s : Cause). is_lt (cause_cmp r s)) weak causes in_order i j d (omega arith) below);
-      sums = λ f. sum_by-IsPermutation f from causes moved;
+          let apart : (get_or incoming_deals i d).deal ≢ (get_or incoming_deals j d).deal = λ e. both_ways _ (apart_from_distinct same_deal incoming_deals i j d (IsDistinct-IsPermutation same_deal (λ r s. flips r.deal s.deal) from incoming_deals moved once) lt below) (eq-eqb _ _ e) in
+          sooner (get_or incoming_deals i d) (get_or incoming_deals j d) apart (sorted_far (λ (r s : Cause). is_lt (cause_cmp r s)) weak incoming_deals in_order i j d (omega arith) below);
+      sums = λ f. sum_by-IsPermutation f from incoming_deals moved;
     }
   where
     flips : (a b : ℕ) → eqb a b ≡ eqb b a
     flips a b = grind (arith, nat_tests)
 
--- a test that holds of the first causes alone picks their sum
+-- a test that holds of the first incoming deals alone picks their sum
 module _ (f : Cause → ℕ) (test : Cause → Bool) where
   picked : (cs : List Cause) (at : ℕ) → ((i : ℕ) (d : Cause) → i < at → i < length cs → test (get_or cs i d) ≡ true) → ((i : ℕ) (d : Cause) → at ≤ i → i < length cs → test (get_or cs i d) ≡ false)
       → sum_by (λ c. cond (test c) (f c) 0) cs ≡ sum_by f (take at cs)
@@ -139,15 +139,15 @@ incoming-cause orders d = elim (cases_lt (place_at orders d.bid) (place_at order
 pub incoming-inside : (orders : List Order) (d : Deal) → NamesOrders orders d → incoming_order orders d < length orders
 incoming-inside orders d n = cond_both (nat_lt (place_at orders d.bid) (place_at orders d.ask)) d.ask d.bid (λ x. x < length orders) (λ t. n.ask_inside) (λ t. n.bid_inside)
 
-module _ (orders : List Order) (list : IsOrderList orders) (deals : List Deal) (named : All (NamesOrders orders) deals) (causes : List Cause) (are : AreCauses orders deals causes) where
-  -- a sum over all causes of what is picked by a test of the place and the deal
-  all-sum : (f : Cause → ℕ) → sum_by f causes ≡ sum_below (λ k. f (cause_of orders deals k)) (length deals)
+module _ (orders : List Order) (list : IsOrderList orders) (deals : List Deal) (named : All (NamesOrders orders) deals) (incoming_deals : List Cause) (are : AreCauses orders deals incoming_deals) where
+  -- a sum over all incoming deals of what is picked by a test of the place and the deal
+  all-sum : (f : Cause → ℕ) → sum_by f incoming_deals ≡ sum_below (λ k. f (cause_of orders deals k)) (length deals)
   all-sum f = are.sums f ∙ upto-sum orders deals f (length deals)
 
-  pub cause-inside : (i : ℕ) (d : Cause) → i < length causes → (get_or causes i d).order < length orders
+  pub cause-inside : (i : ℕ) (d : Cause) → i < length incoming_deals → (get_or incoming_deals i d).order < length orders
   cause-inside i d lt =
       let h = are.only i d lt in
-      let c = get_or causes i d in
+      let c = get_or incoming_deals i d in
       let inside = incoming-inside orders (deal_at deals c.deal) (named c.deal deal_past_end h.0) in
       let same : c.order ≡ incoming_order orders (deal_at deals c.deal) = ap (λ (x : Cause). x.order) h.1 in
       omega arith
@@ -155,14 +155,14 @@ module _ (orders : List Order) (list : IsOrderList orders) (deals : List Deal) (
   part : ℕ → Cause → ℕ
   part x c = quantity_traded_by x (deal_at deals c.deal)
 
-  -- the first causes, those of orders of places below p: what is traded before p
-  pub running-before : (p at x : ℕ) → ((i : ℕ) (d : Cause) → i < at → i < length causes → place_at orders (get_or causes i d).order < p) → ((i : ℕ) (d : Cause) → at ≤ i → i < length causes → p ≤ place_at orders (get_or causes i d).order)
-      → running_total deals causes at x ≡ traded_before orders deals p x
+  -- the first incoming deals, those of orders of places below p: what is traded before p
+  pub running-before : (p at x : ℕ) → ((i : ℕ) (d : Cause) → i < at → i < length incoming_deals → place_at orders (get_or incoming_deals i d).order < p) → ((i : ℕ) (d : Cause) → at ≤ i → i < length incoming_deals → p ≤ place_at orders (get_or incoming_deals i d).order)
+      → running_total deals incoming_deals at x ≡ traded_before orders deals p x
   unfolding traded_before part
   running-before p at x first later =
       let test : Cause → Bool = λ c. nat_lt (place_at orders c.order) p in
       let h : Deal → ℕ = λ d. cond (nat_lt (place_at orders (incoming_order orders d)) p) (quantity_traded_by x d) 0 in
-      let one = picked (part x) test causes at (λ i d lt below. lt-ltb _ _ (first i d lt below)) (λ i d le below. le-ltb _ _ (later i d le below)) in
+      let one = picked (part x) test incoming_deals at (λ i d lt below. lt-ltb _ _ (first i d lt below)) (λ i d le below. le-ltb _ _ (later i d le below)) in
       let two = all-sum (λ c. cond (test c) (part x c) 0) in
       let three : sum_below (λ k. h (deal_at deals k)) (length deals) ≡ sum_by h (take (length deals) deals) = below-list h deals deal_past_end (length deals) (omega arith) in
       let four : sum_by h (take (length deals) deals) ≡ sum_by h deals = ap (sum_by h) (take_all (length deals) deals (omega arith)) in
@@ -170,46 +170,46 @@ module _ (orders : List Order) (list : IsOrderList orders) (deals : List Deal) (
       let d = get_or deals k e in nested (nat_lt (place_at orders (incoming_order orders d)) p) (names_order x d) d.quantity ∙ ap (λ (q : ℕ). cond (names_order x d && nat_lt q p) d.quantity 0) (incoming-cause orders d)) in
       sym one ∙ two ∙ three ∙ four ∙ five
 
-  -- up to the cause at an index, of the order at n: what is traded before its place, and in its
+  -- up to the incoming deal at an index, of the order at n: what is traded before its place, and in its
   -- deals up to this one
-  module _ (at : ℕ) (e : Cause) (lt : at < length causes) where
+  module _ (at : ℕ) (e : Cause) (lt : at < length incoming_deals) where
     abbrev here : Cause
-    here = get_or causes at e
+    here = get_or incoming_deals at e
 
     abbrev p : ℕ
     p = place_at orders here.order
 
-    lower : (i : ℕ) (d : Cause) → i < length causes → (get_or causes i d).order < here.order → place_at orders (get_or causes i d).order < p
-    lower i d below less = place-rises orders list (get_or causes i d).order here.order less (cause-inside at e lt)
+    lower : (i : ℕ) (d : Cause) → i < length incoming_deals → (get_or incoming_deals i d).order < here.order → place_at orders (get_or incoming_deals i d).order < p
+    lower i d below less = place-rises orders list (get_or incoming_deals i d).order here.order less (cause-inside at e lt)
 
-    higher : (i : ℕ) (d : Cause) → i < length causes → here.order < (get_or causes i d).order → p < place_at orders (get_or causes i d).order
-    higher i d below more = place-rises orders list here.order (get_or causes i d).order more (cause-inside i d below)
+    higher : (i : ℕ) (d : Cause) → i < length incoming_deals → here.order < (get_or incoming_deals i d).order → p < place_at orders (get_or incoming_deals i d).order
+    higher i d below more = place-rises orders list here.order (get_or incoming_deals i d).order more (cause-inside i d below)
 
     upto : Cause → Bool
     upto c = nat_lt (place_at orders c.order) p || ((place_at orders c.order == p) && nat_le c.deal here.deal)
 
-    default-at : (i : ℕ) (d : Cause) → i < length causes → get_or causes i d ≡ get_or causes i e
-    default-at i d below = get_or-default causes i d e below
+    default-at : (i : ℕ) (d : Cause) → i < length incoming_deals → get_or incoming_deals i d ≡ get_or incoming_deals i e
+    default-at i d below = get_or-default incoming_deals i d e below
 
-    upto-first : (i : ℕ) (d : Cause) → i < suc at → i < length causes → upto (get_or causes i d) ≡ true
+    upto-first : (i : ℕ) (d : Cause) → i < suc at → i < length incoming_deals → upto (get_or incoming_deals i d) ≡ true
     unfolding upto
     upto-first i d le below = elim (cases_eq i at) [
       | inl same ↦
-          let is : get_or causes i d ≡ here = default-at i d below ∙ ap (λ (j : ℕ). get_or causes j e) same in
+          let is : get_or incoming_deals i d ≡ here = default-at i d below ∙ ap (λ (j : ℕ). get_or incoming_deals j e) same in
           subst (λ (c : Cause). (nat_lt (place_at orders c.order) p || ((place_at orders c.order == p) && nat_le c.deal here.deal)) ≡ true) (sym is) (or_right _ _ (and_from _ _ (eq-eqb p p refl) (le-leb here.deal here.deal (omega arith))))
       | inr ne ↦ elim (before-at i d (omega (arith, ne)) below) [
         | inl less ↦ or_left _ _ (lt-ltb _ _ (lower i d below less))
-        | inr same ↦ let deal = same.1 in or_right (nat_lt (place_at orders (get_or causes i d).order) p) _ (and_from _ _ (eq-eqb _ _ (ap (place_at orders) same.0)) (le-leb _ _ (omega arith)))
+        | inr same ↦ let deal = same.1 in or_right (nat_lt (place_at orders (get_or incoming_deals i d).order) p) _ (and_from _ _ (eq-eqb _ _ (ap (place_at orders) same.0)) (le-leb _ _ (omega arith)))
       ]
     ]
       where
-        before-at : (i : ℕ) (d : Cause) → i < at → i < length causes → CauseBefore (get_or causes i d) here
-        before-at i d less below = subst (λ (c : Cause). CauseBefore (get_or causes i d) c) (default-at at d lt) (are.rising i at d less lt)
+        before-at : (i : ℕ) (d : Cause) → i < at → i < length incoming_deals → CauseBefore (get_or incoming_deals i d) here
+        before-at i d less below = subst (λ (c : Cause). CauseBefore (get_or incoming_deals i d) c) (default-at at d lt) (are.rising i at d less lt)
 
-    upto-later : (i : ℕ) (d : Cause) → suc at ≤ i → i < length causes → upto (get_or causes i d) ≡ false
+    upto-later : (i : ℕ) (d : Cause) → suc at ≤ i → i < length incoming_deals → upto (get_or incoming_deals i d) ≡ false
     unfolding upto
     upto-later i d le below =
-        let c = get_or causes i d in
+        let c = get_or incoming_deals i d in
         let after : CauseBefore here c = subst (λ (x : Cause). CauseBefore x c) (default-at at d lt) (are.rising at i d (omega arith) below) in
         elim after [
           | inl more ↦
@@ -224,14 +224,14 @@ module _ (orders : List Order) (list : IsOrderList orders) (deals : List Deal) (
         off : (a b : ℕ) → b < a → nat_le a b ≡ false
         off a b lt = elim (cases_Bool (nat_le a b)) [ inr f ↦ f | inl t ↦ let le = leb-true a b t in absurd (omega arith) ]
 
-    pub running-upto : (x : ℕ) → running_total deals causes (suc at) x ≡ traded_before orders deals p x + traded_at orders (take (here.deal + 1) deals) p x
+    pub running-upto : (x : ℕ) → running_total deals incoming_deals (suc at) x ≡ traded_before orders deals p x + traded_at orders (take (here.deal + 1) deals) p x
     unfolding upto part traded_before traded_at
     running-upto x =
         let k = here.deal in
         let inside : k < length deals = (are.only at e lt).0 in
         let h : Deal → ℕ = λ d. cond (nat_lt (place_at orders (incoming_order orders d)) p) (quantity_traded_by x d) 0 in
         let g : Deal → ℕ = λ d. cond (place_at orders (incoming_order orders d) == p) (quantity_traded_by x d) 0 in
-        let one = picked (part x) upto causes (suc at) upto-first upto-later in
+        let one = picked (part x) upto incoming_deals (suc at) upto-first upto-later in
         let two = all-sum (λ c. cond (upto c) (part x c) 0) in
         let three : sum_below (λ j. cond (upto (cause_of orders deals j)) (quantity_traded_by x (deal_at deals j)) 0) (length deals) ≡ sum_below (λ j. h (deal_at deals j) + cond (nat_le j k) (g (deal_at deals j)) 0) (length deals) =
         below-same _ _ (length deals) (λ j below.
@@ -249,7 +249,7 @@ module _ (orders : List Order) (list : IsOrderList orders) (deals : List Deal) (
         let g3 : sum_by g (take (k + 1) deals) ≡ sum_by (λ d. cond (names_order x d && (cause orders d == p)) d.quantity 0) (take (k + 1) deals) = sum_by-same g (λ d. cond (names_order x d && (cause orders d == p)) d.quantity 0) (take (k + 1) deals) (λ j f below.
         let d = get_or (take (k + 1) deals) j f in nested (place_at orders (incoming_order orders d) == p) (names_order x d) d.quantity ∙ ap (λ (q : ℕ). cond (names_order x d && (q == p)) d.quantity 0) (incoming-cause orders d)) in
         let g0 : sum_below (λ j. g (deal_at deals j)) (suc k) ≡ sum_below (λ j. g (deal_at deals j)) (k + 1) = ap (sum_below (λ j. g (deal_at deals j))) (sym (add-one k)) in
-        let whole : sum_by (part x) (take (suc at) causes) ≡ sum_below (λ j. h (deal_at deals j)) (length deals) + sum_below (λ j. cond (nat_le j k) (g (deal_at deals j)) 0) (length deals) = sym one ∙ two ∙ three ∙ four in
+        let whole : sum_by (part x) (take (suc at) incoming_deals) ≡ sum_below (λ j. h (deal_at deals j)) (length deals) + sum_below (λ j. cond (nat_le j k) (g (deal_at deals j)) 0) (length deals) = sym one ∙ two ∙ three ∙ four in
         let left_is = h1 ∙ h2 ∙ h3 in
         let right_is = g1 ∙ g0 ∙ g2 ∙ g3 in
         whole ∙ ap (λ (a : ℕ). a + sum_below (λ j. cond (nat_le j k) (g (deal_at deals j)) 0) (length deals)) left_is ∙ ap (λ (b : ℕ). sum_by (λ d. cond (names_order x d && nat_lt (cause orders d) p) d.quantity 0) deals + b) right_is
