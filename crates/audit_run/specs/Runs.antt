@@ -79,8 +79,8 @@ AnswersHeldLogs (Some request) r old new status =
     (logs : List (List ℕ)) → AllIsThere r request logs old new
     → WritesAnswer request logs old new status
 
--- The next log that the command needs is this one, which was started, read to its
--- end, and has these bytes.
+-- The next log that the command needs is this one, which was started, read to its end,
+-- and has these bytes.
 pub record ReadsNext (r : Reading) (request : Request) (earlier : List (List ℕ)) (step : LogStep)
     (bytes : List ℕ) : Type 0 where
   pub next : next_log request earlier ≡ Some (step.log, step.name)
@@ -129,8 +129,8 @@ pub record StopsTooLong (r : Reading) (request : Request) (text : List ℕ) : Ty
   pub cause : IsTooLong r last
   pub text_is : text ≡ too_long_line last.log
 
--- what a reading decides, by status: the answer to all the logs, or the line of
--- the log at which it stopped
+-- what a reading decides, by status: the answer to all the logs,
+-- or the line of the log at which it stopped
 abbrev pub ReadingDecides : Reading → Request → Status → List ℕ → Type 0
 ReadingDecides r request Accepted text = IsAnswerToReadLogs r request Accepted text
 ReadingDecides r request Rejected text = IsAnswerToReadLogs r request Rejected text

@@ -1,5 +1,5 @@
--- What a CSV feed stands for, and what it and the readers of whole
--- logs answer. The code of LF is 10.
+-- What a CSV feed stands for, and what it and the readers of whole logs answer.
+-- The code of LF is 10.
 use Rattle.std.specs.Prelude.{◌≡◌, ⊤, ℕ, Bool, true, false, ◌==◌, ◌≤◌, IsTrue, Option, Some, None, Result, Ok, Err, List, [], ◌∷◌, ◌++◌, length, drop, MatchResult}
 use Rattle.std.specs.Global.{Vec}
 use Rattle.std.specs.List.{list_any}
@@ -28,8 +28,8 @@ are_whole_lines [] = true
 are_whole_lines (byte ∷ []) = is_lf byte
 are_whole_lines (byte ∷ next ∷ rest) = are_whole_lines (next ∷ rest)
 
--- these lines are all good, `header` says whether the header is among
--- them, and `entries` are their records
+-- these lines are all good, `header` says whether the header is among them,
+-- and `entries` are their records
 abbrev pub AreGoodLines : {R : Type 0} → Row → RowMeaning R → Bool → List R → List Line → Type 0
 AreGoodLines names meaning false entries lines = (lines ≡ []) × (entries ≡ [])
 AreGoodLines names meaning true entries lines = read_lines names meaning 0 lines ≡ Ok entries

@@ -121,8 +121,8 @@ abbrev pub IsBadCsvLog : {R : Type 0} → Row → RowMeaning R → List ℕ → 
 IsBadCsvLog names meaning log bad =
     LacksHeader log bad ⊎ (HasBadHeader names log bad ⊎ HasBadLine names meaning log bad)
 
--- A log is read in one way: it is good with one list of records
--- or bad at one place, and never both.
+-- A log is read in one way: it is good with one list of records or bad at one place,
+-- and never both.
 pub record IsOnlyCsvReading {R : Type 0} (names : Row) (meaning : RowMeaning R) (log : List ℕ)
     (reading : LogResult R) : Type 0 where
   pub good : (entries : List R) → IsGoodCsvLog names meaning log entries ↔ (reading ≡ Ok entries)

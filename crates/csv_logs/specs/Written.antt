@@ -70,8 +70,8 @@ abbrev pub IsReadBack : {R : Type 0} → Row → RowMeaning R → (R → Type 0)
 IsReadBack names meaning sound fields records =
     All sound records → read_csv_log names meaning (log_text names fields records) ≡ Ok records
 
--- the canonical order log of these records says these records, where those
--- of life Market have the market price
+-- the canonical order log of these records says these records, where those of life Market
+-- have the market price
 abbrev pub AreOrdersReadAgain : List OrderRecord → Type 0
 AreOrdersReadAgain records =
     All HasMarketPrice records → csv_order_records (csv_orders_text records) ≡ Ok records

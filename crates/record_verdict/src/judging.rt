@@ -1,5 +1,5 @@
-//! Judging logs that have been read: the stages of the verdict, each
-//! handed to the crate that decides it.
+//! Judging logs that have been read: the stages of the verdict, each handed to the crate
+//! that decides it.
 ghost use Rattle.std.specs.Prelude.{◌≡◌, ◌<◌, ◌-◌, ◌^◌, length, IfOk};
 ghost use Rattle.audit_base.specs.Trades.{TradesInRange};
 ghost use Rattle.audit_base.specs.Verdicts as spec;

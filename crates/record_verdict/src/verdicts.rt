@@ -16,13 +16,13 @@ use std::alloc::Global;
 pub fn verdict_after(
     alloc: Global,
     question: &Question,
-    reached: &BeforeRule,
+    before_rule: &BeforeRule,
 ) -> Result<Verdict, NoMemory>
-    requires { IsJudgeable reached.now }
-    ensures verdict { IfOk result (IsVerdictUpToRule question.now reached.now) }
+    requires { IsJudgeable before_rule.now }
+    ensures verdict { IfOk result (IsVerdictUpToRule question.now before_rule.now) }
     ensures in_range { IfOk result IsVerdictInRange }
 {
-    match reached {
+    match before_rule {
         BeforeRule::Malformed { log, bad } => Ok(Verdict::Malformed {
             log: *log,
             bad: *bad,
