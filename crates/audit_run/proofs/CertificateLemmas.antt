@@ -189,8 +189,8 @@ module _ (first second : Reading) (after : Continues first second) (later : Faul
     }
 
     certificate_stop : (the_stop : Stop) → IsLogStop second Trades certificate the_stop → ReadingStops whole request the_stop
-    certificate_stop (stop.ReadFault log) (is, fault) = rw is (record { last = third_step; reached = reaches_third; cause = third_fault fault; text_is = refl })
-    certificate_stop (stop.TooLong log) (is, long) = rw is (record { last = third_step; reached = reaches_third; cause = third_long long; text_is = refl })
+    certificate_stop (stop.ReadFault log) (is, fault) = rw is (record { last = third_step; reads = reaches_third; cause = third_fault fault; text_is = refl })
+    certificate_stop (stop.TooLong log) (is, long) = rw is (record { last = third_step; reads = reaches_third; cause = third_long long; text_is = refl })
     certificate_stop stop.Memory is = tt
 
     -- what is decided of the certificate is decided of the whole call

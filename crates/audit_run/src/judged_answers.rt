@@ -49,14 +49,14 @@ fn certified_answer(
 pub(crate) fn certify_answer(
     alloc: Global,
     question: &Question,
-    before_rule: &BeforeRule,
+    given: &BeforeRule,
 ) -> Result<Answer, NoMemory>
     requires rule { IsTrue (asks_for_greatest question.now.rule) }
-    requires judgeable { IsJudgeable before_rule.now }
-    ensures { IfOk result (IsAnswerOfKind (IsCertifyAnswerOn question.now before_rule.now)) }
+    requires judgeable { IsJudgeable given.now }
+    ensures { IfOk result (IsAnswerOfKind (IsCertifyAnswerOn question.now given.now)) }
 {
-    let verdict = verdict_after(alloc, question, before_rule)?;
-    if let BeforeRule::Sound(resolved) = before_rule {
+    let verdict = verdict_after(alloc, question, given)?;
+    if let BeforeRule::Sound(resolved) = given {
         return certified_answer(alloc, question, resolved, &verdict);
     }
     verdict_answer(alloc, &verdict)

@@ -74,14 +74,14 @@ fn session_answer(
     symbol: &Name,
     phases: &[Phase],
     table: bool,
-    before_rule: &BeforeRule,
+    given: &BeforeRule,
 ) -> Result<Answer, NoMemory>
     requires phases { ArePhases phases.now }
-    requires judgeable { IsJudgeable before_rule.now }
+    requires judgeable { IsJudgeable given.now }
     ensures { IfOk result (IsAnswerOfKind
-        (IsSessionAnswerOn symbol.now phases.now table before_rule.now)) }
+        (IsSessionAnswerOn symbol.now phases.now table given.now)) }
 {
-    match before_rule {
+    match given {
         BeforeRule::Malformed { log, bad } => malformed_answer(alloc, *log, bad),
         BeforeRule::Found(finding) => finding_answer(alloc, *finding),
         BeforeRule::Sound(resolved) => answer_day(alloc, symbol, phases, table, resolved),
@@ -113,7 +113,7 @@ pub(crate) fn answer_session<F: Shelf>(
     };
     // A match and no `?`, as in `verdict_on`.
     match read_both(alloc, shelf, &scope, orders, trades) {
-        Ok(before_rule) => Ok(session_answer(alloc, symbol, phases, table, &before_rule)?),
+        Ok(given) => Ok(session_answer(alloc, symbol, phases, table, &given)?),
         Err(stop) => Err(stop),
     }
 }

@@ -85,15 +85,15 @@ fn answer_sound(
 fn verify_answer(
     alloc: Global,
     symbol: &Name,
-    before_rule: &BeforeRule,
+    given: &BeforeRule,
     certificate: &[u8],
 ) -> Result<Answer, NoMemory>
-    requires judgeable { IsJudgeable before_rule.now }
+    requires judgeable { IsJudgeable given.now }
     requires small { length certificate.now ≤ longest_log }
     ensures { IfOk result (IsAnswerOfKind
-        (IsVerifyAnswerOn symbol.now before_rule.now certificate.now)) }
+        (IsVerifyAnswerOn symbol.now given.now certificate.now)) }
 {
-    match before_rule {
+    match given {
         BeforeRule::Malformed { log, bad } => malformed_answer(alloc, *log, bad),
         BeforeRule::Found(finding) => finding_answer(alloc, *finding),
         BeforeRule::Sound(resolved) => answer_sound(alloc, symbol, resolved, certificate),
@@ -106,21 +106,21 @@ fn answer_certificate<F: Shelf>(
     alloc: Global,
     shelf: &mut F,
     symbol: &Name,
-    before_rule: &BeforeRule,
+    given: &BeforeRule,
     name: &str,
     limit: u64,
 ) -> Result<Answer, Stop>
     requires limit { limit ≤ longest_log }
-    requires judgeable { IsJudgeable before_rule.now }
+    requires judgeable { IsJudgeable given.now }
     ensures logs { KeepsShelfLogs F.Shelf shelf.old shelf.new }
     ensures only { TouchesOnly (reading_within limit F.Shelf shelf.old shelf.new) Which.Trades }
     ensures decides { DecidesBytes (reading_within limit F.Shelf shelf.old shelf.new)
-        Which.Trades name.now (IsVerifyAnswerOn symbol.now before_rule.now) result }
+        Which.Trades name.now (IsVerifyAnswerOn symbol.now given.now) result }
     ensures within { StaysWithinAt (reading_within limit F.Shelf shelf.old shelf.new)
         Which.Trades result }
 {
     match take_log(alloc, shelf, Which::Trades, name, limit) {
-        Ok(certificate) => Ok(verify_answer(alloc, symbol, before_rule, &certificate)?),
+        Ok(certificate) => Ok(verify_answer(alloc, symbol, given, &certificate)?),
         Err(fault) => unread_answer(alloc, Which::Trades, Unread::from(fault)),
     }
 }
@@ -149,11 +149,11 @@ pub(crate) fn answer_verify<F: Shelf>(
     };
     // A match and no `?`, as in `verdict_on`.
     match read_both(alloc, shelf, &scope, orders, trades) {
-        Ok(before_rule) => {
-            if before_rule.is_malformed() {
-                return Ok(verify_answer(alloc, symbol, &before_rule, &[])?);
+        Ok(given) => {
+            if given.is_malformed() {
+                return Ok(verify_answer(alloc, symbol, &given, &[])?);
             }
-            answer_certificate(alloc, shelf, symbol, &before_rule, certificate, orders.limit)
+            answer_certificate(alloc, shelf, symbol, &given, certificate, orders.limit)
         }
         Err(stop) => Err(stop),
     }

@@ -16,13 +16,13 @@ use std::alloc::Global;
 pub fn verdict_after(
     alloc: Global,
     question: &Question,
-    before_rule: &BeforeRule,
+    given: &BeforeRule,
 ) -> Result<Verdict, NoMemory>
-    requires { IsJudgeable before_rule.now }
-    ensures verdict { IfOk result (IsVerdictUpToRule question.now before_rule.now) }
+    requires { IsJudgeable given.now }
+    ensures verdict { IfOk result (IsVerdictUpToRule question.now given.now) }
     ensures in_range { IfOk result IsVerdictInRange }
 {
-    match before_rule {
+    match given {
         BeforeRule::Malformed { log, bad } => Ok(Verdict::Malformed {
             log: *log,
             bad: *bad,
