@@ -32,8 +32,8 @@ HoldsNeededLogs r request earlier [] = next_log request earlier ≡ None
 HoldsNeededLogs r request earlier (bytes ∷ logs) =
     HoldsNext r request earlier bytes × HoldsNeededLogs r request (earlier ++ bytes ∷ []) logs
 
--- It is known what the shelf holds and what the sink was given, and no fault of either was
--- counted in the call.
+-- It is known what the shelf holds and what the sink was given, no fault of either was counted
+-- in the call, and no count of faults is at its greatest value.
 pub record NothingFails (r : Reading) (old new : SinkState) : Type 0 where
   pub shelf_tells : r.tells ≡ true
   pub sink_tells : IsSome old.wrote
@@ -190,7 +190,7 @@ AnswersWithCause (Some request) r old new status = AnswersRequest r request old 
 AnswersWithCause None r old new status = RefusesWords old new status × LeavesShelfAlone r
 
 -- where both slots begin within the longest log and one ends outside it, the answer is that a log
--- is too long, or that the line which says so could not be written
+-- is too long, or that the sink failed
 abbrev pub AnswersTooLong : Reading → Status → Type 0
 AnswersTooLong r status =
     BeginsWithin r → EndsWithin r ⊎ ((status ≡ TooLong) ⊎ (status ≡ WriteFault))

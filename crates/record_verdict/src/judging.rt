@@ -76,7 +76,8 @@ fn judge_history(
     trades: &Paired,
 ) -> Result<Verdict, NoMemory>
     requires few { length (paired_trades (result_of_paired trades.now)) < 2 ^ 32 - 1 }
-    ensures { IfOk result (VerdictFollowsHistory question.now history.now (result_of_paired trades.now)) }
+    ensures { IfOk result
+        (VerdictFollowsHistory question.now history.now (result_of_paired trades.now)) }
 {
     if let Some(finding) = call_finding(question.rule, &history.orders()) {
         return Ok(Verdict::Rejected(finding));
@@ -126,7 +127,8 @@ pub fn judge(
     requires few_entries { length entries.now < 2 ^ 32 - 1 }
     requires few_trades { length (paired_trades (result_of_paired trades.now)) < 2 ^ 32 - 1 }
     ensures judged { IfOk result
-        (IsRecordVerdict (question rule symbol.now table) entries.now (result_of_paired trades.now)) }
+        (IsRecordVerdict (question rule symbol.now table) entries.now
+        (result_of_paired trades.now)) }
     ensures in_range { IfOk result IsVerdictInRange }
 {
     paired_in_range(trades);

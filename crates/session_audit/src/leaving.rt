@@ -151,7 +151,8 @@ pub fn leave_continuous(
     ensures { IfOk result (λ left. (deals : List ADeal)
         → spec.HasContinuousTotals orders.now deals traded.now
         → spec.EndsBy orders.now deals last
-        → left.items ≡ spec.rest_after_continuous orders.now deals last (length orders.now)) }
+        → left.items
+        ≡ spec.rest_after_continuous orders.now deals last (length orders.now)) }
 {
     let before = chain_totals(alloc, orders, traded)?;
     let sizes = sizes_of(alloc, orders, traded, &before)?;
