@@ -232,8 +232,8 @@ module _ (r : Reading) (request : Request) where
           all = last is.bytes;
           answer = reports is.bytes answer.status answer.text.items is.holds;
         })
-    decides-one says (Err (stop.ReadFault which)) first last reports answers is = rw is.0 (record { last = one_step; reached = one-reaches first; cause = is.1; text_is = refl })
-    decides-one says (Err (stop.TooLong which)) first last reports answers is = rw is.0 (record { last = one_step; reached = one-reaches first; cause = is.1; text_is = refl })
+    decides-one says (Err (stop.ReadFault which)) first last reports answers is = rw is.0 (record { last = one_step; reads = one-reaches first; cause = is.1; text_is = refl })
+    decides-one says (Err (stop.TooLong which)) first last reports answers is = rw is.0 (record { last = one_step; reads = one-reaches first; cause = is.1; text_is = refl })
     decides-one says (Err stop.Memory) first last reports answers is = tt
 
   -- a command that needs no log answers without one

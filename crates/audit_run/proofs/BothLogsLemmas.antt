@@ -105,13 +105,13 @@ module _ (r : Reading) (later : FaultsNeverFall r) (orders trades : Source) (req
   pub both_stop : (the_stop : Stop) → IsStopOfTwoLogs r orders trades the_stop → ReadingStops r request the_stop
   both_stop (stop.ReadFault log) is = record {
     last = step_of r log (source_of orders trades log).name.now;
-    reached = reaches log is.in_turn;
+    reads = reaches log is.in_turn;
     cause = is.fault;
     text_is = refl;
   }
   both_stop (stop.TooLong log) is = record {
     last = step_of r log (source_of orders trades log).name.now;
-    reached = reaches log is.in_turn;
+    reads = reaches log is.in_turn;
     cause = is.long;
     text_is = refl;
   }

@@ -9,7 +9,7 @@ use Rattle.audit_base.specs.declared.terms.Which.{Which}
 use Rattle.audit_base.specs.declared.terms.Which.TheVariants.{Orders, Trades}
 use Rattle.log_source.specs.Sources.{Slot, RoseOrIsFull}
 use Rattle.record_verdict.specs.declared.before_rule.BeforeRule.{BeforeRule}
-use Rattle.record_verdict.specs.declared.before_rule.BeforeRule.TheVariants as upto
+use Rattle.record_verdict.specs.declared.before_rule.BeforeRule.TheVariants as before_rule
 use Rattle.record_verdict.specs.declared.scopes.Scope.{Scope}
 use Rattle.record_verdict.specs.Scopes.{call_scope}
 use Rattle.log_verdict.specs.declared.sources.Source.{Source}
@@ -38,12 +38,12 @@ not_both : true ≡ false → ⊥
 not_both e = cc
 
 -- a trade log that is not in its grammar starts no certificate
-pub bad_trades : (scope : Scope) (entries : List OrderRecord) (said : Result (Result (List TradeRecord) Finding) BadPlace) (reached : BeforeRule) → MatchResult said (λ paired. IsBeforeRule scope entries paired reached) (λ bad. reached ≡ upto.Malformed Trades bad) → is_malformed reached ≡ true
+pub bad_trades : (scope : Scope) (entries : List OrderRecord) (said : Result (Result (List TradeRecord) Finding) BadPlace) (reached : BeforeRule) → MatchResult said (λ paired. IsBeforeRule scope entries paired reached) (λ bad. reached ≡ before_rule.Malformed Trades bad) → is_malformed reached ≡ true
     → is_ok said ≡ false
 bad_trades scope entries (Err bad) reached come malformed = refl
-bad_trades scope entries (Ok paired) (upto.Malformed log bad) come malformed = absurd come
-bad_trades scope entries (Ok paired) (upto.Found finding) come malformed = absurd (not_both (sym malformed))
-bad_trades scope entries (Ok paired) (upto.Sound resolved) come malformed = absurd (not_both (sym malformed))
+bad_trades scope entries (Ok paired) (before_rule.Malformed log bad) come malformed = absurd come
+bad_trades scope entries (Ok paired) (before_rule.Found finding) come malformed = absurd (not_both (sym malformed))
+bad_trades scope entries (Ok paired) (before_rule.Sound resolved) come malformed = absurd (not_both (sym malformed))
 
 -- Both logs were read, are in their grammars, and this is known of them before the rule.
 pub record BothRead (r : Reading) (scope : Scope) (orders trades : Source) (reached : BeforeRule) : Type 0 where
@@ -60,11 +60,11 @@ pub record BothRead (r : Reading) (scope : Scope) (orders trades : Source) (reac
 pub both_read : (r : Reading) (scope : Scope) (orders trades : Source) (reached : BeforeRule) → is_malformed reached ≡ false → ReadsUpToRule r scope orders trades reached → BothRead r scope orders trades reached
 both_read r scope orders trades reached good is = of_orders (records_of_order_log orders.form is.bytes) refl is.holds
   where
-    no_bad : (log : Which) (bad : BadPlace) → reached ≡ upto.Malformed log bad → ⊥
+    no_bad : (log : Which) (bad : BadPlace) → reached ≡ before_rule.Malformed log bad → ⊥
     no_bad log bad e = not_both (rw e at good)
 
     of_trades : (entries : List OrderRecord) → records_of_order_log orders.form is.bytes ≡ Ok entries → (after : IsAfterOrders r scope trades entries reached) → (said : Result (Result (List TradeRecord) Finding) BadPlace)
-        → trades_of_trade_log trades.form after.bytes ≡ said → MatchResult said (λ paired. IsBeforeRule scope entries paired reached) (λ bad. reached ≡ upto.Malformed Trades bad) → BothRead r scope orders trades reached
+        → trades_of_trade_log trades.form after.bytes ≡ said → MatchResult said (λ paired. IsBeforeRule scope entries paired reached) (λ bad. reached ≡ before_rule.Malformed Trades bad) → BothRead r scope orders trades reached
     of_trades entries e after (Ok paired) f come = record {
       one = is.bytes;
       two = after.bytes;
@@ -78,7 +78,7 @@ both_read r scope orders trades reached good is = of_orders (records_of_order_lo
     }
     of_trades entries e after (Err bad) f come = absurd (no_bad Trades bad come)
 
-    of_orders : (said : Result (List OrderRecord) BadPlace) → records_of_order_log orders.form is.bytes ≡ said → ReadsAfterOrders r trades (λ es paired. IsBeforeRule scope es paired reached) (λ log bad. reached ≡ upto.Malformed log bad) said → BothRead r scope orders trades reached
+    of_orders : (said : Result (List OrderRecord) BadPlace) → records_of_order_log orders.form is.bytes ≡ said → ReadsAfterOrders r trades (λ es paired. IsBeforeRule scope es paired reached) (λ log bad. reached ≡ before_rule.Malformed log bad) said → BothRead r scope orders trades reached
     of_orders (Ok entries) e after = of_trades entries e after (trades_of_trade_log trades.form after.bytes) refl after.holds
     of_orders (Err bad) e (same, untouched) = absurd (no_bad Orders bad same)
 
@@ -189,8 +189,8 @@ module _ (first second : Reading) (after : Continues first second) (later : Faul
     }
 
     certificate_stop : (the_stop : Stop) → IsLogStop second Trades certificate the_stop → ReadingStops whole request the_stop
-    certificate_stop (stop.ReadFault log) (is, fault) = rw is (record { last = third_step; reached = reaches_third; cause = third_fault fault; text_is = refl })
-    certificate_stop (stop.TooLong log) (is, long) = rw is (record { last = third_step; reached = reaches_third; cause = third_long long; text_is = refl })
+    certificate_stop (stop.ReadFault log) (is, fault) = rw is (record { last = third_step; reads = reaches_third; cause = third_fault fault; text_is = refl })
+    certificate_stop (stop.TooLong log) (is, long) = rw is (record { last = third_step; reads = reaches_third; cause = third_long long; text_is = refl })
     certificate_stop stop.Memory is = tt
 
     -- what is decided of the certificate is decided of the whole call

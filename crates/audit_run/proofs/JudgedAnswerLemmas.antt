@@ -18,7 +18,7 @@ use Rattle.audit_report.specs.declared.verdicts.Verdict.{Verdict}
 use Rattle.audit_report.specs.declared.verdicts.Verdict.TheVariants as verdict
 use Rattle.matching_core.specs.declared.deals_draft.ResolvedTrades.{ResolvedTrades}
 use Rattle.record_verdict.specs.declared.before_rule.BeforeRule.{BeforeRule}
-use Rattle.record_verdict.specs.declared.before_rule.BeforeRule.TheVariants as upto
+use Rattle.record_verdict.specs.declared.before_rule.BeforeRule.TheVariants as before_rule
 use Rattle.record_verdict.specs.declared.questions.Question.{Question}
 use Rattle.audit_run.specs.declared.answers.Answer.{Answer}
 use Rattle.audit_run.specs.Certificates.{IsCertificateOf, IsVerdictAnswerWith}
@@ -47,7 +47,7 @@ of_logs P P' B B' records bads orders trades come = of_said (records_of_order_lo
 pub verdict_of_logs : (q : Question) (reached : BeforeRule) (v : Verdict) (orders trades : Log) → IsVerdictUpToRule q reached v → LogsReach (scope_of q) orders trades reached → IsLogVerdict q orders trades v
 verdict_of_logs q reached v orders trades is come =
     of_logs (λ entries paired. IsBeforeRule (scope_of q) entries paired reached) (λ entries paired. IsRecordVerdict q entries paired v)
-    (λ log bad. reached ≡ upto.Malformed log bad) (λ log bad. v ≡ verdict.Malformed log bad) is.of_records is.of_place orders trades come
+    (λ log bad. reached ≡ before_rule.Malformed log bad) (λ log bad. v ≡ verdict.Malformed log bad) is.of_records is.of_place orders trades come
 
 -- an answer of a bad place or of a finding is that of `certify`
 refused_certifies : (q : Question) (reached : BeforeRule) (v other : Verdict) (answer : Answer) → IsVerdictUpToRule q reached v → v ≡ other → IsAnswerOfKind (IsVerdictAnswer v) answer
@@ -58,15 +58,15 @@ refused_certifies q reached v other answer is same made reports orders trades co
   answer = rw same (reports (IsCertificateOf q orders trades) (rw same at made));
 }
 
-pub answer_certifies : (q : Question) (reached : BeforeRule) (v : Verdict) (answer : Answer) → ((sound : ResolvedTrades) → reached ≡ upto.Sound sound → ⊥) → IsVerdictUpToRule q reached v → IsAnswerOfKind (IsVerdictAnswer v) answer
+pub answer_certifies : (q : Question) (reached : BeforeRule) (v : Verdict) (answer : Answer) → ((sound : ResolvedTrades) → reached ≡ before_rule.Sound sound → ⊥) → IsVerdictUpToRule q reached v → IsAnswerOfKind (IsVerdictAnswer v) answer
     → IsAnswerOfKind (IsCertifyAnswerOn q reached) answer
-answer_certifies q (upto.Malformed log bad) v answer none is made =
-    refused_certifies q (upto.Malformed log bad) v (verdict.Malformed log bad) answer is (is.of_place log bad refl) made
+answer_certifies q (before_rule.Malformed log bad) v answer none is made =
+    refused_certifies q (before_rule.Malformed log bad) v (verdict.Malformed log bad) answer is (is.of_place log bad refl) made
     (λ is_text is. is)
-answer_certifies q (upto.Found finding) v answer none is made =
-    refused_certifies q (upto.Found finding) v (verdict.Rejected finding) answer is (is.of_finding finding refl) made
+answer_certifies q (before_rule.Found finding) v answer none is made =
+    refused_certifies q (before_rule.Found finding) v (verdict.Rejected finding) answer is (is.of_finding finding refl) made
     (λ is_text is. is)
-answer_certifies q (upto.Sound sound) v answer none is made = absurd (none sound refl)
+answer_certifies q (before_rule.Sound sound) v answer none is made = absurd (none sound refl)
 
 -- Logs of which sound trades are known have records of which they are.
 pub record HaveSoundRecords (q : Question) (orders trades : Log) (resolved : ResolvedTrades) : Type 0 where
@@ -75,16 +75,16 @@ pub record HaveSoundRecords (q : Question) (orders trades : Log) (resolved : Res
   pub logs : HaveRecords orders trades entries paired
   pub sound : IsResolvedWithoutFinding (scope_of q) entries paired resolved
 
-pub sound_records : (q : Question) (orders trades : Log) (resolved : ResolvedTrades) → LogsReach (scope_of q) orders trades (upto.Sound resolved) → HaveSoundRecords q orders trades resolved
+pub sound_records : (q : Question) (orders trades : Log) (resolved : ResolvedTrades) → LogsReach (scope_of q) orders trades (before_rule.Sound resolved) → HaveSoundRecords q orders trades resolved
 sound_records q orders trades resolved come = of_said (records_of_order_log orders.form orders.bytes) (trades_of_trade_log trades.form trades.bytes) refl refl come
   where
-    apart : (other : Which) (place : BadPlace) → upto.Sound resolved ≡ upto.Malformed other place → ⊥
+    apart : (other : Which) (place : BadPlace) → before_rule.Sound resolved ≡ before_rule.Malformed other place → ⊥
     apart other place e = cc
 
     of_said : (first : Result (List OrderRecord) BadPlace) (second : Result (Result (List TradeRecord) Finding) BadPlace)
         → records_of_order_log orders.form orders.bytes ≡ first → trades_of_trade_log trades.form trades.bytes ≡ second
-        → MatchResult first (λ entries. MatchResult second (λ paired. IsBeforeRule (scope_of q) entries paired (upto.Sound resolved)) (λ bad. upto.Sound resolved ≡ upto.Malformed Trades bad))
-        (λ bad. upto.Sound resolved ≡ upto.Malformed Orders bad)
+        → MatchResult first (λ entries. MatchResult second (λ paired. IsBeforeRule (scope_of q) entries paired (before_rule.Sound resolved)) (λ bad. before_rule.Sound resolved ≡ before_rule.Malformed Trades bad))
+        (λ bad. before_rule.Sound resolved ≡ before_rule.Malformed Orders bad)
         → HaveSoundRecords q orders trades resolved
     of_said (Ok entries) (Ok paired) e f is = record { entries = entries; paired = paired; logs = record { records = e; trades_are = f }; sound = is }
     of_said (Ok entries) (Err bad) e f is = absurd (apart Trades bad is)
@@ -105,10 +105,10 @@ certificate_of q orders trades resolved text have is =
     }
 
 -- the answer of sound trades is that of `certify`
-pub sound_certifies : (q : Question) (resolved : ResolvedTrades) (v : Verdict) (answer : Answer) → IsVerdictUpToRule q (upto.Sound resolved) v → IsAnswerOfKind (IsVerdictAnswerWith (IsDealsCertificate q resolved) v) answer → IsAnswerOfKind (IsCertifyAnswerOn q (upto.Sound resolved)) answer
+pub sound_certifies : (q : Question) (resolved : ResolvedTrades) (v : Verdict) (answer : Answer) → IsVerdictUpToRule q (before_rule.Sound resolved) v → IsAnswerOfKind (IsVerdictAnswerWith (IsDealsCertificate q resolved) v) answer → IsAnswerOfKind (IsCertifyAnswerOn q (before_rule.Sound resolved)) answer
 sound_certifies q resolved v answer is made orders trades come = record {
   verdict = v;
-  is = verdict_of_logs q (upto.Sound resolved) v orders trades is come;
+  is = verdict_of_logs q (before_rule.Sound resolved) v orders trades is come;
   answer = of_verdict v made;
 }
   where

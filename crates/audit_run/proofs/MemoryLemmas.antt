@@ -37,7 +37,7 @@ pub never_unread : (asked : Option Request) (old new : QuietShelf) (before after
 never_unread None old new before after status.ReadFault runs e = absurd runs.0
 never_unread (Some request) old new before after status.ReadFault runs e =
     let stops = runs.is in
-    ⊎_elim (λ rose. quiet old new stops.last.log (rose-in (quiet_slot old) stops.reached.steps stops.last (quiet_slot new) stops.reached.lead rose))
+    ⊎_elim (λ rose. quiet old new stops.last.log (rose-in (quiet_slot old) stops.reads.steps stops.last (quiet_slot new) stops.reads.lead rose))
     (λ none. there (quiet_log old stops.last.log) _ refl none.1) stops.cause.cause
 never_unread asked old new before after status.Accepted runs e = cc
 never_unread asked old new before after status.Rejected runs e = cc

@@ -33,13 +33,13 @@ module _ (r : Reading) (request : Request) (logs : List (List ℕ)) (tells : r.t
 
   pub no_fault : (text : List ℕ) → StopsUnreadable r request text → ⊥
   no_fault text stops =
-      let next = last_held stops.last stops.reached in
-      ⊎_elim (λ rose. quiet stops.last.log (rose-in r.before stops.reached.steps stops.last r.after stops.reached.lead rose))
+      let next = last_held stops.last stops.reads in
+      ⊎_elim (λ rose. quiet stops.last.log (rose-in r.before stops.reads.steps stops.last r.after stops.reads.lead rose))
       (λ none. held_there (r.log_of stops.last.log stops.last.name) next.0 next.1.there none.1) stops.cause.cause
 
   pub no_length : (text : List ℕ) → StopsTooLong r request text → ⊥
   no_length text stops =
-      let next = last_held stops.last stops.reached in
+      let next = last_held stops.last stops.reads in
       held_within r.limit (r.log_of stops.last.log stops.last.name) next.0 next.1.there next.1.short (stops.cause.longer tells)
 
   -- the answer to the logs that were read is that to those that are held

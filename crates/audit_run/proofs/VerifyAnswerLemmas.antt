@@ -11,7 +11,7 @@ use Rattle.audit_base.specs.Histories.{order_list}
 use Rattle.audit_report.specs.declared.verdicts.Verdict.{Verdict}
 use Rattle.audit_report.specs.declared.verdicts.Verdict.TheVariants as verdict
 use Rattle.matching_core.specs.declared.deals_draft.ResolvedTrades.{ResolvedTrades}
-use Rattle.record_verdict.specs.declared.before_rule.BeforeRule.TheVariants as upto
+use Rattle.record_verdict.specs.declared.before_rule.BeforeRule.TheVariants as before_rule
 use Rattle.audit_run.specs.declared.answers.Answer.{Answer}
 use Rattle.audit_run.specs.Certificates.{VerifiesDeals, VerifiesRecords}
 use Rattle.audit_run.specs.Deciding.{IsAnswerOfKind}
@@ -23,37 +23,37 @@ use Rattle.audit_run.proofs.JudgedAnswerLemmas.{of_logs}
 
 module _ (symbol : List ℕ) (certificate : List ℕ) (answer : Answer) where
   -- a bad place is answered, whatever the certificate is
-  pub malformed_verifies : (log : Which) (bad : BadPlace) → IsAnswerOfKind (IsVerdictAnswer (verdict.Malformed log bad)) answer → IsAnswerOfKind (IsVerifyAnswerOn symbol (upto.Malformed log bad) certificate) answer
+  pub malformed_verifies : (log : Which) (bad : BadPlace) → IsAnswerOfKind (IsVerdictAnswer (verdict.Malformed log bad)) answer → IsAnswerOfKind (IsVerifyAnswerOn symbol (before_rule.Malformed log bad) certificate) answer
   malformed_verifies log bad made orders trades come =
-      of_logs (λ entries paired. IsBeforeRule (call_scope symbol) entries paired (upto.Malformed log bad)) (λ entries paired. VerifiesRecords symbol certificate entries paired answer.status answer.text.items)
-      (λ other place. upto.Malformed log bad ≡ upto.Malformed other place) (λ other place. IsVerdictAnswer (verdict.Malformed other place) answer.status answer.text.items)
+      of_logs (λ entries paired. IsBeforeRule (call_scope symbol) entries paired (before_rule.Malformed log bad)) (λ entries paired. VerifiesRecords symbol certificate entries paired answer.status answer.text.items)
+      (λ other place. before_rule.Malformed log bad ≡ before_rule.Malformed other place) (λ other place. IsVerdictAnswer (verdict.Malformed other place) answer.status answer.text.items)
       (λ entries paired is. absurd is)
       (λ other place e. subst (λ (v : Verdict). IsVerdictAnswer v answer.status answer.text.items) (same other place e) made)
       orders trades come
     where
-      same : (other : Which) (place : BadPlace) → upto.Malformed log bad ≡ upto.Malformed other place → verdict.Malformed log bad ≡ verdict.Malformed other place
+      same : (other : Which) (place : BadPlace) → before_rule.Malformed log bad ≡ before_rule.Malformed other place → verdict.Malformed log bad ≡ verdict.Malformed other place
       same other place e = cc
 
   -- so is a finding
-  pub found_verifies : (finding : Finding) → IsAnswerOfKind (IsVerdictAnswer (verdict.Rejected finding)) answer → IsAnswerOfKind (IsVerifyAnswerOn symbol (upto.Found finding) certificate) answer
+  pub found_verifies : (finding : Finding) → IsAnswerOfKind (IsVerdictAnswer (verdict.Rejected finding)) answer → IsAnswerOfKind (IsVerifyAnswerOn symbol (before_rule.Found finding) certificate) answer
   found_verifies finding made orders trades come =
-      of_logs (λ entries paired. IsBeforeRule (call_scope symbol) entries paired (upto.Found finding)) (λ entries paired. VerifiesRecords symbol certificate entries paired answer.status answer.text.items)
-      (λ other place. upto.Found finding ≡ upto.Malformed other place) (λ other place. IsVerdictAnswer (verdict.Malformed other place) answer.status answer.text.items)
+      of_logs (λ entries paired. IsBeforeRule (call_scope symbol) entries paired (before_rule.Found finding)) (λ entries paired. VerifiesRecords symbol certificate entries paired answer.status answer.text.items)
+      (λ other place. before_rule.Found finding ≡ before_rule.Malformed other place) (λ other place. IsVerdictAnswer (verdict.Malformed other place) answer.status answer.text.items)
       (λ entries paired is. rw is made)
       (λ other place e. absurd (apart other place e)) orders trades come
     where
-      apart : (other : Which) (place : BadPlace) → upto.Found finding ≡ upto.Malformed other place → ⊥
+      apart : (other : Which) (place : BadPlace) → before_rule.Found finding ≡ before_rule.Malformed other place → ⊥
       apart other place e = cc
 
   -- else what came of the certificate is
   pub sound_verifies : (resolved : ResolvedTrades) → IsAnswerOfKind (VerifiesDeals symbol resolved.history resolved.deals.items certificate) answer
-      → IsAnswerOfKind (IsVerifyAnswerOn symbol (upto.Sound resolved) certificate) answer
+      → IsAnswerOfKind (IsVerifyAnswerOn symbol (before_rule.Sound resolved) certificate) answer
   sound_verifies resolved is orders trades come =
-      of_logs (λ entries paired. IsBeforeRule (call_scope symbol) entries paired (upto.Sound resolved)) (λ entries paired. VerifiesRecords symbol certificate entries paired answer.status answer.text.items)
-      (λ other place. upto.Sound resolved ≡ upto.Malformed other place) (λ other place. IsVerdictAnswer (verdict.Malformed other place) answer.status answer.text.items)
+      of_logs (λ entries paired. IsBeforeRule (call_scope symbol) entries paired (before_rule.Sound resolved)) (λ entries paired. VerifiesRecords symbol certificate entries paired answer.status answer.text.items)
+      (λ other place. before_rule.Sound resolved ≡ before_rule.Malformed other place) (λ other place. IsVerdictAnswer (verdict.Malformed other place) answer.status answer.text.items)
       (λ entries paired sound. of_sound entries paired sound) (λ other place e. absurd (apart other place e)) orders trades come
     where
-      apart : (other : Which) (place : BadPlace) → upto.Sound resolved ≡ upto.Malformed other place → ⊥
+      apart : (other : Which) (place : BadPlace) → before_rule.Sound resolved ≡ before_rule.Malformed other place → ⊥
       apart other place e = cc
 
       of_sound : (entries : List OrderRecord) (paired : Result (List TradeRecord) Finding) → IsResolvedWithoutFinding (call_scope symbol) entries paired resolved → VerifiesRecords symbol certificate entries paired answer.status answer.text.items

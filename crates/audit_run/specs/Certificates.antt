@@ -59,8 +59,8 @@ pub record IsVerified (symbol : List ℕ) (orders : List Order) (deals : List De
   pub status_is : the_status ≡ status.Accepted
   pub text_is : text ≡ verified_line the_rule symbol (volume deals)
 
--- The certificate agrees under no rule, and the line has the number of its
--- first line that is refused.
+-- The certificate agrees under no rule, and the line has the number of its first line
+-- that is refused.
 pub record IsCertificateRefused (symbol : List ℕ) (orders : List Order) (deals : List Deal)
     (certificate : List ℕ) (the_status : Status) (text : List ℕ) : Type 0 where
   pub line : ℕ

@@ -1,5 +1,5 @@
--- That an audit accepts the trades that `expect` writes: what one call
--- wrote, handed to another call.
+-- That an audit accepts the trades that `expect` writes: what one call wrote,
+-- handed to another call.
 use Rattle.std.specs.Prelude.{◌≡◌, ◌⊎◌, ℕ, Bool, true, List, [], ◌∷◌, Some, IsSome}
 use Rattle.std.specs.Io.KnownBytes.{Appends}
 use Rattle.audit_base.specs.declared.terms.Form.TheVariants.{Csv}
@@ -48,8 +48,8 @@ pub record AreAccepted (q : Question) (orders trades : Log) : Type 0 where
   pub only : (other : Verdict) → IsLogVerdict q orders trades other
       → other ≡ verdict.Accepted accepted
 
--- the text that `expect` wrote is accepted as a CSV trade log beside the same
--- order log, under the same rule
+-- the text that `expect` wrote is accepted as a CSV trade log beside the same order log,
+-- under the same rule
 abbrev pub ExpectedTradesAreAccepted : Type 0
 ExpectedTradesAreAccepted = (the_rule : Rule) (symbol : List ℕ) (table : Bool) (orders : Log)
     (text : List ℕ) → WroteExpected the_rule symbol orders text

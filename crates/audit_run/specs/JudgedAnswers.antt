@@ -1,11 +1,11 @@
--- What is answered to two logs, by what is known of them before the rule is looked at.
+-- What is answered to two logs, by what they give before the rule is looked at.
 use Rattle.std.specs.Prelude.{◌≡◌, List, ℕ, Bool}
 use Rattle.audit_certificate.specs.Agreement.{AgreesUnder, IsCertificateUnder}
 use Rattle.audit_report.specs.declared.statuses.Status.{Status}
 use Rattle.session_audit.specs.declared.phases.Phase.{Phase}
 use Rattle.matching_core.specs.declared.deals_draft.ResolvedTrades.{ResolvedTrades}
 use Rattle.record_verdict.specs.declared.before_rule.BeforeRule.{BeforeRule}
-use Rattle.record_verdict.specs.declared.before_rule.BeforeRule.TheVariants as upto
+use Rattle.record_verdict.specs.declared.before_rule.BeforeRule.TheVariants as before_rule
 use Rattle.record_verdict.specs.declared.questions.Question.{Question}
 use Rattle.audit_run.specs.Certificates.{IsCertifyAnswer, IsVerifyAnswer}
 use Rattle.audit_run.specs.Sessions.{IsSessionAnswer}
@@ -14,30 +14,30 @@ use Rattle.record_verdict.specs.BeforeRule.{IsBeforeRule}
 use Rattle.record_verdict.specs.Scopes.{call_scope, day_scope, scope_of}
 use Rattle.record_verdict.specs.declared.scopes.Scope.{Scope}
 
--- what is known of two logs before the rule is looked at: the first bad
--- place, or what their records do
+-- two logs give this before the rule is looked at: their first bad place, or what their records
+-- give
 abbrev pub LogsReach : Scope → Log → Log → BeforeRule → Type 0
-LogsReach scope orders trades reached =
-    OfLogs (λ entries paired. IsBeforeRule scope entries paired reached)
-    (λ log bad. reached ≡ upto.Malformed log bad) orders trades
+LogsReach scope orders trades given =
+    OfLogs (λ entries paired. IsBeforeRule scope entries paired given)
+    (λ log bad. given ≡ before_rule.Malformed log bad) orders trades
 
--- `certify` answers this to whatever logs of which that much is known
+-- `certify` answers this to whatever logs that give this before the rule
 abbrev pub IsCertifyAnswerOn : Question → BeforeRule → Status → List ℕ → Type 0
-IsCertifyAnswerOn q reached status text =
-    (orders trades : Log) → LogsReach (scope_of q) orders trades reached
+IsCertifyAnswerOn q given status text =
+    (orders trades : Log) → LogsReach (scope_of q) orders trades given
     → IsCertifyAnswer q orders trades status text
 
--- `verify`, with this certificate, answers this to whatever logs of which that much is known
+-- `verify`, with this certificate, answers this to whatever logs that give this before the rule
 abbrev pub IsVerifyAnswerOn : List ℕ → BeforeRule → List ℕ → Status → List ℕ → Type 0
-IsVerifyAnswerOn symbol reached certificate status text =
-    (orders trades : Log) → LogsReach (call_scope symbol) orders trades reached
+IsVerifyAnswerOn symbol given certificate status text =
+    (orders trades : Log) → LogsReach (call_scope symbol) orders trades given
     → IsVerifyAnswer symbol orders trades certificate status text
 
--- `session`, with these phases, answers this to whatever logs of which that much is known
+-- `session`, with these phases, answers this to whatever logs that give this before the rule
 abbrev pub IsSessionAnswerOn : List ℕ → List Phase → Bool → BeforeRule → Status → List ℕ
     → Type 0
-IsSessionAnswerOn symbol phases table reached status text =
-    (orders trades : Log) → LogsReach (day_scope symbol) orders trades reached
+IsSessionAnswerOn symbol phases table given status text =
+    (orders trades : Log) → LogsReach (day_scope symbol) orders trades given
     → IsSessionAnswer symbol phases table orders trades status text
 
 -- The text is the certificate of these deals, which agrees.

@@ -49,8 +49,8 @@ pub record IsAcceptedBeside (q : Question) (entries : List OrderRecord)
   pub acceptance : AcceptedLog
   pub judged : IsRecordVerdict q entries (Ok trades) (verdict.Accepted acceptance)
 
--- The text is the CSV log of the Expected trades of these records of orders. An
--- audit accepts it beside them.
+-- The text is the CSV log of the Expected trades of these records of orders.
+-- An audit accepts it beside them.
 pub record IsExpectedLog (the_rule : Rule) (symbol : List ℕ) (entries : List OrderRecord)
     (text : List ℕ) : Type 0 where
   pub deals : List Deal

@@ -1,5 +1,5 @@
--- What each command reads, and what it answers to that. A command is one
--- case of each definition here.
+-- What each command reads, and what it answers to that.
+-- A command is one case of each definition here.
 use Rattle.std.specs.Prelude.{ℕ, false, List, [], ◌∷◌, Option, None, Some, is_ok, slice_index_or}
 use Rattle.audit_base.specs.declared.terms.Form.{Form}
 use Rattle.audit_base.specs.declared.terms.Which.{Which}
@@ -20,8 +20,8 @@ abbrev pub next_of_one_log : Which → List ℕ → List (List ℕ) → Option (
 next_of_one_log log name [] = Some (log, name)
 next_of_one_log log name (first ∷ rest) = None
 
--- the next log of a command that needs both: it starts the order log, and where
--- that is good the trade log
+-- the next log of a command that needs both: it starts the order log,
+-- and where that is good the trade log
 abbrev pub next_of_both_logs : List ℕ → List ℕ → Form → List (List ℕ) → Option (Which × List ℕ)
 next_of_both_logs orders trades orders_form [] = Some (Orders, orders)
 next_of_both_logs orders trades orders_form (first ∷ []) =

@@ -32,8 +32,8 @@ HoldsNeededLogs r request earlier [] = next_log request earlier ≡ None
 HoldsNeededLogs r request earlier (bytes ∷ logs) =
     HoldsNext r request earlier bytes × HoldsNeededLogs r request (earlier ++ bytes ∷ []) logs
 
--- It is known what the shelf holds and what the sink was given, and no fault of either was
--- counted in the call.
+-- It is known what the shelf holds and what the sink was given, no fault of either was counted
+-- in the call, and no count of faults is at its greatest value.
 pub record NothingFails (r : Reading) (old new : SinkState) : Type 0 where
   pub shelf_tells : r.tells ≡ true
   pub sink_tells : IsSome old.wrote
@@ -79,8 +79,8 @@ AnswersHeldLogs (Some request) r old new status =
     (logs : List (List ℕ)) → AllIsThere r request logs old new
     → WritesAnswer request logs old new status
 
--- The next log that the command needs is this one, which was started, read to its
--- end, and has these bytes.
+-- The next log that the command needs is this one, which was started, read to its end,
+-- and has these bytes.
 pub record ReadsNext (r : Reading) (request : Request) (earlier : List (List ℕ)) (step : LogStep)
     (bytes : List ℕ) : Type 0 where
   pub next : next_log request earlier ≡ Some (step.log, step.name)
@@ -118,19 +118,19 @@ pub record ReadsUpTo (r : Reading) (request : Request) (last : LogStep) : Type 0
 -- Reading stopped at a log that could not be read, and the line says which.
 pub record StopsUnreadable (r : Reading) (request : Request) (text : List ℕ) : Type 0 where
   pub last : LogStep
-  pub reached : ReadsUpTo r request last
+  pub reads : ReadsUpTo r request last
   pub cause : IsReadFault r last
   pub text_is : text ≡ read_fault_line last.log
 
 -- Reading stopped at a log that is too long, and the line says which.
 pub record StopsTooLong (r : Reading) (request : Request) (text : List ℕ) : Type 0 where
   pub last : LogStep
-  pub reached : ReadsUpTo r request last
+  pub reads : ReadsUpTo r request last
   pub cause : IsTooLong r last
   pub text_is : text ≡ too_long_line last.log
 
--- what a reading decides, by status: the answer to all the logs, or the line of
--- the log at which it stopped
+-- what a reading decides, by status: the answer to all the logs,
+-- or the line of the log at which it stopped
 abbrev pub ReadingDecides : Reading → Request → Status → List ℕ → Type 0
 ReadingDecides r request Accepted text = IsAnswerToReadLogs r request Accepted text
 ReadingDecides r request Rejected text = IsAnswerToReadLogs r request Rejected text
@@ -190,7 +190,7 @@ AnswersWithCause (Some request) r old new status = AnswersRequest r request old 
 AnswersWithCause None r old new status = RefusesWords old new status × LeavesShelfAlone r
 
 -- where both slots begin within the longest log and one ends outside it, the answer is that a log
--- is too long, or that the line which says so could not be written
+-- is too long, or that the sink failed
 abbrev pub AnswersTooLong : Reading → Status → Type 0
 AnswersTooLong r status =
     BeginsWithin r → EndsWithin r ⊎ ((status ≡ TooLong) ⊎ (status ≡ WriteFault))

@@ -1,5 +1,5 @@
--- What the command `session` answers: the text of a day that conforms, or the
--- verdict on one that does not.
+-- What the command `session` answers: the text of a day that conforms,
+-- or the verdict on one that does not.
 use Rattle.std.specs.Prelude.{◌≡◌, ◌<◌, ◌⊎◌, ℕ, Bool, List, Result, length, MatchOption}
 use Rattle.audit_base.specs.declared.findings.Finding.{Finding}
 use Rattle.audit_base.specs.declared.orders.Deal.{Deal}

@@ -1,5 +1,5 @@
--- What the auditor does in a call of `run`, whatever seed its hashes begin
--- with: the headline first.
+-- What the auditor does in a call of `run`, whatever seed its hashes begin with:
+-- the headline first.
 use Rattle.std.specs.Prelude.{◌≡◌, ◌⊎◌, List, ℕ, Option, Some}
 use Rattle.std.specs.Io.KnownBytes.{Appends}
 use Rattle.audit_base.specs.declared.terms.Which.TheVariants.{Orders, Trades}

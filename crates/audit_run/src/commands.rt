@@ -73,7 +73,7 @@ fn answer_certify<F: Shelf>(
     };
     // A match and no `?`, as in `verdict_on`.
     match read_both(alloc, shelf, &question.scope(), orders, trades) {
-        Ok(reached) => Ok(certify_answer(alloc, &question, &reached)?),
+        Ok(given) => Ok(certify_answer(alloc, &question, &given)?),
         Err(stop) => Err(stop),
     }
 }

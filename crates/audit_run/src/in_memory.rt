@@ -32,7 +32,8 @@ pub fn run_in_memory(
     ensures read { result ≢ Status.ReadFault }
     ensures answer { failing_writes out.old ≡ []
         → AnswersInRoom (request_of (map string_bytes words.now))
-        (reading ⟦<QuietShelf as Shelf>⟧ shelf.old shelf.new) (sink_length out.old) (sink_room out.old)
+        (reading ⟦<QuietShelf as Shelf>⟧ shelf.old shelf.new)
+        (sink_length out.old) (sink_room out.old)
         (memory_sink_state out.old) (memory_sink_state out.new) result }
 {
     run(alloc, words, shelf, out)

@@ -45,18 +45,18 @@ fn certified_answer(
     }
 }
 
-/// The answer to `certify` on two logs of which this is known before the rule.
+/// The answer to `certify` on two logs that give this before the rule.
 pub(crate) fn certify_answer(
     alloc: Global,
     question: &Question,
-    reached: &BeforeRule,
+    given: &BeforeRule,
 ) -> Result<Answer, NoMemory>
     requires rule { IsTrue (asks_for_greatest question.now.rule) }
-    requires judgeable { IsJudgeable reached.now }
-    ensures { IfOk result (IsAnswerOfKind (IsCertifyAnswerOn question.now reached.now)) }
+    requires judgeable { IsJudgeable given.now }
+    ensures { IfOk result (IsAnswerOfKind (IsCertifyAnswerOn question.now given.now)) }
 {
-    let verdict = verdict_after(alloc, question, reached)?;
-    if let BeforeRule::Sound(resolved) = reached {
+    let verdict = verdict_after(alloc, question, given)?;
+    if let BeforeRule::Sound(resolved) = given {
         return certified_answer(alloc, question, resolved, &verdict);
     }
     verdict_answer(alloc, &verdict)

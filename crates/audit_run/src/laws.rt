@@ -46,8 +46,8 @@ pub fn expected_trades_are_accepted()
     one_verdict();
 }
 
-/// A call of `run` on the words of `generate` answers 0, that the sink
-/// failed, or that memory ran out.
+/// A call of `run` on the words of `generate` answers 0, that the sink failed,
+/// or that memory ran out.
 pub fn generate_writes()
     ensures { GenerateWrites }
 {}

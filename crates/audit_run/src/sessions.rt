@@ -68,20 +68,20 @@ fn answer_day(
     }
 }
 
-/// The answer to a day over logs of which this is known before the rule.
+/// The answer to a day over logs that give this before the rule.
 fn session_answer(
     alloc: Global,
     symbol: &Name,
     phases: &[Phase],
     table: bool,
-    reached: &BeforeRule,
+    given: &BeforeRule,
 ) -> Result<Answer, NoMemory>
     requires phases { ArePhases phases.now }
-    requires judgeable { IsJudgeable reached.now }
+    requires judgeable { IsJudgeable given.now }
     ensures { IfOk result (IsAnswerOfKind
-        (IsSessionAnswerOn symbol.now phases.now table reached.now)) }
+        (IsSessionAnswerOn symbol.now phases.now table given.now)) }
 {
-    match reached {
+    match given {
         BeforeRule::Malformed { log, bad } => malformed_answer(alloc, *log, bad),
         BeforeRule::Found(finding) => finding_answer(alloc, *finding),
         BeforeRule::Sound(resolved) => answer_day(alloc, symbol, phases, table, resolved),
@@ -113,7 +113,7 @@ pub(crate) fn answer_session<F: Shelf>(
     };
     // A match and no `?`, as in `verdict_on`.
     match read_both(alloc, shelf, &scope, orders, trades) {
-        Ok(reached) => Ok(session_answer(alloc, symbol, phases, table, &reached)?),
+        Ok(given) => Ok(session_answer(alloc, symbol, phases, table, &given)?),
         Err(stop) => Err(stop),
     }
 }

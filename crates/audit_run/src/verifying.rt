@@ -81,19 +81,19 @@ fn answer_sound(
     }
 }
 
-/// The answer to a certificate over logs of which this is known before the rule.
+/// The answer to a certificate over logs that give this before the rule.
 fn verify_answer(
     alloc: Global,
     symbol: &Name,
-    reached: &BeforeRule,
+    given: &BeforeRule,
     certificate: &[u8],
 ) -> Result<Answer, NoMemory>
-    requires judgeable { IsJudgeable reached.now }
+    requires judgeable { IsJudgeable given.now }
     requires small { length certificate.now ≤ longest_log }
     ensures { IfOk result (IsAnswerOfKind
-        (IsVerifyAnswerOn symbol.now reached.now certificate.now)) }
+        (IsVerifyAnswerOn symbol.now given.now certificate.now)) }
 {
-    match reached {
+    match given {
         BeforeRule::Malformed { log, bad } => malformed_answer(alloc, *log, bad),
         BeforeRule::Found(finding) => finding_answer(alloc, *finding),
         BeforeRule::Sound(resolved) => answer_sound(alloc, symbol, resolved, certificate),
@@ -106,21 +106,21 @@ fn answer_certificate<F: Shelf>(
     alloc: Global,
     shelf: &mut F,
     symbol: &Name,
-    reached: &BeforeRule,
+    given: &BeforeRule,
     name: &str,
     limit: u64,
 ) -> Result<Answer, Stop>
     requires limit { limit ≤ longest_log }
-    requires judgeable { IsJudgeable reached.now }
+    requires judgeable { IsJudgeable given.now }
     ensures logs { KeepsShelfLogs F.Shelf shelf.old shelf.new }
     ensures only { TouchesOnly (reading_within limit F.Shelf shelf.old shelf.new) Which.Trades }
     ensures decides { DecidesBytes (reading_within limit F.Shelf shelf.old shelf.new)
-        Which.Trades name.now (IsVerifyAnswerOn symbol.now reached.now) result }
+        Which.Trades name.now (IsVerifyAnswerOn symbol.now given.now) result }
     ensures within { StaysWithinAt (reading_within limit F.Shelf shelf.old shelf.new)
         Which.Trades result }
 {
     match take_log(alloc, shelf, Which::Trades, name, limit) {
-        Ok(certificate) => Ok(verify_answer(alloc, symbol, reached, &certificate)?),
+        Ok(certificate) => Ok(verify_answer(alloc, symbol, given, &certificate)?),
         Err(fault) => unread_answer(alloc, Which::Trades, Unread::from(fault)),
     }
 }
@@ -149,11 +149,11 @@ pub(crate) fn answer_verify<F: Shelf>(
     };
     // A match and no `?`, as in `verdict_on`.
     match read_both(alloc, shelf, &scope, orders, trades) {
-        Ok(reached) => {
-            if reached.is_malformed() {
-                return Ok(verify_answer(alloc, symbol, &reached, &[])?);
+        Ok(given) => {
+            if given.is_malformed() {
+                return Ok(verify_answer(alloc, symbol, &given, &[])?);
             }
-            answer_certificate(alloc, shelf, symbol, &reached, certificate, orders.limit)
+            answer_certificate(alloc, shelf, symbol, &given, certificate, orders.limit)
         }
         Err(stop) => Err(stop),
     }

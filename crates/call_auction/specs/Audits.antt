@@ -25,33 +25,32 @@ pub record IsGreatestOf (the_rule : VolumeRule) (orders : List Order) (most : Cu
   pub bound : IsBoundPrice the_rule orders most.volume most.price
 
 -- a bound of this volume under the rule
-pub record IsReachedBound (the_rule : VolumeRule) (orders : List Order) (reached : ℕ)
+pub record IsReachedBound (the_rule : VolumeRule) (orders : List Order) (volume : ℕ)
     (bound : Cut) : Type 0 where
-  pub volume_is : bound.volume ≡ reached
-  pub shows : IsBoundPrice the_rule orders reached bound.price
+  pub volume_is : bound.volume ≡ volume
+  pub shows : IsBoundPrice the_rule orders volume bound.price
 
 -- the deals conform, with what each order traded (in every conforming list of deals the same), the
 -- volume and the bound
 pub record IsConformingCall (the_rule : VolumeRule) (orders : List Order) (deals : List Deal)
-    (reached : Reached) : Type 0 where
+    (conforming : Reached) : Type 0 where
   pub conforms : Conforms (rule_of_volume the_rule) orders deals
-  pub totals : AreTotals orders deals reached.traded.0
-  pub volume_is : reached.traded.1 ≡ volume deals
-  pub bound_is : IsSomeAnd reached.bound (IsReachedBound the_rule orders (volume deals))
+  pub totals : AreTotals orders deals conforming.traded.0
+  pub volume_is : conforming.traded.1 ≡ volume deals
+  pub bound_is : IsSomeAnd conforming.bound (IsReachedBound the_rule orders (volume deals))
   pub only : (i : ℕ) → i < length orders
       → Only (rule_of_volume the_rule) orders i (traded deals i)
 
 -- the deals don't conform, and this is the first offence
 pub record IsBrokenCall (the_rule : VolumeRule) (orders : List Order) (deals : List Deal)
-    (count : ℕ)
-    (finding : Finding) : Type 0 where
+    (count : ℕ) (finding : Finding) : Type 0 where
   pub offence : IsCallOffence (call.Greatest the_rule) orders deals count finding
   pub fails : Conforms (rule_of_volume the_rule) orders deals → ⊥
 
 -- what an audit answers: that the deals conform, or their first offence. `count` is the number of
 -- trades of the whole log
 abbrev pub IsCallOutcome : VolumeRule → List Order → List Deal → ℕ → Outcome → Type 0
-IsCallOutcome the_rule orders deals count (outcome.Conforms reached) =
-    IsConformingCall the_rule orders deals reached
+IsCallOutcome the_rule orders deals count (outcome.Conforms conforming) =
+    IsConformingCall the_rule orders deals conforming
 IsCallOutcome the_rule orders deals count (outcome.Broken finding) =
     IsBrokenCall the_rule orders deals count finding

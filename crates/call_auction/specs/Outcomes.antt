@@ -42,5 +42,5 @@ IsVolumeFinding orders totals count most finding =
 abbrev pub IsVolumeOutcome : List Order → List ℕ × ℕ → ℕ → Cut → Outcome → Type 0
 IsVolumeOutcome orders totals count most (outcome.Broken finding) =
     (totals.1 < most.volume) × IsVolumeFinding orders totals count most.volume finding
-IsVolumeOutcome orders totals count most (outcome.Conforms reached) =
-    (most.volume ≤ totals.1) × (reached ≡ record { traded = totals; bound = Some most })
+IsVolumeOutcome orders totals count most (outcome.Conforms conforming) =
+    (most.volume ≤ totals.1) × (conforming ≡ record { traded = totals; bound = Some most })

@@ -34,7 +34,8 @@ fn quantity_ahead(order: &ListedOrder<'_>, other: &ListedOrder<'_>) -> u64
 fn ahead_of(orders: &OrderList<'_>, index: usize) -> u128
     requires few { length orders.now < 2 ^ 32 }
     requires inside { index < length orders.now }
-    ensures { result ≡ units.total_quantity_ahead orders.now (order_at orders.now index).side index }
+    ensures { result
+        ≡ units.total_quantity_ahead orders.now (order_at orders.now index).side index }
 {
     let other = orders.at(index);
     let mut sum: u128 = 0;

@@ -8,8 +8,8 @@ use Rattle.log_source.specs.Collectors.{HasNineBytesEach}
 
 -- each log is good with exactly one list of records, or bad at exactly one place, and never both
 abbrev pub CsvLogsAreReadOnce : {R : Type 0} → Row → RowMeaning R → Type 0
-CsvLogsAreReadOnce names entry = (log : List ℕ)
-    → IsOnlyCsvReading names entry log (read_csv_log names entry log)
+CsvLogsAreReadOnce names meaning = (log : List ℕ)
+    → IsOnlyCsvReading names meaning log (read_csv_log names meaning log)
 
 -- the numbers of each record of a good order log are in range
 abbrev pub CsvOrdersAreInRange : Type 0

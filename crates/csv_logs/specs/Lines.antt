@@ -2,8 +2,8 @@
 use Rattle.std.specs.Prelude.{ℕ, Bool, not, ◌+◌, ◌-◌, ◌==◌, List, [], ◌∷◌, length, take, drop, filter, if◌then◌else◌}
 use Rattle.std.specs.List.{ends_with, starts_with}
 
--- a line of a log: the offset in the log of its first byte, and
--- its bytes without the end of the line
+-- a line of a log: the offset in the log of its first byte, and its bytes without the end
+-- of the line
 pub record Line : Type 0 where
   pub start : ℕ
   pub text : List ℕ

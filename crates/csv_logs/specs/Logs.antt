@@ -15,14 +15,14 @@ use Rattle.csv_logs.specs.TradeLines.{trade_of_row}
 
 -- nine fields mean a record, or the first column that is not in its form
 abbrev pub fields_entry : {R : Type 0} → RowMeaning R → Row → Result R Reason
-fields_entry entry fields = if length fields == 9 then entry fields else Err reason.Columns
+fields_entry meaning fields = if length fields == 9 then meaning fields else Err reason.Columns
 
 -- a line that is not empty is a record, or the first test that it fails: its bytes and quotes,
 -- its nine fields, each column in turn
 unfoldable pub line_entry : {R : Type 0} → RowMeaning R → List ℕ → Result R Reason
-line_entry entry line =
+line_entry meaning line =
     if has_bad_byte_or_open_quote line then Err reason.Break
-    else fields_entry entry (line_fields line)
+    else fields_entry meaning (line_fields line)
 
 -- this is the symbol of the record that was read, if one was
 abbrev pub IsSymbolOf : {R : Type 0} → (R → List ℕ) → Result R Reason → List ℕ → Type 0
@@ -54,22 +54,22 @@ after_line before start (Err why) later =
 
 -- the records of these lines, or the first of them that is none
 abbrev pub read_entries : {R : Type 0} → RowMeaning R → ℕ → List Line → LogResult R
-read_entries entry before [] = Ok []
-read_entries entry before (line ∷ lines) =
-    after_line before line.start (line_entry entry line.text)
-    (read_entries entry (before + 1) lines)
+read_entries meaning before [] = Ok []
+read_entries meaning before (line ∷ lines) =
+    after_line before line.start (line_entry meaning line.text)
+    (read_entries meaning (before + 1) lines)
 
 -- the header, and the records of the lines after it; `size` is the log's length
 abbrev pub read_lines : {R : Type 0} → Row → RowMeaning R → ℕ → List Line → LogResult R
-read_lines names entry size [] =
+read_lines names meaning size [] =
     Err (record { place = 1; offset = size; reason = reason.Header })
-read_lines names entry size (header ∷ lines) =
-    if is_header names header.text then read_entries entry 0 lines
+read_lines names meaning size (header ∷ lines) =
+    if is_header names header.text then read_entries meaning 0 lines
     else Err (record { place = 1; offset = header.start; reason = reason.Header })
 
 -- what a log says: its records, or its first bad place
 unfoldable pub read_csv_log : {R : Type 0} → Row → RowMeaning R → List ℕ → LogResult R
-read_csv_log names entry log = read_lines names entry (length log) (nonempty_lines log)
+read_csv_log names meaning log = read_lines names meaning (length log) (nonempty_lines log)
 
 abbrev pub csv_order_records : List ℕ → Result (List OrderRecord) BadPlace
 csv_order_records log = read_csv_log order_columns order_of_row log
@@ -79,13 +79,13 @@ csv_trade_records log = read_csv_log trade_columns trade_of_row log
 
 -- The log is good with these records: its first line that is not empty is the header, and each
 -- further one is a record.
-pub record IsGoodCsvLog {R : Type 0} (names : Row) (entry : RowMeaning R) (log : List ℕ)
+pub record IsGoodCsvLog {R : Type 0} (names : Row) (meaning : RowMeaning R) (log : List ℕ)
     (entries : List R) : Type 0 where
   pub header : Line
   pub lines : List Line
   pub cut : nonempty_lines log ≡ header ∷ lines
   pub named : IsTrue (is_header names header.text)
-  pub records : map (λ line. line_entry entry line.text) lines ≡ map Ok entries
+  pub records : map (λ line. line_entry meaning line.text) lines ≡ map Ok entries
 
 -- Every line of the log is empty: the header is missing at its end.
 pub record LacksHeader (log : List ℕ) (bad : BadPlace) : Type 0 where
@@ -102,7 +102,7 @@ pub record HasBadHeader (names : Row) (log : List ℕ) (bad : BadPlace) : Type 0
 
 -- After the header and lines that are records, a line fails a test: its place is one more than the
 -- number of those records.
-pub record HasBadLine {R : Type 0} (names : Row) (entry : RowMeaning R) (log : List ℕ)
+pub record HasBadLine {R : Type 0} (names : Row) (meaning : RowMeaning R) (log : List ℕ)
     (bad : BadPlace) : Type 0 where
   pub header : Line
   pub good : List Line
@@ -112,18 +112,18 @@ pub record HasBadLine {R : Type 0} (names : Row) (entry : RowMeaning R) (log : L
   pub why : Reason
   pub cut : nonempty_lines log ≡ header ∷ (good ++ line ∷ after)
   pub named : IsTrue (is_header names header.text)
-  pub records : map (λ line. line_entry entry line.text) good ≡ map Ok entries
-  pub fails : line_entry entry line.text ≡ Err why
+  pub records : map (λ line. line_entry meaning line.text) good ≡ map Ok entries
+  pub fails : line_entry meaning line.text ≡ Err why
   pub place : bad ≡ record { place = length entries + 1; offset = line.start; reason = why }
 
 -- the log is bad there
 abbrev pub IsBadCsvLog : {R : Type 0} → Row → RowMeaning R → List ℕ → BadPlace → Type 0
-IsBadCsvLog names entry log bad =
-    LacksHeader log bad ⊎ (HasBadHeader names log bad ⊎ HasBadLine names entry log bad)
+IsBadCsvLog names meaning log bad =
+    LacksHeader log bad ⊎ (HasBadHeader names log bad ⊎ HasBadLine names meaning log bad)
 
--- A log is read in one way: it is good with one list of records
--- or bad at one place, and never both.
-pub record IsOnlyCsvReading {R : Type 0} (names : Row) (entry : RowMeaning R) (log : List ℕ)
+-- A log is read in one way: it is good with one list of records or bad at one place,
+-- and never both.
+pub record IsOnlyCsvReading {R : Type 0} (names : Row) (meaning : RowMeaning R) (log : List ℕ)
     (reading : LogResult R) : Type 0 where
-  pub good : (entries : List R) → IsGoodCsvLog names entry log entries ↔ (reading ≡ Ok entries)
-  pub bad : (place : BadPlace) → IsBadCsvLog names entry log place ↔ (reading ≡ Err place)
+  pub good : (entries : List R) → IsGoodCsvLog names meaning log entries ↔ (reading ≡ Ok entries)
+  pub bad : (place : BadPlace) → IsBadCsvLog names meaning log place ↔ (reading ≡ Err place)

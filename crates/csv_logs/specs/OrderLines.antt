@@ -1,5 +1,5 @@
--- What a line of an order log means. The codes of `N`, `X`, `R`, `I`
--- and `M` are 78, 88, 82, 73 and 77.
+-- What a line of an order log means. The codes of `N`, `X`, `R`, `I` and `M` are 78, 88, 82,
+-- 73 and 77.
 use Rattle.std.specs.Prelude.{ℕ, ◌==◌, Option, Some, None, Result, Ok, List, [], ◌∷◌, if◌then◌else◌}
 use Rattle.audit_base.specs.declared.faults.Reason.{Reason}
 use Rattle.audit_base.specs.declared.records.OrderRecord.{OrderRecord}

@@ -37,14 +37,14 @@ header_says test = if test then Ok None else Err reason.Header
 
 -- what the fields of a line say, where the header has come or is to come
 abbrev pub fields_say : {R : Type 0} → Row → RowMeaning R → Bool → Row → Says R
-fields_say names entry true fields = entry_says (fields_entry entry fields)
-fields_say names entry false fields = header_says (same_fields fields names)
+fields_say names meaning true fields = entry_says (fields_entry meaning fields)
+fields_say names meaning false fields = header_says (same_fields fields names)
 
 -- what a line that is not empty says: nothing but the header as the first one, then a record; or
 -- the first test that it fails
 abbrev pub line_says : {R : Type 0} → Row → RowMeaning R → Bool → List ℕ → Says R
-line_says names entry true text = entry_says (line_entry entry text)
-line_says names entry false text = header_says (is_header names text)
+line_says names meaning true text = entry_says (line_entry meaning text)
+line_says names meaning false text = header_says (is_header names text)
 
 -- Fields that say this were taken: a record that they mean was handed on, and the result is the
 -- first test that they fail, if any.
@@ -66,39 +66,39 @@ MovesPastLine (Err why) start size has_taken offset offset' header' bad' =
 -- what stood for a log with a line that has not ended stands for it with that line ended
 abbrev pub EndsLine : {R : Type 0} → Row → RowMeaning R → TakenRecords R → List ℕ → ℕ → Bool
     → TakenRecords R → List ℕ → ℕ → Bool → Option BadPlace → Type 0
-EndsLine names entry before line offset header after rest' offset' header' bad' =
+EndsLine names meaning before line offset header after rest' offset' header' bad' =
     (entries : List _) (log : List ℕ) → before entries
-    → HasNoBadLine names entry entries line offset header log
-    → HasCsvFeedFields after names entry rest' offset' header' bad' (log ++ 10 ∷ [])
+    → HasNoBadLine names meaning entries line offset header log
+    → HasCsvFeedFields after names meaning rest' offset' header' bad' (log ++ 10 ∷ [])
 
 -- Some log that ends with this line, not ended, is no longer than a log that is read may be.
-pub record HasLine {R : Type 0} (names : Row) (entry : RowMeaning R) (has_taken : TakenRecords R)
+pub record HasLine {R : Type 0} (names : Row) (meaning : RowMeaning R) (has_taken : TakenRecords R)
     (line : List ℕ) (offset : ℕ) (header : Bool) : Type 0 where
   pub entries : List R
   pub has : has_taken entries
   pub log : List ℕ
-  pub stands : HasNoBadLine names entry entries line offset header log
+  pub stands : HasNoBadLine names meaning entries line offset header log
   pub room : length log ≤ longest_read
 
 -- Some log that ends with this line, not ended, is with the line's LF and the text after it no
 -- longer than a log that is read may be.
-pub record HasLines {R : Type 0} (names : Row) (entry : RowMeaning R) (has_taken : TakenRecords R)
+pub record HasLines {R : Type 0} (names : Row) (meaning : RowMeaning R) (has_taken : TakenRecords R)
     (line : List ℕ) (offset : ℕ) (header : Bool) (text : List ℕ) : Type 0 where
   pub entries : List R
   pub has : has_taken entries
   pub log : List ℕ
-  pub stands : HasNoBadLine names entry entries line offset header log
+  pub stands : HasNoBadLine names meaning entries line offset header log
   pub room : length log + length (10 ∷ text) ≤ longest_read
 
 -- What stood for a log with a line that has not ended stands for it with that line ended, and
 -- with the text after it up to what is left of that.
-pub record EndsLines {R : Type 0} (names : Row) (entry : RowMeaning R) (before : TakenRecords R)
+pub record EndsLines {R : Type 0} (names : Row) (meaning : RowMeaning R) (before : TakenRecords R)
     (line : List ℕ) (offset : ℕ) (header : Bool) (new : List ℕ → Type 0) (text left : List ℕ)
     : Type 0 where
   pub done : List ℕ
   pub split : text ≡ done ++ left
   pub stands : (entries : List R) (log : List ℕ) → before entries
-      → HasNoBadLine names entry entries line offset header log → new (log ++ 10 ∷ done)
+      → HasNoBadLine names meaning entries line offset header log → new (log ++ 10 ∷ done)
 
 -- A piece was taken up to what is left of it, and the feed stands for as much more.
 pub record TakesPiece (old new : List ℕ → Type 0) (piece left : List ℕ) : Type 0 where
@@ -119,35 +119,35 @@ FeedMovesPastLine has_taken outcome start size old new =
 -- a log that is read may be
 abbrev pub FeedHasLine : {K R : Type 0} → TakenRecordsBy K R → Row → RowMeaning R
     → CsvFeed K → List ℕ → Type 0
-FeedHasLine has_taken names entry feed line =
-    HasLine names entry (has_taken feed.entries) line feed.offset feed.header
+FeedHasLine has_taken names meaning feed line =
+    HasLine names meaning (has_taken feed.entries) line feed.offset feed.header
 
 -- the feed has taken the end of this line, and keeps this rest
 abbrev pub FeedEndsLine : {K R : Type 0} → TakenRecordsBy K R → Row → RowMeaning R → CsvFeed K
     → CsvFeed K → List ℕ → List ℕ → Type 0
-FeedEndsLine has_taken names entry old new line rest =
-    EndsLine names entry (has_taken old.entries) line old.offset old.header
+FeedEndsLine has_taken names meaning old new line rest =
+    EndsLine names meaning (has_taken old.entries) line old.offset old.header
     (has_taken new.entries) rest new.offset new.header new.bad
 
 -- some log that the feed stands for, ended with this line in place of its rest and followed by
 -- this text, is no longer than a log that is read may be
 abbrev pub FeedHasLines : {K R : Type 0} → TakenRecordsBy K R → Row → RowMeaning R
     → CsvFeed K → List ℕ → List ℕ → Type 0
-FeedHasLines has_taken names entry feed line text =
-    HasLines names entry (has_taken feed.entries) line feed.offset feed.header text
+FeedHasLines has_taken names meaning feed line text =
+    HasLines names meaning (has_taken feed.entries) line feed.offset feed.header text
 
 -- the feed has taken the end of this line and the text after it up to what is left
 abbrev pub FeedEndsLines : {K R : Type 0} → TakenRecordsBy K R → Row → RowMeaning R → CsvFeed K
     → CsvFeed K → List ℕ → List ℕ → List ℕ → Type 0
-FeedEndsLines has_taken names entry old new line text left =
-    EndsLines names entry (has_taken old.entries) line old.offset old.header
-    (IsCsvFeedOf has_taken names entry new) text left
+FeedEndsLines has_taken names meaning old new line text left =
+    EndsLines names meaning (has_taken old.entries) line old.offset old.header
+    (IsCsvFeedOf has_taken names meaning new) text left
 
 -- the feed has taken a piece up to what is left of it
 abbrev pub FeedTakesPiece : {K R : Type 0} → TakenRecordsBy K R → Row → RowMeaning R → CsvFeed K
     → CsvFeed K → List ℕ → List ℕ → Type 0
-FeedTakesPiece has_taken names entry old new =
-    TakesPiece (IsCsvFeedOf has_taken names entry old) (IsCsvFeedOf has_taken names entry new)
+FeedTakesPiece has_taken names meaning old new =
+    TakesPiece (IsCsvFeedOf has_taken names meaning old) (IsCsvFeedOf has_taken names meaning new)
 
 -- nothing of the feed but its rest has changed
 abbrev pub KeepsAllButRest : {K : Type 0} → CsvFeed K → CsvFeed K → Type 0

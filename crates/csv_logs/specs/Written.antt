@@ -67,11 +67,11 @@ csv_trades_text trades = log_text trade_columns trade_row trades
 -- the log that is written of these records says these records, where each of them is sound
 abbrev pub IsReadBack : {R : Type 0} → Row → RowMeaning R → (R → Type 0) → (R → Row) → List R
     → Type 0
-IsReadBack names entry sound fields records =
-    All sound records → read_csv_log names entry (log_text names fields records) ≡ Ok records
+IsReadBack names meaning sound fields records =
+    All sound records → read_csv_log names meaning (log_text names fields records) ≡ Ok records
 
--- the canonical order log of these records says these records, where those
--- of life Market have the market price
+-- the canonical order log of these records says these records, where those of life Market
+-- have the market price
 abbrev pub AreOrdersReadAgain : List OrderRecord → Type 0
 AreOrdersReadAgain records =
     All HasMarketPrice records → csv_order_records (csv_orders_text records) ≡ Ok records

@@ -34,8 +34,8 @@ csv_replace_order head terms target =
 abbrev pub have_name_bytes : Row → Bool
 have_name_bytes fields = list_all (list_all is_name_byte) fields
 
--- The fields of a record's line are nine, hold no byte that ends a field, and mean
--- the record if it can be read at all.
+-- The fields of a record's line are nine, hold no byte that ends a field, and mean the record
+-- if it can be read at all.
 pub record IsLineOf {R : Type 0} (meaning : RowMeaning R) (sound : R → Type 0) (entry : R)
     (fields : Row) : Type 0 where
   pub nine : length fields ≡ 9
@@ -54,13 +54,13 @@ abbrev pub WritesRow : {W : Type 0} → (W → Option (List ℕ)) → Writer W �
 WritesRow contents old new fields =
     Appends (text_written contents old) (text_written contents new) (csv_line_text fields)
 
--- the fields of an order's line are nine, need no quotes, and mean the
--- order if it has the price of its life
+-- the fields of an order's line are nine, need no quotes, and mean the order
+-- if it has the price of its life
 abbrev pub IsOrderRow : OrderRecord → Type 0
 IsOrderRow order = IsLineOf order_of_row HasMarketPrice order (order_row order)
 
--- The text that was written is the header and the lines of these
--- records, each of which means its record.
+-- The text that was written is the header and the lines of these records,
+-- each of which means its record.
 pub record IsLogText {R : Type 0} (names : Row) (meaning : RowMeaning R) (sound : R → Type 0)
     (fields : R → Row) (text : LogText R) (entries : List R) : Type 0 where
   pub at_line : IsAtLine text.writer

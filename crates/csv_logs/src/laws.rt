@@ -18,8 +18,8 @@ pub fn records_are_in_range()
     ensures trades { CsvTradesAreInRange }
 {}
 
-/// Each record of a good log has at least nine bytes of it, so a log of
-/// n bytes has at most n / 9 records.
+/// Each record of a good log has at least nine bytes of it, so a log of n bytes has
+/// at most n / 9 records.
 pub fn records_have_nine_bytes()
     ensures orders { CsvOrdersHaveNineBytes }
     ensures trades { CsvTradesHaveNineBytes }

@@ -58,8 +58,8 @@ impl<R: LogLine> LogText<R> {
     }
 }
 
-/// A log that is written as it is read, in whatever form: a collector that keeps
-/// no record, only the canonical text.
+/// A log that is written as it is read, in whatever form: a collector that keeps no record,
+/// only the canonical text.
 #[derive(Drop)]
 pub struct ConvertedLog<R> {
     text: LogText<R>,

@@ -277,8 +277,8 @@ fn take_order_of_kind<K: Collector<Entry = OrderRecord>>(
     }
 }
 
-/// The kind of a line and its time, in the columns that every
-/// order line has, whose names are tested.
+/// The kind of a line and its time, in the columns that every order line has,
+/// whose names are tested.
 #[inline(always)]
 #[tactic(auto, unfolding(crate::specs::OrderLines::order_of_row))]
 fn kind_and_time(fields: &NineFields<'_>, stamps: &mut StampReader) -> Result<(Kind, Stamp), Reason>
@@ -292,8 +292,8 @@ fn kind_and_time(fields: &NineFields<'_>, stamps: &mut StampReader) -> Result<(K
     Ok((kind, time))
 }
 
-/// Hands on the record that nine fields mean in an order log, or gives the
-/// first column that is not in its form.
+/// Hands on the record that nine fields mean in an order log, or gives the first column
+/// that is not in its form.
 pub(crate) fn take_order<K: Collector<Entry = OrderRecord>>(
     entries: &mut K,
     fields: &NineFields<'_>,
@@ -342,8 +342,8 @@ fn test_order_of_kind(kind: Kind, fields: &NineFields<'_>) -> Result<(), Reason>
     }
 }
 
-/// Whether nine fields mean a record in an order log, or else the
-/// first column that is not in its form.
+/// Whether nine fields mean a record in an order log, or else the first column
+/// that is not in its form.
 pub(crate) fn test_order(fields: &NineFields<'_>, stamps: &mut StampReader) -> Result<(), Reason>
     ensures { result ≡ test_result (order_of_row fields.now) }
 {

@@ -81,8 +81,8 @@ pub(crate) fn take_trade<K: Collector<Entry = TradeRecord>>(
     }
 }
 
-/// Whether nine fields mean a record in a trade log, or else the
-/// first column that is not in its form.
+/// Whether nine fields mean a record in a trade log, or else the first column
+/// that is not in its form.
 pub(crate) fn test_trade(fields: &NineFields<'_>, stamps: &mut StampReader) -> Result<(), Reason>
     ensures { result ≡ test_result (trade_of_row fields.now) }
 {

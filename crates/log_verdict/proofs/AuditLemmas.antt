@@ -19,7 +19,7 @@ use Rattle.log_source.specs.Calls.{count_after}
 use Rattle.log_source.specs.Sources.{Slot, RoseOrIsFull}
 use Rattle.matching_core.specs.declared.deals_draft.ResolvedTrades.{ResolvedTrades}
 use Rattle.record_verdict.specs.declared.before_rule.BeforeRule.{BeforeRule}
-use Rattle.record_verdict.specs.declared.before_rule.BeforeRule.TheVariants as upto
+use Rattle.record_verdict.specs.declared.before_rule.BeforeRule.TheVariants as before_rule
 use Rattle.log_verdict.specs.declared.reading.Collected.{Collected}
 use Rattle.log_verdict.specs.declared.reading.Collected.TheVariants as collected
 use Rattle.record_verdict.specs.declared.scopes.Scope.{Scope}
@@ -102,7 +102,7 @@ module _ (first second : Reading) (after : Follows first second) where
       → IsReadAs first Orders orders.name.now (λ bytes. records_of_order_log orders.form bytes ≡ Ok entries)
       → GivesTradesOrStop second scope trades entries result → GivesBeforeRuleOrStop (joined first second) scope orders trades result
   decides_after scope orders trades entries (Ok reached) read is =
-      stays_read orders.name.now (λ bytes. records_of_order_log orders.form bytes ≡ Ok entries) (λ bytes. ReadsAfterOrders (joined first second) trades (λ es paired. IsBeforeRule scope es paired reached) (λ log bad. reached ≡ upto.Malformed log bad) (records_of_order_log orders.form bytes))
+      stays_read orders.name.now (λ bytes. records_of_order_log orders.form bytes ≡ Ok entries) (λ bytes. ReadsAfterOrders (joined first second) trades (λ es paired. IsBeforeRule scope es paired reached) (λ log bad. reached ≡ before_rule.Malformed log bad) (records_of_order_log orders.form bytes))
       (λ bytes e. rw e (read_after trades.name.now _ is)) read
   decides_after scope orders trades entries (Err (stop.ReadFault log)) read (is, fault) =
       rw is (record {
@@ -188,7 +188,7 @@ module _ (r : Reading) (scope : Scope) (trades : Source) (entries : List OrderRe
   -- the trade log was read, and whatever it says, this is found
   pub after_any : {K : Type 0} (has_taken : K → List TradeRecord → Type 0) (kept : Collected K) (finding : Finding)
       → ((paired : Result (List TradeRecord) Finding) → finding_before_rule_in_scope scope entries paired ≡ Some finding)
-      → IsReadAs r Trades trades.name.now (λ bytes. HasCollected has_taken kept (trades_of_trade_log trades.form bytes)) → IsAfterOrders r scope trades entries (upto.Found finding)
+      → IsReadAs r Trades trades.name.now (λ bytes. HasCollected has_taken kept (trades_of_trade_log trades.form bytes)) → IsAfterOrders r scope trades entries (before_rule.Found finding)
   after_any has_taken (collected.Trades collector) finding found is =
       record { bytes = is.bytes; read = is.read; holds = rw is.holds.says (found (Ok is.holds.trades)) }
   after_any has_taken (collected.Alone other) finding found is =
@@ -196,7 +196,7 @@ module _ (r : Reading) (scope : Scope) (trades : Source) (entries : List OrderRe
 
   -- a report without its partner is found
   pub after_alone : (finding : Finding) (history : List Order) → IsAdmitted scope entries history
-      → IsReadAs r Trades trades.name.now (λ bytes. trades_of_trade_log trades.form bytes ≡ Ok (Err finding)) → IsAfterOrders r scope trades entries (upto.Found finding)
+      → IsReadAs r Trades trades.name.now (λ bytes. trades_of_trade_log trades.form bytes ≡ Ok (Err finding)) → IsAfterOrders r scope trades entries (before_rule.Found finding)
   after_alone finding history is read =
       record { bytes = read.bytes; read = read.read; holds = rw read.holds (alone_found scope entries history finding is) }
 

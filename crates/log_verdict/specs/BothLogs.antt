@@ -15,7 +15,7 @@ use Rattle.log_verdict.specs.declared.stops.Stop.TheVariants as stop
 use Rattle.log_verdict.specs.declared.reading.Unread.{Unread}
 use Rattle.log_verdict.specs.declared.reading.Unread.TheVariants as unread
 use Rattle.record_verdict.specs.declared.before_rule.BeforeRule.{BeforeRule}
-use Rattle.record_verdict.specs.declared.before_rule.BeforeRule.TheVariants as upto
+use Rattle.record_verdict.specs.declared.before_rule.BeforeRule.TheVariants as before_rule
 use Rattle.record_verdict.specs.declared.questions.Question.{Question}
 use Rattle.log_verdict.specs.declared.sources.Source.{Source}
 use Rattle.log_verdict.specs.Collecting.{step_of, IsReadAs}
@@ -66,15 +66,15 @@ ReadsLogs r orders trades of_records of_bad =
 
 -- both logs were read, and give this before the rule is looked at
 abbrev pub ReadsUpToRule : Reading → Scope → Source → Source → BeforeRule → Type 0
-ReadsUpToRule r scope orders trades reached =
-    ReadsLogs r orders trades (λ entries paired. IsBeforeRule scope entries paired reached)
-    (λ log bad. reached ≡ upto.Malformed log bad)
+ReadsUpToRule r scope orders trades given =
+    ReadsLogs r orders trades (λ entries paired. IsBeforeRule scope entries paired given)
+    (λ log bad. given ≡ before_rule.Malformed log bad)
 
 -- the trade log was read, and gives this after these records of the order log
 abbrev pub IsAfterOrders : Reading → Scope → Source → List OrderRecord → BeforeRule → Type 0
-IsAfterOrders r scope trades entries reached =
-    ReadsTrades r trades (λ paired. IsBeforeRule scope entries paired reached)
-    (λ bad. reached ≡ upto.Malformed Trades bad)
+IsAfterOrders r scope trades entries given =
+    ReadsTrades r trades (λ paired. IsBeforeRule scope entries paired given)
+    (λ bad. given ≡ before_rule.Malformed Trades bad)
 
 -- both logs were read, and this is their verdict
 abbrev pub ReadsVerdict : Reading → Question → Source → Source → Verdict → Type 0
@@ -116,7 +116,7 @@ IsStopOfTwoLogs r orders trades stop.Memory = Unit {0}
 
 -- what is answered where a log was not read into records
 abbrev pub without_log : Which → Unread → Result BeforeRule Stop
-without_log log (unread.Bad bad) = Ok (upto.Malformed log bad)
+without_log log (unread.Bad bad) = Ok (before_rule.Malformed log bad)
 without_log log unread.ReadFault = Err (stop.ReadFault log)
 without_log log unread.TooLong = Err (stop.TooLong log)
 without_log log unread.Memory = Err stop.Memory

@@ -40,7 +40,7 @@ pub fn verdict_on<F: Shelf>(
     // A match and no `?`: behind one, each way out lets go of what was read, case by case, and
     // the proof of the answer is lost among them.
     match read_both(alloc, shelf, &question.scope(), orders, trades) {
-        Ok(reached) => Ok(verdict_after(alloc, question, &reached)?),
+        Ok(given) => Ok(verdict_after(alloc, question, &given)?),
         Err(stop) => Err(stop),
     }
 }

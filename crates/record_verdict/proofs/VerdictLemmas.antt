@@ -19,7 +19,7 @@ use Rattle.audit_base.proofs.VerdictLemmas.{one-verdict-of_deals}
 use Rattle.audit_report.specs.declared.verdicts.Verdict.{Verdict}
 use Rattle.audit_report.specs.declared.verdicts.Verdict.TheVariants as verdict
 use Rattle.matching_core.specs.declared.deals_draft.ResolvedTrades.{ResolvedTrades}
-use Rattle.record_verdict.specs.declared.before_rule.BeforeRule.TheVariants as upto
+use Rattle.record_verdict.specs.declared.before_rule.BeforeRule.TheVariants as before_rule
 use Rattle.record_verdict.specs.declared.scopes.Admission.TheVariants as admission
 use Rattle.record_verdict.specs.declared.questions.Question.{Question}
 use Rattle.record_verdict.specs.BeforeRule.{AreResolvedTradesInRange, IsResolvedWithoutFinding}
@@ -41,7 +41,7 @@ pub early-is : (q : Question) (entries : List OrderRecord) (paired : Result (Lis
 early-is q entries paired = rw (admitted-by q.rule (order_list q.symbol entries)) refl
 
 -- a bad place is the verdict
-pub malformed_is : (q : Question) (log : Which) (bad : BadPlace) → IsVerdictUpToRule q (upto.Malformed log bad) (verdict.Malformed log bad)
+pub malformed_is : (q : Question) (log : Which) (bad : BadPlace) → IsVerdictUpToRule q (before_rule.Malformed log bad) (verdict.Malformed log bad)
 malformed_is q log bad = record {
   of_place = same;
   of_finding = λ finding e. absurd (no_finding finding e);
@@ -49,13 +49,13 @@ malformed_is q log bad = record {
   of_records = λ entries paired is. absurd is;
 }
   where
-    no_finding : (finding : Finding) → upto.Malformed log bad ≡ upto.Found finding → ⊥
+    no_finding : (finding : Finding) → before_rule.Malformed log bad ≡ before_rule.Found finding → ⊥
     no_finding finding e = cc
 
-    no_deals : (sound : ResolvedTrades) → upto.Malformed log bad ≡ upto.Sound sound → ⊥
+    no_deals : (sound : ResolvedTrades) → before_rule.Malformed log bad ≡ before_rule.Sound sound → ⊥
     no_deals sound e = cc
 
-    same : (other : Which) (place : BadPlace) → upto.Malformed log bad ≡ upto.Malformed other place → verdict.Malformed log bad ≡ verdict.Malformed other place
+    same : (other : Which) (place : BadPlace) → before_rule.Malformed log bad ≡ before_rule.Malformed other place → verdict.Malformed log bad ≡ verdict.Malformed other place
     same other place e = cc
 
 found_judged : (q : Question) (entries : List OrderRecord) (paired : Result (List TradeRecord) Finding) (finding : Finding) → finding_before_rule q.rule q.symbol entries paired ≡ Some finding
@@ -68,7 +68,7 @@ found_judged q entries paired finding found = record {
 }
 
 -- a finding is the verdict
-pub found_is : (q : Question) (finding : Finding) → IsVerdictUpToRule q (upto.Found finding) (verdict.Rejected finding)
+pub found_is : (q : Question) (finding : Finding) → IsVerdictUpToRule q (before_rule.Found finding) (verdict.Rejected finding)
 found_is q finding = record {
   of_place = λ other place e. absurd (apart other place e);
   of_finding = same;
@@ -76,13 +76,13 @@ found_is q finding = record {
   of_records = λ entries paired is. found_judged q entries paired finding (sym (early-is q entries paired) ∙ is);
 }
   where
-    same : (other : Finding) → upto.Found finding ≡ upto.Found other → verdict.Rejected finding ≡ verdict.Rejected other
+    same : (other : Finding) → before_rule.Found finding ≡ before_rule.Found other → verdict.Rejected finding ≡ verdict.Rejected other
     same other e = cc
 
-    no_deals : (sound : ResolvedTrades) → upto.Found finding ≡ upto.Sound sound → ⊥
+    no_deals : (sound : ResolvedTrades) → before_rule.Found finding ≡ before_rule.Sound sound → ⊥
     no_deals sound e = cc
 
-    apart : (other : Which) (place : BadPlace) → upto.Found finding ≡ upto.Malformed other place → ⊥
+    apart : (other : Which) (place : BadPlace) → before_rule.Found finding ≡ before_rule.Malformed other place → ⊥
     apart other place e = cc
 
 sound_judged : (q : Question) (entries : List OrderRecord) (paired : Result (List TradeRecord) Finding) (resolved : ResolvedTrades) (v : Verdict) → DealsInRange resolved.deals.items
@@ -106,7 +106,7 @@ sound_judged q entries paired resolved v numbers judged sound =
     }
 
 -- the verdict on sound trades is that of the logs
-pub sound_is : (q : Question) (resolved : ResolvedTrades) (v : Verdict) → AreResolvedTradesInRange resolved → VerdictFollowsDeals q resolved.history resolved.deals.items resolved.count v → IsVerdictUpToRule q (upto.Sound resolved) v
+pub sound_is : (q : Question) (resolved : ResolvedTrades) (v : Verdict) → AreResolvedTradesInRange resolved → VerdictFollowsDeals q resolved.history resolved.deals.items resolved.count v → IsVerdictUpToRule q (before_rule.Sound resolved) v
 sound_is q resolved v judgeable judged = record {
   of_place = λ other place e. absurd (apart other place e);
   of_finding = λ finding e. absurd (no_finding finding e);
@@ -114,16 +114,16 @@ sound_is q resolved v judgeable judged = record {
   of_records = λ entries paired is. sound_judged q entries paired resolved v judgeable.numbers judged is;
 }
   where
-    same : (other : ResolvedTrades) → upto.Sound resolved ≡ upto.Sound other → VerdictFollowsDeals q other.history other.deals.items other.count v
+    same : (other : ResolvedTrades) → before_rule.Sound resolved ≡ before_rule.Sound other → VerdictFollowsDeals q other.history other.deals.items other.count v
     same other e = subst (λ (s : ResolvedTrades). VerdictFollowsDeals q s.history s.deals.items s.count v) (inner other e) judged
       where
-        inner : (other : ResolvedTrades) → upto.Sound resolved ≡ upto.Sound other → resolved ≡ other
+        inner : (other : ResolvedTrades) → before_rule.Sound resolved ≡ before_rule.Sound other → resolved ≡ other
         inner other e = cc
 
-    no_finding : (finding : Finding) → upto.Sound resolved ≡ upto.Found finding → ⊥
+    no_finding : (finding : Finding) → before_rule.Sound resolved ≡ before_rule.Found finding → ⊥
     no_finding finding e = cc
 
-    apart : (other : Which) (place : BadPlace) → upto.Sound resolved ≡ upto.Malformed other place → ⊥
+    apart : (other : Which) (place : BadPlace) → before_rule.Sound resolved ≡ before_rule.Malformed other place → ⊥
     apart other place e = cc
 
 -- the verdict on the deals of sound trades is that on the records

@@ -10,12 +10,12 @@ use Rattle.audit_base.specs.Trades.{deals_of_symbol}
 use Rattle.audit_base.specs.Verdicts.{paired_trades}
 use Rattle.matching_core.specs.declared.deals_draft.ResolvedTrades.{ResolvedTrades}
 use Rattle.record_verdict.specs.declared.before_rule.BeforeRule.{BeforeRule}
-use Rattle.record_verdict.specs.declared.before_rule.BeforeRule.TheVariants as upto
+use Rattle.record_verdict.specs.declared.before_rule.BeforeRule.TheVariants as before_rule
 use Rattle.record_verdict.specs.declared.scopes.Scope.{Scope}
 use Rattle.record_verdict.specs.Scopes.{finding_before_rule_in_scope}
 
--- The trades are sound: these are the orders of the history, which are
--- admitted, and the deals between them.
+-- The trades are sound: these are the orders of the history, which are admitted,
+-- and the deals between them.
 pub record IsResolvedWithoutFinding (scope : Scope) (entries : List OrderRecord)
     (paired : Result (List TradeRecord) Finding) (resolved : ResolvedTrades) : Type 0 where
   pub none : finding_before_rule_in_scope scope entries paired ≡ None
@@ -27,22 +27,22 @@ pub record IsResolvedWithoutFinding (scope : Scope) (entries : List OrderRecord)
 -- what records give before the rule is looked at: the first finding there, or sound trades
 abbrev pub IsBeforeRule : Scope → List OrderRecord → Result (List TradeRecord) Finding
     → BeforeRule → Type 0
-IsBeforeRule scope entries paired (upto.Malformed log bad) = ⊥
-IsBeforeRule scope entries paired (upto.Found finding) =
+IsBeforeRule scope entries paired (before_rule.Malformed log bad) = ⊥
+IsBeforeRule scope entries paired (before_rule.Found finding) =
     finding_before_rule_in_scope scope entries paired ≡ Some finding
-IsBeforeRule scope entries paired (upto.Sound resolved) =
+IsBeforeRule scope entries paired (before_rule.Sound resolved) =
     IsResolvedWithoutFinding scope entries paired resolved
 
 -- a log is not in its grammar
 abbrev pub is_malformed : BeforeRule → Bool
-is_malformed (upto.Malformed log bad) = true
-is_malformed (upto.Found finding) = false
-is_malformed (upto.Sound resolved) = false
+is_malformed (before_rule.Malformed log bad) = true
+is_malformed (before_rule.Found finding) = false
+is_malformed (before_rule.Sound resolved) = false
 
 -- what trades give that have been gathered: their first finding, or that they are sound
 abbrev pub finding_or_sound : ResolvedTrades → Option Finding → BeforeRule
-finding_or_sound resolved None = upto.Sound resolved
-finding_or_sound resolved (Some finding) = upto.Found finding
+finding_or_sound resolved None = before_rule.Sound resolved
+finding_or_sound resolved (Some finding) = before_rule.Found finding
 
 -- Sound trades are fewer than there are places, and at least as many as their deals, which are a
 -- deal list with numbers in range.
@@ -53,6 +53,6 @@ pub record AreResolvedTradesInRange (resolved : ResolvedTrades) : Type 0 where
   pub numbers : DealsInRange resolved.deals.items
 
 abbrev pub IsJudgeable : BeforeRule → Type 0
-IsJudgeable (upto.Malformed log bad) = Unit {0}
-IsJudgeable (upto.Found finding) = Unit {0}
-IsJudgeable (upto.Sound resolved) = AreResolvedTradesInRange resolved
+IsJudgeable (before_rule.Malformed log bad) = Unit {0}
+IsJudgeable (before_rule.Found finding) = Unit {0}
+IsJudgeable (before_rule.Sound resolved) = AreResolvedTradesInRange resolved

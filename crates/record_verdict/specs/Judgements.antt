@@ -1,5 +1,5 @@
--- The verdict on the records of two logs: the finding of the rules, or
--- what is reported of an accepted log.
+-- The verdict on the records of two logs: the finding of the rules,
+-- or what is reported of an accepted log.
 use Rattle.std.specs.Prelude.{◌≡◌, ◌<◌, ℕ, Bool, true, false, nat_lt, List, [], Option, None, Result, length, map, filter_map, flat_map, is_some, if◌then◌else◌, MatchOption, IfSome, IsSomeAnd}
 use Rattle.std.specs.List.{range_with_len}
 use Rattle.audit_base.specs.declared.terms.Rule.{Rule}
@@ -63,9 +63,9 @@ table_lines the_rule true orders deals = rule_lines the_rule orders deals
 -- the bound that is reported: where the rule asks for the greatest volume, the least price that
 -- shows the volume, else none
 abbrev pub IsReportedBound : Rule → List Order → ℕ → Option Cut → Type 0
-IsReportedBound the_rule orders reached bound =
+IsReportedBound the_rule orders volume bound =
     MatchOption (volume_rule the_rule) (bound ≡ None)
-    (λ r. IsSomeAnd bound (IsReachedBound r orders reached))
+    (λ r. IsSomeAnd bound (IsReachedBound r orders volume))
 
 -- each order's quantity is the only conforming one
 abbrev pub EachOnly : Rule → List Order → List Deal → Type 0

@@ -19,8 +19,8 @@ OneJudgement = (q : Question) (entries : List OrderRecord)
     (paired : Result (List TradeRecord) Finding) (a b : Verdict)
     → IsRecordVerdict q entries paired a → IsRecordVerdict q entries paired b → a ≡ b
 
--- where nothing is found before the rule, the verdict on the deals
--- of the trades is that on the records
+-- where nothing is found before the rule, the verdict on the deals of the trades
+-- is that on the records
 abbrev pub SoundTradesAreJudged : Type 0
 SoundTradesAreJudged = (q : Question) (entries : List OrderRecord) (trades : List TradeRecord)
     (deals : List Deal) (the_verdict : Verdict)

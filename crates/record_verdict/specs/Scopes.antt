@@ -40,8 +40,8 @@ finding_before_rule_in_scope scope entries trades =
     ∷ pairing_finding trades
     ∷ trades_finding orders scope.symbol (paired_trades trades) ∷ [])
 
--- what a reading needs to know of a question under a rule of a
--- call, and of one that admits all orders
+-- what a reading needs to know of a question under a rule of a call,
+-- and of one that admits all orders
 abbrev pub call_scope : List ℕ → Scope
 call_scope symbol = record { symbol = symbol; admission = admission.Resting }
 

@@ -1,5 +1,5 @@
--- The verdict on records, stage by stage: what is known of it once
--- the stages before have no finding.
+-- The verdict on records, stage by stage: what is known of it once the stages before
+-- have no finding.
 use Rattle.std.specs.Prelude.{◌≡◌, ℕ, List, [], ◌∷◌, Option, Some, Result, length, MatchOption}
 use Rattle.audit_base.specs.declared.records.OrderRecord.{OrderRecord}
 use Rattle.audit_base.specs.declared.records.TradeRecord.{TradeRecord}
@@ -16,7 +16,7 @@ use Rattle.audit_report.specs.declared.verdicts.Verdict.{Verdict}
 use Rattle.audit_report.specs.declared.verdicts.Verdict.TheVariants as verdict
 use Rattle.matching_core.specs.declared.deals_draft.ResolvedTrades.{ResolvedTrades}
 use Rattle.record_verdict.specs.declared.before_rule.BeforeRule.{BeforeRule}
-use Rattle.record_verdict.specs.declared.before_rule.BeforeRule.TheVariants as upto
+use Rattle.record_verdict.specs.declared.before_rule.BeforeRule.TheVariants as before_rule
 use Rattle.record_verdict.specs.declared.questions.Question.{Question}
 use Rattle.record_verdict.specs.BeforeRule.{IsBeforeRule}
 use Rattle.record_verdict.specs.Scopes.{scope_of}
@@ -69,14 +69,14 @@ pub record VerdictFollowsDeals (q : Question) (orders : List Order) (deals : Lis
 
 -- The verdict on what two logs give before the rule is looked at: their first bad place, the
 -- finding, or that of the rule on sound trades; and so it is that on whatever records give this.
-pub record IsVerdictUpToRule (q : Question) (reached : BeforeRule) (the_verdict : Verdict)
+pub record IsVerdictUpToRule (q : Question) (given : BeforeRule) (the_verdict : Verdict)
     : Type 0 where
-  pub of_place : (log : Which) (bad : BadPlace) → reached ≡ upto.Malformed log bad
+  pub of_place : (log : Which) (bad : BadPlace) → given ≡ before_rule.Malformed log bad
       → the_verdict ≡ verdict.Malformed log bad
-  pub of_finding : (finding : Finding) → reached ≡ upto.Found finding
+  pub of_finding : (finding : Finding) → given ≡ before_rule.Found finding
       → the_verdict ≡ verdict.Rejected finding
-  pub of_deals : (sound : ResolvedTrades) → reached ≡ upto.Sound sound
+  pub of_deals : (sound : ResolvedTrades) → given ≡ before_rule.Sound sound
       → VerdictFollowsDeals q sound.history sound.deals.items sound.count the_verdict
   pub of_records : (entries : List OrderRecord) (paired : Result (List TradeRecord) Finding)
-      → IsBeforeRule (scope_of q) entries paired reached
+      → IsBeforeRule (scope_of q) entries paired given
       → IsRecordVerdict q entries paired the_verdict

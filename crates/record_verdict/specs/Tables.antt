@@ -50,30 +50,30 @@ pub record IsShareOf (orders : List Order) (s : Share) : Type 0 where
 
 -- the verdict that deals are accepted, with what they reached
 abbrev pub accepted_verdict : Question → List Order → List Deal → Reached → Verdict
-accepted_verdict q orders deals reached = verdict.Accepted (record {
+accepted_verdict q orders deals conforming = verdict.Accepted (record {
   rule = q.rule;
   symbol = q.symbol;
   orders = length orders;
   trades = length deals;
-  volume = reached.traded.1;
-  bound = reached.bound;
+  volume = conforming.traded.1;
+  bound = conforming.bound;
   table = table_lines q.rule q.table orders deals;
 })
 
 -- The deals conform to the rule, with what each order traded, the volume and the bound; the
 -- quantities are the only ones.
 pub record IsConformingUnderRule (the_rule : Rule) (orders : List Order) (deals : List Deal)
-    (count : ℕ) (reached : Reached) : Type 0 where
+    (count : ℕ) (conforming : Reached) : Type 0 where
   pub conforms : IsRuleFinding the_rule orders deals count None
-  pub totals : AreTotals orders deals reached.traded.0
-  pub volume_is : reached.traded.1 ≡ volume deals
-  pub bound_is : IsReportedBound the_rule orders (volume deals) reached.bound
+  pub totals : AreTotals orders deals conforming.traded.0
+  pub volume_is : conforming.traded.1 ≡ volume deals
+  pub bound_is : IsReportedBound the_rule orders (volume deals) conforming.bound
   pub only : AreOnlyQuantities the_rule orders deals
 
 -- what the audit of a rule answers: that the deals conform, or their first offence
 abbrev pub IsRuleOutcome : Rule → List Order → List Deal → ℕ → Outcome → Type 0
-IsRuleOutcome the_rule orders deals count (outcome.Conforms reached) =
-    IsConformingUnderRule the_rule orders deals count reached
+IsRuleOutcome the_rule orders deals count (outcome.Conforms conforming) =
+    IsConformingUnderRule the_rule orders deals count conforming
 IsRuleOutcome the_rule orders deals count (outcome.Broken finding) =
     IsRuleFinding the_rule orders deals count (Some finding)
 

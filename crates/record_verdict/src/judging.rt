@@ -1,5 +1,5 @@
-//! Judging logs that have been read: the stages of the verdict, each
-//! handed to the crate that decides it.
+//! Judging logs that have been read: the stages of the verdict, each handed to the crate
+//! that decides it.
 ghost use Rattle.std.specs.Prelude.{◌≡◌, ◌<◌, ◌-◌, ◌^◌, length, IfOk};
 ghost use Rattle.audit_base.specs.Trades.{TradesInRange};
 ghost use Rattle.audit_base.specs.Verdicts as spec;
@@ -76,7 +76,8 @@ fn judge_history(
     trades: &Paired,
 ) -> Result<Verdict, NoMemory>
     requires few { length (paired_trades (result_of_paired trades.now)) < 2 ^ 32 - 1 }
-    ensures { IfOk result (VerdictFollowsHistory question.now history.now (result_of_paired trades.now)) }
+    ensures { IfOk result
+        (VerdictFollowsHistory question.now history.now (result_of_paired trades.now)) }
 {
     if let Some(finding) = call_finding(question.rule, &history.orders()) {
         return Ok(Verdict::Rejected(finding));
@@ -126,7 +127,8 @@ pub fn judge(
     requires few_entries { length entries.now < 2 ^ 32 - 1 }
     requires few_trades { length (paired_trades (result_of_paired trades.now)) < 2 ^ 32 - 1 }
     ensures judged { IfOk result
-        (IsRecordVerdict (question rule symbol.now table) entries.now (result_of_paired trades.now)) }
+        (IsRecordVerdict (question rule symbol.now table) entries.now
+        (result_of_paired trades.now)) }
     ensures in_range { IfOk result IsVerdictInRange }
 {
     paired_in_range(trades);

@@ -6,8 +6,8 @@ pub fn one_judgement()
     ensures { OneJudgement }
 {}
 
-/// Where nothing is found before the rule, the verdict on the deals of
-/// the trades is that on the records.
+/// Where nothing is found before the rule, the verdict on the deals of the trades
+/// is that on the records.
 pub fn sound_trades_are_judged()
     ensures { SoundTradesAreJudged }
 {}

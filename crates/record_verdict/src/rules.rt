@@ -138,28 +138,28 @@ fn accept(
     question: &Question,
     orders: &OrderList<'_>,
     deals: &[Deal],
-    reached: &Reached,
+    conforming: &Reached,
 ) -> Result<Verdict, NoMemory>
     requires order_list { IsOrderList orders.now }
     requires deal_list { IsDealList orders.now deals.now }
-    requires totals { AreTotals orders.now deals.now reached.now.traded.0 }
+    requires totals { AreTotals orders.now deals.now conforming.now.traded.0 }
     ensures { IfOk result (λ verdict. verdict
-        ≡ accepted_verdict question.now orders.now deals.now reached.now) }
+        ≡ accepted_verdict question.now orders.now deals.now conforming.now) }
 {
-    let table = table_of(alloc, question, orders, deals, reached.traded.as_slice())?;
+    let table = table_of(alloc, question, orders, deals, conforming.traded.as_slice())?;
     Ok(Verdict::Accepted(Accepted {
         rule: question.rule,
         symbol: question.symbol,
         orders: orders.len() as u32,
         trades: deals.len() as u32,
-        volume: reached.traded.volume(),
-        bound: reached.bound,
+        volume: conforming.traded.volume(),
+        bound: conforming.bound,
         table,
     }))
 }
 
-/// The verdict of a rule where the trades are sound; `count` is the
-/// number of trades of the whole log.
+/// The verdict of a rule where the trades are sound; `count` is the number of trades
+/// of the whole log.
 pub fn judge_deals(
     alloc: Global,
     question: &Question,
@@ -175,7 +175,7 @@ pub fn judge_deals(
 {
     let outcome = audit(alloc, question.rule, orders, deals, count)?;
     match outcome {
-        Outcome::Conforms(reached) => accept(alloc, question, orders, deals, &reached),
+        Outcome::Conforms(conforming) => accept(alloc, question, orders, deals, &conforming),
         Outcome::Broken(finding) => Ok(Verdict::Rejected(finding)),
     }
 }

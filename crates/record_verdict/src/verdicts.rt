@@ -16,13 +16,13 @@ use std::alloc::Global;
 pub fn verdict_after(
     alloc: Global,
     question: &Question,
-    reached: &BeforeRule,
+    given: &BeforeRule,
 ) -> Result<Verdict, NoMemory>
-    requires { IsJudgeable reached.now }
-    ensures verdict { IfOk result (IsVerdictUpToRule question.now reached.now) }
+    requires { IsJudgeable given.now }
+    ensures verdict { IfOk result (IsVerdictUpToRule question.now given.now) }
     ensures in_range { IfOk result IsVerdictInRange }
 {
-    match reached {
+    match given {
         BeforeRule::Malformed { log, bad } => Ok(Verdict::Malformed {
             log: *log,
             bad: *bad,

@@ -71,7 +71,7 @@ unfolding traded_before_phase left_after_phases
 no-phases phases orders deals traded rest traded_is rest_is = record {
   conformed = λ j lt. absurd (omega arith);
   traded_is = traded_is ∙ replicated (traded_before_phase phases orders deals 0) (length orders) (λ i. refl);
-  rest_is = λ i. ap (λ (ns : List ℕ). number_at ns i) rest_is;
+  left_is = λ i. ap (λ (ns : List ℕ). number_at ns i) rest_is;
   most = λ i. let e : number_at rest i ≡ 0 = ap (λ (ns : List ℕ). number_at ns i) rest_is in omega arith;
 }
 
@@ -101,7 +101,7 @@ module _ (phases : List Phase) (are : ArePhases phases) (orders : List Order) (l
     long-so_far = ap length so_far.traded_is ∙ length-list_below (traded_before_phase phases orders deals k) (length orders)
 
     rest-le : (i : ℕ) → left_after_phases phases orders deals k i ≤ quantity_at orders i
-    rest-le i = let m = so_far.most i in let e = so_far.rest_is i in omega arith
+    rest-le i = let m = so_far.most i in let e = so_far.left_is i in omega arith
 
     -- no order of the phase has more than its written quantity
     quantity-at-most : (i : ℕ) → i < length here → quantity_at here i ≤ quantity_at orders i
@@ -121,9 +121,9 @@ module _ (phases : List Phase) (are : ArePhases phases) (orders : List Order) (l
         let f = left_after_phase the_kind here dealt_here last in
         let same : f ≡ left_after_phases phases orders deals (suc k) = (λ j. left_after_phase (kind_is j) here dealt_here (last_is j)) ∙ sym rest-is-left in
         let at : (i : ℕ) → number_at left i ≡ f i = λ i. elim (cases_lt i (length here)) [
-          | inl lt ↦ ap (λ (ns : List ℕ). number_at ns i) passed.left ∙ list_below-at f (length here) i 0 lt
+          | inl lt ↦ ap (λ (ns : List ℕ). number_at ns i) passed.left_is ∙ list_below-at f (length here) i 0 lt
           | inr le ↦
-              let long : length left ≡ length here = ap length passed.left ∙ length-list_below f (length here) in
+              let long : length left ≡ length here = ap length passed.left_is ∙ length-list_below f (length here) in
               get_or_past left i 0 (omega arith) ∙ sym (left-past the_kind here dealt_here last i le)
         ] in
         record {
@@ -140,7 +140,7 @@ module _ (phases : List Phase) (are : ArePhases phases) (orders : List Order) (l
               let next : traded_before_phase phases orders deals (k + 1) i ≡ traded_before_phase phases orders deals (suc k) i = ap (λ (n : ℕ). traded_before_phase phases orders deals n i) (add-one k) in
               let goal : number_at after i ≡ traded_before_phase phases orders deals (k + 1) i = omega arith in
               goal ∙ sym (list_below-at (traded_before_phase phases orders deals (k + 1)) (length orders) i 0 (omega arith)));
-          rest_is = λ i. at i ∙ ap (λ (g : ℕ → ℕ). g i) same ∙ ap (λ (n : ℕ). left_after_phases phases orders deals n i) (sym (add-one k));
+          left_is = λ i. at i ∙ ap (λ (g : ℕ → ℕ). g i) same ∙ ap (λ (n : ℕ). left_after_phases phases orders deals n i) (sym (add-one k));
           most = λ i.
               let e = at i in
               let m = left-le the_kind here dealt_here last i in

@@ -106,7 +106,7 @@ module _ (phases : List Phase) (orders : List Order) (list : IsOrderList orders)
       let first : ℕ = first_place phases k in
       let last : ℕ = end_place phases k in
       let n : ℕ = order_count_upto orders last in
-      let rests : number_at rest ≡ left_after_phases phases orders deals k = λ j i. so_far.rest_is i j in
+      let rests : number_at rest ≡ left_after_phases phases orders deals k = λ j i. so_far.left_is i j in
       let chains : number_at spent ≡ chain_before_phase phases orders deals k = λ j i. spent-is spent totals i j in
       let there : ℕ → RoleInPhase = role_in_phase_at phases orders deals k in
       let amount : ℕ → ℕ = λ i. amount_in_phase (role_in_phase orders first (number_at rest) (number_at spent) i) in

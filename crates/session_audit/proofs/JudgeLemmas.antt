@@ -45,7 +45,7 @@ passed kind orders deals last reached numbers before after rest named ends is sa
             get_or_past numbers i 0 (omega arith) ∙ sym (traded-past orders deals named i past)
       ] in
       omega arith;
-  left = left (record {
+  left_is = left (record {
     conforms = is.conforms;
     totals = record { count = ap length same ∙ is.totals.count; each = λ i inside. ap (λ (ns : List ℕ). number_at ns i) same ∙ is.totals.each i inside };
     ends = ends;

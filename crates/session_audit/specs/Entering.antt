@@ -21,8 +21,9 @@ order_by_amount first amount o = if nat_lt 0 amount
 
 -- the number of an order of the phase, where it is known whether its target isn't gone
 abbrev pub own_amount : Order → Bool → ℕ → ℕ
-own_amount o there spent =
-    if not (is_cancelled_at_place o.cancelled o.place) && there then o.quantity - spent else 0
+own_amount o target_stays chain_traded =
+    if not (is_cancelled_at_place o.cancelled o.place) && target_stays
+    then o.quantity - chain_traded else 0
 
 -- the order has no target, or one whose number isn't 0
 abbrev pub target_has_amount : Option ℕ → List ℕ → Bool
@@ -31,15 +32,15 @@ target_has_amount (Some t) amounts = nat_lt 0 (number_at amounts t)
 
 -- the number of the order at an index, from the numbers of the orders before it
 abbrev pub amount_by_earlier : List Order → ℕ → List ℕ → List ℕ → List ℕ → ℕ → ℕ
-amount_by_earlier orders first rest spent amounts i = let o = order_at orders i in
-    if nat_lt o.place first then number_at rest i
-    else own_amount o (target_has_amount o.target amounts) (number_at spent i)
+amount_by_earlier orders first left chain_traded amounts i = let o = order_at orders i in
+    if nat_lt o.place first then number_at left i
+    else own_amount o (target_has_amount o.target amounts) (number_at chain_traded i)
 
 -- the numbers of the first n orders
 abbrev pub amounts_below : List Order → ℕ → List ℕ → List ℕ → ℕ → List ℕ
-amounts_below orders first rest spent n =
-    let what = role_in_phase orders first (number_at rest) (number_at spent) in
-    list_below (λ i. amount_in_phase (what i)) n
+amounts_below orders first left chain_traded n =
+    let role = role_in_phase orders first (number_at left) (number_at chain_traded) in
+    list_below (λ i. amount_in_phase (role i)) n
 
 -- the first n orders as the list of the phase has them, by their numbers
 abbrev pub phase_list_by_amounts : List Order → ℕ → ℕ → List ℕ → ℕ → List Order

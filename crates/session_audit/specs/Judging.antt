@@ -13,9 +13,9 @@ use Rattle.matching_core.specs.declared.outcomes.Outcome.TheVariants as outcome
 
 -- the deals conform, with what each order traded
 pub record IsConformingPhase (the_rule : Rule) (orders : List Order) (deals : List Deal)
-    (reached : Reached) : Type 0 where
+    (conforming : Reached) : Type 0 where
   pub conforms : Conforms the_rule orders deals
-  pub totals : AreTotals orders deals reached.traded.0
+  pub totals : AreTotals orders deals conforming.traded.0
 
 -- the deals don't conform, and this is the first offence
 pub record IsBrokenPhase (the_rule : Rule) (orders : List Order) (deals : List Deal) (count : ℕ)
@@ -25,7 +25,7 @@ pub record IsBrokenPhase (the_rule : Rule) (orders : List Order) (deals : List D
 
 -- what the audit of a phase answers: that its deals conform, or their first offence
 abbrev pub IsPhaseOutcome : Rule → List Order → List Deal → ℕ → Outcome → Type 0
-IsPhaseOutcome the_rule orders deals count (outcome.Conforms reached) =
-    IsConformingPhase the_rule orders deals reached
+IsPhaseOutcome the_rule orders deals count (outcome.Conforms conforming) =
+    IsConformingPhase the_rule orders deals conforming
 IsPhaseOutcome the_rule orders deals count (outcome.Broken finding) =
     IsBrokenPhase the_rule orders deals count finding

@@ -50,8 +50,9 @@ has_resting_target orders traded sizes i =
 
 -- the size of an order, where it is known whether its target rests
 abbrev pub size_by : Order → Bool → ℕ → ℕ
-size_by o there before =
-    if not (is_cancelled_at_place o.cancelled o.place) && there then o.quantity - before else 0
+size_by o target_rests chain_traded =
+    if not (is_cancelled_at_place o.cancelled o.place) && target_rests
+    then o.quantity - chain_traded else 0
 
 -- the sizes of the first n orders
 abbrev pub sizes_below : List Order → List Deal → ℕ → List ℕ

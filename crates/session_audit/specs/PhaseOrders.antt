@@ -1,9 +1,9 @@
 -- Phase list: the order list of each phase, with the orders that earlier phases left.
 --
--- In the first part `first` and `last` are the first and the last place of the phase, `rest i`
--- is what the phases before left of the order at i, and `spent i` is what its chain traded in
--- them. The second part says the same words of a day, in which a phase is named by its index,
--- from 0.
+-- In the first part `first` and `last` are the first and the last place of the phase, `left i` is
+-- what the phases before left of the order at i, and `chain_traded i` is what its chain traded in
+-- them. The second part says the same words of a day, in which a phase is named by its index, from
+-- 0.
 use Rattle.std.specs.Prelude.{ℕ, zero, suc, ◌-◌, Bool, true, false, ◌&&◌, nat_lt, nat_le, List, [], ◌∷◌, ◌++◌, Option, None, Some, sum_by, slice_index_or, if◌then◌else◌}
 use Rattle.std.specs.List.{prefix_len}
 use Rattle.audit_base.specs.declared.orders.Order.{Order}
@@ -45,29 +45,30 @@ target_takes_part earlier (Some t) = takes_part (slice_index_or earlier t Gone)
 -- An order of the phase is own, with its written quantity less what its chain traded. It is gone
 -- where it is cancelled at its own place, where its target is gone, or where this quantity is 0.
 abbrev pub own_or_gone : List Order → (ℕ → ℕ) → List RoleInPhase → ℕ → RoleInPhase
-own_or_gone orders spent earlier i =
+own_or_gone orders chain_traded earlier i =
     let target_stays = target_takes_part earlier (order_at orders i).target in
-    let quantity = quantity_at orders i - spent i in
+    let quantity = quantity_at orders i - chain_traded i in
     if is_placed_order orders i && (target_stays && nat_lt 0 quantity) then Own quantity else Gone
 
 -- what the order at i is in the phase; `earlier` has what the orders before it are
 abbrev pub role_after_earlier : List Order → ℕ → (ℕ → ℕ) → (ℕ → ℕ) → List RoleInPhase → ℕ
     → RoleInPhase
-role_after_earlier orders first rest spent earlier i =
-    if nat_lt (place_at orders i) first then carried_or_gone (rest i)
-    else own_or_gone orders spent earlier i
+role_after_earlier orders first left chain_traded earlier i =
+    if nat_lt (place_at orders i) first then carried_or_gone (left i)
+    else own_or_gone orders chain_traded earlier i
 
 -- what each of the first n orders is in the phase
 unfoldable pub roles_in_phase : List Order → ℕ → (ℕ → ℕ) → (ℕ → ℕ) → ℕ → List RoleInPhase
-roles_in_phase orders first rest spent zero = []
-roles_in_phase orders first rest spent (suc n) =
-    let earlier = roles_in_phase orders first rest spent n in
-    earlier ++ role_after_earlier orders first rest spent earlier n ∷ []
+roles_in_phase orders first left chain_traded zero = []
+roles_in_phase orders first left chain_traded (suc n) =
+    let earlier = roles_in_phase orders first left chain_traded n in
+    earlier ++ role_after_earlier orders first left chain_traded earlier n ∷ []
 
 -- what the order at i is in the phase
 abbrev pub role_in_phase : List Order → ℕ → (ℕ → ℕ) → (ℕ → ℕ) → ℕ → RoleInPhase
-role_in_phase orders first rest spent i =
-    role_after_earlier orders first rest spent (roles_in_phase orders first rest spent i) i
+role_in_phase orders first left chain_traded i =
+    role_after_earlier orders first left chain_traded
+    (roles_in_phase orders first left chain_traded i) i
 
 -- the place of the record that ends an order, where it is at most `last`
 abbrev pub end_upto : ℕ → Option ℕ → Option ℕ
@@ -96,8 +97,8 @@ list_below f (suc n) = list_below f n ++ f n ∷ []
 
 -- the order list of the phase: each order of place at most `last`, at the same index
 unfoldable pub phase_list : List Order → ℕ → ℕ → (ℕ → ℕ) → (ℕ → ℕ) → List Order
-phase_list orders first last rest spent = list_below
-    (λ i. phase_order last (order_at orders i) (role_in_phase orders first rest spent i))
+phase_list orders first last left chain_traded = list_below
+    (λ i. phase_order last (order_at orders i) (role_in_phase orders first left chain_traded i))
     (order_count_upto orders last)
 
 -- what a call leaves of the order at i, by the order list and the deals of the phase: what it
@@ -137,8 +138,8 @@ chain_before_phase phases orders deals k i =
 
 -- the order list of the phase at index k, where it is known what the phases before left
 abbrev pub phase_list_from_left : List Phase → List Order → List Deal → ℕ → (ℕ → ℕ) → List Order
-phase_list_from_left phases orders deals k rest =
-    phase_list orders (first_place phases k) (end_place phases k) rest
+phase_list_from_left phases orders deals k left =
+    phase_list orders (first_place phases k) (end_place phases k) left
     (chain_before_phase phases orders deals k)
 
 -- Rest(k): what is left of each order after the first k phases. Rest(0) is 0 of each order, and

@@ -15,11 +15,11 @@ use Rattle.session_audit.specs.Numbers.{number_at, WithinQuantities}
 -- the first k phases conform; what each order traded in them, and what they left of it, which is at
 -- most its written quantity
 pub record IsDaySoFar (phases : List Phase) (orders : List Order) (deals : List Deal) (k : ℕ)
-    (traded rest : List ℕ) : Type 0 where
+    (traded left : List ℕ) : Type 0 where
   pub conformed : (j : ℕ) → j < k → PhaseConforms phases orders deals j
   pub traded_is : traded ≡ list_below (traded_before_phase phases orders deals k) (length orders)
-  pub rest_is : (i : ℕ) → number_at rest i ≡ left_after_phases phases orders deals k i
-  pub most : WithinQuantities orders rest
+  pub left_is : (i : ℕ) → number_at left i ≡ left_after_phases phases orders deals k i
+  pub most : WithinQuantities orders left
 
 -- a phase that conforms and ends at `last`, with what each order traded in it
 pub record HasPhaseTotals (kind : PhaseKind) (orders : List Order) (deals : List Deal) (last : ℕ)
@@ -43,9 +43,9 @@ pub record AddsNumbers (before phase after : List ℕ) : Type 0 where
 -- traded before is added what it traded in the phase, and what the phase leaves of each order is
 -- kept
 pub record AddsPhase (kind : PhaseKind) (orders : List Order) (deals : List Deal) (last : ℕ)
-    (before after rest : List ℕ) : Type 0 where
+    (before after left : List ℕ) : Type 0 where
   pub conforms : Conforms (rule_of kind) orders deals
   pub count : length after ≡ length before
   pub added : (i : ℕ) → i < length before
       → number_at after i ≡ number_at before i + traded deals i
-  pub left : rest ≡ rest_after_phase kind orders deals last
+  pub left_is : left ≡ rest_after_phase kind orders deals last

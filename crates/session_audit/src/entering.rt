@@ -40,11 +40,11 @@ pub fn order_count_upto(orders: &OrderList<'_>, last: u32) -> usize
 
 /// How much of an order of the phase comes into it: its written quantity less what its chain
 /// traded, if it was placed and its target isn't gone.
-fn own_amount(order: &ListedOrder<'_>, there: bool, spent: u128) -> u64
-    ensures { result ≡ entering.own_amount order.now there spent }
+fn own_amount(order: &ListedOrder<'_>, target_stays: bool, chain_traded: u128) -> u64
+    ensures { result ≡ entering.own_amount order.now target_stays chain_traded }
 {
-    if was_placed(order) && there {
-        left_of(order.quantity().value(), spent)
+    if was_placed(order) && target_stays {
+        left_of(order.quantity().value(), chain_traded)
     } else {
         0
     }
@@ -75,24 +75,24 @@ fn target_has_amount(target: Option<usize>, amounts: &[u64]) -> bool
 fn amount_by_earlier(
     orders: &OrderList<'_>,
     first: u32,
-    rest: &[u64],
-    spent: &[u128],
+    left: &[u64],
+    chain_traded: &[u128],
     amounts: &[u64],
     index: usize,
 ) -> u64
     requires inside { index < length orders.now }
-    requires counted { index < length spent.now }
+    requires counted { index < length chain_traded.now }
     ensures { result
-        ≡ entering.amount_by_earlier orders.now first rest.now spent.now amounts.now index }
+        ≡ entering.amount_by_earlier orders.now first left.now chain_traded.now amounts.now index }
 {
     let order = orders.at(index);
     if order.place() < first {
-        number_at(rest, index)
+        number_at(left, index)
     } else {
         own_amount(
             &order,
             target_has_amount(order.target(), amounts),
-            spent[index],
+            chain_traded[index],
         )
     }
 }
@@ -104,18 +104,18 @@ pub fn amounts_of(
     orders: &OrderList<'_>,
     count: usize,
     first: u32,
-    rest: &[u64],
-    spent: &[u128],
+    left: &[u64],
+    chain_traded: &[u128],
 ) -> Result<Vec<u64>, NoMemory>
     requires order_list { IsOrderList orders.now }
     requires inside { count ≤ length orders.now }
-    requires counted { count ≤ length spent.now }
+    requires counted { count ≤ length chain_traded.now }
     ensures { IfOk result (λ amounts.
-        amounts.items ≡ entering.amounts_below orders.now first rest.now spent.now count) }
+        amounts.items ≡ entering.amounts_below orders.now first left.now chain_traded.now count) }
 {
     let mut amounts = Vec::with_capacity(alloc, count)?;
     for index in 0..count {
-        amounts.push(amount_by_earlier(orders, first, rest, spent, &amounts, index))?;
+        amounts.push(amount_by_earlier(orders, first, left, chain_traded, &amounts, index))?;
     }
     Ok(amounts)
 }

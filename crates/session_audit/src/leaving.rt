@@ -89,11 +89,11 @@ fn has_resting_target(orders: &OrderList<'_>, traded: &[u128], sizes: &[u64], in
 }
 
 /// The size of an order: its quantity less what its chain traded, if it entered.
-fn size_of(order: &ListedOrder<'_>, there: bool, before: u128) -> u64
-    ensures { result ≡ spec.size_by order.now there before }
+fn size_of(order: &ListedOrder<'_>, target_rests: bool, chain_traded: u128) -> u64
+    ensures { result ≡ spec.size_by order.now target_rests chain_traded }
 {
-    if was_placed(order) && there {
-        left_of(order.quantity().value(), before)
+    if was_placed(order) && target_rests {
+        left_of(order.quantity().value(), chain_traded)
     } else {
         0
     }
@@ -118,8 +118,8 @@ fn sizes_of(
 {
     let mut sizes = Vec::with_capacity(alloc, orders.len())?;
     for index in 0..orders.len() {
-        let there = has_resting_target(orders, traded, &sizes, index);
-        sizes.push(size_of(&orders.at(index), there, before[index]))?;
+        let target_rests = has_resting_target(orders, traded, &sizes, index);
+        sizes.push(size_of(&orders.at(index), target_rests, before[index]))?;
     }
     Ok(sizes)
 }
@@ -151,7 +151,8 @@ pub fn leave_continuous(
     ensures { IfOk result (λ left. (deals : List ADeal)
         → spec.HasContinuousTotals orders.now deals traded.now
         → spec.EndsBy orders.now deals last
-        → left.items ≡ spec.rest_after_continuous orders.now deals last (length orders.now)) }
+        → left.items
+        ≡ spec.rest_after_continuous orders.now deals last (length orders.now)) }
 {
     let before = chain_totals(alloc, orders, traded)?;
     let sizes = sizes_of(alloc, orders, traded, &before)?;

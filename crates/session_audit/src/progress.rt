@@ -33,18 +33,18 @@ pub struct SoFar {
     /// What each order has traded, by its index.
     pub traded: Vec<u128>,
     /// What is left of each order, by its index; 0 past the end.
-    pub rest: Vec<u64>,
+    pub left: Vec<u64>,
 }
 
 /// Nothing, before the first phase. Err only out of memory.
 pub fn start(alloc: Global, count: usize) -> Result<SoFar, NoMemory>
     ensures traded { IfOk result (λ so_far. so_far.traded.items ≡ replicate count 0) }
-    ensures rest { IfOk result (λ so_far. so_far.rest.items ≡ []) }
+    ensures left { IfOk result (λ so_far. so_far.left.items ≡ []) }
 {
     let traded = zeros(alloc, count)?;
     Ok(SoFar {
         traded,
-        rest: Vec::new(alloc),
+        left: Vec::new(alloc),
     })
 }
 
@@ -90,18 +90,18 @@ pub fn list_phase<'a>(
     requires regular { Regular orders.now }
     requires phases { spec.ArePhases phases.now }
     requires inside { index < length phases.now }
-    requires counted { length so_far.now.traded.items ≡ length orders.now }
-    requires small { AreBoundedTotals so_far.now.traded.items }
-    requires most { WithinQuantities orders.now so_far.now.rest.items }
+    requires one_total_per_order { length so_far.now.traded.items ≡ length orders.now }
+    requires totals_bounded { AreBoundedTotals so_far.now.traded.items }
+    requires left_within_quantities { WithinQuantities orders.now so_far.now.left.items }
     ensures { IfOk result (λ list. (deals : List ADeal)
-        → IsDaySoFar phases.now orders.now deals index so_far.now.traded.items so_far.now.rest.items
+        → IsDaySoFar phases.now orders.now deals index so_far.now.traded.items so_far.now.left.items
         → list.orders ≡ phase_list_at phases.now orders.now deals index) }
 {
     let first = first_place(phases, index);
     let last = end_place(phases, index);
-    let spent = chain_totals(alloc, orders, &so_far.traded)?;
+    let chain_traded = chain_totals(alloc, orders, &so_far.traded)?;
     let count = order_count_upto(orders, last);
-    let amounts = amounts_of(alloc, orders, count, first, &so_far.rest, &spent)?;
+    let amounts = amounts_of(alloc, orders, count, first, &so_far.left, &chain_traded)?;
     list_orders(alloc, orders, first, last, &amounts)
 }
 
@@ -115,8 +115,8 @@ pub fn leave_phase(
 ) -> Result<Vec<u64>, NoMemory>
     requires order_list { IsOrderList orders.now }
     requires regular { Regular orders.now }
-    requires counted { length traded.now ≡ length orders.now }
-    requires small { AreBoundedTotals traded.now }
+    requires one_total_per_order { length traded.now ≡ length orders.now }
+    requires totals_bounded { AreBoundedTotals traded.now }
     ensures { IfOk result (λ left. (deals : List ADeal)
         → HasPhaseTotals kind orders.now deals last traded.now
         → left.items ≡ rest_after_phase kind orders.now deals last) }
@@ -129,9 +129,9 @@ pub fn leave_phase(
 
 /// Adds what each order traded in a phase to what it traded before.
 pub fn add_totals(totals: &mut Vec<u128>, traded: &[u128])
-    requires counted { length traded.now ≤ vec_len totals.old }
-    requires small { AreBoundedTotals totals.old.items }
-    requires more { AreBoundedTotals traded.now }
+    requires totals_long_enough { length traded.now ≤ vec_len totals.old }
+    requires old_totals_bounded { AreBoundedTotals totals.old.items }
+    requires phase_totals_bounded { AreBoundedTotals traded.now }
     ensures { AddsNumbers totals.old.items traded.now totals.new.items }
 {
     for index in 0..traded.len() {
@@ -154,21 +154,21 @@ pub fn judge_phase(
     requires order_list { IsOrderList orders.now }
     requires regular { Regular orders.now }
     requires deal_list { IsDealList orders.now deals.now }
-    requires few { count < 2 ^ 32 - 1 }
-    requires ends { EndsBy orders.now deals.now last }
-    requires more { (i : ℕ) → traded deals.now i ≤ 2 ^ 72 }
-    requires small { AreBoundedTotals so_far.old.traded.items }
-    requires counted { length orders.now ≤ length so_far.old.traded.items }
+    requires trade_count_fits { count < 2 ^ 32 - 1 }
+    requires causes_end_by_last { EndsBy orders.now deals.now last }
+    requires phase_totals_bounded { (i : ℕ) → traded deals.now i ≤ 2 ^ 72 }
+    requires old_totals_bounded { AreBoundedTotals so_far.old.traded.items }
+    requires one_total_per_order { length orders.now ≤ length so_far.old.traded.items }
     ensures found { (finding : AFinding) → result ≡ Ok (Some finding)
         → IsBrokenPhase (spec.rule_of kind) orders.now deals.now count finding }
     ensures passed { result ≡ Ok None → AddsPhase kind orders.now deals.now last
-        so_far.old.traded.items so_far.new.traded.items so_far.new.rest.items }
+        so_far.old.traded.items so_far.new.traded.items so_far.new.left.items }
 {
     match audit_phase(alloc, kind, orders, deals, count)? {
         Outcome::Broken(finding) => Ok(Some(finding)),
         Outcome::Conforms(reached) => {
             let traded = reached.traded.as_slice();
-            so_far.rest = leave_phase(alloc, kind, orders, traded, last)?;
+            so_far.left = leave_phase(alloc, kind, orders, traded, last)?;
             add_totals(&mut so_far.traded, traded);
             Ok(None)
         }

@@ -13,7 +13,7 @@ pub returns-in_ok-certify_answer-in-Ok-clause-decides : goal.returns-in_ok-certi
 returns-in_ok-certify_answer-in-Ok-clause-decides g c =
     both_text (reading_by c.args.orders.now g.F.Shelf c.args.shelf.now c.read_both.new.shelf) c.in-Ok.ensures.later c.args.orders.now c.args.trades.now
     (request_to_certify c.args.rule c.args.symbol.now c.args.orders.now c.args.trades.now) (record { first = refl; second = λ bytes. refl })
-    (λ entries paired. IsBeforeRule (scope_of (question c.args.rule c.args.symbol.now false)) entries paired c.in-Ok.reached) (λ log bad. c.in-Ok.reached ≡ Malformed log bad)
+    (λ entries paired. IsBeforeRule (scope_of (question c.args.rule c.args.symbol.now false)) entries paired c.in-Ok.given) (λ log bad. c.in-Ok.given ≡ Malformed log bad)
     _ _ (λ logs short come. c.in_ok-certify_answer-in-Ok.ensures _ _ come) (λ first second entries e come. refl)
     (λ logs is. certify-status _ _ _ _ _ is) (rw c.scope.ensures at c.in-Ok.ensures.decides)
 

@@ -12,5 +12,5 @@ returns-in-Sound c =
 pub returns : goal.returns
 returns c =
     ok-then c.verdict_answer.result _ _
-    (λ answer made. answer_certifies c.args.question.now c.args.reached.now c.in_ok-verdict.verdict answer (λ sound e. c.in_default.not-Sound sound e) c.in_ok-verdict.ensures.verdict made)
+    (λ answer made. answer_certifies c.args.question.now c.args.given.now c.in_ok-verdict.verdict answer (λ sound e. c.in_default.not-Sound sound e) c.in_ok-verdict.ensures.verdict made)
     c.verdict_answer.ensures

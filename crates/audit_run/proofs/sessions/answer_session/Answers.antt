@@ -12,7 +12,7 @@ pub returns-in_ok-session_answer-in-Ok-clause-decides : goal.returns-in_ok-sessi
 returns-in_ok-session_answer-in-Ok-clause-decides g c =
     both_text (reading_by c.args.orders.now g.F.Shelf c.args.shelf.now c.read_both.new.shelf) c.in-Ok.ensures.later c.args.orders.now c.args.trades.now
     (request_to_judge_day c.args.symbol.now c.args.phases.now c.args.table c.args.orders.now c.args.trades.now) (record { first = refl; second = λ bytes. refl })
-    (λ entries paired. IsBeforeRule (day_scope c.args.symbol.now) entries paired c.in-Ok.reached) (λ log bad. c.in-Ok.reached ≡ Malformed log bad)
+    (λ entries paired. IsBeforeRule (day_scope c.args.symbol.now) entries paired c.in-Ok.given) (λ log bad. c.in-Ok.given ≡ Malformed log bad)
     _ _ (λ logs short come. c.in_ok-session_answer-in-Ok.ensures _ _ come) (λ first second entries e come. refl)
     (λ logs is. session-status _ _ _ _ _ _ _ is) c.in-Ok.ensures.decides
 

@@ -17,11 +17,11 @@ returns-then-is_malformed-clause-decides g c =
     let malformed = sym c.is_malformed.ensures ∙ c.if-is_malformed.true in
     both_text (reading_by c.args.orders.now g.F.Shelf c.args.shelf.now c.read_both.new.shelf) c.in-Ok.ensures.later c.args.orders.now c.args.trades.now
     (request_to_verify c.args.symbol.now c.args.orders.now c.args.trades.now c.args.certificate.now) (record { first = refl; second = λ bytes. refl })
-    (λ entries paired. IsBeforeRule (call_scope c.args.symbol.now) entries paired c.in-Ok.reached) (λ log bad. c.in-Ok.reached ≡ Malformed log bad)
+    (λ entries paired. IsBeforeRule (call_scope c.args.symbol.now) entries paired c.in-Ok.given) (λ log bad. c.in-Ok.given ≡ Malformed log bad)
     _ _
     (λ logs short come. subst (λ (bytes : List ℕ). IsVerifyAnswer c.args.symbol.now (log_in c.args.orders.now.form (log_read_at logs 0)) (log_in c.args.trades.now.form (log_read_at logs 1)) bytes
     c.in_ok-verify_answer-in-Ok.field-0.status c.in_ok-verify_answer-in-Ok.field-0.text.items) (sym short) (c.in_ok-verify_answer-in-Ok.ensures _ _ come))
-    (λ first second entries e come. rw (bad_trades (call_scope c.args.symbol.now) entries (trades_of_trade_log c.args.trades.now.form second) c.in-Ok.reached come malformed) refl)
+    (λ first second entries e come. rw (bad_trades (call_scope c.args.symbol.now) entries (trades_of_trade_log c.args.trades.now.form second) c.in-Ok.given come malformed) refl)
     (λ logs is. verify-status _ _ _ _ _ _ is) c.in-Ok.ensures.decides
 
 pub returns-else-is_malformed-clause-decides : goal.returns-else-is_malformed-clause-decides
@@ -29,8 +29,8 @@ returns-else-is_malformed-clause-decides g c =
     let good = sym c.is_malformed.ensures ∙ c.if-is_malformed.false in
     decides_certificate (reading_by c.args.orders.now g.F.Shelf c.args.shelf.now c.read_both.new.shelf) (reading_by c.args.orders.now g.F.Shelf c.read_both.new.shelf c.answer_certificate.new.shelf)
     (record { limit = refl; tells = c.in-Ok.ensures.logs.tells; logs = c.in-Ok.ensures.logs.logs; slots = λ log. refl }) c.in-Ok.ensures.later c.answer_certificate.ensures.only
-    c.args.symbol.now c.args.orders.now c.args.trades.now c.args.certificate.now c.in-Ok.reached
-    (both_read (reading_by c.args.orders.now g.F.Shelf c.args.shelf.now c.read_both.new.shelf) (call_scope c.args.symbol.now) c.args.orders.now c.args.trades.now c.in-Ok.reached good c.in-Ok.ensures.decides)
+    c.args.symbol.now c.args.orders.now c.args.trades.now c.args.certificate.now c.in-Ok.given
+    (both_read (reading_by c.args.orders.now g.F.Shelf c.args.shelf.now c.read_both.new.shelf) (call_scope c.args.symbol.now) c.args.orders.now c.args.trades.now c.in-Ok.given good c.in-Ok.ensures.decides)
     c.answer_certificate.result c.answer_certificate.ensures.decides
 
 pub returns-in-Err-clause-decides : goal.returns-in-Err-clause-decides
@@ -49,4 +49,4 @@ returns-else-is_malformed-clause-within g c =
     within_certificate (reading_by c.args.orders.now g.F.Shelf c.args.shelf.now c.read_both.new.shelf) (reading_by c.args.orders.now g.F.Shelf c.read_both.new.shelf c.answer_certificate.new.shelf)
     (record { limit = refl; tells = c.in-Ok.ensures.logs.tells; logs = c.in-Ok.ensures.logs.logs; slots = λ log. refl }) c.in-Ok.ensures.later c.answer_certificate.ensures.only
     c.args.symbol.now c.args.orders.now c.args.trades.now c.args.certificate.now
-    c.in-Ok.reached c.answer_certificate.result c.in-Ok.ensures.within c.answer_certificate.ensures.within
+    c.in-Ok.given c.answer_certificate.result c.in-Ok.ensures.within c.answer_certificate.ensures.within

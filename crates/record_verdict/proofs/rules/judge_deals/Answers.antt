@@ -6,7 +6,7 @@ pub returns-in-Conforms : goal.returns-in-Conforms
 returns-in-Conforms c =
     let is = rw c.in-Conforms.is at c.in_ok-outcome.ensures in
     ok-then c.accept.result _ _
-    (λ verdict same. rw same (judged_conforming c.args.orders.now c.args.deals.now c.args.count c.args.question.now c.in-Conforms.reached is))
+    (λ verdict same. rw same (judged_conforming c.args.orders.now c.args.deals.now c.args.count c.args.question.now c.in-Conforms.conforming is))
     c.accept.ensures
 
 pub returns-in-Broken : goal.returns-in-Broken

@@ -12,20 +12,20 @@ use Rattle.session_audit.proofs.TotalLemmas.{day-conforms}
 use Rattle.session_audit.proofs.auditing.audit_phases.Goals as goal
 
 pub loop-index-init : goal.loop-index-init
-loop-index-init c = no-phases c.args.phases.now c.args.orders.now c.args.deals.now c.in_ok-so_far.so_far.traded.items c.in_ok-so_far.so_far.rest.items (c.in_ok-so_far.ensures.traded ∙ ap (λ (n : ℕ). replicate n 0) c.len.ensures) c.in_ok-so_far.ensures.rest
+loop-index-init c = no-phases c.args.phases.now c.args.orders.now c.args.deals.now c.in_ok-so_far.so_far.traded.items c.in_ok-so_far.so_far.left.items (c.in_ok-so_far.ensures.traded ∙ ap (λ (n : ℕ). replicate n 0) c.len.ensures) c.in_ok-so_far.ensures.left
 
 pub deals_between-requires : goal.deals_between-requires
 deals_between-requires c = ap length (c.deref.ensures.value ∙ c.in_ok-causes.ensures.causes) ∙ length-list_below (λ j. cause c.args.orders.now (deal_at c.args.deals.now j)) (length c.args.deals.now)
 
-pub list_phase-requires-clause-counted : goal.list_phase-requires-clause-counted
-list_phase-requires-clause-counted c =
+pub list_phase-requires-clause-one_total_per_order : goal.list_phase-requires-clause-one_total_per_order
+list_phase-requires-clause-one_total_per_order c =
     long-so_far c.args.phases.now c.requires.phases c.args.orders.now c.requires.order_list c.args.deals.now c.requires.deal_list.named c.loop-index.index c.loop-index-test.true
-    c.loop-index.so_far.traded.items c.loop-index.so_far.rest.items c.loop-index.invariant
+    c.loop-index.so_far.traded.items c.loop-index.so_far.left.items c.loop-index.invariant
 
-pub list_phase-requires-clause-small : goal.list_phase-requires-clause-small
-list_phase-requires-clause-small c =
+pub list_phase-requires-clause-totals_bounded : goal.list_phase-requires-clause-totals_bounded
+list_phase-requires-clause-totals_bounded c =
     small-so_far c.args.phases.now c.requires.phases c.args.orders.now c.requires.order_list c.args.deals.now c.requires.deal_list.named c.loop-index.index c.loop-index-test.true
-    c.loop-index.so_far.traded.items c.loop-index.so_far.rest.items c.loop-index.invariant c.deals_in_range.ensures c.requires.deal_list.few
+    c.loop-index.so_far.traded.items c.loop-index.so_far.left.items c.loop-index.invariant c.deals_in_range.ensures c.requires.deal_list.few
 
 pub judge_phase-requires : goal.judge_phase-requires
 judge_phase-requires c =
@@ -38,16 +38,16 @@ judge_phase-requires c =
     ∙ dealt phases orders deals c.deref.result.now k c.first_place-first.result c.end_place-last.result (c.deref.ensures.value ∙ c.in_ok-causes.ensures.causes) c.first_place-first.ensures c.end_place-last.ensures in
     let is : IsReady orders c.list-own.result c.deref-in-loop-index.result.now c.end_place-last.result = ready phases c.requires.phases orders c.requires.order_list c.requires.regular deals c.requires.deal_list c.deals_in_range.ensures k c.loop-index-test.true
     c.list-own.result c.deref-in-loop-index.result.now c.end_place-last.result here picked c.end_place-last.ensures in
-    let long = long-so_far phases c.requires.phases orders c.requires.order_list deals c.requires.deal_list.named k c.loop-index-test.true c.loop-index.so_far.traded.items c.loop-index.so_far.rest.items c.loop-index.invariant in
+    let long = long-so_far phases c.requires.phases orders c.requires.order_list deals c.requires.deal_list.named k c.loop-index-test.true c.loop-index.so_far.traded.items c.loop-index.so_far.left.items c.loop-index.invariant in
     record {
       order_list = is.order_list;
       regular = is.regular;
       deal_list = is.deal_list;
-      few = c.requires.few;
-      ends = is.ends;
-      more = is.more;
-      small = small-so_far phases c.requires.phases orders c.requires.order_list deals c.requires.deal_list.named k c.loop-index-test.true c.loop-index.so_far.traded.items c.loop-index.so_far.rest.items c.loop-index.invariant c.deals_in_range.ensures c.requires.deal_list.few;
-      counted = let f = is.few in omega arith;
+      trade_count_fits = c.requires.few;
+      causes_end_by_last = is.ends;
+      phase_totals_bounded = is.more;
+      old_totals_bounded = small-so_far phases c.requires.phases orders c.requires.order_list deals c.requires.deal_list.named k c.loop-index-test.true c.loop-index.so_far.traded.items c.loop-index.so_far.left.items c.loop-index.invariant c.deals_in_range.ensures c.requires.deal_list.few;
+      one_total_per_order = let f = is.few in omega arith;
     }
 
 pub returns-in-Some : goal.returns-in-Some
@@ -59,7 +59,7 @@ returns-in-Some c =
     let here : c.list-own.result ≡ phase_list_at phases orders deals k = c.list-own.ensures ∙ c.in_ok-list.ensures deals c.loop-index.invariant in
     let picked : c.deref-in-loop-index.result.now ≡ phase_deals phases orders deals k = c.deref-in-loop-index.ensures.value ∙ c.in_ok-dealt.ensures
     ∙ dealt phases orders deals c.deref.result.now k c.first_place-first.result c.end_place-last.result (c.deref.ensures.value ∙ c.in_ok-causes.ensures.causes) c.first_place-first.ensures c.end_place-last.ensures in
-    broken-phase phases orders deals c.args.count k c.in-Some.finding c.requires.admitted c.loop-index-test.true c.loop-index.so_far.traded.items c.loop-index.so_far.rest.items c.loop-index.invariant
+    broken-phase phases orders deals c.args.count k c.in-Some.finding c.requires.admitted c.loop-index-test.true c.loop-index.so_far.traded.items c.loop-index.so_far.left.items c.loop-index.invariant
     c.list-own.result c.deref-in-loop-index.result.now c.phase_kind-kind.result here picked c.phase_kind-kind.ensures (c.judge_phase.ensures.found c.in-Some.finding (c.in_ok-finding.was ∙ ap Ok c.in-Some.is))
 
 pub loop-index-preserved : goal.loop-index-preserved
@@ -72,11 +72,11 @@ loop-index-preserved c =
     let picked : c.deref-in-loop-index.result.now ≡ phase_deals phases orders deals k = c.deref-in-loop-index.ensures.value ∙ c.in_ok-dealt.ensures
     ∙ dealt phases orders deals c.deref.result.now k c.first_place-first.result c.end_place-last.result (c.deref.ensures.value ∙ c.in_ok-causes.ensures.causes) c.first_place-first.ensures c.end_place-last.ensures in
     let none : c.in_ok-finding.field-0 ≡ None = c.in_default.is in
-    phase-passed phases c.requires.phases orders c.requires.order_list deals c.requires.deal_list.named k c.loop-index-test.true c.loop-index.so_far.traded.items c.loop-index.so_far.rest.items c.loop-index.invariant
-    c.list-own.result c.deref-in-loop-index.result.now c.phase_kind-kind.result c.end_place-last.result c.judge_phase.new.so_far.traded.items c.judge_phase.new.so_far.rest.items
+    phase-passed phases c.requires.phases orders c.requires.order_list deals c.requires.deal_list.named k c.loop-index-test.true c.loop-index.so_far.traded.items c.loop-index.so_far.left.items c.loop-index.invariant
+    c.list-own.result c.deref-in-loop-index.result.now c.phase_kind-kind.result c.end_place-last.result c.judge_phase.new.so_far.traded.items c.judge_phase.new.so_far.left.items
     here picked c.phase_kind-kind.ensures c.end_place-last.ensures (c.judge_phase.ensures.passed (c.in_ok-finding.was ∙ ap Ok none))
 
 pub returns : goal.returns
 returns c =
     day-conforms c.args.phases.now c.requires.phases c.args.orders.now c.requires.order_list c.args.deals.now c.requires.deal_list c.in_ok-causes.ensures.fits c.requires.admitted
-    c.loop-index.index (let out = c.loop-index-test.false in let end = c.loop-index.auto.index-end in omega arith) c.loop-index.so_far.traded.items c.loop-index.so_far.rest.items c.of.result (c.of.ensures ∙ ap (λ (v : ℕ). (c.loop-index.so_far.traded.items, v)) c.volume_of.ensures) c.loop-index.invariant
+    c.loop-index.index (let out = c.loop-index-test.false in let end = c.loop-index.auto.index-end in omega arith) c.loop-index.so_far.traded.items c.loop-index.so_far.left.items c.of.result (c.of.ensures ∙ ap (λ (v : ℕ). (c.loop-index.so_far.traded.items, v)) c.volume_of.ensures) c.loop-index.invariant

@@ -19,7 +19,7 @@ pub amounts_of-requires-clause-counted : goal.amounts_of-requires-clause-counted
 amounts_of-requires-clause-counted c =
     let e = c.order_count_upto-count.ensures in
     let m = upto-inside c.args.orders.now c.end_place-last.result in
-    let long : length c.deref-3.result.now ≡ length c.args.orders.now = ap length (c.deref-3.ensures.value ∙ c.in_ok-spent.ensures.are) ∙ length-list_below (total_of_chain c.args.orders.now c.deref.result.now) (length c.args.orders.now) in
+    let long : length c.deref-3.result.now ≡ length c.args.orders.now = ap length (c.deref-3.ensures.value ∙ c.in_ok-chain_traded.ensures.are) ∙ length-list_below (total_of_chain c.args.orders.now c.deref.result.now) (length c.args.orders.now) in
     omega arith
 
 pub list_orders-requires-clause-inside : goal.list_orders-requires-clause-inside
@@ -35,7 +35,7 @@ list_orders-requires-clause-most c =
     let orders = c.args.orders.now in
     let e = c.order_count_upto-count.ensures in
     let m = upto-inside orders c.end_place-last.result in
-    let left : WithinQuantities orders c.deref-2.result.now = subst (WithinQuantities orders) (sym c.deref-2.ensures.value) c.requires.most in
+    let left : WithinQuantities orders c.deref-2.result.now = subst (WithinQuantities orders) (sym c.deref-2.ensures.value) c.requires.left_within_quantities in
     amounts-most orders c.requires.order_list c.first_place-first.result c.deref-2.result.now c.deref-3.result.now c.order_count_upto-count.result c.deref-4.result.now (c.deref-4.ensures.value ∙ c.in_ok-amounts.ensures) left
 
 pub returns : goal.returns
@@ -49,10 +49,10 @@ returns c =
     let spent = c.deref-3.result.now in
     let found = c.deref-4.result.now in
     let totals : AreChainTotals orders c.args.so_far.now.traded.items (length orders) spent =
-    subst (λ ns. AreChainTotals orders c.args.so_far.now.traded.items (length orders) ns) (sym c.deref-3.ensures.value) (subst (λ ns. AreChainTotals orders ns (length orders) c.in_ok-spent.spent.items) c.deref.ensures.value c.in_ok-spent.ensures) in
-    let rest_is : c.deref-2.result.now ≡ c.args.so_far.now.rest.items = c.deref-2.ensures.value in
-    let are : found ≡ amounts_below orders (first_place phases k) c.args.so_far.now.rest.items spent (order_count_upto orders (end_place phases k)) =
-    c.deref-4.ensures.value ∙ c.in_ok-amounts.ensures ∙ (λ j. amounts_below orders (first_is j) (rest_is j) spent (count_is j)) in
+    subst (λ ns. AreChainTotals orders c.args.so_far.now.traded.items (length orders) ns) (sym c.deref-3.ensures.value) (subst (λ ns. AreChainTotals orders ns (length orders) c.in_ok-chain_traded.chain_traded.items) c.deref.ensures.value c.in_ok-chain_traded.ensures) in
+    let left_is : c.deref-2.result.now ≡ c.args.so_far.now.left.items = c.deref-2.ensures.value in
+    let are : found ≡ amounts_below orders (first_place phases k) c.args.so_far.now.left.items spent (order_count_upto orders (end_place phases k)) =
+    c.deref-4.ensures.value ∙ c.in_ok-amounts.ensures ∙ (λ j. amounts_below orders (first_is j) (left_is j) spent (count_is j)) in
     IfOk-weaker c.list_orders.result _ _ (λ list made deals so_far.
     made ∙ (λ j. phase_list_by_amounts orders (first_is j) (last_is j) found (length found))
-    ∙ list-is phases orders c.requires.order_list c.requires.regular deals k c.args.so_far.now.traded.items c.args.so_far.now.rest.items so_far spent found totals are) c.list_orders.ensures
+    ∙ list-is phases orders c.requires.order_list c.requires.regular deals k c.args.so_far.now.traded.items c.args.so_far.now.left.items so_far spent found totals are) c.list_orders.ensures
