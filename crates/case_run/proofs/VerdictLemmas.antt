@@ -123,7 +123,7 @@ module _ (r : Reading) (wanted : Filing) (orders trades : Source) (first : Names
       of_orders (Err bad) says holds = of_bad_orders v is.bytes bad is.read says holds.0
 
   started : (log : Which) → both.IsLogInTurn r orders log → IsFilingLogInTurn r wanted log
-  started Orders is = tt
+  started Orders is = is
   started Trades is = record { bytes = is.bytes; read = read_orders is.bytes is.read; holds = subst (λ (f : Form). IsOk (records_of_order_log f is.bytes)) first.form is.holds }
 
   of_slot : (holds : Reading → LogStep → Type 0) (log : Which) → both.IsLogInTurn r orders log → holds r (step_of r log (both.source_of orders trades log).name.now) → OfFilingLog holds r wanted log

@@ -4,6 +4,7 @@ use Rattle.audit_base.specs.declared.terms.Form.{Form}
 use Rattle.audit_base.specs.declared.terms.Which.{Which}
 use Rattle.audit_base.specs.declared.terms.Which.TheVariants.{Orders, Trades}
 use Rattle.audit_report.specs.Lines.{read_fault_line, too_long_line}
+use Rattle.log_verdict.specs.BothLogs.{IsUntouched}
 use Rattle.log_verdict.specs.Collecting.{step_of, IsReadAs}
 use Rattle.log_verdict.specs.LogVerdicts.{records_of_order_log, trades_of_trade_log}
 use Rattle.log_verdict.specs.Steps.{Reading, LogStep, IsReadFault, IsTooLong}
@@ -61,10 +62,10 @@ ReadsLogsFor r the_command status.TooLong = ⊥
 ReadsLogsFor r the_command status.Memory = ⊥
 ReadsLogsFor r the_command status.KeeperFault = ⊥
 
--- the order log of a filing is started first, and the trade log only after an order log that was
--- read to its end and is in its grammar
+-- a log of a filing was started in its turn: the order log while the trade log was left alone, or
+-- the trade log after an order log that was read to its end and is in its grammar
 abbrev pub IsFilingLogInTurn : Reading → Filing → Which → Type 0
-IsFilingLogInTurn r wanted Orders = Unit {0}
+IsFilingLogInTurn r wanted Orders = IsUntouched r Trades
 IsFilingLogInTurn r wanted Trades =
     IsReadAs r Orders wanted.orders (λ bytes. IsOk (records_of_order_log wanted.form bytes))
 
