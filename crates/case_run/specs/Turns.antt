@@ -16,7 +16,7 @@ use Rattle.log_source.specs.Sinks.{SinkState, SinkStays}
 use Rattle.log_source.specs.Sources.{RoseOrIsFull}
 use Rattle.log_verdict.specs.Steps.{IsReadFault, IsTooLong}
 use Rattle.case_run.specs.Causes.{IsBadLog, IsHaltCause, OfFilingLog, ReadsGoodLogs, ReadsLogsFor, filing_log_name}
-use Rattle.case_run.specs.Play.{PlayTurn, IsTurn, IsVerdictOn, verdict_turn}
+use Rattle.case_run.specs.Play.{PlayTurn, IsTurn, IsVerdictOfFiling, verdict_turn}
 use Rattle.case_run.specs.Runs.{known_logs, run_state}
 use Rattle.case_run.specs.Statuses.{ends_run}
 use Rattle.case_run.specs.Traces.{AreDone, IsAnsweredOrHalted, KnownLogs, RunState, RunTurn, state_after, status_after, turn_commands}
@@ -51,7 +51,7 @@ ReadsForVerdict r wanted (verdict.Malformed log bad) =
 
 -- The verdict is that on the two logs of the filing.
 pub record JudgesLogs (r : Reading) (wanted : Filing) (the_verdict : Verdict) : Type 0 where
-  pub on : r.tells ≡ true → IsVerdictOn r.log_of wanted the_verdict
+  pub on : r.tells ≡ true → IsVerdictOfFiling r.log_of wanted the_verdict
   pub read : ReadsForVerdict r wanted the_verdict
 
 -- why there is no verdict on the two logs of a filing
