@@ -84,8 +84,8 @@ impl<D: AuditedShare> DayOrders<D> {
     /// Takes the next record of the log. After `NoMemory` nothing is known of the day.
     fn take_entry(&mut self, entry: &OrderRecord) -> Result<(), NoMemory>
         requires { HasPlace (IsDayOrders D.share) self.old }
-        ensures { let adds = HandsOnMore (IsDayOrders D.share self.old) (IsDayOrders D.share self.new) in
-            OnOk result (adds (entry.now ∷ [])) }
+        ensures { let has_taken = IsDayOrders D.share in
+            OnOk result (HandsOnMore (has_taken self.old) (has_taken self.new) (entry.now ∷ [])) }
     {
         self.count += 1;
         let index = self.symbols.meet(&entry.symbol())?;

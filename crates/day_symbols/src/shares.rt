@@ -21,7 +21,8 @@ impl Model for Share {
 
     ghost view = { λ share. record { number = share.number; count = share.count } };
 
-    ghost invariant = { λ share. IsDayShare (record { number = share.number; count = share.count }) };
+    ghost invariant = { λ share.
+        IsDayShare (record { number = share.number; count = share.count }) };
 
     ghost inverse = { λ share. record { number = share.number; count = share.count } };
 }
@@ -84,7 +85,8 @@ impl Share {
     /// The symbol at an index among those of the share.
     pub fn symbol_at(self, symbols: &Symbols, share_index: usize) -> Option<&Name>
         requires { share_index < length (symbols_in self symbols.now) }
-        ensures { option_map (λ name. name.now) result ≡ slice_get (symbols_in self symbols.now) share_index }
+        ensures { option_map (λ name. name.now) result
+            ≡ slice_get (symbols_in self symbols.now) share_index }
     {
         // This call tells the proof that the index is below 2^64.
         let _ = symbols.len();

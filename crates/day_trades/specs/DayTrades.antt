@@ -35,7 +35,8 @@ pub record IsDayAfterOrders {M : Type 0} (share : DayShare) (admission : Admissi
 -- the day has been handed exactly these records of the trade log, after whatever order records it
 -- may have; and there are some that it may have
 pub record IsDayTrades {M : Type 0} (share : DayShare) (admission : Admission)
-    (may_have : List OrderRecord → Type 0) (day : DayTrades M) (trades : List TradeRecord) : Type 0 where
+    (may_have : List OrderRecord → Type 0) (day : DayTrades M)
+    (trades : List TradeRecord) : Type 0 where
   pub entries : List OrderRecord
   pub has : may_have entries
   pub after_each : (others : List OrderRecord) → may_have others
@@ -74,7 +75,8 @@ pub record AreBegun (admission : Admission) (histories : List SymbolHistory)
   pub same_length : length symbols_trades ≡ length histories
   pub each : (i : ℕ) (history : SymbolHistory) (symbol_trades : SymbolTrades)
       → slice_get histories i ≡ Some history → slice_get symbols_trades i ≡ Some symbol_trades
-      → ForRecords history (λ symbol entries. IsSymbolTrades admission entries [] symbol symbol_trades)
+      → ForRecords history
+      (λ symbol entries. IsSymbolTrades admission entries [] symbol symbol_trades)
 
 -- only what is known of the symbols has changed
 pub record KeepsAllButSymbolTrades {M : Type 0} (old new : DayTrades M) : Type 0 where

@@ -78,7 +78,8 @@ fn begin(
     histories: Vec<SymbolHistory>,
 ) -> Result<Vec<SymbolTrades>, NoMemory>
     requires { AreFewRecords histories.items }
-    ensures { IfOk result (λ symbols_trades. AreBegun admission histories.items symbols_trades.items) }
+    ensures { IfOk result
+        (λ symbols_trades. AreBegun admission histories.items symbols_trades.items) }
 {
     let mut symbols_trades = Vec::with_capacity(alloc, histories.len())?;
     for history in histories {

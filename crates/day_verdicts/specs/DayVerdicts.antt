@@ -22,12 +22,12 @@ use Rattle.record_verdict.specs.Scopes.{admission_of}
 
 -- The verdicts of a day.
 
--- of each of these symbols this is the verdict on these records: that of the question about it alone
+-- of each of these symbols this is the verdict on these records, by the question about it alone
 abbrev pub AreVerdicts : Rule → Bool → List OrderRecord → List TradeRecord → List (List ℕ)
     → List Verdict → Type 0
 AreVerdicts rule table entries trades symbols verdicts =
-    AreForEach (λ symbol the_verdict. IsRecordVerdict (question rule symbol table) entries (Ok trades) the_verdict)
-    symbols verdicts
+    AreForEach
+    (λ symbol. IsRecordVerdict (question rule symbol table) entries (Ok trades)) symbols verdicts
 
 -- a verdict is that the log is accepted
 abbrev pub is_acceptance : Verdict → Bool
@@ -64,8 +64,10 @@ pub record IsJudgedDay (rule : Rule) (table : Bool) (entries : List OrderRecord)
 -- of whatever records this is known of the symbol, this is the verdict on them that the question
 -- asks for
 abbrev pub IsVerdictOfSymbol : Question → ℕ → SymbolTrades → Verdict → Type 0
-IsVerdictOfSymbol q count symbol_trades the_verdict = (entries : List OrderRecord) (trades : List TradeRecord)
-    → IsSymbolTrades (admission_of q.rule) entries trades q.symbol symbol_trades → count ≡ length trades
+IsVerdictOfSymbol q count symbol_trades the_verdict =
+    (entries : List OrderRecord) (trades : List TradeRecord)
+    → IsSymbolTrades (admission_of q.rule) entries trades q.symbol symbol_trades
+    → count ≡ length trades
     → IsRecordVerdict q entries (Ok trades) the_verdict
 
 -- one symbol more can be counted
