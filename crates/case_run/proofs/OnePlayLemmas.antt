@@ -56,7 +56,7 @@ module _ (one_verdict : OneVerdict) (logs : Which → List ℕ → Option (List 
   one_turn cases (command.List filter) a b x y = x ∙ sym y
   one_turn cases (command.Show label) a b x y = x ∙ sym y
 
-  -- what comes behind a turn of Play
+  -- what comes after a turn of Play
   abbrev Behind : PlayTurn → List Command → List PlayTurn → Type 0
   Behind turn commands turns = ((turn.status ≡ status.Malformed) × (turns ≡ [])) ⊎ ((turn.status ≡ status.Malformed → ⊥) × AreTurns logs turn.cases commands turns)
 

@@ -40,7 +40,7 @@ pub record PlaysTo (logs : Which → List ℕ → Option (List ℕ)) (before : C
   pub cases_are : kept ≡ Some (cases_after cases turns)
 
 module _ (known : KnownLogs) where
-  -- the turns of a run are Play's, and Play goes on behind them
+  -- the turns of a run are Play's, and Play goes on after them
   pub plays_on : (from : RunState) (turns : List RunTurn) (before : CaseStatus) (cases : List Case) → AreDone known from turns → KnowsLogsAndCases known from cases
       → (rest : List Command) (text : List ℕ) (answer : CaseStatus) (kept : Option (List Case))
       → ((there : List Case) → KnowsLogsAndCases known (state_after from turns) there → PlaysTo known.log_of (status_after before turns) there rest text answer kept)
