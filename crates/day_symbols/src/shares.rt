@@ -88,7 +88,7 @@ impl Share {
         ensures { option_map (λ name. name.now) result
             ≡ slice_get (symbols_in self symbols.now) share_index }
     {
-        // This call tells the proof that the index is below 2^64.
+        // By this call the proof knows that the index is below 2^64.
         let _ = symbols.len();
         symbols.at(share_index * self.count as usize + (self.number - 1) as usize)
     }

@@ -15,7 +15,7 @@ use Rattle.day_trades.specs.declared.symbol_trades.SoundSymbol.{SoundSymbol}
 use Rattle.day_trades.specs.declared.symbol_trades.SymbolTrades.{SymbolTrades}
 use Rattle.day_trades.specs.declared.symbol_trades.SymbolTrades.TheVariants as kept
 
--- what a reading of this symbol is about
+-- the symbol that is read, and the orders that its rule admits
 abbrev pub scope_by : Admission → List ℕ → Scope
 scope_by admission symbol = record { symbol = symbol; admission = admission }
 
