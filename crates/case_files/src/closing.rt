@@ -1,4 +1,4 @@
-//! The run of the commands, and the close of the database behind it.
+//! The run of the commands, and the close of the database after it.
 ghost use Rattle.std.specs.Prelude.{map};
 ghost use Rattle.std.specs.String.{string_bytes};
 ghost use Rattle.case_files.specs.ClosedRuns.{RunsThenCloses};

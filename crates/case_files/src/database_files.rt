@@ -1,5 +1,5 @@
 //! The files of a database: they are opened when no other process has them open, and the log is
-//! removed behind the last transaction that was in it. No clause speaks of either.
+//! removed after the last transaction that was in it. No clause speaks of either.
 ghost use Rattle.std.specs.Prelude.{IsTrue, IfOk};
 
 use sqlite::{File, Files, Unknown};

@@ -1,6 +1,5 @@
 //! Casebooks in files, for the program `casebook`: an opener of databases by their paths, a run
-//! that closes the database behind it, and what the program does with what its machine gives
-//! it.
+//! after which the database is closed, and what the program does with what its machine gives it.
 #![tactic(auto)]
 
 pub mod closing;

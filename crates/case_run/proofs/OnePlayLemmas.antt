@@ -12,7 +12,7 @@ use Rattle.log_verdict.specs.Laws.{OneVerdict}
 use Rattle.log_verdict.specs.LogVerdicts.{records_of_order_log, trades_of_trade_log, log_in, IsLogVerdict}
 use Rattle.case_keeper.specs.declared.case.Case.{Case}
 use Rattle.case_run.specs.Laws.{OnePlay}
-use Rattle.case_run.specs.Play.{AreTurns, IsTurn, IsVerdictOn, PlayTurn, play_result, verdict_turn}
+use Rattle.case_run.specs.Play.{AreTurns, IsTurn, IsVerdictOfFiling, PlayTurn, play_result, verdict_turn}
 use Rattle.case_run.specs.declared.commands.Command.{Command}
 use Rattle.case_run.specs.declared.commands.Command.TheVariants as command
 use Rattle.case_run.specs.declared.commands.Filing.{Filing}
@@ -40,7 +40,7 @@ module _ (one_verdict : OneVerdict) (logs : Which → List ℕ → Option (List 
         by_said (Ok entries) equal there = subst (λ (bytes : List ℕ). of_trades bytes entries) (equal refl) there
         by_said (Err bad) equal there = there
 
-    one_verdict_on : (a b : Verdict) → IsVerdictOn logs wanted a → IsVerdictOn logs wanted b → a ≡ b
+    one_verdict_on : (a b : Verdict) → IsVerdictOfFiling logs wanted a → IsVerdictOfFiling logs wanted b → a ≡ b
     one_verdict_on a b x y =
         let same_orders : y.orders ≡ x.orders = one_log (logs Orders wanted.orders) y.orders x.orders y.has_orders x.has_orders in
         let there : IsLogVerdict (question wanted.rule wanted.symbol false) (log_in wanted.form x.orders) (log_in wanted.form y.trades) b =
@@ -56,7 +56,7 @@ module _ (one_verdict : OneVerdict) (logs : Which → List ℕ → Option (List 
   one_turn cases (command.List filter) a b x y = x ∙ sym y
   one_turn cases (command.Show label) a b x y = x ∙ sym y
 
-  -- what comes behind a turn of Play
+  -- what comes after a turn of Play
   abbrev Behind : PlayTurn → List Command → List PlayTurn → Type 0
   Behind turn commands turns = ((turn.status ≡ status.Malformed) × (turns ≡ [])) ⊎ ((turn.status ≡ status.Malformed → ⊥) × AreTurns logs turn.cases commands turns)
 

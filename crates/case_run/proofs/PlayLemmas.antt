@@ -14,7 +14,7 @@ use Rattle.audit_report.specs.declared.verdicts.Verdict.TheVariants as verdict
 use Rattle.record_verdict.specs.Judgements.{question, IsRecordVerdict}
 use Rattle.log_verdict.specs.LogVerdicts.{records_of_order_log, trades_of_trade_log}
 use Rattle.case_keeper.specs.declared.case.Case.{Case}
-use Rattle.case_run.specs.Play.{AreTurns, IsTurn, IsVerdictOn, PlayTurn, cases_after, last_status, verdict_turn}
+use Rattle.case_run.specs.Play.{AreTurns, IsTurn, IsVerdictOfFiling, PlayTurn, cases_after, last_status, verdict_turn}
 use Rattle.case_run.specs.Runs.{HasFilingLogs, HasLogWithin, HasPlayLogs, WhereGood}
 use Rattle.case_run.specs.Statuses.{ends_run}
 use Rattle.case_run.specs.Traces.{AreDone, KnownLogs, RunState, RunTurn, KnowsLogsAndCases, state_after, status_after, turn_commands, turn_texts}
@@ -40,7 +40,7 @@ pub record PlaysTo (logs : Which → List ℕ → Option (List ℕ)) (before : C
   pub cases_are : kept ≡ Some (cases_after cases turns)
 
 module _ (known : KnownLogs) where
-  -- the turns of a run are Play's, and Play goes on behind them
+  -- the turns of a run are Play's, and Play goes on after them
   pub plays_on : (from : RunState) (turns : List RunTurn) (before : CaseStatus) (cases : List Case) → AreDone known from turns → KnowsLogsAndCases known from cases
       → (rest : List Command) (text : List ℕ) (answer : CaseStatus) (kept : Option (List Case))
       → ((there : List Case) → KnowsLogsAndCases known (state_after from turns) there → PlaysTo known.log_of (status_after before turns) there rest text answer kept)
@@ -59,7 +59,7 @@ module _ (known : KnownLogs) where
 
 -- the logs of a filing whose verdict is no bad place are there, and so is what comes after them
 module _ (logs : Which → List ℕ → Option (List ℕ)) where
-  held_next : (wanted : Filing) (next : Type 0) (v : Verdict) → IsVerdictOn logs wanted v → ((log : Which) (bad : BadPlace) → v ≡ verdict.Malformed log bad → ⊥) → HasFilingLogs logs wanted next → next
+  held_next : (wanted : Filing) (next : Type 0) (v : Verdict) → IsVerdictOfFiling logs wanted v → ((log : Which) (bad : BadPlace) → v ≡ verdict.Malformed log bad → ⊥) → HasFilingLogs logs wanted next → next
   held_next wanted next v on sound held = by_orders (records_of_order_log wanted.form on.orders) refl on.is first.1
     where
       after_trades : List ℕ → Type 0

@@ -30,7 +30,7 @@ use Rattle.case_run.specs.declared.statuses.CaseStatus.TheVariants as status
 use Rattle.case_run.proofs.JoinLemmas.{keeps_both}
 use Rattle.case_run.proofs.PlayLemmas.{PlaysTo, plays_on}
 
--- One turn more behind the turns so far.
+-- One turn more after the turns so far.
 
 state_more : (from : RunState) (turns : List RunTurn) (turn : RunTurn) → state_after from (turns ++ turn ∷ []) ≡ turn.left
 state_more from [] turn = refl
@@ -65,7 +65,7 @@ later_turns known from (turn ∷ turns) done =
       keeper = omega (arith, done.0.later.keeper, more.keeper);
     }
 
--- a prefix of a text behind others is a prefix of all of them
+-- a prefix of a text after others is a prefix of all of them
 prefix_behind : (a b c : Option (List ℕ)) (texts text : List ℕ) → Appends a b texts → AppendsPart b c text → AppendsPart a c (texts ++ text)
 prefix_behind a b c texts text first part = record {
   count = length texts + part.count;
@@ -94,7 +94,7 @@ plays known from to commands answer cases text wrote is = record {
   cases_are = is.cases_are;
 }
 
--- a stretch of Play behind the turns, which leaves the cases as they are
+-- a stretch of Play after the turns, which leaves the cases as they are
 nothing_more : (known : KnownLogs) (from : RunState) (turns : List RunTurn) (cases : List Case) → AreDone known from turns → KnowsLogsAndCases known from cases
     → PlaysTo known.log_of status.Done cases (turn_commands turns) (turn_texts turns) (status_after status.Done turns) (state_after from turns).keeper.cases
 nothing_more known from turns cases done knows =

@@ -18,7 +18,7 @@ use Rattle.audit_report.specs.declared.verdicts.Verdict.TheVariants as verdict
 use Rattle.log_verdict.specs.declared.sources.Source.{Source}
 use Rattle.log_verdict.specs.declared.stops.Stop.{Stop}
 use Rattle.log_verdict.specs.declared.stops.Stop.TheVariants as stop
-use Rattle.log_verdict.specs.BothLogs.{IsAfterGoodOrders, IsStopOfTwoLogs, ReadsAfterOrders, ReadsVerdict}
+use Rattle.log_verdict.specs.BothLogs.{IsAfterGoodOrders, IsStopOfTwoLogs, IsUntouched, ReadsAfterOrders, ReadsVerdict}
 use Rattle.log_verdict.specs.BothLogs as both
 use Rattle.log_verdict.specs.Collecting.{step_of}
 use Rattle.log_verdict.specs.LogVerdicts.{log_in, records_of_order_log, trades_of_trade_log, IsLogVerdict}
@@ -68,8 +68,8 @@ module _ (r : Reading) (wanted : Filing) (orders trades : Source) (first : Names
   no_good (Err other) bad e good = cc
 
   -- what is said of both logs where the order log is out of its grammar
-  of_bad_orders : (v : Verdict) (bytes : List ℕ) (bad : BadPlace) → IsRead r (step_of r Orders orders.name.now) bytes → records_of_order_log orders.form bytes ≡ Err bad → v ≡ verdict.Malformed Orders bad → JudgesLogs r wanted v
-  of_bad_orders v bytes bad read says is = record {
+  of_bad_orders : (v : Verdict) (bytes : List ℕ) (bad : BadPlace) → IsRead r (step_of r Orders orders.name.now) bytes → records_of_order_log orders.form bytes ≡ Err bad → v ≡ verdict.Malformed Orders bad → IsUntouched r Trades → JudgesLogs r wanted v
+  of_bad_orders v bytes bad read says is alone = record {
     on = λ tells. record {
       orders = bytes;
       trades = [];
@@ -77,7 +77,7 @@ module _ (r : Reading) (wanted : Filing) (orders trades : Source) (first : Names
       has_trades = λ good. absurd (no_good (records_of_order_log wanted.form bytes) bad (orders_say bytes (Err bad) says) good);
       is = rw (orders_say bytes (Err bad) says) is;
     };
-    read = subst (ReadsForVerdict r wanted) (sym is) (record { bytes = bytes; read = read_orders bytes read; holds = ap is_ok (orders_say bytes (Err bad) says) });
+    read = subst (ReadsForVerdict r wanted) (sym is) (record { in_turn = alone; bad = record { bytes = bytes; read = read_orders bytes read; holds = ap is_ok (orders_say bytes (Err bad) says) } });
   }
 
   -- and where it is in its grammar
@@ -110,7 +110,10 @@ module _ (r : Reading) (wanted : Filing) (orders trades : Source) (first : Names
         → MatchResult said (λ paired. IsRecordVerdict asked entries paired v) (λ bad. v ≡ verdict.Malformed Trades bad) → JudgesLogs r wanted v
     of_trades (Ok paired) said is = judges (not_bad v paired said is) (rw (orders_say one (Ok entries) says, trades_say two (Ok paired) said) is)
     of_trades (Err bad) said is =
-        judges (subst (ReadsForVerdict r wanted) (sym is) (record { bytes = two; read = read_trades two read_two; holds = ap is_ok (trades_say two (Err bad) said) }))
+        judges (subst (ReadsForVerdict r wanted) (sym is) (record {
+          in_turn = record { bytes = one; read = read_orders one read_one; holds = rw (orders_say one (Ok entries) says) refl };
+          bad = record { bytes = two; read = read_trades two read_two; holds = ap is_ok (trades_say two (Err bad) said) };
+        }))
         (rw (orders_say one (Ok entries) says, trades_say two (Err bad) said) is)
 
   -- the verdict on both logs is that on the logs of the filing
@@ -120,10 +123,10 @@ module _ (r : Reading) (wanted : Filing) (orders trades : Source) (first : Names
       of_orders : (said : Result (List OrderRecord) BadPlace) → records_of_order_log orders.form is.bytes ≡ said → after v said → JudgesLogs r wanted v
       of_orders (Ok entries) says holds =
           of_trades v is.bytes holds.bytes entries is.read holds.read says (trades_of_trade_log trades.form holds.bytes) refl holds.holds
-      of_orders (Err bad) says holds = of_bad_orders v is.bytes bad is.read says holds.0
+      of_orders (Err bad) says holds = of_bad_orders v is.bytes bad is.read says holds.0 holds.1
 
   started : (log : Which) → both.IsLogInTurn r orders log → IsFilingLogInTurn r wanted log
-  started Orders is = tt
+  started Orders is = is
   started Trades is = record { bytes = is.bytes; read = read_orders is.bytes is.read; holds = subst (λ (f : Form). IsOk (records_of_order_log f is.bytes)) first.form is.holds }
 
   of_slot : (holds : Reading → LogStep → Type 0) (log : Which) → both.IsLogInTurn r orders log → holds r (step_of r log (both.source_of orders trades log).name.now) → OfFilingLog holds r wanted log

@@ -4,6 +4,7 @@ use Rattle.audit_base.specs.declared.terms.Form.{Form}
 use Rattle.audit_base.specs.declared.terms.Which.{Which}
 use Rattle.audit_base.specs.declared.terms.Which.TheVariants.{Orders, Trades}
 use Rattle.audit_report.specs.Lines.{read_fault_line, too_long_line}
+use Rattle.log_verdict.specs.BothLogs.{IsUntouched}
 use Rattle.log_verdict.specs.Collecting.{step_of, IsReadAs}
 use Rattle.log_verdict.specs.LogVerdicts.{records_of_order_log, trades_of_trade_log}
 use Rattle.log_verdict.specs.Steps.{Reading, LogStep, IsReadFault, IsTooLong}
@@ -41,10 +42,22 @@ ReadsGoodLogs r (command.File wanted) =
 ReadsGoodLogs r (command.List filter) = StartsNoLog r
 ReadsGoodLogs r (command.Show label) = StartsNoLog r
 
--- the command names a log that is not in its grammar, and it was read to its end
+-- a log of a filing was started in its turn: the order log while the trade log was left alone, or
+-- the trade log after an order log that was read to its end and is in its grammar
+abbrev pub IsFilingLogInTurn : Reading → Filing → Which → Type 0
+IsFilingLogInTurn r wanted Orders = IsUntouched r Trades
+IsFilingLogInTurn r wanted Trades =
+    IsReadAs r Orders wanted.orders (λ bytes. IsOk (records_of_order_log wanted.form bytes))
+
+-- A log that the filing names was started in its turn and read to its end, and is not in its
+-- grammar.
+pub record ReadsBadFilingLog (r : Reading) (wanted : Filing) (log : Which) : Type 0 where
+  pub in_turn : IsFilingLogInTurn r wanted log
+  pub bad : IsReadAs r log (filing_log_name wanted log) (IsBadLog log wanted.form)
+
+-- the same of one of the logs that the command names; `list` and `show` name none
 abbrev pub ReadsBadLog : Reading → Command → Type 0
-ReadsBadLog r (command.File wanted) = (log : Which)
-    × IsReadAs r log (filing_log_name wanted log) (IsBadLog log wanted.form)
+ReadsBadLog r (command.File wanted) = (log : Which) × ReadsBadFilingLog r wanted log
 ReadsBadLog r (command.List filter) = ⊥
 ReadsBadLog r (command.Show label) = ⊥
 
@@ -60,13 +73,6 @@ ReadsLogsFor r the_command status.WriteFault = ⊥
 ReadsLogsFor r the_command status.TooLong = ⊥
 ReadsLogsFor r the_command status.Memory = ⊥
 ReadsLogsFor r the_command status.KeeperFault = ⊥
-
--- the order log of a filing is started first, and the trade log only after an order log that was
--- read to its end and is in its grammar
-abbrev pub IsFilingLogInTurn : Reading → Filing → Which → Type 0
-IsFilingLogInTurn r wanted Orders = Unit {0}
-IsFilingLogInTurn r wanted Trades =
-    IsReadAs r Orders wanted.orders (λ bytes. IsOk (records_of_order_log wanted.form bytes))
 
 -- A log that the filing names was started, and this became of it.
 pub record OfFilingLog (is : Reading → LogStep → Type 0) (r : Reading) (wanted : Filing)

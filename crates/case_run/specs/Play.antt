@@ -33,7 +33,7 @@ pub record PlayTurn : Type 0 where
 
 -- The verdict on the two logs that a `file` command names. Its trade log is needed only where its
 -- order log is good.
-pub record IsVerdictOn (logs : Which → List ℕ → Option (List ℕ)) (wanted : Filing)
+pub record IsVerdictOfFiling (logs : Which → List ℕ → Option (List ℕ)) (wanted : Filing)
     (the_verdict : Verdict) : Type 0 where
   pub orders : List ℕ
   pub trades : List ℕ
@@ -113,7 +113,7 @@ show_turn cases label = let found = kept_case cases label in
 -- what one command leaves of these cases
 abbrev pub IsTurn : (Which → List ℕ → Option (List ℕ)) → List Case → Command → PlayTurn → Type 0
 IsTurn logs cases (command.File wanted) turn = (the_verdict : Verdict)
-    × IsVerdictOn logs wanted the_verdict × (turn ≡ verdict_turn cases wanted the_verdict)
+    × IsVerdictOfFiling logs wanted the_verdict × (turn ≡ verdict_turn cases wanted the_verdict)
 IsTurn logs cases (command.List filter) turn = turn ≡ list_turn cases filter
 IsTurn logs cases (command.Show label) turn = turn ≡ show_turn cases label
 

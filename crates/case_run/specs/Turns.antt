@@ -3,7 +3,6 @@ use Rattle.std.specs.Prelude.{◌≡◌, ◌≤◌, ◌⊎◌, ℕ, true, false,
 use Rattle.audit_base.specs.declared.terms.Which.{Which}
 use Rattle.audit_report.specs.declared.verdicts.Verdict.{Verdict}
 use Rattle.audit_report.specs.declared.verdicts.Verdict.TheVariants as verdict
-use Rattle.log_verdict.specs.Collecting.{IsReadAs}
 use Rattle.log_verdict.specs.Steps.{Reading, BeginsWithin, EndsWithin, KeepsShelfLogs, FaultsNeverFall, reading}
 use Rattle.log_verdict.specs.declared.stops.Stop.{Stop}
 use Rattle.log_verdict.specs.declared.stops.Stop.TheVariants as stop
@@ -15,8 +14,8 @@ use Rattle.log_source.specs.declared.shelf.Shelf.{Ghosts as Shelf}
 use Rattle.log_source.specs.Sinks.{SinkState, SinkStays}
 use Rattle.log_source.specs.Sources.{RoseOrIsFull}
 use Rattle.log_verdict.specs.Steps.{IsReadFault, IsTooLong}
-use Rattle.case_run.specs.Causes.{IsBadLog, IsHaltCause, OfFilingLog, ReadsGoodLogs, ReadsLogsFor, filing_log_name}
-use Rattle.case_run.specs.Play.{PlayTurn, IsTurn, IsVerdictOn, verdict_turn}
+use Rattle.case_run.specs.Causes.{IsHaltCause, OfFilingLog, ReadsBadFilingLog, ReadsGoodLogs, ReadsLogsFor}
+use Rattle.case_run.specs.Play.{PlayTurn, IsTurn, IsVerdictOfFiling, verdict_turn}
 use Rattle.case_run.specs.Runs.{known_logs, run_state}
 use Rattle.case_run.specs.Statuses.{ends_run}
 use Rattle.case_run.specs.Traces.{AreDone, IsAnsweredOrHalted, KnownLogs, RunState, RunTurn, state_after, status_after, turn_commands}
@@ -42,16 +41,15 @@ halt_of_stop (stop.TooLong log) = halt.TooLong log
 halt_of_stop stop.Memory = halt.Memory
 
 -- the logs of the filing were read to their end, and are in their grammar, or the one that the
--- verdict names is not
+-- verdict names was started in its turn and read to its end, and is not
 abbrev pub ReadsForVerdict : Reading → Filing → Verdict → Type 0
 ReadsForVerdict r wanted (verdict.Accepted accepted) = ReadsGoodLogs r (command.File wanted)
 ReadsForVerdict r wanted (verdict.Rejected finding) = ReadsGoodLogs r (command.File wanted)
-ReadsForVerdict r wanted (verdict.Malformed log bad) =
-    IsReadAs r log (filing_log_name wanted log) (IsBadLog log wanted.form)
+ReadsForVerdict r wanted (verdict.Malformed log bad) = ReadsBadFilingLog r wanted log
 
 -- The verdict is that on the two logs of the filing.
 pub record JudgesLogs (r : Reading) (wanted : Filing) (the_verdict : Verdict) : Type 0 where
-  pub on : r.tells ≡ true → IsVerdictOn r.log_of wanted the_verdict
+  pub on : r.tells ≡ true → IsVerdictOfFiling r.log_of wanted the_verdict
   pub read : ReadsForVerdict r wanted the_verdict
 
 -- why there is no verdict on the two logs of a filing

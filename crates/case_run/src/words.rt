@@ -227,12 +227,12 @@ fn part_length(words: &[String]) -> usize
     count
 }
 
-/// The words behind the one at a place, from 0.
-fn words_behind(words: &[String], place: usize) -> &[String]
-    requires { place < length words.now }
-    ensures { result.now ≡ drop (place + 1) words.now }
+/// The words after the one at an index.
+fn words_after(words: &[String], index: usize) -> &[String]
+    requires { index < length words.now }
+    ensures { result.now ≡ drop (index + 1) words.now }
 {
-    &words[place + 1..]
+    &words[index + 1..]
 }
 
 /// The commands that the words ask for: one or more, with the word `then` between them. `Usage`
@@ -254,6 +254,6 @@ pub(crate) fn read_commands(alloc: Global, words: &[String]) -> Result<Vec<Comma
         if count == rest.len() {
             return Ok(commands);
         }
-        rest = words_behind(rest, count);
+        rest = words_after(rest, count);
     }
 }

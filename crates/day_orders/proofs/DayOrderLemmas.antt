@@ -8,7 +8,7 @@ use Rattle.audit_base.specs.declared.records.OrderRecord.{OrderRecord}
 use Rattle.audit_base.specs.Histories.{symbol_of}
 use Rattle.audit_base.specs.Orders.{same_name}
 use Rattle.day_symbols.specs.Kept.{HasRoomAt}
-use Rattle.day_symbols.specs.Shares.{DayShare, is_in_share, share_place, symbols_in}
+use Rattle.day_symbols.specs.Shares.{DayShare, is_in_share, index_in_share, symbols_in}
 use Rattle.day_symbols.specs.Symbols.{distinct_names}
 use Rattle.day_symbols.proofs.KeptLemmas.{AreAtPlaces, OthersStay}
 use Rattle.day_symbols.proofs.MetLemmas.{inside-step, outside-step, room-met, room-within}
@@ -50,7 +50,7 @@ outside-more share histories entries entry index got outside are =
 
 -- a record of a symbol of the share: its history has its place
 pub history-met : (share : DayShare) (old room : List SymbolHistory) (entries : List OrderRecord) (own : List ℕ) (index : ℕ)
-    → slice_get (distinct_names (map symbol_of entries ++ own ∷ [])) index ≡ Some own → is_in_share share index ≡ true → HasRoomAt IsEmptyHistory (share_place share index) old room
+    → slice_get (distinct_names (map symbol_of entries ++ own ∷ [])) index ≡ Some own → is_in_share share index ≡ true → HasRoomAt IsEmptyHistory (index_in_share share index) old room
     → AreHistories (symbols_in share (order_symbols entries)) old entries
     → AreAtPlaces (is_after entries) share (distinct_names (map symbol_of entries ++ own ∷ [])) room
 history-met share old room entries own index got inside makes are =
@@ -58,33 +58,33 @@ history-met share old room entries own index got inside makes are =
 
 -- and it takes the record
 pub inside-more : (share : DayShare) (room : List SymbolHistory) (entries : List OrderRecord) (entry : OrderRecord) (index : ℕ) (was now : SymbolHistory) (place : ℕ)
-    → slice_get (distinct_names (map symbol_of entries ++ symbol_of entry ∷ [])) index ≡ Some (symbol_of entry) → is_in_share share index ≡ true → slice_get room (share_place share index) ≡ Some was
+    → slice_get (distinct_names (map symbol_of entries ++ symbol_of entry ∷ [])) index ≡ Some (symbol_of entry) → is_in_share share index ≡ true → slice_get room (index_in_share share index) ≡ Some was
     → place ≡ length entries + 1 → TakesOwnRecord was now place entry → same_name (symbol_of entry) (symbol_of entry) ≡ true
     → AreAtPlaces (is_after entries) share (distinct_names (map symbol_of entries ++ symbol_of entry ∷ [])) room
-    → AreHistories (symbols_in share (order_symbols (entries ++ entry ∷ []))) (set room (share_place share index) now) (entries ++ entry ∷ [])
+    → AreHistories (symbols_in share (order_symbols (entries ++ entry ∷ []))) (set room (index_in_share share index) now) (entries ++ entry ∷ [])
 inside-more share room entries entry index was now place got inside there at takes itself places =
-    subst (λ (symbols : List (List ℕ)). AreHistories (symbols_in share symbols) (set room (share_place share index) now) (entries ++ entry ∷ [])) (sym (symbols-more entries entry))
+    subst (λ (symbols : List (List ℕ)). AreHistories (symbols_in share symbols) (set room (index_in_share share index) now) (entries ++ entry ∷ [])) (sym (symbols-more entries entry))
     (inside-step (is_after entries) (is_after (entries ++ entry ∷ [])) share (map symbol_of entries) (symbol_of entry) room index was now (others-stay entries entry) got inside there
     (λ is. takes (symbol_of entry) entries is itself at) places)
 
--- the symbol of a record was met, and its history has this place
+-- the symbol of a record was met, and its history is at this index
 pub record IsRecordMet (share : DayShare) (entries : List OrderRecord) (entry : OrderRecord) (room : List SymbolHistory) (index place : ℕ) : Type 0 where
   pub got : slice_get (distinct_names (map symbol_of entries ++ symbol_of entry ∷ [])) index ≡ Some (symbol_of entry)
   pub inside : is_in_share share index ≡ true
-  pub at : place ≡ share_place share index
+  pub at : place ≡ index_in_share share index
   pub places : AreAtPlaces (is_after entries) share (distinct_names (map symbol_of entries ++ symbol_of entry ∷ [])) room
   pub within : place < length room
 
 pub met-inside : (share own_share : DayShare) (old room : List SymbolHistory) (entries : List OrderRecord) (entry : OrderRecord) (symbols new : List (List ℕ)) (own : List ℕ) (index place : ℕ)
     → own_share ≡ share → symbols ≡ order_symbols entries → ((names : List (List ℕ)) → symbols ≡ distinct_names names → new ≡ distinct_names (names ++ own ∷ [])) → own ≡ symbol_of entry
-    → slice_get new index ≡ Some own → is_in_share own_share index ≡ true → place ≡ share_place own_share index → HasRoomAt IsEmptyHistory place old room
+    → slice_get new index ≡ Some own → is_in_share own_share index ≡ true → place ≡ index_in_share own_share index → HasRoomAt IsEmptyHistory place old room
     → AreHistories (symbols_in share (order_symbols entries)) old entries → IsRecordMet share entries entry room index place
 met-inside share own_share old room entries entry symbols new own index place shared symbols_are meets own_is there inside at makes are =
     let met : new ≡ distinct_names (map symbol_of entries ++ symbol_of entry ∷ []) = meets (map symbol_of entries) symbols_are ∙ ap (λ (s : List ℕ). distinct_names (map symbol_of entries ++ s ∷ [])) own_is in
     let got : slice_get (distinct_names (map symbol_of entries ++ symbol_of entry ∷ [])) index ≡ Some (symbol_of entry) =
     ap (λ (s : List (List ℕ)). slice_get s index) (sym met) ∙ there ∙ ap (λ (s : List ℕ). Some s) own_is in
     let inside_it : is_in_share share index ≡ true = ap (λ (s : DayShare). is_in_share s index) (sym shared) ∙ inside in
-    let at_it : place ≡ share_place share index = at ∙ ap (λ (s : DayShare). share_place s index) shared in
+    let at_it : place ≡ index_in_share share index = at ∙ ap (λ (s : DayShare). index_in_share s index) shared in
     let places = history-met share old room entries (symbol_of entry) index got inside_it (subst (λ (k : ℕ). HasRoomAt IsEmptyHistory k old room) at_it makes) are in
     record {
       got = got;

@@ -19,9 +19,8 @@ abbrev pub AreHistories : List (List ℕ) → List SymbolHistory → List OrderR
 AreHistories symbols histories entries =
     AreForEach (λ symbol kept. IsSymbolHistory symbol kept entries) symbols histories
 
--- the day has been handed exactly these records of the order log: it has their symbols, and of each
--- symbol of
--- the share its history
+-- the day has been handed exactly these records of the order log: it has their symbols, and the
+-- history of each symbol of the share
 pub record IsDayOrders {D : Type 0} (share : DayShare) (day : DayOrders D)
     (entries : List OrderRecord) : Type 0 where
   pub shared : day.share ≡ share

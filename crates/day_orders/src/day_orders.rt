@@ -68,13 +68,13 @@ impl<D: AuditedShare> DayOrders<D> {
         }
     }
 
-    /// A history at this place, where the histories end there.
-    fn make_room(&mut self, place: usize) -> Result<(), NoMemory>
-        ensures room { let room = HasRoomAt IsEmptyHistory place in
+    /// A history at this index, where the histories end there.
+    fn make_room(&mut self, share_index: usize) -> Result<(), NoMemory>
+        ensures room { let room = HasRoomAt IsEmptyHistory share_index in
             OnOk result (room self.old.histories.items self.new.histories.items) }
         ensures only { KeepsAllButHistories self.old self.new }
     {
-        if place == self.histories.len() {
+        if share_index == self.histories.len() {
             let history = SymbolHistory::new(self.alloc, self.seed);
             self.histories.push(history)?;
         }
@@ -84,17 +84,17 @@ impl<D: AuditedShare> DayOrders<D> {
     /// Takes the next record of the log. After `NoMemory` nothing is known of the day.
     fn take_entry(&mut self, entry: &OrderRecord) -> Result<(), NoMemory>
         requires { HasPlace (IsDayOrders D.share) self.old }
-        ensures { let adds = HandsOnMore (IsDayOrders D.share self.old) (IsDayOrders D.share self.new) in
-            OnOk result (adds (entry.now ∷ [])) }
+        ensures { let has_taken = IsDayOrders D.share in
+            OnOk result (HandsOnMore (has_taken self.old) (has_taken self.new) (entry.now ∷ [])) }
     {
         self.count += 1;
         let index = self.symbols.meet(&entry.symbol())?;
         if !self.share.has(index) {
             return Ok(());
         }
-        let place = self.share.place(index);
-        self.make_room(place)?;
-        self.histories[place].take(entry, self.count)
+        let share_index = self.share.index_in_share(index);
+        self.make_room(share_index)?;
+        self.histories[share_index].take(entry, self.count)
     }
 
     /// The symbols of the log and the histories of those in the share. Takes no memory.

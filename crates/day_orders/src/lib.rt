@@ -2,7 +2,7 @@
 //! all symbols.
 //!
 //! A record is handed to the history of its symbol, which is found by one look-up of its hash.
-//! Histories stand in the order in which their symbols appear first. Of a symbol outside the share
+//! Histories are in the order in which their symbols appear first. Of a symbol outside the share
 //! the name alone is kept.
 #![tactic(auto)]
 

@@ -8,20 +8,20 @@ use Rattle.std.proofs.lemmas.Nat.{div-add-mod'}
 use Rattle.std.proofs.lemmas.List.{length-map, length-set}
 use Rattle.std.proofs.lemmas.Option.{none-some, same_Some, slice_get_within, slice_get-map, slice_get-get_or, get_or_from_slice_get}
 use Rattle.audit_base.specs.Orders.{same_name}
-use Rattle.day_symbols.specs.Shares.{DayShare, IsDayShare, indices_in, is_in_share, share_place, symbols_in}
+use Rattle.day_symbols.specs.Shares.{DayShare, IsDayShare, indices_in, is_in_share, index_in_share, symbols_in}
 use Rattle.day_symbols.specs.Kept.{AreForEach}
 use Rattle.day_symbols.proofs.PlaceLemmas.{IsIndexAt, got-left, got-last, index-at, place-at, place-more, place-same, place-is}
 use Rattle.day_symbols.proofs.SymbolLemmas.{same-is}
 
 -- the same by the indices of all symbols: what is kept of a symbol of the share stands at its place
 pub record AreAtPlaces {X : Type 0} (P : List ℕ → X → Type 0) (share : DayShare) (symbols : List (List ℕ)) (kept : List X) : Type 0 where
-  pub count : length kept ≡ share_place share (length symbols)
-  pub each : (i : ℕ) (symbol : List ℕ) (one : X) → is_in_share share i ≡ true → slice_get symbols i ≡ Some symbol → slice_get kept (share_place share i) ≡ Some one → P symbol one
+  pub count : length kept ≡ index_in_share share (length symbols)
+  pub each : (i : ℕ) (symbol : List ℕ) (one : X) → is_in_share share i ≡ true → slice_get symbols i ≡ Some symbol → slice_get kept (index_in_share share i) ≡ Some one → P symbol one
 
 -- the symbol of an index of the share stands at its place
-shared-at : (share : DayShare) (symbols : List (List ℕ)) (i : ℕ) (symbol : List ℕ) → is_in_share share i ≡ true → slice_get symbols i ≡ Some symbol → slice_get (symbols_in share symbols) (share_place share i) ≡ Some symbol
+shared-at : (share : DayShare) (symbols : List (List ℕ)) (i : ℕ) (symbol : List ℕ) → is_in_share share i ≡ true → slice_get symbols i ≡ Some symbol → slice_get (symbols_in share symbols) (index_in_share share i) ≡ Some symbol
 shared-at share symbols i symbol is got =
-    slice_get-map (λ (index : ℕ). slice_index_or symbols index []) (indices_in share (length symbols)) (share_place share i)
+    slice_get-map (λ (index : ℕ). slice_index_or symbols index []) (indices_in share (length symbols)) (index_in_share share i)
     ∙ ap (option_map (λ (index : ℕ). slice_index_or symbols index [])) (place-at share (length symbols) i is (slice_get_within symbols i symbol got))
     ∙ ap (λ (s : List ℕ). Some s) (get_or_from_slice_get symbols i symbol [] got)
 
@@ -41,13 +41,13 @@ index-of share symbols j symbol got =
         let at = index-at share (length symbols) j i is in
         (i, record { at = at; got = slice_get-get_or symbols i [] at.inside ∙ some })
 
-length-shared : (share : DayShare) (symbols : List (List ℕ)) → length (symbols_in share symbols) ≡ share_place share (length symbols)
+length-shared : (share : DayShare) (symbols : List (List ℕ)) → length (symbols_in share symbols) ≡ index_in_share share (length symbols)
 length-shared share symbols = length-map (indices_in share (length symbols)) (λ (index : ℕ). slice_index_or symbols index [])
 
 pub at-places : {X : Type 0} (P : List ℕ → X → Type 0) (share : DayShare) (symbols : List (List ℕ)) (kept : List X) → AreForEach P (symbols_in share symbols) kept → AreAtPlaces P share symbols kept
 at-places P share symbols kept are = record {
   count = are.same_length ∙ length-shared share symbols;
-  each = λ i symbol one is got there. are.each (share_place share i) symbol one (shared-at share symbols i symbol is got) there;
+  each = λ i symbol one is got there. are.each (index_in_share share i) symbol one (shared-at share symbols i symbol is got) there;
 }
 
 pub for-each : {X : Type 0} (P : List ℕ → X → Type 0) (share : DayShare) (symbols : List (List ℕ)) (kept : List X) → AreAtPlaces P share symbols kept → AreForEach P (symbols_in share symbols) kept
@@ -74,7 +74,7 @@ set-apart (z ∷ xs) (suc i) zero y apart = refl
 set-apart (z ∷ xs) (suc i) (suc j) y apart = set-apart xs i j y (λ same. apart (ap (λ (k : ℕ). suc k) same))
 
 -- two indices of one place are one
-one-place : (share : DayShare) (i j : ℕ) → is_in_share share i ≡ true → is_in_share share j ≡ true → share_place share i ≡ share_place share j → i ≡ j
+one-place : (share : DayShare) (i j : ℕ) → is_in_share share i ≡ true → is_in_share share j ≡ true → index_in_share share i ≡ index_in_share share j → i ≡ j
 one-place share i j is-i is-j same =
     let n : ℕ = i + j + 1 in
     same_Some i j (sym (place-at share n i is-i (omega arith)) ∙ ap (slice_get (indices_in share n)) same ∙ place-at share n j is-j (omega arith))
@@ -115,23 +115,23 @@ taken-outside P Q share symbols kept index own once got outside stay are = recor
 -- a record of a symbol of the share, of which something else is kept then
 pub taken-inside : {X : Type 0} (P Q : List ℕ → X → Type 0) (share : DayShare) (symbols : List (List ℕ)) (kept : List X) (index : ℕ) (own : List ℕ) (old new : X)
     → AllPairs (λ (a b : List ℕ). a ≢ b) symbols → slice_get symbols index ≡ Some own → is_in_share share index ≡ true → OthersStay own P Q
-    → slice_get kept (share_place share index) ≡ Some old → (P own old → Q own new)
-    → AreAtPlaces P share symbols kept → AreAtPlaces Q share symbols (set kept (share_place share index) new)
+    → slice_get kept (index_in_share share index) ≡ Some old → (P own old → Q own new)
+    → AreAtPlaces P share symbols kept → AreAtPlaces Q share symbols (set kept (index_in_share share index) new)
 taken-inside {X} P Q share symbols kept index own old new once got inside stay was takes are = record {
-  count = length-set kept (share_place share index) new ∙ are.count;
+  count = length-set kept (index_in_share share index) new ∙ are.count;
   each = each;
 }
   where
-    each : (i : ℕ) (symbol : List ℕ) (one : X) → is_in_share share i ≡ true → slice_get symbols i ≡ Some symbol → slice_get (set kept (share_place share index) new) (share_place share i) ≡ Some one → Q symbol one
+    each : (i : ℕ) (symbol : List ℕ) (one : X) → is_in_share share i ≡ true → slice_get symbols i ≡ Some symbol → slice_get (set kept (index_in_share share index) new) (index_in_share share i) ≡ Some one → Q symbol one
     each i symbol one is there stands = elim (cases_eq index i) as (λ _. Q symbol one) [
       | inl same ↦
-          let at : share_place share i ≡ share_place share index = ap (share_place share) (sym same) in
-          let one-is : new ≡ one = set-got kept (share_place share index) new one (ap (slice_get (set kept (share_place share index) new)) (sym at) ∙ stands) in
+          let at : index_in_share share i ≡ index_in_share share index = ap (index_in_share share) (sym same) in
+          let one-is : new ≡ one = set-got kept (index_in_share share index) new one (ap (slice_get (set kept (index_in_share share index) new)) (sym at) ∙ stands) in
           let own-is : own ≡ symbol = same_Some own symbol (sym got ∙ ap (slice_get symbols) same ∙ there) in
           subst (λ (s : List ℕ). Q s one) own-is (subst (λ (x : X). Q own x) one-is (takes (are.each index own old inside got was)))
       | inr apart ↦
-          let places : share_place share index ≡ share_place share i → ⊥ = λ same. apart (one-place share index i inside is same) in
-          let stood : slice_get kept (share_place share i) ≡ Some one = sym (set-apart kept (share_place share index) (share_place share i) new places) ∙ stands in
+          let places : index_in_share share index ≡ index_in_share share i → ⊥ = λ same. apart (one-place share index i inside is same) in
+          let stood : slice_get kept (index_in_share share i) ≡ Some one = sym (set-apart kept (index_in_share share index) (index_in_share share i) new places) ∙ stands in
           stay symbol one (other-index symbols once index i own symbol got there apart) (are.each i symbol one is there stood)
     ]
 
@@ -141,7 +141,7 @@ taken-inside {X} P Q share symbols kept index own old new once got inside stay w
 pub met-outside : {X : Type 0} (P : List ℕ → X → Type 0) (share : DayShare) (symbols : List (List ℕ)) (kept : List X) (more : List ℕ)
     → is_in_share share (length symbols) ≡ false → AreAtPlaces P share symbols kept → AreAtPlaces P share (symbols ++ more ∷ []) kept
 met-outside {X} P share symbols kept more outside are = record {
-  count = are.count ∙ sym (place-same share (length symbols) outside) ∙ ap (share_place share) next;
+  count = are.count ∙ sym (place-same share (length symbols) outside) ∙ ap (index_in_share share) next;
   each = λ i symbol one is there stands.
       let within : i < length (symbols ++ more ∷ []) = slice_get_within (symbols ++ more ∷ []) i symbol there in
       let apart : i ≡ length symbols → ⊥ = λ same. let in_it : is_in_share share (length symbols) ≡ true = ap (is_in_share share) (sym same) ∙ is in cc in
@@ -159,23 +159,23 @@ met-outside {X} P share symbols kept more outside are = record {
 pub met-inside : {X : Type 0} (P : List ℕ → X → Type 0) (share : DayShare) (symbols : List (List ℕ)) (kept : List X) (more : List ℕ) (fresh : X)
     → is_in_share share (length symbols) ≡ true → P more fresh → AreAtPlaces P share symbols kept → AreAtPlaces P share (symbols ++ more ∷ []) (kept ++ fresh ∷ [])
 met-inside {X} P share symbols kept more fresh inside has are = record {
-  count = length-append kept (fresh ∷ []) ∙ ap (λ (k : ℕ). k + 1) are.count ∙ sym (place-more share (length symbols) inside) ∙ ap (share_place share) next;
+  count = length-append kept (fresh ∷ []) ∙ ap (λ (k : ℕ). k + 1) are.count ∙ sym (place-more share (length symbols) inside) ∙ ap (index_in_share share) next;
   each = each;
 }
   where
     next : suc (length symbols) ≡ length (symbols ++ more ∷ [])
     next = omega (arith, length-append symbols (more ∷ []))
 
-    each : (i : ℕ) (symbol : List ℕ) (one : X) → is_in_share share i ≡ true → slice_get (symbols ++ more ∷ []) i ≡ Some symbol → slice_get (kept ++ fresh ∷ []) (share_place share i) ≡ Some one → P symbol one
+    each : (i : ℕ) (symbol : List ℕ) (one : X) → is_in_share share i ≡ true → slice_get (symbols ++ more ∷ []) i ≡ Some symbol → slice_get (kept ++ fresh ∷ []) (index_in_share share i) ≡ Some one → P symbol one
     each i symbol one is there stands = elim (cases_lt i (length symbols)) as (λ _. P symbol one) [
       | inl less ↦
-          let before : share_place share i < length kept = subst (λ (k : ℕ). share_place share i < k) (sym are.count) (slice_get_within (indices_in share (length symbols)) (share_place share i) i (place-at share (length symbols) i is less)) in
-          are.each i symbol one is (sym (got-left symbols (more ∷ []) i less) ∙ there) (sym (got-left kept (fresh ∷ []) (share_place share i) before) ∙ stands)
+          let before : index_in_share share i < length kept = subst (λ (k : ℕ). index_in_share share i < k) (sym are.count) (slice_get_within (indices_in share (length symbols)) (index_in_share share i) i (place-at share (length symbols) i is less)) in
+          are.each i symbol one is (sym (got-left symbols (more ∷ []) i less) ∙ there) (sym (got-left kept (fresh ∷ []) (index_in_share share i) before) ∙ stands)
       | inr le ↦
           let within : i < length (symbols ++ more ∷ []) = slice_get_within (symbols ++ more ∷ []) i symbol there in
           let last : length symbols ≡ i = omega (arith, le, within, length-append symbols (more ∷ [])) in
           let symbol-is : more ≡ symbol = same_Some more symbol (sym (got-last symbols more) ∙ ap (slice_get (symbols ++ more ∷ [])) last ∙ there) in
-          let at : length kept ≡ share_place share i = are.count ∙ ap (share_place share) last in
+          let at : length kept ≡ index_in_share share i = are.count ∙ ap (index_in_share share) last in
           let one-is : fresh ≡ one = same_Some fresh one (sym (got-last kept fresh) ∙ ap (slice_get (kept ++ fresh ∷ [])) at ∙ stands) in
           subst (λ (s : List ℕ). P s one) symbol-is (subst (λ (x : X). P more x) one-is has)
     ]

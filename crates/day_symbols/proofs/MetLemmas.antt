@@ -9,7 +9,7 @@ use Rattle.std.proofs.lemmas.List.Quantifiers.{position-Some}
 use Rattle.std.proofs.lemmas.Option.{slice_get_within, slice_get-get_or, get_or_from_slice_get}
 use Rattle.audit_base.specs.Names.{is_name}
 use Rattle.audit_base.specs.Orders.{same_name}
-use Rattle.day_symbols.specs.Shares.{DayShare, indices_in, is_in_share, is_looked_at, share_place, symbols_in}
+use Rattle.day_symbols.specs.Shares.{DayShare, indices_in, is_in_share, is_looked_at, index_in_share, symbols_in}
 use Rattle.day_symbols.specs.Kept.{AreForEach, HasRoomAt}
 use Rattle.day_symbols.specs.Symbols.{distinct_names}
 use Rattle.day_symbols.proofs.KeptLemmas.{AreAtPlaces, OthersStay, at-places, for-each, met-inside, met-outside, one-index, taken-inside, taken-outside}
@@ -77,7 +77,7 @@ outside-step {X} P Q share names own kept index stay got outside are =
 -- its symbol is of the share, and has its place
 pub room-met : {X : Type 0} (P : List ℕ → X → Type 0) (Fresh : X → Type 0) (share : DayShare) (names : List (List ℕ)) (own : List ℕ) (old room : List X) (index : ℕ)
     → (All (λ (name : List ℕ). same_name name own ≡ false) names → (one : X) → Fresh one → P own one)
-    → slice_get (distinct_names (names ++ own ∷ [])) index ≡ Some own → is_in_share share index ≡ true → HasRoomAt Fresh (share_place share index) old room
+    → slice_get (distinct_names (names ++ own ∷ [])) index ≡ Some own → is_in_share share index ≡ true → HasRoomAt Fresh (index_in_share share index) old room
     → AreForEach P (symbols_in share (distinct_names names)) old → AreAtPlaces P share (distinct_names (names ++ own ∷ [])) room
 room-met {X} P Fresh share names own old room index starts got inside makes are =
     met (list_any (same_name own) (distinct_names names)) refl
@@ -88,31 +88,31 @@ room-met {X} P Fresh share names own old room index starts got inside makes are 
     met : (b : Bool) → list_any (same_name own) (distinct_names names) ≡ b → AreAtPlaces P share (distinct_names (names ++ own ∷ [])) room
     met true is =
         let stands : slice_get (distinct_names names) index ≡ Some own = ap (λ (s : List (List ℕ)). slice_get s index) (sym (distinct-known names own is)) ∙ got in
-        let at : slice_get (indices_in share (length (distinct_names names))) (share_place share index) ≡ Some index = place-at share (length (distinct_names names)) index inside (slice_get_within (distinct_names names) index own stands) in
-        let within : share_place share index < share_place share (length (distinct_names names)) = slice_get_within (indices_in share (length (distinct_names names))) (share_place share index) index at in
+        let at : slice_get (indices_in share (length (distinct_names names))) (index_in_share share index) ≡ Some index = place-at share (length (distinct_names names)) index inside (slice_get_within (distinct_names names) index own stands) in
+        let within : index_in_share share index < index_in_share share (length (distinct_names names)) = slice_get_within (indices_in share (length (distinct_names names))) (index_in_share share index) index at in
         let same : room ≡ old = makes.as_it_was (λ last. omega (arith, within, last, places.count)) in
         subst (λ (s : List (List ℕ)). AreAtPlaces P share s room) (sym (distinct-known names own is)) (subst (λ (xs : List X). AreAtPlaces P share (distinct_names names) xs) (sym same) places)
     met false is =
         let last : index ≡ length (distinct_names names) = new-at names own index is got in
-        let more = makes.one_more (ap (share_place share) last ∙ sym places.count) in
+        let more = makes.one_more (ap (index_in_share share) last ∙ sym places.count) in
         subst (λ (s : List (List ℕ)). AreAtPlaces P share s room) (sym (distinct-new names own is))
         (subst (λ (xs : List X). AreAtPlaces P share (distinct_names names ++ own ∷ []) xs) (sym more.last)
         (met-inside P share (distinct_names names) old own more.one (ap (is_in_share share) (sym last) ∙ inside) (starts (absent-all names own is) more.one more.fresh) places))
 
 -- there is one at its place
 pub room-within : {X : Type 0} (P : List ℕ → X → Type 0) (share : DayShare) (symbols : List (List ℕ)) (own : List ℕ) (room : List X) (index : ℕ)
-    → slice_get symbols index ≡ Some own → is_in_share share index ≡ true → AreAtPlaces P share symbols room → share_place share index < length room
+    → slice_get symbols index ≡ Some own → is_in_share share index ≡ true → AreAtPlaces P share symbols room → index_in_share share index < length room
 room-within P share symbols own room index got inside places =
-    let at : slice_get (indices_in share (length symbols)) (share_place share index) ≡ Some index = place-at share (length symbols) index inside (slice_get_within symbols index own got) in
-    let within : share_place share index < share_place share (length symbols) = slice_get_within (indices_in share (length symbols)) (share_place share index) index at in
+    let at : slice_get (indices_in share (length symbols)) (index_in_share share index) ≡ Some index = place-at share (length symbols) index inside (slice_get_within symbols index own got) in
+    let within : index_in_share share index < index_in_share share (length symbols) = slice_get_within (indices_in share (length symbols)) (index_in_share share index) index at in
     omega (arith, within, places.count)
 
 -- and it has taken the record
 pub inside-step : {X : Type 0} (P Q : List ℕ → X → Type 0) (share : DayShare) (names : List (List ℕ)) (own : List ℕ) (room : List X) (index : ℕ) (was now : X)
-    → OthersStay own P Q → slice_get (distinct_names (names ++ own ∷ [])) index ≡ Some own → is_in_share share index ≡ true → slice_get room (share_place share index) ≡ Some was → (P own was → Q own now)
-    → AreAtPlaces P share (distinct_names (names ++ own ∷ [])) room → AreForEach Q (symbols_in share (distinct_names (names ++ own ∷ []))) (set room (share_place share index) now)
+    → OthersStay own P Q → slice_get (distinct_names (names ++ own ∷ [])) index ≡ Some own → is_in_share share index ≡ true → slice_get room (index_in_share share index) ≡ Some was → (P own was → Q own now)
+    → AreAtPlaces P share (distinct_names (names ++ own ∷ [])) room → AreForEach Q (symbols_in share (distinct_names (names ++ own ∷ []))) (set room (index_in_share share index) now)
 inside-step P Q share names own room index was now stay got inside there takes places =
-    for-each Q share (distinct_names (names ++ own ∷ [])) (set room (share_place share index) now)
+    for-each Q share (distinct_names (names ++ own ∷ [])) (set room (index_in_share share index) now)
     (taken-inside P Q share (distinct_names (names ++ own ∷ [])) room index own was now (distinct-once (names ++ own ∷ [])) got inside stay there takes places)
 
 -- Records that are not looked at.

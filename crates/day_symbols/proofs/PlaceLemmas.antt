@@ -7,7 +7,7 @@ use Rattle.std.proofs.lemmas.List.Elements.{filter-append}
 use Rattle.std.proofs.lemmas.Nat.{div-add-mod', mod-mul-add, mul-le}
 use Rattle.std.proofs.lemmas.Option.{none-some, same_Some, slice_get_within}
 use Rattle.std.proofs.Math.Nat.{add-mul, zero-mul}
-use Rattle.day_symbols.specs.Shares.{DayShare, IsDayShare, indices_in, is_in_share, share_place}
+use Rattle.day_symbols.specs.Shares.{DayShare, IsDayShare, indices_in, is_in_share, index_in_share}
 
 -- one number more
 range-more : (a n : ℕ) → range_with_len a (suc n) ≡ range_with_len a n ++ (a + n) ∷ []
@@ -27,10 +27,10 @@ pub indices-more : (share : DayShare) (n : ℕ) → indices_in share (suc n) ≡
 indices-more share n = passing-more (is_in_share share) n
 
 -- the next place, behind an index of the share and behind another one
-pub place-more : (share : DayShare) (n : ℕ) → is_in_share share n ≡ true → share_place share (suc n) ≡ share_place share n + 1
+pub place-more : (share : DayShare) (n : ℕ) → is_in_share share n ≡ true → index_in_share share (suc n) ≡ index_in_share share n + 1
 place-more share n is = ap length (indices-more share n ∙ ap (λ (b : Bool). indices_in share n ++ cond b (n ∷ []) []) is) ∙ length-append (indices_in share n) (n ∷ [])
 
-pub place-same : (share : DayShare) (n : ℕ) → is_in_share share n ≡ false → share_place share (suc n) ≡ share_place share n
+pub place-same : (share : DayShare) (n : ℕ) → is_in_share share n ≡ false → index_in_share share (suc n) ≡ index_in_share share n
 place-same share n other =
     ap length (indices-more share n ∙ ap (λ (b : Bool). indices_in share n ++ cond b (n ∷ []) []) other ∙ append-nil (indices_in share n))
 
@@ -48,19 +48,19 @@ got-last (y ∷ ys) x = got-last ys x
 -- Indices and their places.
 
 -- an index of the share stands at its place
-pub place-at : (share : DayShare) (n i : ℕ) → is_in_share share i ≡ true → i < n → slice_get (indices_in share n) (share_place share i) ≡ Some i
+pub place-at : (share : DayShare) (n i : ℕ) → is_in_share share i ≡ true → i < n → slice_get (indices_in share n) (index_in_share share i) ≡ Some i
 place-at share zero i is lt = absurd (omega (arith, lt))
-place-at share (suc n) i is lt = elim (cases_lt i n) as (λ _. slice_get (indices_in share (suc n)) (share_place share i) ≡ Some i) [
+place-at share (suc n) i is lt = elim (cases_lt i n) as (λ _. slice_get (indices_in share (suc n)) (index_in_share share i) ≡ Some i) [
   | inl less ↦
-      let earlier : slice_get (indices_in share n) (share_place share i) ≡ Some i = place-at share n i is less in
-      ap (λ (xs : List ℕ). slice_get xs (share_place share i)) (indices-more share n)
-      ∙ got-left (indices_in share n) (cond (is_in_share share n) (n ∷ []) []) (share_place share i) (slice_get_within (indices_in share n) (share_place share i) i earlier)
+      let earlier : slice_get (indices_in share n) (index_in_share share i) ≡ Some i = place-at share n i is less in
+      ap (λ (xs : List ℕ). slice_get xs (index_in_share share i)) (indices-more share n)
+      ∙ got-left (indices_in share n) (cond (is_in_share share n) (n ∷ []) []) (index_in_share share i) (slice_get_within (indices_in share n) (index_in_share share i) i earlier)
       ∙ earlier
   | inr more ↦
       let same : i ≡ n = omega (arith, lt, more) in
       let here : is_in_share share n ≡ true = ap (is_in_share share) (sym same) ∙ is in
-      ap (λ (xs : List ℕ). slice_get xs (share_place share i)) (indices-more share n ∙ ap (λ (b : Bool). indices_in share n ++ cond b (n ∷ []) []) here)
-      ∙ ap (λ (k : ℕ). slice_get (indices_in share n ++ n ∷ []) (share_place share k)) same
+      ap (λ (xs : List ℕ). slice_get xs (index_in_share share i)) (indices-more share n ∙ ap (λ (b : Bool). indices_in share n ++ cond b (n ∷ []) []) here)
+      ∙ ap (λ (k : ℕ). slice_get (indices_in share n ++ n ∷ []) (index_in_share share k)) same
       ∙ got-last (indices_in share n) n
       ∙ ap (λ (k : ℕ). Some k) (sym same)
 ]
@@ -69,7 +69,7 @@ place-at share (suc n) i is lt = elim (cases_lt i n) as (λ _. slice_get (indice
 pub record IsIndexAt (share : DayShare) (n j i : ℕ) : Type 0 where
   pub shared : is_in_share share i ≡ true
   pub inside : i < n
-  pub place : share_place share i ≡ j
+  pub place : index_in_share share i ≡ j
 
 wider : (share : DayShare) (n j i : ℕ) → IsIndexAt share n j i → IsIndexAt share (suc n) j i
 wider share n j i at = record { shared = at.shared; inside = omega (arith, at.inside); place = at.place }
@@ -87,7 +87,7 @@ index-behind share n j i true is before there = elim (cases_lt j (length (indice
       record {
         shared = ap (is_in_share share) (sym same) ∙ is;
         inside = omega (arith, same);
-        place = ap (share_place share) (sym same) ∙ last;
+        place = ap (index_in_share share) (sym same) ∙ last;
       }
 ]
 
@@ -156,10 +156,10 @@ between-all w r (suc n) less =
     (between-step w r n less (n % w == r) refl (between-all w r n less))
 
 -- the place of an index of the share is the quotient by the number of shares
-pub place-is : (share : DayShare) (i : ℕ) → IsDayShare share → is_in_share share i ≡ true → share_place share i ≡ i / share.count
+pub place-is : (share : DayShare) (i : ℕ) → IsDayShare share → is_in_share share i ≡ true → index_in_share share i ≡ i / share.count
 place-is share i shares is =
     let less : share.number - 1 < share.count = omega (arith, shares.first, shares.among) in
     let rest : i % share.count ≡ share.number - 1 = eqb-true (i % share.count) (share.number - 1) is in
-    same-quotient share.count (share.number - 1) i (share_place share i) (i / share.count) less
+    same-quotient share.count (share.number - 1) i (index_in_share share i) (i / share.count) less
     (ap (λ (k : ℕ). i / share.count * share.count + k) (sym rest) ∙ div-add-mod' i share.count)
     (between-all share.count (share.number - 1) i less)

@@ -34,13 +34,14 @@ whole_day = record { number = 1; count = 1 }
 abbrev pub is_in_share : DayShare → ℕ → Bool
 is_in_share share index = index % share.count == share.number - 1
 
--- the indices of a share among the first so many, in order
+-- the indices of a share among this many first ones, in order
 abbrev pub indices_in : DayShare → ℕ → List ℕ
 indices_in share count = filter (is_in_share share) (range_with_len 0 count)
 
--- how many symbols of the share stand before the one at an index
-abbrev pub share_place : DayShare → ℕ → ℕ
-share_place share index = length (indices_in share index)
+-- the index in the share of a symbol, by its index in the day: how many symbols of the share are
+-- before it
+abbrev pub index_in_share : DayShare → ℕ → ℕ
+index_in_share share index = length (indices_in share index)
 
 -- the symbols of a share, in their order
 abbrev pub symbols_in : DayShare → List (List ℕ) → List (List ℕ)

@@ -21,14 +21,15 @@ impl Model for Share {
 
     ghost view = { λ share. record { number = share.number; count = share.count } };
 
-    ghost invariant = { λ share. IsDayShare (record { number = share.number; count = share.count }) };
+    ghost invariant = { λ share.
+        IsDayShare (record { number = share.number; count = share.count }) };
 
     ghost inverse = { λ share. record { number = share.number; count = share.count } };
 }
 
 impl Share {
     ghost use Rattle.std.specs.Prelude.{◌≡◌, ◌<◌, true, length, option_map, slice_get};
-    ghost use Rattle.day_symbols.specs.Shares.{is_in_share, is_looked_at, share_place, day_share_of, symbols_in, whole_day};
+    ghost use Rattle.day_symbols.specs.Shares.{is_in_share, is_looked_at, index_in_share, day_share_of, symbols_in, whole_day};
 
     /// The share number/count, where there is one.
     pub fn of(number: u32, count: u32) -> Option<Share>
@@ -57,15 +58,16 @@ impl Share {
     {
         index % self.count as usize == (self.number - 1) as usize
     }
-    /// How many symbols of the share stand before the one at this index, which is in the share.
-    pub fn place(self, index: usize) -> usize
+    /// The index in the share of the symbol at this index of the day, which is in the share: how
+    /// many symbols of the share are before it.
+    pub fn index_in_share(self, index: usize) -> usize
         requires { is_in_share self index ≡ true }
-        ensures { result ≡ share_place self index }
+        ensures { result ≡ index_in_share self index }
     {
         index / self.count as usize
     }
-    /// Whether the records of the symbol are looked at: all but those of a symbol that was met before and is
-    /// outside the share. Of the whole day no symbol is looked up.
+    /// Whether the records of the symbol are looked at: all but those of a symbol that was met
+    /// before and is outside the share. Of the whole day no symbol is looked up.
     pub fn looks_at(self, symbols: &Symbols, symbol: &[u8]) -> bool
         ensures { result ≡ is_looked_at self symbols.now symbol.now }
     {
@@ -80,13 +82,14 @@ impl Share {
             None => true,
         }
     }
-    /// The symbol at a place among those of the share.
-    pub fn symbol_at(self, symbols: &Symbols, place: usize) -> Option<&Name>
-        requires { place < length (symbols_in self symbols.now) }
-        ensures { option_map (λ name. name.now) result ≡ slice_get (symbols_in self symbols.now) place }
+    /// The symbol at an index among those of the share.
+    pub fn symbol_at(self, symbols: &Symbols, share_index: usize) -> Option<&Name>
+        requires { share_index < length (symbols_in self symbols.now) }
+        ensures { option_map (λ name. name.now) result
+            ≡ slice_get (symbols_in self symbols.now) share_index }
     {
-        // This call tells the proof that the index is below 2^64.
+        // By this call the proof knows that the index is below 2^64.
         let _ = symbols.len();
-        symbols.at(place * self.count as usize + (self.number - 1) as usize)
+        symbols.at(share_index * self.count as usize + (self.number - 1) as usize)
     }
 }

@@ -18,20 +18,20 @@ use Rattle.matching_core.proofs.SymbolDealsLemmas.{other-trade}
 use Rattle.record_verdict.specs.declared.scopes.Admission.{Admission}
 use Rattle.record_verdict.specs.BeforeRule.{finding_or_sound, IsBeforeRule}
 use Rattle.record_verdict.specs.Scopes.{unadmitted_order_finding}
-use Rattle.day_trades.specs.declared.symbol_trades.OpenSymbol.{OpenSymbol}
+use Rattle.day_trades.specs.declared.symbol_trades.SoundSymbol.{SoundSymbol}
 use Rattle.day_trades.specs.declared.symbol_trades.SymbolTrades.{SymbolTrades}
 use Rattle.day_trades.specs.declared.symbol_trades.SymbolTrades.TheVariants as kept
-use Rattle.day_trades.specs.SymbolTrades.{IsOpenSymbol, IsSymbolTrades, scope_by}
+use Rattle.day_trades.specs.SymbolTrades.{IsSoundSymbol, IsSymbolTrades, scope_by}
 
 -- a trade of another symbol changes nothing
 pub other-known : (admission : Admission) (entries : List OrderRecord) (trades : List TradeRecord) (symbol : List ℕ) (known : SymbolTrades) (x : TradeRecord) → same_name x.symbol symbol ≡ false
     → IsSymbolTrades admission entries trades symbol known → IsSymbolTrades admission entries (trades ++ x ∷ []) symbol known
 other-known admission entries trades symbol (kept.Found finding) x other is = is
-other-known admission entries trades symbol (kept.Open open_symbol) x other is = record {
+other-known admission entries trades symbol (kept.Sound sound_symbol) x other is = record {
   well_formed = is.well_formed;
   orders_are = is.orders_are;
   admitted = is.admitted;
-  deals_are = other-trade open_symbol.history symbol open_symbol.deals trades x other is.deals_are;
+  deals_are = other-trade sound_symbol.history symbol sound_symbol.deals trades x other is.deals_are;
 }
 
 -- nor do trades of other symbols
@@ -45,12 +45,12 @@ others-known admission entries before (x ∷ xs) symbol known others is =
     subst (λ (ts : List TradeRecord). IsSymbolTrades admission entries ts symbol known) (append_assoc before (x ∷ []) xs)
     (others-known admission entries (before ++ x ∷ []) xs symbol known (All-tail (λ (name : List ℕ). same_name name symbol ≡ false) x.symbol (map (λ (trade : TradeRecord). trade.symbol) xs) others) more)
 
--- what open trades come to
-pub comes-open : (admission : Admission) (entries : List OrderRecord) (trades : List TradeRecord) (symbol : List ℕ) (open_symbol : OpenSymbol) (resolved : ResolvedTrades)
-    → IsOpenSymbol admission entries trades symbol open_symbol → resolved.history ≡ open_symbol.history → resolved.count ≡ length trades
-    → trades_finding open_symbol.history symbol trades ≡ resolved.finding → (resolved.finding ≡ None → resolved.deals.items ≡ deals_of_symbol open_symbol.history symbol trades)
+-- what the trades of a symbol give whose orders have no finding
+pub gives-sound : (admission : Admission) (entries : List OrderRecord) (trades : List TradeRecord) (symbol : List ℕ) (sound_symbol : SoundSymbol) (resolved : ResolvedTrades)
+    → IsSoundSymbol admission entries trades symbol sound_symbol → resolved.history ≡ sound_symbol.history → resolved.count ≡ length trades
+    → trades_finding sound_symbol.history symbol trades ≡ resolved.finding → (resolved.finding ≡ None → resolved.deals.items ≡ deals_of_symbol sound_symbol.history symbol trades)
     → IsBeforeRule (scope_by admission symbol) entries (Ok trades) (finding_or_sound resolved resolved.finding)
-comes-open admission entries trades symbol open_symbol resolved is history counted found deals = go resolved.finding refl
+gives-sound admission entries trades symbol sound_symbol resolved is history counted found deals = go resolved.finding refl
   where
     admits : unadmitted_order_finding admission (order_list symbol entries) ≡ None
     admits = ap (unadmitted_order_finding admission) (sym is.orders_are) ∙ is.admitted

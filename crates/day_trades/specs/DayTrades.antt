@@ -18,39 +18,36 @@ use Rattle.day_trades.specs.SymbolTrades.{IsSymbolTrades}
 -- of each of these symbols this is known after these order records and these trades
 abbrev pub AreSymbolTrades : Admission → List OrderRecord → List TradeRecord → List (List ℕ)
     → List SymbolTrades → Type 0
-AreSymbolTrades admission entries trades symbols parts =
-    AreForEach (IsSymbolTrades admission entries trades) symbols parts
+AreSymbolTrades admission entries trades symbols symbols_trades =
+    AreForEach (IsSymbolTrades admission entries trades) symbols symbols_trades
 
 -- after these order records the day has been handed exactly these records of the trade log: it has
--- the symbols of
--- both, and of each symbol of the share what is known of it
-pub record IsDayBehind {M : Type 0} (share : DayShare) (admission : Admission)
-    (entries : List OrderRecord)
-    (day : DayTrades M) (trades : List TradeRecord) : Type 0 where
+-- the symbols of both logs, and what is known of each symbol of the share
+pub record IsDayAfterOrders {M : Type 0} (share : DayShare) (admission : Admission)
+    (entries : List OrderRecord) (day : DayTrades M) (trades : List TradeRecord) : Type 0 where
   pub shared : day.share ≡ share
   pub admits : day.admission ≡ admission
   pub count : day.count ≡ length trades
   pub symbols_are : day.symbols ≡ symbols_of_day entries trades
-  pub parts_are : AreSymbolTrades admission entries trades
-      (symbols_in share (symbols_of_day entries trades)) day.parts.items
+  pub symbols_trades_are : AreSymbolTrades admission entries trades
+      (symbols_in share (symbols_of_day entries trades)) day.symbols_trades.items
 
 -- the day has been handed exactly these records of the trade log, after whatever order records it
--- may have, and it
--- may have some
+-- may have; and there are some that it may have
 pub record IsDayTrades {M : Type 0} (share : DayShare) (admission : Admission)
-    (may_have : List OrderRecord → Type 0)
-    (day : DayTrades M) (trades : List TradeRecord) : Type 0 where
+    (may_have : List OrderRecord → Type 0) (day : DayTrades M)
+    (trades : List TradeRecord) : Type 0 where
   pub entries : List OrderRecord
   pub has : may_have entries
-  pub behind : (others : List OrderRecord) → may_have others
-      → IsDayBehind share admission others day trades
+  pub after_each : (others : List OrderRecord) → may_have others
+      → IsDayAfterOrders share admission others day trades
 
 -- the day has these records: these are its symbols, and this is known of each of the share
 pub record HasTradesOf (share : DayShare) (admission : Admission) (entries : List OrderRecord)
     (ended : EndedTrades) (trades : List TradeRecord) : Type 0 where
   pub symbols_are : ended.symbols ≡ symbols_of_day entries trades
-  pub parts_are : AreSymbolTrades admission entries trades
-      (symbols_in share (symbols_of_day entries trades)) ended.parts.items
+  pub symbols_trades_are : AreSymbolTrades admission entries trades
+      (symbols_in share (symbols_of_day entries trades)) ended.symbols_trades.items
   pub count : ended.count ≡ length trades
 
 -- whatever trades the day has been handed, and whatever order records it may have, it ends with
@@ -64,9 +61,9 @@ EndsDay share admission may_have day ended =
 
 -- this is known of whatever symbol no order record has, before any trade
 abbrev pub IsUnseen : Admission → SymbolTrades → Type 0
-IsUnseen admission part = (symbol : List ℕ) (entries : List OrderRecord)
+IsUnseen admission symbol_trades = (symbol : List ℕ) (entries : List OrderRecord)
     → All (λ name. same_name name symbol ≡ false) (map symbol_of entries)
-    → IsSymbolTrades admission entries [] symbol part
+    → IsSymbolTrades admission entries [] symbol symbol_trades
 
 -- each history is one after fewer records than there are places
 abbrev pub AreFewRecords : List SymbolHistory → Type 0
@@ -74,14 +71,15 @@ AreFewRecords histories = All HasFewRecords histories
 
 -- there is one for each history, and it is what is known of its symbol before any trade
 pub record AreBegun (admission : Admission) (histories : List SymbolHistory)
-    (parts : List SymbolTrades) : Type 0 where
-  pub same_length : length parts ≡ length histories
-  pub each : (i : ℕ) (history : SymbolHistory) (part : SymbolTrades)
-      → slice_get histories i ≡ Some history → slice_get parts i ≡ Some part
-      → ForRecords history (λ symbol entries. IsSymbolTrades admission entries [] symbol part)
+    (symbols_trades : List SymbolTrades) : Type 0 where
+  pub same_length : length symbols_trades ≡ length histories
+  pub each : (i : ℕ) (history : SymbolHistory) (symbol_trades : SymbolTrades)
+      → slice_get histories i ≡ Some history → slice_get symbols_trades i ≡ Some symbol_trades
+      → ForRecords history
+      (λ symbol entries. IsSymbolTrades admission entries [] symbol symbol_trades)
 
 -- only what is known of the symbols has changed
-pub record KeepsAllButParts {M : Type 0} (old new : DayTrades M) : Type 0 where
+pub record KeepsAllButSymbolTrades {M : Type 0} (old new : DayTrades M) : Type 0 where
   pub shared : new.share ≡ old.share
   pub admits : new.admission ≡ old.admission
   pub count : new.count ≡ old.count

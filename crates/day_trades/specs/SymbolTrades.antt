@@ -11,33 +11,31 @@ use Rattle.record_verdict.specs.declared.scopes.Admission.{Admission}
 use Rattle.record_verdict.specs.declared.scopes.Scope.{Scope}
 use Rattle.record_verdict.specs.BeforeRule.{IsBeforeRule}
 use Rattle.record_verdict.specs.Scopes.{finding_before_rule_in_scope, unadmitted_order_finding}
-use Rattle.day_trades.specs.declared.symbol_trades.OpenSymbol.{OpenSymbol}
+use Rattle.day_trades.specs.declared.symbol_trades.SoundSymbol.{SoundSymbol}
 use Rattle.day_trades.specs.declared.symbol_trades.SymbolTrades.{SymbolTrades}
 use Rattle.day_trades.specs.declared.symbol_trades.SymbolTrades.TheVariants as kept
 
--- what a reading of this symbol is about
+-- the symbol that is read, and the orders that its rule admits
 abbrev pub scope_by : Admission → List ℕ → Scope
 scope_by admission symbol = record { symbol = symbol; admission = admission }
 
 -- the orders of the symbol have no finding, and the deals between them are those of these trades
-pub record IsOpenSymbol (admission : Admission) (entries : List OrderRecord)
-    (trades : List TradeRecord)
-    (symbol : List ℕ) (open_symbol : OpenSymbol) : Type 0 where
+pub record IsSoundSymbol (admission : Admission) (entries : List OrderRecord)
+    (trades : List TradeRecord) (symbol : List ℕ) (sound_symbol : SoundSymbol) : Type 0 where
   pub well_formed : history_finding symbol entries ≡ None
-  pub orders_are : open_symbol.history ≡ order_list symbol entries
-  pub admitted : unadmitted_order_finding admission open_symbol.history ≡ None
-  pub deals_are : IsSymbolDeals open_symbol.history symbol open_symbol.deals trades
+  pub orders_are : sound_symbol.history ≡ order_list symbol entries
+  pub admitted : unadmitted_order_finding admission sound_symbol.history ≡ None
+  pub deals_are : IsSymbolDeals sound_symbol.history symbol sound_symbol.deals trades
 
 -- this is what is known of the symbol after these order records and these trades: the finding about
--- its orders
--- that is the first one whatever the trade log is, or else its orders and deals
+-- its orders that is the first one whatever the trade log is, or else its orders and deals
 abbrev pub IsSymbolTrades : Admission → List OrderRecord → List TradeRecord → List ℕ → SymbolTrades
     → Type 0
 IsSymbolTrades admission entries trades symbol (kept.Found finding) =
     (paired : Result (List TradeRecord) Finding)
     → finding_before_rule_in_scope (scope_by admission symbol) entries paired ≡ Some finding
-IsSymbolTrades admission entries trades symbol (kept.Open open_symbol) =
-    IsOpenSymbol admission entries trades symbol open_symbol
+IsSymbolTrades admission entries trades symbol (kept.Sound sound_symbol) =
+    IsSoundSymbol admission entries trades symbol sound_symbol
 
 -- a fact of whatever this is known of
 abbrev pub ForSymbol : SymbolTrades
@@ -52,7 +50,7 @@ TakesTradeOf old new place trade = ForSymbol old (λ admission entries trades sy
     same_name trade.symbol symbol ≡ true → place ≡ length trades + 1
     → IsSymbolTrades admission entries (trades ++ trade ∷ []) symbol new)
 
--- this is known of a symbol after so many trades, which are fewer than there are places
+-- this is known of a symbol after this many trades, which are fewer than there are places
 pub record HasFewOfSymbol (count : ℕ) (known : SymbolTrades) : Type 0 where
   pub admission : Admission
   pub entries : List OrderRecord
@@ -62,7 +60,7 @@ pub record HasFewOfSymbol (count : ℕ) (known : SymbolTrades) : Type 0 where
   pub counted : count ≡ length trades
   pub few : length trades < 2 ^ 32 - 1
 
--- the records of whatever symbol this is known of come to this before the rule is looked at
-abbrev pub ComesTo : ℕ → SymbolTrades → BeforeRule → Type 0
-ComesTo count known reached = ForSymbol known (λ admission entries trades symbol.
+-- the records of whatever symbol this is known of give this before the rule is looked at
+abbrev pub GivesBeforeRule : ℕ → SymbolTrades → BeforeRule → Type 0
+GivesBeforeRule count known reached = ForSymbol known (λ admission entries trades symbol.
     count ≡ length trades → IsBeforeRule (scope_by admission symbol) entries (Ok trades) reached)

@@ -9,7 +9,7 @@ ghost use Rattle.day_symbols.specs.Shares.{DayShare, whole_day};
 ghost use Rattle.instruction_history.specs.declared.symbol_history.SymbolHistory.{SymbolHistory as AHistory};
 ghost use Rattle.record_verdict.specs.declared.scopes.Admission.{Admission as AnAdmission};
 ghost use Rattle.record_verdict.specs.declared.scopes.Admission.TheVariants.{All as AdmitsAll};
-ghost use Rattle.day_trades.specs.DayTrades.{AreBegun, AreFewRecords, EndsDay, IsDayTrades, IsUnseen, KeepsAllButParts};
+ghost use Rattle.day_trades.specs.DayTrades.{AreBegun, AreFewRecords, EndsDay, IsDayTrades, IsUnseen, KeepsAllButSymbolTrades};
 
 use crate::symbol_trades::SymbolTrades;
 use audit_base::faults::NoMemory;
@@ -45,7 +45,7 @@ impl AuditedDay for Brand {
 }
 
 /// What is known of a day after its order log and some records of its trade log: its symbols, and
-/// of each that is in the share what its orders and trades come to so far.
+/// of each that is in the share what its orders and trades give so far.
 #[derive(Drop)]
 pub struct DayTrades<M> {
     alloc: Global,
@@ -56,7 +56,7 @@ pub struct DayTrades<M> {
     count: u32,
     symbols: Symbols,
     /// Those of the symbols of the share, in their order.
-    parts: Vec<SymbolTrades>,
+    symbols_trades: Vec<SymbolTrades>,
     of: PhantomData<M>,
 }
 
@@ -65,7 +65,7 @@ pub struct DayTrades<M> {
 pub struct EndedTrades {
     pub symbols: Symbols,
     /// Those of the symbols of the share, in their order.
-    pub parts: Vec<SymbolTrades>,
+    pub symbols_trades: Vec<SymbolTrades>,
     /// How many records the trade log has, of all symbols.
     pub count: u32,
 }
@@ -78,19 +78,20 @@ fn begin(
     histories: Vec<SymbolHistory>,
 ) -> Result<Vec<SymbolTrades>, NoMemory>
     requires { AreFewRecords histories.items }
-    ensures { IfOk result (λ parts. AreBegun admission histories.items parts.items) }
+    ensures { IfOk result
+        (λ symbols_trades. AreBegun admission histories.items symbols_trades.items) }
 {
-    let mut parts = Vec::with_capacity(alloc, histories.len())?;
+    let mut symbols_trades = Vec::with_capacity(alloc, histories.len())?;
     for history in histories {
-        parts.push(SymbolTrades::of(alloc, seed, admission, history))?;
+        symbols_trades.push(SymbolTrades::of(alloc, seed, admission, history))?;
     }
-    Ok(parts)
+    Ok(symbols_trades)
 }
 
 impl<M: AuditedDay> DayTrades<M> {
-    /// No trades, behind these orders of the share. Symbols, keys and ids are found by hashes of
+    /// No trades, after these orders of the share. Symbols, keys and ids are found by hashes of
     /// this seed.
-    pub fn after(
+    pub fn new(
         alloc: Global,
         seed: HashSeed,
         share: Share,
@@ -105,7 +106,7 @@ impl<M: AuditedDay> DayTrades<M> {
         ensures { IfOk result (λ day. IsDayTrades M.share M.admission M.may_have day []) }
     {
         let EndedOrders { symbols, histories } = orders;
-        let parts = begin(alloc, seed, admission, histories)?;
+        let symbols_trades = begin(alloc, seed, admission, histories)?;
         Ok(DayTrades {
             alloc,
             seed,
@@ -113,21 +114,21 @@ impl<M: AuditedDay> DayTrades<M> {
             admission,
             count: 0,
             symbols,
-            parts,
+            symbols_trades,
             of: PhantomData,
         })
     }
 
-    /// Something is known of a symbol at this place, where the list ends there: it has no orders.
-    fn make_room(&mut self, place: usize) -> Result<(), NoMemory>
-        ensures room { let room = HasRoomAt (IsUnseen self.old.admission) place in
-            OnOk result (room self.old.parts.items self.new.parts.items) }
-        ensures only { KeepsAllButParts self.old self.new }
+    /// What is known of a symbol without orders, at this index, where the list ends there.
+    fn make_room(&mut self, share_index: usize) -> Result<(), NoMemory>
+        ensures room { let room = HasRoomAt (IsUnseen self.old.admission) share_index in
+            OnOk result (room self.old.symbols_trades.items self.new.symbols_trades.items) }
+        ensures only { KeepsAllButSymbolTrades self.old self.new }
     {
-        if place == self.parts.len() {
+        if share_index == self.symbols_trades.len() {
             let history = SymbolHistory::new(self.alloc, self.seed);
-            let part = SymbolTrades::of(self.alloc, self.seed, self.admission, history);
-            self.parts.push(part)?;
+            let symbol_trades = SymbolTrades::of(self.alloc, self.seed, self.admission, history);
+            self.symbols_trades.push(symbol_trades)?;
         }
         Ok(())
     }
@@ -143,9 +144,9 @@ impl<M: AuditedDay> DayTrades<M> {
         if !self.share.has(index) {
             return Ok(());
         }
-        let place = self.share.place(index);
-        self.make_room(place)?;
-        self.parts[place].take(trade, self.count)
+        let share_index = self.share.index_in_share(index);
+        self.make_room(share_index)?;
+        self.symbols_trades[share_index].take(trade, self.count)
     }
 
     /// The symbols of the day and what is known of those in the share. Takes no memory.
@@ -154,13 +155,13 @@ impl<M: AuditedDay> DayTrades<M> {
     {
         let DayTrades {
             symbols,
-            parts,
+            symbols_trades,
             count,
             ..
         } = self;
         EndedTrades {
             symbols,
-            parts,
+            symbols_trades,
             count,
         }
     }

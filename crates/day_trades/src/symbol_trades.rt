@@ -4,7 +4,7 @@ ghost use Rattle.audit_base.specs.declared.records.OrderRecord.{OrderRecord};
 ghost use Rattle.audit_base.specs.declared.records.TradeRecord.{TradeRecord as ATrade};
 ghost use Rattle.instruction_history.specs.SymbolHistory.{ForRecords, HasFewRecords};
 ghost use Rattle.record_verdict.specs.BeforeRule.{IsJudgeable};
-ghost use Rattle.day_trades.specs.SymbolTrades.{ComesTo, HasFewOfSymbol, IsSymbolTrades, TakesTradeOf};
+ghost use Rattle.day_trades.specs.SymbolTrades.{GivesBeforeRule, HasFewOfSymbol, IsSymbolTrades, TakesTradeOf};
 
 use audit_base::faults::NoMemory;
 use audit_base::findings::Finding;
@@ -19,7 +19,7 @@ use std::alloc::Global;
 
 /// The orders of a symbol, and the deals between them so far.
 #[derive(Drop)]
-pub struct OpenSymbol {
+pub struct SoundSymbol {
     history: History,
     deals: SymbolDeals,
 }
@@ -29,8 +29,8 @@ pub struct OpenSymbol {
 pub enum SymbolTrades {
     /// A finding about its orders decides, whatever its trades are.
     Found(Finding),
-    /// Its orders have no finding, so its trades decide.
-    Open(OpenSymbol),
+    /// Its orders have no finding, so its trades decide what is found.
+    Sound(SoundSymbol),
 }
 
 impl SymbolTrades {
@@ -53,7 +53,7 @@ impl SymbolTrades {
                     Some(finding) => SymbolTrades::Found(finding),
                     None => {
                         let deals = SymbolDeals::new(alloc, seed);
-                        SymbolTrades::Open(OpenSymbol { history, deals })
+                        SymbolTrades::Sound(SoundSymbol { history, deals })
                     }
                 }
             }
@@ -67,21 +67,21 @@ impl SymbolTrades {
     {
         match self {
             SymbolTrades::Found(_) => Ok(()),
-            SymbolTrades::Open(open) => open.deals.take(&open.history, trade, place),
+            SymbolTrades::Sound(sound) => sound.deals.take(&sound.history, trade, place),
         }
     }
 
-    /// What the symbol comes to before its rule is looked at. `count` is how many trades the log
+    /// What the symbol gives before its rule is looked at. `count` is how many trades the log
     /// has, of all symbols. Takes no memory.
     pub fn end(self, count: u32) -> BeforeRule
         requires { HasFewOfSymbol count self }
-        ensures comes_to { ComesTo count self result }
+        ensures gives { GivesBeforeRule count self result }
         ensures judgeable { IsJudgeable result }
     {
         match self {
             SymbolTrades::Found(finding) => BeforeRule::Found(finding),
-            SymbolTrades::Open(open) => {
-                let OpenSymbol { history, deals } = open;
+            SymbolTrades::Sound(sound) => {
+                let SoundSymbol { history, deals } = sound;
                 BeforeRule::of(deals.end(history, count))
             }
         }

@@ -81,7 +81,7 @@ counts-more verdicts v = λ i. record {
   rejected = rejected-more verdicts v i;
 }
 
--- what comes behind others
+-- what comes after others
 behind-at : {X : Type 0} (before : List X) (x : X) (rest : List X) → slice_get (before ++ x ∷ rest) (length before) ≡ Some x
 behind-at [] x rest = refl
 behind-at (y ∷ ys) x rest = behind-at ys x rest
@@ -91,42 +91,42 @@ abbrev pub shared_symbols : DayShare → List OrderRecord → List TradeRecord �
 shared_symbols share entries trades = symbols_in share (symbols_of_day entries trades)
 
 -- where the next symbol stands
-pub record IsNext (share : DayShare) (ended : EndedTrades) (n : ℕ) (part : SymbolTrades) (symbol : List ℕ) : Type 0 where
-  pub part_there : slice_get ended.parts.items n ≡ Some part
+pub record IsNext (share : DayShare) (ended : EndedTrades) (n : ℕ) (symbol_trades : SymbolTrades) (symbol : List ℕ) : Type 0 where
+  pub symbol_trades_there : slice_get ended.symbols_trades.items n ≡ Some symbol_trades
   pub symbol_there : slice_get (symbols_in share ended.symbols) n ≡ Some symbol
 
-pub next-at : (share : DayShare) (ended : EndedTrades) (n : ℕ) (part : SymbolTrades) (symbol : List ℕ) (before rest : List SymbolTrades) → before ++ part ∷ rest ≡ ended.parts.items → n ≡ length before
-    → slice_get (symbols_in share ended.symbols) n ≡ Some symbol → IsNext share ended n part symbol
-next-at share ended n part symbol before rest parts at got = record {
-  part_there = ap (slice_get ended.parts.items) at ∙ ap (λ (xs : List SymbolTrades). slice_get xs (length before)) (sym parts) ∙ behind-at before part rest;
+pub next-at : (share : DayShare) (ended : EndedTrades) (n : ℕ) (symbol_trades : SymbolTrades) (symbol : List ℕ) (before rest : List SymbolTrades) → before ++ symbol_trades ∷ rest ≡ ended.symbols_trades.items → n ≡ length before
+    → slice_get (symbols_in share ended.symbols) n ≡ Some symbol → IsNext share ended n symbol_trades symbol
+next-at share ended n symbol_trades symbol before rest symbols_trades at got = record {
+  symbol_trades_there = ap (slice_get ended.symbols_trades.items) at ∙ ap (λ (xs : List SymbolTrades). slice_get xs (length before)) (sym symbols_trades) ∙ behind-at before symbol_trades rest;
   symbol_there = got;
 }
 
 -- what is known of it
-pub next-known : (rule : Rule) (share : DayShare) (ended : EndedTrades) (n : ℕ) (part : SymbolTrades) (symbol : List ℕ) → IsNext share ended n part symbol → (entries : List OrderRecord) (trades : List TradeRecord)
-    → HasTradesOf share (admission_of rule) entries ended trades → IsSymbolTrades (admission_of rule) entries trades symbol part
-next-known rule share ended n part symbol next entries trades has =
-    has.parts_are.each n symbol part (ap (λ (s : List (List ℕ)). slice_get (symbols_in share s) n) (sym has.symbols_are) ∙ next.symbol_there) next.part_there
+pub next-known : (rule : Rule) (share : DayShare) (ended : EndedTrades) (n : ℕ) (symbol_trades : SymbolTrades) (symbol : List ℕ) → IsNext share ended n symbol_trades symbol → (entries : List OrderRecord) (trades : List TradeRecord)
+    → HasTradesOf share (admission_of rule) entries ended trades → IsSymbolTrades (admission_of rule) entries trades symbol symbol_trades
+next-known rule share ended n symbol_trades symbol next entries trades has =
+    has.symbols_trades_are.each n symbol symbol_trades (ap (λ (s : List (List ℕ)). slice_get (symbols_in share s) n) (sym has.symbols_are) ∙ next.symbol_there) next.symbol_trades_there
 
-pub next-few : (rule : Rule) (share : DayShare) (ended : EndedTrades) (n : ℕ) (part : SymbolTrades) (symbol : List ℕ) → IsNext share ended n part symbol → HasFewTradesOf rule share ended → HasFewOfSymbol ended.count part
-next-few rule share ended n part symbol next few = record {
+pub next-few : (rule : Rule) (share : DayShare) (ended : EndedTrades) (n : ℕ) (symbol_trades : SymbolTrades) (symbol : List ℕ) → IsNext share ended n symbol_trades symbol → HasFewTradesOf rule share ended → HasFewOfSymbol ended.count symbol_trades
+next-few rule share ended n symbol_trades symbol next few = record {
   admission = admission_of rule;
   entries = few.entries;
   trades = few.trades;
   symbol = symbol;
-  is = next-known rule share ended n part symbol next few.entries few.trades few.has;
+  is = next-known rule share ended n symbol_trades symbol next few.entries few.trades few.has;
   counted = few.has.count;
   few = few.few;
 }
 
 -- one symbol more was judged
-pub judged-next : (rule : Rule) (table : Bool) (share : DayShare) (ended : EndedTrades) (n : ℕ) (part : SymbolTrades) (symbol : List ℕ) (old new : JudgedSymbols)
-    → IsNext share ended n part symbol → JudgesOne (question rule symbol table) ended.count part old new → IsJudgedUpTo rule table share ended n old → IsJudgedUpTo rule table share ended (n + 1) new
-judged-next rule table share ended n part symbol old new next one is = λ entries trades has.
+pub judged-next : (rule : Rule) (table : Bool) (share : DayShare) (ended : EndedTrades) (n : ℕ) (symbol_trades : SymbolTrades) (symbol : List ℕ) (old new : JudgedSymbols)
+    → IsNext share ended n symbol_trades symbol → JudgesOne (question rule symbol table) ended.count symbol_trades old new → IsJudgedUpTo rule table share ended n old → IsJudgedUpTo rule table share ended (n + 1) new
+judged-next rule table share ended n symbol_trades symbol old new next one is = λ entries trades has.
     let symbols : List (List ℕ) = shared_symbols share entries trades in
     let got : slice_get symbols n ≡ Some symbol = ap (λ (s : List (List ℕ)). slice_get (symbols_in share s) n) (sym has.symbols_are) ∙ next.symbol_there in
     let before = is entries trades has in
-    let judged : IsRecordVerdict (question rule symbol table) entries (Ok trades) one.one = one.is entries trades (next-known rule share ended n part symbol next entries trades has) has.count in
+    let judged : IsRecordVerdict (question rule symbol table) entries (Ok trades) one.one = one.is entries trades (next-known rule share ended n symbol_trades symbol next entries trades has) has.count in
     let more : take (n + 1) symbols ≡ take n symbols ++ symbol ∷ [] = take_more symbols n [] (slice_get_within symbols n symbol got) ∙ ap (λ (s : List ℕ). take n symbols ++ s ∷ []) (get_or_from_slice_get symbols n symbol [] got) in
     record {
       verdicts = before.verdicts ++ one.one ∷ [];
@@ -139,12 +139,12 @@ judged-next rule table share ended n part symbol old new next one is = λ entrie
     }
 
 -- there is room to count one symbol more
-pub room-for : (rule : Rule) (table : Bool) (share : DayShare) (ended : EndedTrades) (n : ℕ) (judged : JudgedSymbols) → n < length ended.parts.items → length ended.parts.items < 2 ^ 64 → HasFewTradesOf rule share ended → IsJudgedUpTo rule table share ended n judged
+pub room-for : (rule : Rule) (table : Bool) (share : DayShare) (ended : EndedTrades) (n : ℕ) (judged : JudgedSymbols) → n < length ended.symbols_trades.items → length ended.symbols_trades.items < 2 ^ 64 → HasFewTradesOf rule share ended → IsJudgedUpTo rule table share ended n judged
     → HasRoomForOne judged.counts
 room-for rule table share ended n judged lt few_parts few is =
     let before = is few.entries few.trades few.has in
     let symbols : List (List ℕ) = shared_symbols share few.entries few.trades in
-    let count : length (take n symbols) ≡ n = length-take-le n symbols (omega (arith, lt, few.has.parts_are.same_length)) in
+    let count : length (take n symbols) ≡ n = length-take-le n symbols (omega (arith, lt, few.has.symbols_trades_are.same_length)) in
     let symbols_are : judged.counts.symbols ≡ length before.verdicts = ap (λ (counts : DayCounts). counts.symbols) before.counts_are in
     let accepted_are : judged.counts.accepted ≡ count_by is_acceptance before.verdicts = ap (λ (counts : DayCounts). counts.accepted) before.counts_are in
     let rejected_are : judged.counts.rejected ≡ count_by (λ (w : Verdict). not (is_acceptance w)) before.verdicts = ap (λ (counts : DayCounts). counts.rejected) before.counts_are in
@@ -155,10 +155,10 @@ room-for rule table share ended n judged lt few_parts few is =
     }
 
 -- all symbols were judged
-pub judged-all : (rule : Rule) (table : Bool) (share : DayShare) (ended : EndedTrades) (n : ℕ) (before rest : List SymbolTrades) (judged : JudgedSymbols) → before ++ rest ≡ ended.parts.items → length rest ≡ 0 → n ≡ length before
+pub judged-all : (rule : Rule) (table : Bool) (share : DayShare) (ended : EndedTrades) (n : ℕ) (before rest : List SymbolTrades) (judged : JudgedSymbols) → before ++ rest ≡ ended.symbols_trades.items → length rest ≡ 0 → n ≡ length before
     → IsJudgedUpTo rule table share ended n judged → JudgesShare rule table share ended judged
-judged-all rule table share ended n before rest judged parts none at is = λ entries trades has.
+judged-all rule table share ended n before rest judged symbols_trades none at is = λ entries trades has.
     let symbols : List (List ℕ) = shared_symbols share entries trades in
-    let size : length before + length rest ≡ length ended.parts.items = sym (length-append before rest) ∙ ap length parts in
-    let whole : take n symbols ≡ symbols = take_all n symbols (omega (arith, size, none, at, has.parts_are.same_length)) in
+    let size : length before + length rest ≡ length ended.symbols_trades.items = sym (length-append before rest) ∙ ap length symbols_trades in
+    let whole : take n symbols ≡ symbols = take_all n symbols (omega (arith, size, none, at, has.symbols_trades_are.same_length)) in
     subst (λ (ss : List (List ℕ)). IsJudgedDay rule table entries trades ss judged) whole (is entries trades has)

@@ -22,13 +22,12 @@ use Rattle.record_verdict.specs.Scopes.{admission_of}
 
 -- The verdicts of a day.
 
--- of each of these symbols this is the verdict on these records, which is the one of the question
--- about it alone
+-- of each of these symbols this is the verdict on these records, by the question about it alone
 abbrev pub AreVerdicts : Rule → Bool → List OrderRecord → List TradeRecord → List (List ℕ)
     → List Verdict → Type 0
 AreVerdicts rule table entries trades symbols verdicts =
-    AreForEach (λ symbol the_verdict. IsRecordVerdict (question rule symbol table) entries
-    (Ok trades) the_verdict) symbols verdicts
+    AreForEach
+    (λ symbol. IsRecordVerdict (question rule symbol table) entries (Ok trades)) symbols verdicts
 
 -- a verdict is that the log is accepted
 abbrev pub is_acceptance : Verdict → Bool
@@ -54,8 +53,7 @@ day_lines_of (symbol ∷ symbols) (the_verdict ∷ verdicts) =
 
 -- these are the counts and the lines of the verdicts on these symbols
 pub record IsJudgedDay (rule : Rule) (table : Bool) (entries : List OrderRecord)
-    (trades : List TradeRecord)
-    (symbols : List (List ℕ)) (judged : JudgedSymbols) : Type 0 where
+    (trades : List TradeRecord) (symbols : List (List ℕ)) (judged : JudgedSymbols) : Type 0 where
   pub verdicts : List Verdict
   pub verdicts_are : AreVerdicts rule table entries trades symbols verdicts
   pub counts_are : judged.counts ≡ counts_of verdicts
@@ -63,10 +61,13 @@ pub record IsJudgedDay (rule : Rule) (table : Bool) (entries : List OrderRecord)
 
 -- What functions pass on: one symbol after another.
 
--- of whatever records this is known, this is the verdict on them that the question asks for
-abbrev pub IsVerdictOf : Question → ℕ → SymbolTrades → Verdict → Type 0
-IsVerdictOf q count part the_verdict = (entries : List OrderRecord) (trades : List TradeRecord)
-    → IsSymbolTrades (admission_of q.rule) entries trades q.symbol part → count ≡ length trades
+-- of whatever records this is known of the symbol, this is the verdict on them that the question
+-- asks for
+abbrev pub IsVerdictOfSymbol : Question → ℕ → SymbolTrades → Verdict → Type 0
+IsVerdictOfSymbol q count symbol_trades the_verdict =
+    (entries : List OrderRecord) (trades : List TradeRecord)
+    → IsSymbolTrades (admission_of q.rule) entries trades q.symbol symbol_trades
+    → count ≡ length trades
     → IsRecordVerdict q entries (Ok trades) the_verdict
 
 -- one symbol more can be counted
@@ -96,15 +97,14 @@ pub record AddsVerdict (old new : JudgedSymbols) (symbol : List ℕ)
       ++ symbol_lines symbol (verdict_text the_verdict)
 
 -- the verdict that the question asks for is counted and written
-pub record JudgesOne (q : Question) (count : ℕ) (part : SymbolTrades)
+pub record JudgesOne (q : Question) (count : ℕ) (symbol_trades : SymbolTrades)
     (old new : JudgedSymbols) : Type 0 where
   pub one : Verdict
-  pub is : IsVerdictOf q count part one
+  pub is : IsVerdictOfSymbol q count symbol_trades one
   pub adds : AddsVerdict old new q.symbol one
 
--- whatever records the day has, these are the counts and lines of the verdicts on the first so many
--- symbols of the
--- share
+-- whatever records the day has, these are the counts and lines of the verdicts on this many first
+-- symbols of the share
 abbrev pub IsJudgedUpTo : Rule → Bool → DayShare → EndedTrades → ℕ → JudgedSymbols → Type 0
 IsJudgedUpTo rule table share ended n judged =
     (entries : List OrderRecord) (trades : List TradeRecord)

@@ -23,14 +23,14 @@ use std::alloc::Global;
 fn verdict_of(
     alloc: Global,
     question: &Question,
-    part: SymbolTrades,
+    symbol_trades: SymbolTrades,
     count: u32,
 ) -> Result<Verdict, NoMemory>
-    requires { HasFewOfSymbol count part }
-    ensures judged { IfOk result (day.IsVerdictOf question.now count part) }
+    requires { HasFewOfSymbol count symbol_trades }
+    ensures judged { IfOk result (day.IsVerdictOfSymbol question.now count symbol_trades) }
     ensures in_range { IfOk result IsVerdictInRange }
 {
-    let reached = part.end(count);
+    let reached = symbol_trades.end(count);
     verdict_after(alloc, question, &reached)
 }
 
@@ -85,14 +85,14 @@ impl JudgedSymbols {
         &mut self,
         alloc: Global,
         question: &Question,
-        part: SymbolTrades,
+        symbol_trades: SymbolTrades,
         count: u32,
     ) -> Result<(), NoMemory>
-        requires few { HasFewOfSymbol count part }
+        requires few { HasFewOfSymbol count symbol_trades }
         requires room { day.HasRoomForOne self.old.counts }
-        ensures { OnOk result (day.JudgesOne question.now count part self.old self.new) }
+        ensures { OnOk result (day.JudgesOne question.now count symbol_trades self.old self.new) }
     {
-        let verdict = verdict_of(alloc, question, part, count)?;
+        let verdict = verdict_of(alloc, question, symbol_trades, count)?;
         self.add(alloc, &question.symbol, &verdict)
     }
     /// The text of the day: the line that counts its symbols, with what they were judged by, and
@@ -123,13 +123,13 @@ pub fn judge_day(
 {
     let EndedTrades {
         symbols,
-        parts,
+        symbols_trades,
         count,
     } = ended;
     let mut judged = JudgedSymbols::none(alloc);
-    let mut place: usize = 0;
-    for part in parts {
-        let Some(symbol) = share.symbol_at(&symbols, place) else {
+    let mut share_index: usize = 0;
+    for symbol_trades in symbols_trades {
+        let Some(symbol) = share.symbol_at(&symbols, share_index) else {
             unreachable!();
         };
         let question = Question {
@@ -137,8 +137,8 @@ pub fn judge_day(
             symbol: *symbol,
             table,
         };
-        judged.judge(alloc, &question, part, count)?;
-        place += 1;
+        judged.judge(alloc, &question, symbol_trades, count)?;
+        share_index += 1;
     }
     Ok(judged)
 }

@@ -37,7 +37,7 @@ fn orders_handed<D: AuditedShare>(
     Ok(day)
 }
 
-/// What the order records of a day come to.
+/// What the order records of a day give.
 fn orders_of<D: AuditedShare>(
     alloc: Global,
     share: Share,
@@ -67,14 +67,14 @@ fn trades_handed<M: AuditedDay>(
     requires few { length trades.now < 2 ^ 32 - 1 }
     ensures { IfOk result (λ day. IsDayTrades M.share M.admission M.may_have day trades.now) }
 {
-    let mut day = DayTrades::after(alloc, HashSeed::fixed(), share, admission, orders)?;
+    let mut day = DayTrades::new(alloc, HashSeed::fixed(), share, admission, orders)?;
     for trade in trades {
         day.take(*trade)?;
     }
     Ok(day)
 }
 
-/// What the trades of a day come to, behind these orders.
+/// What the trades of a day give, after these orders.
 fn trades_of<M: AuditedDay>(
     alloc: Global,
     share: Share,

@@ -40,9 +40,9 @@ table_fits_rule table the_rule = not table || has_table the_rule
 
 -- RULE, and what the words after all others say as options, `--table` where the rule has one
 abbrev pub rule_and_options : List ℕ → List (List ℕ) → Option (Rule × DeskOptions)
-rule_and_options word behind =
+rule_and_options word option_words =
     when_some (rule_named word) (λ the_rule.
-    when_some (desk_options_in behind) (λ said.
+    when_some (desk_options_in option_words) (λ said.
     only_if (table_fits_rule said.common.table the_rule) (the_rule, said)))
 
 -- `audit RULE ORDERS TRADES` and options

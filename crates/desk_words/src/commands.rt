@@ -64,13 +64,13 @@ fn day_logs(alloc: Global, words: &[String], said: &DeskOptions) -> Result<DayLo
 }
 
 /// RULE, and what the words after all others say as options, `--table` where the rule has one.
-fn rule_and_options(word: &str, behind: &[String]) -> Option<(Rule, DeskOptions)>
-    ensures options { result ≡ spec.rule_and_options word.now (map string_bytes behind.now) }
+fn rule_and_options(word: &str, option_words: &[String]) -> Option<(Rule, DeskOptions)>
+    ensures options { result ≡ spec.rule_and_options word.now (map string_bytes option_words.now) }
     ensures table { IfSome result
         (λ both. IsTrue (spec.table_fits_rule both.1.common.table both.0)) }
 {
     let rule = rule_named(word)?;
-    let said = desk_options_in(behind)?;
+    let said = desk_options_in(option_words)?;
     if said.common.table && !rule.has_table() {
         return None;
     }

@@ -20,7 +20,7 @@ pub parts-preserved : goal.parts-preserved
 parts-preserved c =
     let added : c.push.new.self.items ≡ c.parts.commands.items ++ c.in_ok-command.command ∷ [] = search rules in
     let less : c.part_length-count.result < length c.parts.rest.now = search rules in
-    subst (λ (ws : List _). IsReadSoFar c.args.words.now c.push.new.self.items ws) (sym c.words_behind-rest.ensures)
+    subst (λ (ws : List _). IsReadSoFar c.args.words.now c.push.new.self.items ws) (sym c.words_after-rest.ensures)
     (subst (λ (cs : List _). IsReadSoFar c.args.words.now cs (drop (c.part_length-count.result + 1) c.parts.rest.now)) (sym added)
     (more_read c.args.words.now c.parts.commands.items c.parts.rest.now c.part_length-count.result c.parts.invariant c.part_length-count.ensures.length
     c.in_ok-command.command less c.in_ok-command.ensures.command))

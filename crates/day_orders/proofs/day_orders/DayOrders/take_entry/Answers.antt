@@ -27,32 +27,32 @@ returns-then-not-has g c = λ entries has.
 pub index_mut-requires : goal.index_mut-requires
 index_mut-requires g c =
     let has = c.requires.has in
-    let met = met-inside g.D.AuditedShare.share c.args.self.now.share c.args.self.now.histories.items c.make_room.new.self.histories.items c.requires.entries c.args.entry.now c.args.self.now.symbols c.meet.new.self c.symbol.result c.in_ok-index.index c.place-place.result
-    has.shared has.symbols_are c.in_ok-index.ensures.meets c.symbol.ensures c.in_ok-index.ensures.index (sym c.has.ensures ∙ c.if-not-has.false) c.place-place.ensures c.in_ok-make_room.ensures.room has.histories_are in
+    let met = met-inside g.D.AuditedShare.share c.args.self.now.share c.args.self.now.histories.items c.make_room.new.self.histories.items c.requires.entries c.args.entry.now c.args.self.now.symbols c.meet.new.self c.symbol.result c.in_ok-index.index c.index_in_share-share_index.result
+    has.shared has.symbols_are c.in_ok-index.ensures.meets c.symbol.ensures c.in_ok-index.ensures.index (sym c.has.ensures ∙ c.if-not-has.false) c.index_in_share-share_index.ensures c.in_ok-make_room.ensures.room has.histories_are in
     omega (arith, met.within, c.make_room.new.self.histories.ok.0)
 
 pub take-requires : goal.take-requires
 take-requires g c =
     let has = c.requires.has in
-    let met = met-inside g.D.AuditedShare.share c.args.self.now.share c.args.self.now.histories.items c.make_room.new.self.histories.items c.requires.entries c.args.entry.now c.args.self.now.symbols c.meet.new.self c.symbol.result c.in_ok-index.index c.place-place.result
-    has.shared has.symbols_are c.in_ok-index.ensures.meets c.symbol.ensures c.in_ok-index.ensures.index (sym c.has.ensures ∙ c.if-not-has.false) c.place-place.ensures c.in_ok-make_room.ensures.room has.histories_are in
-    let there : slice_get c.make_room.new.self.histories.items c.place-place.result ≡ Some c.index_mut.result.now =
-    slice_get_read c.make_room.new.self.histories.items (length c.make_room.new.self.histories.items) c.place-place.result c.index_mut.result.now refl met.within c.index_mut.ensures.value in
-    is-few g.D.AuditedShare.share c.requires.entries c.args.entry.now c.make_room.new.self.histories.items c.in_ok-index.index c.place-place.result c.index_mut.result.now met there (omega (arith, c.requires.few))
+    let met = met-inside g.D.AuditedShare.share c.args.self.now.share c.args.self.now.histories.items c.make_room.new.self.histories.items c.requires.entries c.args.entry.now c.args.self.now.symbols c.meet.new.self c.symbol.result c.in_ok-index.index c.index_in_share-share_index.result
+    has.shared has.symbols_are c.in_ok-index.ensures.meets c.symbol.ensures c.in_ok-index.ensures.index (sym c.has.ensures ∙ c.if-not-has.false) c.index_in_share-share_index.ensures c.in_ok-make_room.ensures.room has.histories_are in
+    let there : slice_get c.make_room.new.self.histories.items c.index_in_share-share_index.result ≡ Some c.index_mut.result.now =
+    slice_get_read c.make_room.new.self.histories.items (length c.make_room.new.self.histories.items) c.index_in_share-share_index.result c.index_mut.result.now refl met.within c.index_mut.ensures.value in
+    is-few g.D.AuditedShare.share c.requires.entries c.args.entry.now c.make_room.new.self.histories.items c.in_ok-index.index c.index_in_share-share_index.result c.index_mut.result.now met there (omega (arith, c.requires.few))
 
 pub returns : goal.returns
 returns g c = on_ok_weaker c.take.result
     (λ takes entries has.
-    let met = met-inside g.D.AuditedShare.share c.args.self.now.share c.args.self.now.histories.items c.make_room.new.self.histories.items entries c.args.entry.now c.args.self.now.symbols c.meet.new.self c.symbol.result c.in_ok-index.index c.place-place.result
-    has.shared has.symbols_are c.in_ok-index.ensures.meets c.symbol.ensures c.in_ok-index.ensures.index (sym c.has.ensures ∙ c.if-not-has.false) c.place-place.ensures c.in_ok-make_room.ensures.room has.histories_are in
-    let there : slice_get c.make_room.new.self.histories.items c.place-place.result ≡ Some c.index_mut.result.now =
-    slice_get_read c.make_room.new.self.histories.items (length c.make_room.new.self.histories.items) c.place-place.result c.index_mut.result.now refl met.within c.index_mut.ensures.value in
+    let met = met-inside g.D.AuditedShare.share c.args.self.now.share c.args.self.now.histories.items c.make_room.new.self.histories.items entries c.args.entry.now c.args.self.now.symbols c.meet.new.self c.symbol.result c.in_ok-index.index c.index_in_share-share_index.result
+    has.shared has.symbols_are c.in_ok-index.ensures.meets c.symbol.ensures c.in_ok-index.ensures.index (sym c.has.ensures ∙ c.if-not-has.false) c.index_in_share-share_index.ensures c.in_ok-make_room.ensures.room has.histories_are in
+    let there : slice_get c.make_room.new.self.histories.items c.index_in_share-share_index.result ≡ Some c.index_mut.result.now =
+    slice_get_read c.make_room.new.self.histories.items (length c.make_room.new.self.histories.items) c.index_in_share-share_index.result c.index_mut.result.now refl met.within c.index_mut.ensures.value in
     let only = c.make_room.ensures.only in
     let counted : c.make_room.new.self.count ≡ length entries + 1 = only.count ∙ ap (λ (n : ℕ). n + 1) has.count in
     record {
       shared = only.shared ∙ has.shared;
       count = counted ∙ sym (length-append entries (c.args.entry.now ∷ []));
       symbols_are = only.symbols_are ∙ c.in_ok-index.ensures.meets (map symbol_of entries) has.symbols_are ∙ ap (λ (s : List ℕ). distinct_names (map symbol_of entries ++ s ∷ [])) c.symbol.ensures ∙ sym (symbols-more entries c.args.entry.now);
-      histories_are = has-taken g.D.AuditedShare.share entries c.args.entry.now c.make_room.new.self.histories.items c.in_ok-index.index c.place-place.result c.make_room.new.self.count c.index_mut.result.now c.take.new.self met there counted takes;
+      histories_are = has-taken g.D.AuditedShare.share entries c.args.entry.now c.make_room.new.self.histories.items c.in_ok-index.index c.index_in_share-share_index.result c.make_room.new.self.count c.index_mut.result.now c.take.new.self met there counted takes;
     })
     c.take.ensures

@@ -11,8 +11,8 @@ pub returns-then-not-has : goal.returns-then-not-has
 returns-then-not-has g c = λ trades known. record {
   entries = known.entries;
   has = known.has;
-  behind = λ entries may.
-      let has = known.behind entries may in
+  after_each = λ entries may.
+      let has = known.after_each entries may in
       let own : List ℕ = c.args.trade.now.symbol in
       let before : List (List ℕ) = symbols_of_logs entries trades in
       let met : c.meet.new.self ≡ distinct_names (before ++ own ∷ []) = c.in_ok-index.ensures.meets before has.symbols_are in
@@ -25,28 +25,28 @@ returns-then-not-has g c = λ trades known. record {
         admits = has.admits;
         count = ap (λ (n : ℕ). n + 1) has.count ∙ sym (length-append trades (c.args.trade.now ∷ []));
         symbols_are = met ∙ sym (traded-more entries trades c.args.trade.now);
-        parts_are = outside-more g.M.AuditedDay.share g.M.AuditedDay.admission c.args.self.now.parts.items entries trades c.args.trade.now c.in_ok-index.index got outside has.parts_are;
+        symbols_trades_are = outside-more g.M.AuditedDay.share g.M.AuditedDay.admission c.args.self.now.symbols_trades.items entries trades c.args.trade.now c.in_ok-index.index got outside has.symbols_trades_are;
       };
 }
 
 pub index_mut-requires : goal.index_mut-requires
 index_mut-requires g c =
-    let has = c.requires.has.behind c.requires.has.entries c.requires.has.has in
-    let met = met-inside g.M.AuditedDay.share c.args.self.now.share g.M.AuditedDay.admission c.args.self.now.admission c.args.self.now.parts.items c.make_room.new.self.parts.items c.requires.has.entries c.requires.entries c.args.trade.now c.args.self.now.symbols c.meet.new.self c.in_ok-index.index c.place-place.result
-    has.shared has.admits has.symbols_are c.in_ok-index.ensures.meets c.in_ok-index.ensures.index (sym c.has.ensures ∙ c.if-not-has.false) c.place-place.ensures c.in_ok-make_room.ensures.room has.parts_are in
-    omega (arith, met.within, c.make_room.new.self.parts.ok.0)
+    let has = c.requires.has.after_each c.requires.has.entries c.requires.has.has in
+    let met = met-inside g.M.AuditedDay.share c.args.self.now.share g.M.AuditedDay.admission c.args.self.now.admission c.args.self.now.symbols_trades.items c.make_room.new.self.symbols_trades.items c.requires.has.entries c.requires.entries c.args.trade.now c.args.self.now.symbols c.meet.new.self c.in_ok-index.index c.index_in_share-share_index.result
+    has.shared has.admits has.symbols_are c.in_ok-index.ensures.meets c.in_ok-index.ensures.index (sym c.has.ensures ∙ c.if-not-has.false) c.index_in_share-share_index.ensures c.in_ok-make_room.ensures.room has.symbols_trades_are in
+    omega (arith, met.within, c.make_room.new.self.symbols_trades.ok.0)
 
 pub returns : goal.returns
 returns g c = on_ok_weaker c.take.result
     (λ takes trades known. record {
       entries = known.entries;
       has = known.has;
-      behind = λ entries may.
-          let has = known.behind entries may in
-          let met = met-inside g.M.AuditedDay.share c.args.self.now.share g.M.AuditedDay.admission c.args.self.now.admission c.args.self.now.parts.items c.make_room.new.self.parts.items entries trades c.args.trade.now c.args.self.now.symbols c.meet.new.self c.in_ok-index.index c.place-place.result
-          has.shared has.admits has.symbols_are c.in_ok-index.ensures.meets c.in_ok-index.ensures.index (sym c.has.ensures ∙ c.if-not-has.false) c.place-place.ensures c.in_ok-make_room.ensures.room has.parts_are in
-          let there : slice_get c.make_room.new.self.parts.items c.place-place.result ≡ Some c.index_mut.result.now =
-          slice_get_read c.make_room.new.self.parts.items (length c.make_room.new.self.parts.items) c.place-place.result c.index_mut.result.now refl met.within c.index_mut.ensures.value in
+      after_each = λ entries may.
+          let has = known.after_each entries may in
+          let met = met-inside g.M.AuditedDay.share c.args.self.now.share g.M.AuditedDay.admission c.args.self.now.admission c.args.self.now.symbols_trades.items c.make_room.new.self.symbols_trades.items entries trades c.args.trade.now c.args.self.now.symbols c.meet.new.self c.in_ok-index.index c.index_in_share-share_index.result
+          has.shared has.admits has.symbols_are c.in_ok-index.ensures.meets c.in_ok-index.ensures.index (sym c.has.ensures ∙ c.if-not-has.false) c.index_in_share-share_index.ensures c.in_ok-make_room.ensures.room has.symbols_trades_are in
+          let there : slice_get c.make_room.new.self.symbols_trades.items c.index_in_share-share_index.result ≡ Some c.index_mut.result.now =
+          slice_get_read c.make_room.new.self.symbols_trades.items (length c.make_room.new.self.symbols_trades.items) c.index_in_share-share_index.result c.index_mut.result.now refl met.within c.index_mut.ensures.value in
           let only = c.make_room.ensures.only in
           let counted : c.make_room.new.self.count ≡ length trades + 1 = only.count ∙ ap (λ (n : ℕ). n + 1) has.count in
           record {
@@ -54,7 +54,7 @@ returns g c = on_ok_weaker c.take.result
             admits = only.admits ∙ has.admits;
             count = counted ∙ sym (length-append trades (c.args.trade.now ∷ []));
             symbols_are = only.symbols_are ∙ c.in_ok-index.ensures.meets (symbols_of_logs entries trades) has.symbols_are ∙ sym (traded-more entries trades c.args.trade.now);
-            parts_are = has-taken g.M.AuditedDay.share g.M.AuditedDay.admission entries trades c.args.trade.now c.make_room.new.self.parts.items c.in_ok-index.index c.place-place.result c.make_room.new.self.count c.index_mut.result.now c.take.new.self met there counted takes;
+            symbols_trades_are = has-taken g.M.AuditedDay.share g.M.AuditedDay.admission entries trades c.args.trade.now c.make_room.new.self.symbols_trades.items c.in_ok-index.index c.index_in_share-share_index.result c.make_room.new.self.count c.index_mut.result.now c.take.new.self met there counted takes;
           };
     })
     c.take.ensures

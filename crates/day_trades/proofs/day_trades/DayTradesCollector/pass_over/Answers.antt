@@ -10,8 +10,8 @@ pub returns : goal.returns
 returns g c = λ trades trade passed known. record {
   entries = known.entries;
   has = known.has;
-  behind = λ entries may.
-      let has = known.behind entries may in
+  after_each = λ entries may.
+      let has = known.after_each entries may in
       let own : List ℕ = trade.symbol in
       let before : List (List ℕ) = symbols_of_logs entries trades in
       let looked : is_looked_at g.M.AuditedDay.share (distinct_names before) own ≡ false =
@@ -24,6 +24,6 @@ returns g c = λ trades trade passed known. record {
         admits = has.admits;
         count = ap (λ (n : ℕ). n + 1) has.count ∙ sym (length-append trades (trade ∷ []));
         symbols_are = has.symbols_are ∙ sym same ∙ sym (traded-more entries trades trade);
-        parts_are = outside-more g.M.AuditedDay.share g.M.AuditedDay.admission c.args.self.now.parts.items entries trades trade outside.index got outside.outside has.parts_are;
+        symbols_trades_are = outside-more g.M.AuditedDay.share g.M.AuditedDay.admission c.args.self.now.symbols_trades.items entries trades trade outside.index got outside.outside has.symbols_trades_are;
       };
 }

@@ -2,7 +2,7 @@ use Rattle.std.proofs.Common.{refl, sym, subst, ◌∙◌}
 use Rattle.record_verdict.specs.declared.scopes.Admission.{Admission}
 use Rattle.day_trades.specs.DayTrades.{AreBegun}
 use Rattle.day_trades.proofs.DayTradesLemmas.{all-few, begun-all, no-trades}
-use Rattle.day_trades.proofs.day_trades.DayTrades.after.Goals as goal
+use Rattle.day_trades.proofs.day_trades.DayTrades.new.Goals as goal
 
 pub begin-requires : goal.begin-requires
 begin-requires g c =
@@ -13,14 +13,14 @@ pub returns : goal.returns
 returns g c = record {
   entries = c.requires.some.0;
   has = c.requires.some.1;
-  behind = λ entries may.
+  after_each = λ entries may.
       let orders = c.requires.orders entries may in
       record {
         shared = c.requires.share;
         admits = c.requires.admission;
         count = refl;
         symbols_are = orders.symbols_are ∙ sym (no-trades entries);
-        parts_are = begun-all g.M.AuditedDay.share g.M.AuditedDay.admission c.args.orders.histories.items entries c.in_ok-parts.parts.items orders.histories_are
-            (subst (λ (admission : Admission). AreBegun admission c.args.orders.histories.items c.in_ok-parts.parts.items) c.requires.admission c.in_ok-parts.ensures);
+        symbols_trades_are = begun-all g.M.AuditedDay.share g.M.AuditedDay.admission c.args.orders.histories.items entries c.in_ok-symbols_trades.symbols_trades.items orders.histories_are
+            (subst (λ (admission : Admission). AreBegun admission c.args.orders.histories.items c.in_ok-symbols_trades.symbols_trades.items) c.requires.admission c.in_ok-symbols_trades.ensures);
       };
 }
