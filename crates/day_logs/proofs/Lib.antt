@@ -1,0 +1,3 @@
+mod JoinLemmas
+mod TradeLogLemmas
+mod AnswerLemmas
