@@ -10,4 +10,6 @@
 
 pub mod answers;
 pub mod before_rule;
+pub mod laws;
 pub mod reading;
+pub mod texts;
