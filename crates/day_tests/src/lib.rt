@@ -4,3 +4,5 @@
 
 #[cfg(test)]
 mod days;
+#[cfg(test)]
+mod two_logs;

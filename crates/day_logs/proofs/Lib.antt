@@ -1,0 +1,4 @@
+mod JoinLemmas
+mod TradeLogLemmas
+mod AnswerLemmas
+mod LawLemmas

@@ -1,0 +1,8 @@
+use Rattle.log_verdict.specs.Steps.{reading_by}
+use Rattle.day_logs.proofs.AnswerLemmas.{reads-answer}
+use Rattle.day_logs.proofs.answers.answer_to.Goals as goal
+
+pub returns-in_ok-answer_after-in-Ok-clause-decides : goal.returns-in_ok-answer_after-in-Ok-clause-decides
+returns-in_ok-answer_after-in-Ok-clause-decides g c =
+    reads-answer (reading_by c.args.orders.now g.F.Shelf c.args.shelf.now c.read_day.new.shelf) c.args.question.now c.args.orders.now c.args.trades.now c.in-Ok.reached
+    c.in_ok-answer_after-in-Ok.field-0 (rw c.of-admission.ensures at c.in-Ok.ensures.decides) c.in_ok-answer_after-in-Ok.ensures

@@ -1,0 +1,51 @@
+use Rattle.std.proofs.Common.{◌≡◌, sym, subst}
+use Rattle.day_orders.specs.DayOrders.{HasOrders}
+use Rattle.day_symbols.specs.Shares.{DayShare}
+use Rattle.log_verdict.specs.Steps.{reading_by}
+use Rattle.day_logs.specs.declared.before_rule.DayBeforeRule.TheVariants as upto
+use Rattle.day_logs.specs.DayBeforeRule.{IsDayBeforeRule}
+use Rattle.day_logs.proofs.JoinLemmas.{gives-after, keeps-both, later-after, stays-within, unread-within}
+use Rattle.day_logs.proofs.TradeLogLemmas.{orders-unread}
+use Rattle.day_logs.proofs.reading.read_share.Goals as goal
+
+pub after_orders-requires-clause-some : goal.after_orders-requires-clause-some
+after_orders-requires-clause-some g c =
+    let place = c.in-Ok.ensures.few in
+    (place.entries, subst (λ (share : DayShare). HasOrders share c.end.result place.entries) (sym c.requires.share) (c.end.ensures place.entries place.has))
+
+pub returns-in-Ok-clause-logs : goal.returns-in-Ok-clause-logs
+returns-in-Ok-clause-logs g c =
+    keeps-both g.F.Shelf c.args.shelf.now c.collect_orders.new.shelf c.after_orders.new.shelf c.in-Ok.ensures.logs c.after_orders.ensures.logs
+
+pub returns-in-Ok-clause-decides : goal.returns-in-Ok-clause-decides
+returns-in-Ok-clause-decides g c =
+    let is = c.in-Ok.ensures.read in
+    gives-after (reading_by c.args.orders.now g.F.Shelf c.args.shelf.now c.collect_orders.new.shelf) (reading_by c.args.trades.now g.F.Shelf c.collect_orders.new.shelf c.after_orders.new.shelf)
+    (record { limit = sym c.requires.limit.same; tells = c.in-Ok.ensures.logs.tells; logs = c.in-Ok.ensures.logs.logs; trades = c.in-Ok.ensures.only.other; orders = c.after_orders.ensures.only.other })
+    (λ entries paired reached. IsDayBeforeRule c.args.share c.args.admission entries paired reached) (λ log bad reached. reached ≡ upto.Malformed log bad)
+    c.args.orders.now c.args.trades.now is.holds.entries c.after_orders.result
+    (record { bytes = is.bytes; read = is.read; holds = is.holds.reads })
+    (c.after_orders.ensures.decides is.holds.entries (subst (λ (share : DayShare). HasOrders share c.end.result is.holds.entries) (sym c.requires.share) (c.end.ensures is.holds.entries is.holds.has)))
+
+pub returns-in-Ok-clause-later : goal.returns-in-Ok-clause-later
+returns-in-Ok-clause-later g c =
+    later-after (reading_by c.args.orders.now g.F.Shelf c.args.shelf.now c.collect_orders.new.shelf) (reading_by c.args.trades.now g.F.Shelf c.collect_orders.new.shelf c.after_orders.new.shelf)
+    (record { limit = sym c.requires.limit.same; tells = c.in-Ok.ensures.logs.tells; logs = c.in-Ok.ensures.logs.logs; trades = c.in-Ok.ensures.only.other; orders = c.after_orders.ensures.only.other })
+    c.in-Ok.ensures.only.later c.after_orders.ensures.only.later
+
+pub returns-in-Ok-clause-within : goal.returns-in-Ok-clause-within
+returns-in-Ok-clause-within g c =
+    stays-within (reading_by c.args.orders.now g.F.Shelf c.args.shelf.now c.collect_orders.new.shelf) (reading_by c.args.trades.now g.F.Shelf c.collect_orders.new.shelf c.after_orders.new.shelf)
+    (record { limit = sym c.requires.limit.same; tells = c.in-Ok.ensures.logs.tells; logs = c.in-Ok.ensures.logs.logs; trades = c.in-Ok.ensures.only.other; orders = c.after_orders.ensures.only.other })
+    c.after_orders.result (c.in-Ok.ensures.within (λ e. cc)) c.after_orders.ensures.within
+
+pub returns-in-Err-clause-decides : goal.returns-in-Err-clause-decides
+returns-in-Err-clause-decides g c =
+    rw c.day_without.ensures
+    (orders-unread (reading_by c.args.orders.now g.F.Shelf c.args.shelf.now c.collect_orders.new.shelf) c.args.share c.args.admission c.args.orders.now c.args.trades.now c.in-Err.unread c.in-Err.ensures.read c.in-Err.ensures.only.other)
+
+pub returns-in-Err-clause-within : goal.returns-in-Err-clause-within
+returns-in-Err-clause-within g c =
+    rw c.day_without.ensures
+    (unread-within (reading_by c.args.orders.now g.F.Shelf c.args.shelf.now c.collect_orders.new.shelf) c.in-Err.unread
+    (λ other. c.in-Err.ensures.within (λ e. other (cc))) c.in-Err.ensures.only.other)

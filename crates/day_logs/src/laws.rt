@@ -1,0 +1,20 @@
+//! The laws of a day of two logs, apart from what computes them. Each call does nothing: it only
+//! has its contract.
+ghost use Rattle.day_logs.specs.Laws.{OneDayAnswer, SharesHaveTheVerdicts};
+
+use record_verdict::laws::one_judgement;
+
+/// A symbol has the same verdict in every share of a day that has it, the whole day among them: so
+/// its lines are there those that it has without a share.
+pub fn shares_have_the_verdicts()
+    ensures { SharesHaveTheVerdicts }
+{
+    one_judgement();
+}
+
+/// Two answers to a question about two logs say the same, and are written as the same text.
+pub fn one_day_answer()
+    ensures { OneDayAnswer }
+{
+    one_judgement();
+}

@@ -1,0 +1,140 @@
+//! Reading two logs of a day up to the rule: each is handed record by record to what is kept of
+//! all symbols.
+ghost use Rattle.std.specs.Prelude.{◌≡◌, ◌≤◌, [], List, IfOk};
+ghost use Rattle.audit_base.specs.declared.records.OrderRecord.{OrderRecord as AnEntry};
+ghost use Rattle.audit_base.specs.declared.terms.Which.{Which};
+ghost use Rattle.day_orders.specs.DayOrders.{HasOrders};
+ghost use Rattle.day_trades.specs.DayTrades.{IsDayTrades};
+ghost use Rattle.log_source.specs.Sources.{longest_read};
+ghost use Rattle.log_verdict.specs.BothLogs.{HaveOneLimit, StaysWithin, StaysWithinAt};
+ghost use Rattle.log_verdict.specs.Collecting.{TouchesOnly};
+ghost use Rattle.log_verdict.specs.Steps.{reading_by, KeepsShelfLogs, FaultsNeverFall};
+ghost use Rattle.day_logs.specs.DayBeforeRule.{day_without_log, IsDayWithFewTrades};
+ghost use Rattle.day_logs.specs.DayBeforeRule.{GivesDayBeforeRuleOrStop, GivesDayTradesOrStop};
+
+use crate::before_rule::DayBeforeRule;
+use audit_base::terms::Which;
+use day_orders::day_orders::{AuditedShare, DayOrders, EndedOrders};
+use day_symbols::shares::Share;
+use day_trades::day_trades::{AuditedDay, DayTrades};
+use log_source::shelf::Shelf;
+use log_verdict::reading::{Collected, Unread, collect_orders, collect_trades};
+use log_verdict::sources::Source;
+use log_verdict::stops::Stop;
+use record_verdict::scopes::Admission;
+use std::alloc::Global;
+use std::marker::Brand;
+
+/// What is answered where a log was not read into records.
+fn day_without(log: Which, unread: Unread) -> Result<DayBeforeRule, Stop>
+    ensures { result ≡ day_without_log log unread }
+{
+    match unread {
+        Unread::Bad(bad) => Ok(DayBeforeRule::Malformed { log, bad }),
+        Unread::ReadFault => Err(Stop::ReadFault(log)),
+        Unread::TooLong => Err(Stop::TooLong(log)),
+        Unread::Memory => Err(Stop::Memory),
+    }
+}
+
+/// What is known where the trade log is read by a day that has been handed no trade yet.
+fn read_trades<M: AuditedDay, F: Shelf>(
+    alloc: Global,
+    shelf: &mut F,
+    trades: &Source<'_>,
+    day: DayTrades<M>,
+) -> Result<DayBeforeRule, Stop>
+    requires limit { trades.now.limit ≤ longest_read }
+    requires fresh { IsDayTrades M.share M.admission M.may_have day [] }
+    ensures logs { KeepsShelfLogs F.Shelf shelf.old shelf.new }
+    ensures only { TouchesOnly (reading_by trades.now F.Shelf shelf.old shelf.new) Which.Trades }
+    ensures decides { (entries : List AnEntry) → M.may_have entries
+        → GivesDayTradesOrStop (reading_by trades.now F.Shelf shelf.old shelf.new)
+        M.share M.admission trades.now entries result }
+    ensures few { IfOk result (IsDayWithFewTrades M.share M.admission) }
+    ensures within { StaysWithinAt (reading_by trades.now F.Shelf shelf.old shelf.new)
+        Which.Trades result }
+{
+    match collect_trades::<F, DayTrades<M>>(alloc, shelf, trades, day) {
+        Ok(Collected::Trades(day)) => Ok(DayBeforeRule::Read(day.end())),
+        Ok(Collected::Alone(finding)) => Ok(DayBeforeRule::Unpaired(finding)),
+        Err(unread) => day_without(Which::Trades, unread),
+    }
+}
+
+/// What is known where the order log has been read: the trade log is read behind it.
+fn after_orders<M: AuditedDay, F: Shelf>(
+    alloc: Global,
+    shelf: &mut F,
+    share: Share,
+    admission: Admission,
+    trades: &Source<'_>,
+    orders: EndedOrders,
+) -> Result<DayBeforeRule, Stop>
+    requires limit { trades.now.limit ≤ longest_read }
+    requires share { share ≡ M.share }
+    requires admission { admission ≡ M.admission }
+    requires orders { (entries : List AnEntry)
+        → M.may_have entries → HasOrders M.share orders entries }
+    requires some { (entries : List AnEntry) × M.may_have entries }
+    ensures logs { KeepsShelfLogs F.Shelf shelf.old shelf.new }
+    ensures only { TouchesOnly (reading_by trades.now F.Shelf shelf.old shelf.new) Which.Trades }
+    ensures decides { (entries : List AnEntry) → M.may_have entries
+        → GivesDayTradesOrStop (reading_by trades.now F.Shelf shelf.old shelf.new)
+        share admission trades.now entries result }
+    ensures few { IfOk result (IsDayWithFewTrades share admission) }
+    ensures within { (F.slot shelf.old Which.Trades).taken ≤ trades.now.limit
+        → StaysWithinAt (reading_by trades.now F.Shelf shelf.old shelf.new) Which.Trades result }
+{
+    match DayTrades::<M>::after(alloc, trades.seed, share, admission, orders) {
+        Ok(day) => read_trades::<M, F>(alloc, shelf, trades, day),
+        Err(_) => Err(Stop::Memory),
+    }
+}
+
+/// What two logs of a day come to before a rule is looked at, by the orders of the share.
+fn read_share<D: AuditedShare, F: Shelf>(
+    alloc: Global,
+    shelf: &mut F,
+    share: Share,
+    admission: Admission,
+    orders: &Source<'_>,
+    trades: &Source<'_>,
+) -> Result<DayBeforeRule, Stop>
+    requires share { share ≡ D.share }
+    requires limit { HaveOneLimit orders.now trades.now }
+    ensures logs { KeepsShelfLogs F.Shelf shelf.old shelf.new }
+    ensures later { FaultsNeverFall (reading_by orders.now F.Shelf shelf.old shelf.new) }
+    ensures decides { GivesDayBeforeRuleOrStop (reading_by orders.now F.Shelf shelf.old shelf.new)
+        share admission orders.now trades.now result }
+    ensures few { IfOk result (IsDayWithFewTrades share admission) }
+    ensures within { StaysWithin (reading_by orders.now F.Shelf shelf.old shelf.new) result }
+{
+    let day = DayOrders::<D>::new(alloc, orders.seed, share);
+    match collect_orders::<F, DayOrders<D>>(alloc, shelf, orders, day) {
+        Ok(day) => after_orders::<Brand, F>(alloc, shelf, share, admission, trades, day.end()),
+        Err(unread) => day_without(Which::Orders, unread),
+    }
+}
+
+/// What two logs of a day come to before a rule is looked at, or why that is not known. The order
+/// log is read first, and the trade log only where that is in its grammar; each is read once,
+/// whatever the number of symbols.
+pub fn read_day<F: Shelf>(
+    alloc: Global,
+    shelf: &mut F,
+    share: Share,
+    admission: Admission,
+    orders: &Source<'_>,
+    trades: &Source<'_>,
+) -> Result<DayBeforeRule, Stop>
+    requires limit { HaveOneLimit orders.now trades.now }
+    ensures logs { KeepsShelfLogs F.Shelf shelf.old shelf.new }
+    ensures later { FaultsNeverFall (reading_by orders.now F.Shelf shelf.old shelf.new) }
+    ensures decides { GivesDayBeforeRuleOrStop (reading_by orders.now F.Shelf shelf.old shelf.new)
+        share admission orders.now trades.now result }
+    ensures few { IfOk result (IsDayWithFewTrades share admission) }
+    ensures within { StaysWithin (reading_by orders.now F.Shelf shelf.old shelf.new) result }
+{
+    read_share::<Brand, F>(alloc, shelf, share, admission, orders, trades)
+}
