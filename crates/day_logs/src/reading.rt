@@ -86,7 +86,7 @@ fn after_orders<M: AuditedDay, F: Shelf>(
     ensures within { (F.slot shelf.old Which.Trades).taken ≤ trades.now.limit
         → StaysWithinAt (reading_by trades.now F.Shelf shelf.old shelf.new) Which.Trades result }
 {
-    match DayTrades::<M>::after(alloc, trades.seed, share, admission, orders) {
+    match DayTrades::<M>::new(alloc, trades.seed, share, admission, orders) {
         Ok(day) => read_trades::<M, F>(alloc, shelf, trades, day),
         Err(_) => Err(Stop::Memory),
     }
