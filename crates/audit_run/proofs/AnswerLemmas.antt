@@ -34,7 +34,7 @@ use Rattle.audit_run.specs.Deciding.{DecidesAnswer, IsAnswerOfKind}
 use Rattle.audit_run.specs.OneLog.{DecidesBytes, DecidesUnread, IsStatusOfLogs}
 use Rattle.audit_run.specs.OtherTexts.{orders_finding, ConvertsTrades, ExpectsRecords, IsConvertAnswer, IsExpectedLog}
 use Rattle.audit_run.specs.Requests.{next_log, IsAnswerTo}
-use Rattle.audit_run.specs.Runs.{IsAnswerToReadLogs, ReadingDecides, ReadsUpTo}
+use Rattle.audit_run.specs.Runs.{IsAnswerToReadLogs, ReadingDecides, ReadsThenStarts}
 use Rattle.audit_run.specs.Sessions.{IsDayText, IsSessionAnswer, JudgesDayDeals, JudgesDayRecords}
 use Rattle.audit_run.specs.VerdictAnswers.{IsAnswerWith, IsAuditAnswer, IsDone, IsVerdictAnswer}
 use Rattle.log_verdict.specs.BothLogs.{StaysWithin, StaysWithinAt}
@@ -208,7 +208,7 @@ module _ (r : Reading) (request : Request) where
         ends Trades own same begins Orders = rw same (begins Orders)
         ends Trades own same begins Trades = own
 
-    one-reaches : next_log request [] ≡ Some (log, name) → ReadsUpTo r request one_step
+    one-reaches : next_log request [] ≡ Some (log, name) → ReadsThenStarts r request one_step
     one-reaches first = record {
       steps = [];
       logs = [];

@@ -16,7 +16,7 @@ use Rattle.log_verdict.specs.BothLogs.{source_of, IsStopOfTwoLogs, IsLogInTurn, 
 use Rattle.audit_run.specs.Deciding.{ReadingStops, StartsBoth}
 use Rattle.audit_run.specs.OneLog.{IsStatusOfLogs}
 use Rattle.audit_run.specs.Requests.{log_read_at, next_log, IsAnswerTo}
-use Rattle.audit_run.specs.Runs.{IsAnswerToReadLogs, ReadingDecides, ReadsUpTo}
+use Rattle.audit_run.specs.Runs.{IsAnswerToReadLogs, ReadingDecides, ReadsThenStarts}
 use Rattle.log_verdict.specs.Collecting.{step_of}
 use Rattle.log_verdict.specs.LogVerdicts.{log_in, records_of_order_log, trades_of_trade_log, OfLogs}
 use Rattle.log_verdict.specs.Steps.{Reading, LogStep, IsRead, StepsLead, FaultsNeverFall, with_slot}
@@ -85,7 +85,7 @@ module _ (r : Reading) (later : FaultsNeverFall r) (orders trades : Source) (req
         text-of r request the_status text (answers whole.logs whole.answer) whole
 
   -- the last log that was started is one of the two
-  reaches : (log : Which) → IsLogInTurn r orders log → ReadsUpTo r request (step_of r log (source_of orders trades log).name.now)
+  reaches : (log : Which) → IsLogInTurn r orders log → ReadsThenStarts r request (step_of r log (source_of orders trades log).name.now)
   reaches Orders untouched = record {
     steps = [];
     logs = [];

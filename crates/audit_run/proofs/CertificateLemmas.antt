@@ -23,7 +23,7 @@ use Rattle.audit_run.specs.Deciding.{request_to_verify, DecidesAnswer, IsAnswerO
 use Rattle.audit_run.specs.JudgedAnswers.{IsVerifyAnswerOn}
 use Rattle.audit_run.specs.OneLog.{DecidesBytes}
 use Rattle.audit_run.specs.Requests.{next_log}
-use Rattle.audit_run.specs.Runs.{ReadingDecides, ReadsOneByOne, ReadsUpTo}
+use Rattle.audit_run.specs.Runs.{ReadingDecides, ReadsOneByOne, ReadsThenStarts}
 use Rattle.log_verdict.specs.Collecting.{step_of, IsReadAs, TouchesOnly}
 use Rattle.log_verdict.specs.LogVerdicts.{log_in, records_of_order_log, trades_of_trade_log}
 use Rattle.log_verdict.specs.Steps.{Reading, LogStep, IsRead, IsReadFault, IsTooLong, StepsLead, FaultsNeverFall, with_slot}
@@ -163,7 +163,7 @@ module _ (first second : Reading) (after : Continues first second) (later : Faul
           answer = verified;
         })
 
-    reaches_third : ReadsUpTo whole request third_step
+    reaches_third : ReadsThenStarts whole request third_step
     reaches_third = record {
       steps = first_step ∷ second_step ∷ [];
       logs = both.one ∷ both.two ∷ [];

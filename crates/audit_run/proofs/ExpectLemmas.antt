@@ -33,7 +33,7 @@ use Rattle.audit_run.specs.OtherTexts.{IsAcceptedBeside}
 use Rattle.record_verdict.specs.Judgements.{question, table_lines, AreOnlyQuantities, IsReportedBound}
 use Rattle.log_verdict.specs.LogVerdicts.{trades_without_pairing}
 use Rattle.record_verdict.specs.Stages.{VerdictFollowsDeals}
-use Rattle.record_verdict.specs.Laws.{SoundTradesAreJudged}
+use Rattle.record_verdict.specs.Laws.{SoundTradesHaveVerdict}
 
 -- the laws that the answer rests on
 pub record Laws : Type 0 where
@@ -44,7 +44,7 @@ pub record Laws : Type 0 where
   pub maximum : MaximumTradesAreExpected
   pub quantities : OnlyQuantities
   pub pairs : OnlyPairs
-  pub judged : SoundTradesAreJudged
+  pub judged : SoundTradesHaveVerdict
 
 -- well-formed records with sound trades have no finding before a rule that admits their orders
 none-before : (the_rule : Rule) (symbol : List ℕ) (entries : List OrderRecord) (trades : List TradeRecord) → WellFormed symbol entries → instant_finding_of_rule the_rule (order_list symbol entries) ≡ None

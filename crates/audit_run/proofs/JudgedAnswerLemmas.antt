@@ -28,7 +28,7 @@ use Rattle.audit_run.specs.VerdictAnswers.{IsVerdictAnswer}
 use Rattle.record_verdict.specs.Judgements.{IsRecordVerdict, IsVerdictOfFinding}
 use Rattle.log_verdict.specs.LogVerdicts.{records_of_order_log, trades_of_trade_log, HaveRecords, IsLogVerdict, Log, OfLogs}
 use Rattle.record_verdict.specs.Scopes.{scope_of}
-use Rattle.record_verdict.specs.Stages.{VerdictFollowsDeals, IsVerdictUpToRule}
+use Rattle.record_verdict.specs.Stages.{VerdictFollowsDeals, IsVerdictAfterStages}
 use Rattle.record_verdict.specs.BeforeRule.{IsResolvedWithoutFinding, IsBeforeRule}
 
 -- what follows of records and of a bad place follows of two logs
@@ -44,13 +44,13 @@ of_logs P P' B B' records bads orders trades come = of_said (records_of_order_lo
     of_said (Err bad) second is = bads Orders bad is
 
 -- the verdict by what is known of two logs is that of the logs
-pub verdict_of_logs : (q : Question) (reached : BeforeRule) (v : Verdict) (orders trades : Log) → IsVerdictUpToRule q reached v → LogsReach (scope_of q) orders trades reached → IsLogVerdict q orders trades v
+pub verdict_of_logs : (q : Question) (reached : BeforeRule) (v : Verdict) (orders trades : Log) → IsVerdictAfterStages q reached v → LogsReach (scope_of q) orders trades reached → IsLogVerdict q orders trades v
 verdict_of_logs q reached v orders trades is come =
     of_logs (λ entries paired. IsBeforeRule (scope_of q) entries paired reached) (λ entries paired. IsRecordVerdict q entries paired v)
     (λ log bad. reached ≡ before_rule.Malformed log bad) (λ log bad. v ≡ verdict.Malformed log bad) is.of_records is.of_place orders trades come
 
 -- an answer of a bad place or of a finding is that of `certify`
-refused_certifies : (q : Question) (reached : BeforeRule) (v other : Verdict) (answer : Answer) → IsVerdictUpToRule q reached v → v ≡ other → IsAnswerOfKind (IsVerdictAnswer v) answer
+refused_certifies : (q : Question) (reached : BeforeRule) (v other : Verdict) (answer : Answer) → IsVerdictAfterStages q reached v → v ≡ other → IsAnswerOfKind (IsVerdictAnswer v) answer
     → ((is_text : List ℕ → Type 0) → IsAnswerOfKind (IsVerdictAnswer other) answer → IsVerdictAnswerWith is_text other answer.status answer.text.items) → IsAnswerOfKind (IsCertifyAnswerOn q reached) answer
 refused_certifies q reached v other answer is same made reports orders trades come = record {
   verdict = v;
@@ -58,7 +58,7 @@ refused_certifies q reached v other answer is same made reports orders trades co
   answer = rw same (reports (IsCertificateOf q orders trades) (rw same at made));
 }
 
-pub answer_certifies : (q : Question) (reached : BeforeRule) (v : Verdict) (answer : Answer) → ((sound : ResolvedTrades) → reached ≡ before_rule.Sound sound → ⊥) → IsVerdictUpToRule q reached v → IsAnswerOfKind (IsVerdictAnswer v) answer
+pub answer_certifies : (q : Question) (reached : BeforeRule) (v : Verdict) (answer : Answer) → ((sound : ResolvedTrades) → reached ≡ before_rule.Sound sound → ⊥) → IsVerdictAfterStages q reached v → IsAnswerOfKind (IsVerdictAnswer v) answer
     → IsAnswerOfKind (IsCertifyAnswerOn q reached) answer
 answer_certifies q (before_rule.Malformed log bad) v answer none is made =
     refused_certifies q (before_rule.Malformed log bad) v (verdict.Malformed log bad) answer is (is.of_place log bad refl) made
@@ -105,7 +105,7 @@ certificate_of q orders trades resolved text have is =
     }
 
 -- the answer of sound trades is that of `certify`
-pub sound_certifies : (q : Question) (resolved : ResolvedTrades) (v : Verdict) (answer : Answer) → IsVerdictUpToRule q (before_rule.Sound resolved) v → IsAnswerOfKind (IsVerdictAnswerWith (IsDealsCertificate q resolved) v) answer → IsAnswerOfKind (IsCertifyAnswerOn q (before_rule.Sound resolved)) answer
+pub sound_certifies : (q : Question) (resolved : ResolvedTrades) (v : Verdict) (answer : Answer) → IsVerdictAfterStages q (before_rule.Sound resolved) v → IsAnswerOfKind (IsVerdictAnswerWith (IsDealsCertificate q resolved) v) answer → IsAnswerOfKind (IsCertifyAnswerOn q (before_rule.Sound resolved)) answer
 sound_certifies q resolved v answer is made orders trades come = record {
   verdict = v;
   is = verdict_of_logs q (before_rule.Sound resolved) v orders trades is come;

@@ -9,7 +9,7 @@ use Rattle.log_source.specs.Sources.{RoseOrIsFull}
 use Rattle.command_words.specs.declared.requests.Request.{Request}
 use Rattle.audit_run.specs.InMemory.{HasRoomForAnswer}
 use Rattle.audit_run.specs.Requests.{IsAnswerTo}
-use Rattle.audit_run.specs.Runs.{AllIsThere, AnswersRequest, HoldsLog, HoldsNeededLogs, IsAnswerToReadLogs, IsDecidedText, ReadingDecides, ReadsUpTo, StopsTooLong, StopsUnreadable, WritesAnswer, WritesPrefix}
+use Rattle.audit_run.specs.Runs.{AllIsThere, AnswersRequest, HoldsLog, HoldsNeededLogs, IsAnswerToReadLogs, IsDecidedText, ReadingDecides, ReadsThenStarts, StopsTooLong, StopsUnreadable, WritesAnswer, WritesPrefix}
 use Rattle.log_verdict.specs.Steps.{Reading, LogStep}
 use Rattle.audit_run.proofs.RoomLemmas.{never_cut}
 use Rattle.audit_run.proofs.StepLemmas.{held-after, held-next, held-all, rose-in}
@@ -26,7 +26,7 @@ held_within limit log bytes held within long =
 -- it is known what the shelf holds, it holds these logs, and none of its faults rose
 module _ (r : Reading) (request : Request) (logs : List (List ℕ)) (tells : r.tells ≡ true) (held : HoldsNeededLogs r request [] logs) (quiet : (log : Which) → ¬ RoseOrIsFull (r.before log).faults (r.after log).faults) where
   -- the log that the reading reached is held
-  last_held : (last : LogStep) → ReadsUpTo r request last → (bytes : List ℕ) × HoldsLog r last.log last.name bytes
+  last_held : (last : LogStep) → ReadsThenStarts r request last → (bytes : List ℕ) × HoldsLog r last.log last.name bytes
   last_held last reached =
       let left = held-after r request [] reached.steps reached.logs logs tells reached.read held (last.log, last.name) reached.next in
       held-next r request reached.logs left.0 (last.log, last.name) reached.next left.1

@@ -108,7 +108,7 @@ pub record IsAnswerToReadLogs (r : Reading) (request : Request) (status : Status
 
 -- The logs that the command needs before this one were read, each to its end, and this one was
 -- started as the last.
-pub record ReadsUpTo (r : Reading) (request : Request) (last : LogStep) : Type 0 where
+pub record ReadsThenStarts (r : Reading) (request : Request) (last : LogStep) : Type 0 where
   pub steps : List LogStep
   pub logs : List (List ℕ)
   pub lead : StepsLead r.before (steps ++ last ∷ []) r.after
@@ -118,14 +118,14 @@ pub record ReadsUpTo (r : Reading) (request : Request) (last : LogStep) : Type 0
 -- Reading stopped at a log that could not be read, and the line says which.
 pub record StopsUnreadable (r : Reading) (request : Request) (text : List ℕ) : Type 0 where
   pub last : LogStep
-  pub reads : ReadsUpTo r request last
+  pub reads : ReadsThenStarts r request last
   pub cause : IsReadFault r last
   pub text_is : text ≡ read_fault_line last.log
 
 -- Reading stopped at a log that is too long, and the line says which.
 pub record StopsTooLong (r : Reading) (request : Request) (text : List ℕ) : Type 0 where
   pub last : LogStep
-  pub reads : ReadsUpTo r request last
+  pub reads : ReadsThenStarts r request last
   pub cause : IsTooLong r last
   pub text_is : text ≡ too_long_line last.log
 

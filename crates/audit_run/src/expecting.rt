@@ -41,7 +41,7 @@ use log_verdict::stops::Stop;
 use maximum_audit::expecting::greatest_matching;
 use order_list::lists::OrderList;
 use record_verdict::judging::call_finding;
-use record_verdict::laws::sound_trades_are_judged;
+use record_verdict::laws::sound_trades_have_verdict;
 use std::alloc::Global;
 use std::marker::Brand;
 use uniform_audit::expecting::expected_uniform;
@@ -104,7 +104,7 @@ fn expected_log(
     maximum_trades_are_expected();
     only_quantities();
     continuous_uniqueness();
-    sound_trades_are_judged();
+    sound_trades_have_verdict();
     conforming_log(alloc, rule, symbol, orders)
 }
 

@@ -16,18 +16,18 @@ use Rattle.audit_base.proofs.SumLemmas.{sum_by-same}
 use Rattle.audit_base.proofs.ContinuousOffenceLemmas.{late-conforms}
 use Rattle.order_book.specs.declared.books.Resting.{Resting}
 use Rattle.continuous_audit.specs.declared.books.BooksSoFar.{BooksSoFar}
-use Rattle.continuous_audit.specs.declared.incoming_deals.Cause.{Cause}
+use Rattle.continuous_audit.specs.declared.incoming_deals.IncomingDeal.{IncomingDeal}
 use Rattle.continuous_audit.specs.declared.endings.Ending.{Ending}
 use Rattle.continuous_audit.specs.declared.market.Market.{Market}
 use Rattle.continuous_audit.specs.declared.state.State.{State}
 use Rattle.continuous_audit.specs.Markets.{IsMarket}
 use Rattle.continuous_audit.specs.Books.{AreEmptyBooks, AreBooksBefore, next_order_place}
-use Rattle.continuous_audit.specs.IncomingDeals.{AreCauses}
+use Rattle.continuous_audit.specs.IncomingDeals.{AreIncomingDeals}
 use Rattle.continuous_audit.specs.Chains.{HaveChainsEnded}
 use Rattle.continuous_audit.specs.Endings.{AreEndings}
 use Rattle.continuous_audit.specs.Holding.{IsListOfAmounts, resting_left_before}
 use Rattle.continuous_audit.specs.Progress.{IsFirstState, IsReadyAt}
-use Rattle.continuous_audit.specs.Records.{AreBeforeNumbers, AreLeftBefore, AreSizes, ConformsAndIsUncrossed}
+use Rattle.continuous_audit.specs.Records.{AreChainTradedNumbers, AreLeftBefore, AreSizes, ConformsAndIsUncrossed}
 use Rattle.continuous_audit.specs.Scans.{AreRunningTotals, IsSplitAt, number_in}
 use Rattle.continuous_audit.proofs.NumberLemmas.{traded-at}
 use Rattle.continuous_audit.proofs.RestLemmas.{resting_left-future}
@@ -58,12 +58,12 @@ module _ (orders : List Order) (list : IsOrderList orders) (deals : List Deal) w
   empty-hold books_so_far bare = record { bid_side = bare.bid_side; ask_side = bare.ask_side; bids = nothing-held Buy books_so_far.books.bids.resting bare.bids; asks = nothing-held Sell books_so_far.books.asks.resting bare.asks }
 
 -- a market, of the lists that the code has made
-pub market-read : (m : Market) (incoming_deals : List Cause) (endings : List Ending) → IsOrderList m.orders.now → IsDealList m.orders.now m.deals.now → m.incoming_deals.now ≡ incoming_deals → m.endings.now ≡ endings
-    → AreCauses m.orders.now m.deals.now incoming_deals → AreEndings m.orders.now endings → IsMarket m
+pub market-read : (m : Market) (incoming_deals : List IncomingDeal) (endings : List Ending) → IsOrderList m.orders.now → IsDealList m.orders.now m.deals.now → m.incoming_deals.now ≡ incoming_deals → m.endings.now ≡ endings
+    → AreIncomingDeals m.orders.now m.deals.now incoming_deals → AreEndings m.orders.now endings → IsMarket m
 market-read m incoming_deals endings list deal_list incoming_deals_are endings_are made ends = record {
   list = list;
   deal_list = deal_list;
-  incoming_deals = subst (AreCauses m.orders.now m.deals.now) (sym incoming_deals_are) made;
+  incoming_deals = subst (AreIncomingDeals m.orders.now m.deals.now) (sym incoming_deals_are) made;
   endings = subst (AreEndings m.orders.now) (sym endings_are) ends;
 }
 
@@ -78,7 +78,7 @@ module _ (m : Market) (is : IsMarket m) where
   ready-first state bare = record {
     calm = calm-first orders deals (place_at orders 0) is.deal_list.named (first-place orders is.list deals);
     known = record {
-      chain_traded = subst (AreBeforeNumbers orders deals 0) (sym bare.numbers.order_numbers.chain_traded) (record {
+      chain_traded = subst (AreChainTradedNumbers orders deals 0) (sym bare.numbers.order_numbers.chain_traded) (record {
         count = length-replicate {A = ℕ} (length orders) 0;
         is = λ x lt. absurd (omega arith);
         fits = λ x. let z = zero-in (length orders) x in omega arith;

@@ -19,66 +19,66 @@ use Rattle.audit_base.specs.Continuous.{cause, incoming_order, traded_before, tr
 use Rattle.audit_base.proofs.OffenceLemmas.{get_or-default}
 use Rattle.audit_base.proofs.OrderLemmas.{place-rises}
 use Rattle.audit_base.proofs.SumLemmas.{below-same, below-list, below-add, sum_by-same, AllPairs-head, AllPairs-tail, AllPairs-cons}
-use Rattle.continuous_audit.specs.declared.incoming_deals.Cause.{Cause}
-use Rattle.continuous_audit.specs.IncomingDeals.{AreCauses, CauseBefore, cause_cmp, cause_of, causes_upto, running_total}
+use Rattle.continuous_audit.specs.declared.incoming_deals.IncomingDeal.{IncomingDeal}
+use Rattle.continuous_audit.specs.IncomingDeals.{AreIncomingDeals, IncomingDealBefore, incoming_deal_cmp, incoming_deal_of, incoming_deals_upto, running_total}
 
 module _ (orders : List Order) (deals : List Deal) where
-  upto-only : (n : ℕ) → All (λ c. (c.deal < n) × (c ≡ cause_of orders deals c.deal)) (causes_upto orders deals n)
-  upto-only zero = All-nil (λ (c : Cause). (c.deal < 0) × (c ≡ cause_of orders deals c.deal))
-  upto-only (suc n) = All-push (λ (c : Cause). (c.deal < suc n) × (c ≡ cause_of orders deals c.deal)) (causes_upto orders deals n) (cause_of orders deals n)
-      (All-weaker (λ (c : Cause). (c.deal < n) × (c ≡ cause_of orders deals c.deal)) (λ (c : Cause). (c.deal < suc n) × (c ≡ cause_of orders deals c.deal)) (λ c h. let l = h.0 in (omega arith, h.1)) (causes_upto orders deals n) (upto-only n))
+  upto-only : (n : ℕ) → All (λ c. (c.deal < n) × (c ≡ incoming_deal_of orders deals c.deal)) (incoming_deals_upto orders deals n)
+  upto-only zero = All-nil (λ (c : IncomingDeal). (c.deal < 0) × (c ≡ incoming_deal_of orders deals c.deal))
+  upto-only (suc n) = All-push (λ (c : IncomingDeal). (c.deal < suc n) × (c ≡ incoming_deal_of orders deals c.deal)) (incoming_deals_upto orders deals n) (incoming_deal_of orders deals n)
+      (All-weaker (λ (c : IncomingDeal). (c.deal < n) × (c ≡ incoming_deal_of orders deals c.deal)) (λ (c : IncomingDeal). (c.deal < suc n) × (c ≡ incoming_deal_of orders deals c.deal)) (λ c h. let l = h.0 in (omega arith, h.1)) (incoming_deals_upto orders deals n) (upto-only n))
       (omega arith, refl)
 
-  upto-each : (n k : ℕ) → k < n → Contains (causes_upto orders deals n) (cause_of orders deals k)
+  upto-each : (n k : ℕ) → k < n → Contains (incoming_deals_upto orders deals n) (incoming_deal_of orders deals k)
   upto-each zero k lt = absurd (omega arith)
   upto-each (suc n) k lt = elim (cases_eq k n) [
-    | inl e ↦ subst (λ j. Contains (causes_upto orders deals (suc n)) (cause_of orders deals j)) (sym e) (Contains-push (causes_upto orders deals n) (cause_of orders deals n))
-    | inr ne ↦ Contains-append_left (causes_upto orders deals n) (cause_of orders deals n ∷ []) (cause_of orders deals k) (upto-each n k (omega (arith, ne)))
+    | inl e ↦ subst (λ j. Contains (incoming_deals_upto orders deals (suc n)) (incoming_deal_of orders deals j)) (sym e) (Contains-push (incoming_deals_upto orders deals n) (incoming_deal_of orders deals n))
+    | inr ne ↦ Contains-append_left (incoming_deals_upto orders deals n) (incoming_deal_of orders deals n ∷ []) (incoming_deal_of orders deals k) (upto-each n k (omega (arith, ne)))
   ]
 
-  upto-sum : (f : Cause → ℕ) (n : ℕ) → sum_by f (causes_upto orders deals n) ≡ sum_below (λ k. f (cause_of orders deals k)) n
+  upto-sum : (f : IncomingDeal → ℕ) (n : ℕ) → sum_by f (incoming_deals_upto orders deals n) ≡ sum_below (λ k. f (incoming_deal_of orders deals k)) n
   upto-sum f zero = refl
   upto-sum f (suc n) =
       let rest = upto-sum f n in
-      let more = sum_by-append f (causes_upto orders deals n) (cause_of orders deals n ∷ []) in
-      let one = sum_by-cons f (cause_of orders deals n) [] in
+      let more = sum_by-append f (incoming_deals_upto orders deals n) (incoming_deal_of orders deals n ∷ []) in
+      let one = sum_by-cons f (incoming_deal_of orders deals n) [] in
       omega arith
 
-  upto-rising : (n : ℕ) (i j : ℕ) (d : Cause) → i < j → j < length (causes_upto orders deals n) → (get_or (causes_upto orders deals n) i d).deal < (get_or (causes_upto orders deals n) j d).deal
+  upto-rising : (n : ℕ) (i j : ℕ) (d : IncomingDeal) → i < j → j < length (incoming_deals_upto orders deals n) → (get_or (incoming_deals_upto orders deals n) i d).deal < (get_or (incoming_deals_upto orders deals n) j d).deal
   upto-rising n i j d lt below = pairs n i j d lt below
     where
-      push : (xs : List Cause) (y : Cause) → AllPairs (λ a b. a.deal < b.deal) xs → All (λ a. a.deal < y.deal) xs → AllPairs (λ a b. a.deal < b.deal) (xs ++ y ∷ [])
+      push : (xs : List IncomingDeal) (y : IncomingDeal) → AllPairs (λ a b. a.deal < b.deal) xs → All (λ a. a.deal < y.deal) xs → AllPairs (λ a b. a.deal < b.deal) (xs ++ y ∷ [])
       push [] y h under = λ i j d lt below. absurd (omega arith)
-      push (x ∷ xs) y h under = AllPairs-cons (λ (a b : Cause). a.deal < b.deal) x (xs ++ y ∷ []) (All-push (λ (b : Cause). x.deal < b.deal) xs y (AllPairs-head (λ (a b : Cause). a.deal < b.deal) x xs h) (All-head (λ (a : Cause). a.deal < y.deal) x xs under))
-          (push xs y (AllPairs-tail (λ (a b : Cause). a.deal < b.deal) x xs h) (All-tail (λ (a : Cause). a.deal < y.deal) x xs under))
+      push (x ∷ xs) y h under = AllPairs-cons (λ (a b : IncomingDeal). a.deal < b.deal) x (xs ++ y ∷ []) (All-push (λ (b : IncomingDeal). x.deal < b.deal) xs y (AllPairs-head (λ (a b : IncomingDeal). a.deal < b.deal) x xs h) (All-head (λ (a : IncomingDeal). a.deal < y.deal) x xs under))
+          (push xs y (AllPairs-tail (λ (a b : IncomingDeal). a.deal < b.deal) x xs h) (All-tail (λ (a : IncomingDeal). a.deal < y.deal) x xs under))
 
-      pairs : (n : ℕ) → AllPairs (λ a b. a.deal < b.deal) (causes_upto orders deals n)
+      pairs : (n : ℕ) → AllPairs (λ a b. a.deal < b.deal) (incoming_deals_upto orders deals n)
       pairs zero = λ i j d lt below. absurd (omega arith)
-      pairs (suc n) = push (causes_upto orders deals n) (cause_of orders deals n) (pairs n) (All-weaker (λ (c : Cause). (c.deal < n) × (c ≡ cause_of orders deals c.deal)) (λ (c : Cause). c.deal < n) (λ c h. h.0) (causes_upto orders deals n) (upto-only n))
+      pairs (suc n) = push (incoming_deals_upto orders deals n) (incoming_deal_of orders deals n) (pairs n) (All-weaker (λ (c : IncomingDeal). (c.deal < n) × (c ≡ incoming_deal_of orders deals c.deal)) (λ (c : IncomingDeal). c.deal < n) (λ c h. h.0) (incoming_deals_upto orders deals n) (upto-only n))
 
-abbrev same_deal : Cause → Cause → Bool
+abbrev same_deal : IncomingDeal → IncomingDeal → Bool
 same_deal a b = eqb a.deal b.deal
 
-weak : IsStrictWeakOrder (λ (a b : Cause). is_lt (cause_cmp a b))
-weak = ranks_by (then_total (on_total (λ (c : Cause). c.order) nat_cmp_total) (on_total (λ (c : Cause). c.deal) nat_cmp_total)) (λ (c : Cause). c)
+weak : IsStrictWeakOrder (λ (a b : IncomingDeal). is_lt (incoming_deal_cmp a b))
+weak = ranks_by (then_total (on_total (λ (c : IncomingDeal). c.order) nat_cmp_total) (on_total (λ (c : IncomingDeal). c.deal) nat_cmp_total)) (λ (c : IncomingDeal). c)
 
-sooner : (a b : Cause) → a.deal ≢ b.deal → is_lt (cause_cmp b a) ≡ false → CauseBefore a b
+sooner : (a b : IncomingDeal) → a.deal ≢ b.deal → is_lt (incoming_deal_cmp b a) ≡ false → IncomingDealBefore a b
 sooner a b apart h = elim (cases_lt a.order b.order) [
   | inl lt ↦ inl lt
   | inr le ↦ inr (grind (arith, nat_tests), elim (cases_lt a.deal b.deal) [ inl lt ↦ lt | inr ge ↦ absurd (apart (grind (arith, nat_tests))) ])
 ]
 
 -- the incoming deals, sorted
-pub are-incoming_deals : (orders : List Order) (deals : List Deal) (incoming_deals : List Cause) → IsPermutation (causes_upto orders deals (length deals)) incoming_deals → IsSorted cause_cmp incoming_deals → AreCauses orders deals incoming_deals
+pub are-incoming_deals : (orders : List Order) (deals : List Deal) (incoming_deals : List IncomingDeal) → IsPermutation (incoming_deals_upto orders deals (length deals)) incoming_deals → IsSorted incoming_deal_cmp incoming_deals → AreIncomingDeals orders deals incoming_deals
 are-incoming_deals orders deals incoming_deals moved in_order =
-    let from = causes_upto orders deals (length deals) in
+    let from = incoming_deals_upto orders deals (length deals) in
     let once = IsDistinct-from_apart same_deal from (λ i j d lt below. ne_eqb _ _ (λ e. let up = upto-rising orders deals (length deals) i j d lt below in absurd (omega arith))) in
     record {
-      only = All-permutation (λ (c : Cause). (c.deal < length deals) × (c ≡ cause_of orders deals c.deal)) from incoming_deals moved (upto-only orders deals (length deals));
-      each = λ k lt. Contains-permutation from incoming_deals (cause_of orders deals k) moved (upto-each orders deals (length deals) k lt);
+      only = All-permutation (λ (c : IncomingDeal). (c.deal < length deals) × (c ≡ incoming_deal_of orders deals c.deal)) from incoming_deals moved (upto-only orders deals (length deals));
+      each = λ k lt. Contains-permutation from incoming_deals (incoming_deal_of orders deals k) moved (upto-each orders deals (length deals) k lt);
       rising = λ i j d lt below.
           let apart : (get_or incoming_deals i d).deal ≢ (get_or incoming_deals j d).deal = λ e. both_ways _ (apart_from_distinct same_deal incoming_deals i j d (IsDistinct-IsPermutation same_deal (λ r s. flips r.deal s.deal) from incoming_deals moved once) lt below) (eq-eqb _ _ e) in
-          sooner (get_or incoming_deals i d) (get_or incoming_deals j d) apart (sorted_far (λ (r s : Cause). is_lt (cause_cmp r s)) weak incoming_deals in_order i j d (omega arith) below);
+          sooner (get_or incoming_deals i d) (get_or incoming_deals j d) apart (sorted_far (λ (r s : IncomingDeal). is_lt (incoming_deal_cmp r s)) weak incoming_deals in_order i j d (omega arith) below);
       sums = λ f. sum_by-IsPermutation f from incoming_deals moved;
     }
   where
@@ -86,8 +86,8 @@ are-incoming_deals orders deals incoming_deals moved in_order =
     flips a b = grind (arith, nat_tests)
 
 -- a test that holds of the first incoming deals alone picks their sum
-module _ (f : Cause → ℕ) (test : Cause → Bool) where
-  picked : (cs : List Cause) (at : ℕ) → ((i : ℕ) (d : Cause) → i < at → i < length cs → test (get_or cs i d) ≡ true) → ((i : ℕ) (d : Cause) → at ≤ i → i < length cs → test (get_or cs i d) ≡ false)
+module _ (f : IncomingDeal → ℕ) (test : IncomingDeal → Bool) where
+  picked : (cs : List IncomingDeal) (at : ℕ) → ((i : ℕ) (d : IncomingDeal) → i < at → i < length cs → test (get_or cs i d) ≡ true) → ((i : ℕ) (d : IncomingDeal) → at ≤ i → i < length cs → test (get_or cs i d) ≡ false)
       → sum_by (λ c. cond (test c) (f c) 0) cs ≡ sum_by f (take at cs)
   picked [] zero first later = refl
   picked [] (suc at) first later = refl
@@ -139,28 +139,28 @@ incoming-cause orders d = elim (cases_lt (place_at orders d.bid) (place_at order
 pub incoming-inside : (orders : List Order) (d : Deal) → NamesOrders orders d → incoming_order orders d < length orders
 incoming-inside orders d n = cond_both (nat_lt (place_at orders d.bid) (place_at orders d.ask)) d.ask d.bid (λ x. x < length orders) (λ t. n.ask_inside) (λ t. n.bid_inside)
 
-module _ (orders : List Order) (list : IsOrderList orders) (deals : List Deal) (named : All (NamesOrders orders) deals) (incoming_deals : List Cause) (are : AreCauses orders deals incoming_deals) where
+module _ (orders : List Order) (list : IsOrderList orders) (deals : List Deal) (named : All (NamesOrders orders) deals) (incoming_deals : List IncomingDeal) (are : AreIncomingDeals orders deals incoming_deals) where
   -- a sum over all incoming deals of what is picked by a test of the place and the deal
-  all-sum : (f : Cause → ℕ) → sum_by f incoming_deals ≡ sum_below (λ k. f (cause_of orders deals k)) (length deals)
+  all-sum : (f : IncomingDeal → ℕ) → sum_by f incoming_deals ≡ sum_below (λ k. f (incoming_deal_of orders deals k)) (length deals)
   all-sum f = are.sums f ∙ upto-sum orders deals f (length deals)
 
-  pub cause-inside : (i : ℕ) (d : Cause) → i < length incoming_deals → (get_or incoming_deals i d).order < length orders
+  pub cause-inside : (i : ℕ) (d : IncomingDeal) → i < length incoming_deals → (get_or incoming_deals i d).order < length orders
   cause-inside i d lt =
       let h = are.only i d lt in
       let c = get_or incoming_deals i d in
       let inside = incoming-inside orders (deal_at deals c.deal) (named c.deal deal_past_end h.0) in
-      let same : c.order ≡ incoming_order orders (deal_at deals c.deal) = ap (λ (x : Cause). x.order) h.1 in
+      let same : c.order ≡ incoming_order orders (deal_at deals c.deal) = ap (λ (x : IncomingDeal). x.order) h.1 in
       omega arith
 
-  part : ℕ → Cause → ℕ
+  part : ℕ → IncomingDeal → ℕ
   part x c = quantity_traded_by x (deal_at deals c.deal)
 
   -- the first incoming deals, those of orders of places below p: what is traded before p
-  pub running-before : (p at x : ℕ) → ((i : ℕ) (d : Cause) → i < at → i < length incoming_deals → place_at orders (get_or incoming_deals i d).order < p) → ((i : ℕ) (d : Cause) → at ≤ i → i < length incoming_deals → p ≤ place_at orders (get_or incoming_deals i d).order)
+  pub running-before : (p at x : ℕ) → ((i : ℕ) (d : IncomingDeal) → i < at → i < length incoming_deals → place_at orders (get_or incoming_deals i d).order < p) → ((i : ℕ) (d : IncomingDeal) → at ≤ i → i < length incoming_deals → p ≤ place_at orders (get_or incoming_deals i d).order)
       → running_total deals incoming_deals at x ≡ traded_before orders deals p x
   unfolding traded_before part
   running-before p at x first later =
-      let test : Cause → Bool = λ c. nat_lt (place_at orders c.order) p in
+      let test : IncomingDeal → Bool = λ c. nat_lt (place_at orders c.order) p in
       let h : Deal → ℕ = λ d. cond (nat_lt (place_at orders (incoming_order orders d)) p) (quantity_traded_by x d) 0 in
       let one = picked (part x) test incoming_deals at (λ i d lt below. lt-ltb _ _ (first i d lt below)) (λ i d le below. le-ltb _ _ (later i d le below)) in
       let two = all-sum (λ c. cond (test c) (part x c) 0) in
@@ -172,45 +172,45 @@ module _ (orders : List Order) (list : IsOrderList orders) (deals : List Deal) (
 
   -- up to the incoming deal at an index, of the order at n: what is traded before its place, and in its
   -- deals up to this one
-  module _ (at : ℕ) (e : Cause) (lt : at < length incoming_deals) where
-    abbrev here : Cause
+  module _ (at : ℕ) (e : IncomingDeal) (lt : at < length incoming_deals) where
+    abbrev here : IncomingDeal
     here = get_or incoming_deals at e
 
     abbrev p : ℕ
     p = place_at orders here.order
 
-    lower : (i : ℕ) (d : Cause) → i < length incoming_deals → (get_or incoming_deals i d).order < here.order → place_at orders (get_or incoming_deals i d).order < p
+    lower : (i : ℕ) (d : IncomingDeal) → i < length incoming_deals → (get_or incoming_deals i d).order < here.order → place_at orders (get_or incoming_deals i d).order < p
     lower i d below less = place-rises orders list (get_or incoming_deals i d).order here.order less (cause-inside at e lt)
 
-    higher : (i : ℕ) (d : Cause) → i < length incoming_deals → here.order < (get_or incoming_deals i d).order → p < place_at orders (get_or incoming_deals i d).order
+    higher : (i : ℕ) (d : IncomingDeal) → i < length incoming_deals → here.order < (get_or incoming_deals i d).order → p < place_at orders (get_or incoming_deals i d).order
     higher i d below more = place-rises orders list here.order (get_or incoming_deals i d).order more (cause-inside i d below)
 
-    upto : Cause → Bool
+    upto : IncomingDeal → Bool
     upto c = nat_lt (place_at orders c.order) p || ((place_at orders c.order == p) && nat_le c.deal here.deal)
 
-    default-at : (i : ℕ) (d : Cause) → i < length incoming_deals → get_or incoming_deals i d ≡ get_or incoming_deals i e
+    default-at : (i : ℕ) (d : IncomingDeal) → i < length incoming_deals → get_or incoming_deals i d ≡ get_or incoming_deals i e
     default-at i d below = get_or-default incoming_deals i d e below
 
-    upto-first : (i : ℕ) (d : Cause) → i < suc at → i < length incoming_deals → upto (get_or incoming_deals i d) ≡ true
+    upto-first : (i : ℕ) (d : IncomingDeal) → i < suc at → i < length incoming_deals → upto (get_or incoming_deals i d) ≡ true
     unfolding upto
     upto-first i d le below = elim (cases_eq i at) [
       | inl same ↦
           let is : get_or incoming_deals i d ≡ here = default-at i d below ∙ ap (λ (j : ℕ). get_or incoming_deals j e) same in
-          subst (λ (c : Cause). (nat_lt (place_at orders c.order) p || ((place_at orders c.order == p) && nat_le c.deal here.deal)) ≡ true) (sym is) (or_right _ _ (and_from _ _ (eq-eqb p p refl) (le-leb here.deal here.deal (omega arith))))
+          subst (λ (c : IncomingDeal). (nat_lt (place_at orders c.order) p || ((place_at orders c.order == p) && nat_le c.deal here.deal)) ≡ true) (sym is) (or_right _ _ (and_from _ _ (eq-eqb p p refl) (le-leb here.deal here.deal (omega arith))))
       | inr ne ↦ elim (before-at i d (omega (arith, ne)) below) [
         | inl less ↦ or_left _ _ (lt-ltb _ _ (lower i d below less))
         | inr same ↦ let deal = same.1 in or_right (nat_lt (place_at orders (get_or incoming_deals i d).order) p) _ (and_from _ _ (eq-eqb _ _ (ap (place_at orders) same.0)) (le-leb _ _ (omega arith)))
       ]
     ]
       where
-        before-at : (i : ℕ) (d : Cause) → i < at → i < length incoming_deals → CauseBefore (get_or incoming_deals i d) here
-        before-at i d less below = subst (λ (c : Cause). CauseBefore (get_or incoming_deals i d) c) (default-at at d lt) (are.rising i at d less lt)
+        before-at : (i : ℕ) (d : IncomingDeal) → i < at → i < length incoming_deals → IncomingDealBefore (get_or incoming_deals i d) here
+        before-at i d less below = subst (λ (c : IncomingDeal). IncomingDealBefore (get_or incoming_deals i d) c) (default-at at d lt) (are.rising i at d less lt)
 
-    upto-later : (i : ℕ) (d : Cause) → suc at ≤ i → i < length incoming_deals → upto (get_or incoming_deals i d) ≡ false
+    upto-later : (i : ℕ) (d : IncomingDeal) → suc at ≤ i → i < length incoming_deals → upto (get_or incoming_deals i d) ≡ false
     unfolding upto
     upto-later i d le below =
         let c = get_or incoming_deals i d in
-        let after : CauseBefore here c = subst (λ (x : Cause). CauseBefore x c) (default-at at d lt) (are.rising at i d (omega arith) below) in
+        let after : IncomingDealBefore here c = subst (λ (x : IncomingDeal). IncomingDealBefore x c) (default-at at d lt) (are.rising at i d (omega arith) below) in
         elim after [
           | inl more ↦
               let above = higher i d below more in
@@ -233,7 +233,7 @@ module _ (orders : List Order) (list : IsOrderList orders) (deals : List Deal) (
         let g : Deal → ℕ = λ d. cond (place_at orders (incoming_order orders d) == p) (quantity_traded_by x d) 0 in
         let one = picked (part x) upto incoming_deals (suc at) upto-first upto-later in
         let two = all-sum (λ c. cond (upto c) (part x c) 0) in
-        let three : sum_below (λ j. cond (upto (cause_of orders deals j)) (quantity_traded_by x (deal_at deals j)) 0) (length deals) ≡ sum_below (λ j. h (deal_at deals j) + cond (nat_le j k) (g (deal_at deals j)) 0) (length deals) =
+        let three : sum_below (λ j. cond (upto (incoming_deal_of orders deals j)) (quantity_traded_by x (deal_at deals j)) 0) (length deals) ≡ sum_below (λ j. h (deal_at deals j) + cond (nat_le j k) (g (deal_at deals j)) 0) (length deals) =
         below-same _ _ (length deals) (λ j below.
         let d = deal_at deals j in
         let q = place_at orders (incoming_order orders d) in

@@ -12,14 +12,14 @@ use Rattle.audit_base.specs.Continuous.{traded_before, size_in_ledger, left_afte
 use Rattle.audit_base.proofs.OrderLemmas.{place-rises}
 use Rattle.audit_base.proofs.ContinuousOffenceLemmas.{traded-more}
 use Rattle.order_book.specs.declared.books.Resting.{Resting}
-use Rattle.continuous_audit.specs.declared.incoming_deals.Cause.{Cause}
+use Rattle.continuous_audit.specs.declared.incoming_deals.IncomingDeal.{IncomingDeal}
 use Rattle.continuous_audit.specs.Holding.{IsListOfAmounts, IsFilledInFront, IsRestingOn, IsWithinBook, after_fills, resting_left_before, resting_left_after_deals}
-use Rattle.continuous_audit.specs.Scans.{IsLeftRefreshed, cause_deal_at, number_in}
+use Rattle.continuous_audit.specs.Scans.{IsLeftRefreshed, deal_index_at, number_in}
 use Rattle.continuous_laws.proofs.StepLemmas.{rests-parts}
 use Rattle.continuous_audit.proofs.RestLemmas.{resting_left-parts}
 use Rattle.continuous_audit.proofs.HeadLemmas.{after_fills-holds}
 
-pub refreshed-more : (deals : List Deal) (incoming_deals : List Cause) (start at : ℕ) (sizes traded old xs ys : List ℕ) (d : Deal) → d ≡ deal_at deals (cause_deal_at incoming_deals at) → d.bid < length xs → d.ask < length xs
+pub refreshed-more : (deals : List Deal) (incoming_deals : List IncomingDeal) (start at : ℕ) (sizes traded old xs ys : List ℕ) (d : Deal) → d ≡ deal_at deals (deal_index_at incoming_deals at) → d.bid < length xs → d.ask < length xs
     → ys ≡ slice_set (slice_set xs d.bid (number_in sizes d.bid - number_in traded d.bid)) d.ask (number_in sizes d.ask - number_in traded d.ask)
     → IsLeftRefreshed deals incoming_deals start at sizes traded old xs → IsLeftRefreshed deals incoming_deals start (at + 1) sizes traded old ys
 refreshed-more deals incoming_deals start at sizes traded old xs ys d d_is bid ask made is = subst (IsLeftRefreshed deals incoming_deals start (at + 1) sizes traded old) (sym made) (record {
@@ -40,7 +40,7 @@ refreshed-more deals incoming_deals start at sizes traded old xs ys d d_is bid a
                   λ i le lt. elim (cases_eq i at) [
                     | inl e ↦
                         let off : names_order x d ≡ false = or_from _ _ (ne_eqb d.bid x (λ f. not_bid (sym f))) (ne_eqb d.ask x (λ f. not_ask (sym f))) in
-                        subst (λ j. names_order x (deal_at deals (cause_deal_at incoming_deals j)) ≡ false) (sym e) (ap (names_order x) (sym d_is) ∙ off)
+                        subst (λ j. names_order x (deal_at deals (deal_index_at incoming_deals j)) ≡ false) (sym e) (ap (names_order x) (sym d_is) ∙ off)
                     | inr ne ↦ kept.1 i le (omega (arith, ne))
                   ],
                 )

@@ -19,12 +19,12 @@ use Rattle.audit_base.proofs.ContinuousOffenceLemmas.{traded-more}
 use Rattle.continuous_laws.proofs.ExpectedLemmas.{shared, expected-exist, expected-traded, expected-all}
 use Rattle.continuous_laws.proofs.LawLemmas.{expected_conform}
 use Rattle.order_book.specs.declared.books.Resting.{Resting}
-use Rattle.continuous_audit.specs.declared.order_numbers.Sheet.{Sheet}
+use Rattle.continuous_audit.specs.declared.order_numbers.OrderNumbers.{OrderNumbers}
 use Rattle.continuous_audit.specs.declared.books.Books.{Books}
 use Rattle.continuous_audit.specs.declared.fills.Fill.{Fill}
 use Rattle.continuous_audit.specs.declared.pairs.FillPair.{FillPair}
 use Rattle.continuous_audit.specs.Books.{AreBooksOfAmounts, book_list, books_with_list}
-use Rattle.continuous_audit.specs.Chains.{IsKnownBeforeOpening}
+use Rattle.continuous_audit.specs.Chains.{IsKnownBeforeArrival}
 use Rattle.continuous_audit.specs.Fills.{quantity_filled, fills_of, resting_after_fills, total_filled}
 use Rattle.continuous_audit.specs.Holding.{IsListOfAmounts, resting_left_before, resting_left_after_deals}
 use Rattle.continuous_audit.specs.Matching.{AreExpectedDeals}
@@ -107,8 +107,8 @@ module _ (orders : List Order) (list : IsOrderList orders) (n : ℕ) (n_inside :
   available-is k = nested (orders_meet (order_at orders n) (order_at orders k)) (rests_before_in_ledger orders past p k) (left_before_in_ledger orders past p k)
 
   -- what is known of the orders when the order at n comes
-  pub arrival-is : (traded : List ℕ) (order_numbers : Sheet) → ((x : ℕ) → x < length orders → number_in traded x ≡ past p x) → ((x : ℕ) → x < n → number_in order_numbers.chain_traded.items x ≡ chain_traded_quantity orders deals x)
-      → ((x : ℕ) → x < n → number_in order_numbers.left.items x ≡ left_before orders deals p x) → IsKnownBeforeOpening orders deals n traded order_numbers
+  pub arrival-is : (traded : List ℕ) (order_numbers : OrderNumbers) → ((x : ℕ) → x < length orders → number_in traded x ≡ past p x) → ((x : ℕ) → x < n → number_in order_numbers.chain_traded.items x ≡ chain_traded_quantity orders deals x)
+      → ((x : ℕ) → x < n → number_in order_numbers.left.items x ≡ left_before orders deals p x) → IsKnownBeforeArrival orders deals n traded order_numbers
   arrival-is traded order_numbers traded_is chain_traded_is left_is = record { conforms = λ i lt. is.conforms.each i; named = is.conforms.named; traded_is = traded_is; chain_traded_is = chain_traded_is; left_is = left_is }
 
   -- what rests is earlier

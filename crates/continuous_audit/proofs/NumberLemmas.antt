@@ -11,30 +11,30 @@ use Rattle.audit_base.specs.Deals.{IsDealList}
 use Rattle.audit_base.specs.Continuous.{traded_before, chain_traded_quantity, size_of_order, left_after}
 use Rattle.audit_base.proofs.OrderLemmas.{place-rises}
 use Rattle.audit_base.proofs.OffenceLemmas.{get_or-default}
-use Rattle.continuous_audit.specs.declared.incoming_deals.Cause.{Cause}
+use Rattle.continuous_audit.specs.declared.incoming_deals.IncomingDeal.{IncomingDeal}
 use Rattle.continuous_audit.specs.declared.market.Market.{Market}
 use Rattle.continuous_audit.specs.declared.numbers.Numbers.{Numbers}
-use Rattle.continuous_audit.specs.declared.order_numbers.Sheet.{Sheet}
+use Rattle.continuous_audit.specs.declared.order_numbers.OrderNumbers.{OrderNumbers}
 use Rattle.continuous_audit.specs.Progress.{AreNumbers}
-use Rattle.continuous_audit.specs.IncomingDeals.{AreCauses, cause_of, causes_upto, running_total}
-use Rattle.continuous_audit.specs.Chains.{HaveChainsEnded, HasChainEnded, IsOpenSheet, IsKnownBeforeOpening, flag_in}
-use Rattle.continuous_audit.specs.Records.{AreBeforeNumbers, AreLeftBefore, AreSizes, AreTradedBefore, ConformsBelow}
-use Rattle.continuous_audit.specs.Scans.{AreTotalsSmall, AreRunningTotals, IsLeftRefreshed, IsSplitAt, cause_past_end, number_in, cause_order_at}
+use Rattle.continuous_audit.specs.IncomingDeals.{AreIncomingDeals, incoming_deal_of, incoming_deals_upto, running_total}
+use Rattle.continuous_audit.specs.Chains.{HaveChainsEnded, HasChainEnded, AreNumbersInBounds, IsKnownBeforeArrival, flag_in}
+use Rattle.continuous_audit.specs.Records.{AreChainTradedNumbers, AreLeftBefore, AreSizes, AreTradedBefore, ConformsBelow}
+use Rattle.continuous_audit.specs.Scans.{AreTotalsSmall, AreRunningTotals, IsLeftRefreshed, IsSplitAt, incoming_deal_past_end, number_in, incoming_order_at}
 use Rattle.continuous_audit.proofs.IncomingLemmas.{cause-inside, running-before}
 use Rattle.continuous_audit.proofs.RefreshLemmas.{refreshed-after}
 
-ones : (xs : List Cause) → sum_by (λ (c : Cause). 1) xs ≡ length xs
+ones : (xs : List IncomingDeal) → sum_by (λ (c : IncomingDeal). 1) xs ≡ length xs
 ones [] = refl
-ones (x ∷ xs) = omega (arith, ones xs, sum_by-cons (λ (c : Cause). 1) x xs)
+ones (x ∷ xs) = omega (arith, ones xs, sum_by-cons (λ (c : IncomingDeal). 1) x xs)
 
-ones-upto : (orders : List Order) (deals : List Deal) (n : ℕ) → sum_by (λ (c : Cause). 1) (causes_upto orders deals n) ≡ n
+ones-upto : (orders : List Order) (deals : List Deal) (n : ℕ) → sum_by (λ (c : IncomingDeal). 1) (incoming_deals_upto orders deals n) ≡ n
 ones-upto orders deals zero = refl
-ones-upto orders deals (suc n) = omega (arith, ones-upto orders deals n, ones (cause_of orders deals n ∷ []), sum_by-append (λ (c : Cause). 1) (causes_upto orders deals n) (cause_of orders deals n ∷ []))
+ones-upto orders deals (suc n) = omega (arith, ones-upto orders deals n, ones (incoming_deal_of orders deals n ∷ []), sum_by-append (λ (c : IncomingDeal). 1) (incoming_deals_upto orders deals n) (incoming_deal_of orders deals n ∷ []))
 
 -- one number more
 module _ (orders : List Order) (deals : List Deal) (n : ℕ) (n_inside : n < length orders) where
-  pub before-more : (chain_traded ys : List ℕ) (b : ℕ) → AreBeforeNumbers orders deals n chain_traded → b ≡ chain_traded_quantity orders deals n → b ≤ n * 2 ^ 72 → length orders < 2 ^ 32 → ys ≡ slice_set chain_traded n b → AreBeforeNumbers orders deals (suc n) ys
-  before-more chain_traded ys b old is most few made = subst (AreBeforeNumbers orders deals (suc n)) (sym made) (record {
+  pub before-more : (chain_traded ys : List ℕ) (b : ℕ) → AreChainTradedNumbers orders deals n chain_traded → b ≡ chain_traded_quantity orders deals n → b ≤ n * 2 ^ 72 → length orders < 2 ^ 32 → ys ≡ slice_set chain_traded n b → AreChainTradedNumbers orders deals (suc n) ys
+  before-more chain_traded ys b old is most few made = subst (AreChainTradedNumbers orders deals (suc n)) (sym made) (record {
     count = length-set {A = ℕ} chain_traded n b ∙ old.count;
     is = λ x lt. elim (cases_eq x n) [
       | inl e ↦ subst (λ (y : ℕ). number_in (slice_set chain_traded n b) y ≡ chain_traded_quantity orders deals y) (sym e) (get_or-set_same {A = ℕ} chain_traded n b 0 (omega (arith, old.count)) ∙ is)
@@ -68,7 +68,7 @@ module _ (orders : List Order) (deals : List Deal) (n : ℕ) (n_inside : n < len
     ];
   })
 
-module _ (orders : List Order) (list : IsOrderList orders) (deals : List Deal) (deal_list : IsDealList orders deals) (incoming_deals : List Cause) (are : AreCauses orders deals incoming_deals) where
+module _ (orders : List Order) (list : IsOrderList orders) (deals : List Deal) (deal_list : IsDealList orders deals) (incoming_deals : List IncomingDeal) (are : AreIncomingDeals orders deals incoming_deals) where
   few-incoming_deals : length incoming_deals ≤ length deals
   few-incoming_deals = omega (arith, are.sums (λ c. 1), ones incoming_deals, ones-upto orders deals (length deals))
 
@@ -85,8 +85,8 @@ module _ (orders : List Order) (list : IsOrderList orders) (deals : List Deal) (
   -- the first incoming deals, those of the orders below m, where these are the orders of places below q
   running-at : (q m at : ℕ) → IsSplitAt incoming_deals m at → ((k : ℕ) → k < length orders → k < m → place_at orders k < q) → ((k : ℕ) → k < length orders → m ≤ k → q ≤ place_at orders k) → (x : ℕ) → running_total deals incoming_deals at x ≡ traded_before orders deals q x
   running-at q m at split low high x = running-before orders list deals deal_list.named incoming_deals are q at x
-      (λ i d lt below. subst (λ (c : Cause). place_at orders c.order < q) (sym (get_or-default incoming_deals i d cause_past_end below)) (low (cause_order_at incoming_deals i) (cause-inside orders list deals deal_list.named incoming_deals are i cause_past_end below) (split.early i lt below)))
-      (λ i d le below. subst (λ (c : Cause). q ≤ place_at orders c.order) (sym (get_or-default incoming_deals i d cause_past_end below)) (high (cause_order_at incoming_deals i) (cause-inside orders list deals deal_list.named incoming_deals are i cause_past_end below) (split.late i le below)))
+      (λ i d lt below. subst (λ (c : IncomingDeal). place_at orders c.order < q) (sym (get_or-default incoming_deals i d incoming_deal_past_end below)) (low (incoming_order_at incoming_deals i) (cause-inside orders list deals deal_list.named incoming_deals are i incoming_deal_past_end below) (split.early i lt below)))
+      (λ i d le below. subst (λ (c : IncomingDeal). q ≤ place_at orders c.order) (sym (get_or-default incoming_deals i d incoming_deal_past_end below)) (high (incoming_order_at incoming_deals i) (cause-inside orders list deals deal_list.named incoming_deals are i incoming_deal_past_end below) (split.late i le below)))
 
   pub traded-at : (q m at : ℕ) (traded : List ℕ) → IsSplitAt incoming_deals m at → AreRunningTotals orders deals incoming_deals at traded → ((k : ℕ) → k < length orders → k < m → place_at orders k < q) → ((k : ℕ) → k < length orders → m ≤ k → q ≤ place_at orders k) → AreTradedBefore orders deals q traded
   traded-at q m at traded split run low high = record {
@@ -112,7 +112,7 @@ module _ (orders : List Order) (list : IsOrderList orders) (deals : List Deal) (
         ])
         (λ k inside le. let up = place-rises orders list n k (omega arith) inside in omega arith)
 
-    pub arrival : (at : ℕ) (traded traded' : List ℕ) (order_numbers : Sheet) → traded' ≡ traded → ConformsBelow orders deals p → AreBeforeNumbers orders deals n order_numbers.chain_traded.items → AreLeftBefore orders deals n p order_numbers.left.items → IsSplitAt incoming_deals n at → AreRunningTotals orders deals incoming_deals at traded → IsKnownBeforeOpening orders deals n traded' order_numbers
+    pub arrival : (at : ℕ) (traded traded' : List ℕ) (order_numbers : OrderNumbers) → traded' ≡ traded → ConformsBelow orders deals p → AreChainTradedNumbers orders deals n order_numbers.chain_traded.items → AreLeftBefore orders deals n p order_numbers.left.items → IsSplitAt incoming_deals n at → AreRunningTotals orders deals incoming_deals at traded → IsKnownBeforeArrival orders deals n traded' order_numbers
     arrival at traded traded' order_numbers same conforms b l split run =
         let t = traded-then at traded split run in
         record {
@@ -137,7 +137,7 @@ module _ (orders : List Order) (list : IsOrderList orders) (deals : List Deal) (
         })
 
 -- whatever the deals are, of these numbers
-pub numbers-bounded : (m : Market) (n q : ℕ) (numbers : Numbers) → AreNumbers m n q numbers → IsOpenSheet m.orders.now n numbers.order_numbers
+pub numbers-bounded : (m : Market) (n q : ℕ) (numbers : Numbers) → AreNumbers m n q numbers → AreNumbersInBounds m.orders.now n numbers.order_numbers
 numbers-bounded m n q numbers known = record {
   chain_traded_count = known.chain_traded.count;
   sizes_count = known.sizes.count;

@@ -8,11 +8,11 @@ use Rattle.audit_base.specs.Continuous.{rests_before_in_ledger, traded_before, c
 use Rattle.audit_base.proofs.OrderLemmas.{place-rises}
 use Rattle.audit_base.proofs.LeastLemmas.{cases_Option}
 use Rattle.audit_base.proofs.ContinuousLemmas.{target-below, entered-none, entered-some, size-is}
-use Rattle.continuous_audit.specs.declared.arrival.Opening.{Opening}
-use Rattle.continuous_audit.specs.declared.order_numbers.Sheet.{Sheet}
+use Rattle.continuous_audit.specs.declared.arrival.Arrival.{Arrival}
+use Rattle.continuous_audit.specs.declared.order_numbers.OrderNumbers.{OrderNumbers}
 use Rattle.continuous_audit.specs.DealFindings as by_deal
-use Rattle.continuous_audit.specs.Chains.{IsKnownBeforeOpening}
-use Rattle.continuous_audit.specs.OrderNumbers.{IsOpeningOfOrder}
+use Rattle.continuous_audit.specs.Chains.{IsKnownBeforeArrival}
+use Rattle.continuous_audit.specs.OrderNumbers.{IsArrivalOfOrder}
 use Rattle.continuous_audit.specs.Scans.{number_in}
 use Rattle.continuous_audit.proofs.ScanLemmas.{waits-is}
 
@@ -20,7 +20,7 @@ and-true : (b c : Bool) → c ≡ true → (b && c) ≡ b
 and-true true c e = e
 and-true false c e = refl
 
-module _ (orders : List Order) (list : IsOrderList orders) (deals : List Deal) (n : ℕ) (n_inside : n < length orders) (traded : List ℕ) (order_numbers : Sheet) (is : IsKnownBeforeOpening orders deals n traded order_numbers) where
+module _ (orders : List Order) (list : IsOrderList orders) (deals : List Deal) (n : ℕ) (n_inside : n < length orders) (traded : List ℕ) (order_numbers : OrderNumbers) (is : IsKnownBeforeArrival orders deals n traded order_numbers) where
   abbrev past : ℕ → ℕ → ℕ
   past = traded_before orders deals
 
@@ -38,8 +38,8 @@ module _ (orders : List Order) (list : IsOrderList orders) (deals : List Deal) (
 
   -- the same, in the words of the code: the order that it reads
   pub arrived : (o : Order) → o ≡ order_at orders n → (r : Bool) → (o.target ≡ None → r ≡ true) → ((t : ℕ) → o.target ≡ Some t → r ≡ by_deal.waits_in orders order_numbers.left.items o.place t)
-      → (arrival : Opening) → arrival.entered ≡ by_deal.enters o r → arrival.chain_traded ≡ chain_traded_quantity orders deals n → arrival.size ≡ by_deal.size_left arrival.entered o.quantity arrival.chain_traded
-      → IsOpeningOfOrder orders deals n arrival
+      → (arrival : Arrival) → arrival.entered ≡ by_deal.enters o r → arrival.chain_traded ≡ chain_traded_quantity orders deals n → arrival.size ≡ by_deal.size_left arrival.entered o.quantity arrival.chain_traded
+      → IsArrivalOfOrder orders deals n arrival
   arrived o o_is r none some arrival e_is b_is z_is =
       let target_is = ap (λ (x : Order). x.target) o_is in
       let place_is = ap (λ (x : Order). x.place) o_is in

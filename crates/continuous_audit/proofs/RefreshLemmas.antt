@@ -8,9 +8,9 @@ use Rattle.audit_base.specs.Orders.{place_at, IsOrderList}
 use Rattle.audit_base.specs.Deals.{names_order, deal_at, IsDealList}
 use Rattle.audit_base.specs.Continuous.{resting_order, traded_before, traded_at, size_of_order, left_before, left_after}
 use Rattle.audit_base.proofs.ContinuousOffenceLemmas.{traded-more}
-use Rattle.continuous_audit.specs.declared.incoming_deals.Cause.{Cause}
-use Rattle.continuous_audit.specs.IncomingDeals.{AreCauses}
-use Rattle.continuous_audit.specs.Scans.{IsLeftRefreshed, IsSplitAt, cause_deal_at, number_in}
+use Rattle.continuous_audit.specs.declared.incoming_deals.IncomingDeal.{IncomingDeal}
+use Rattle.continuous_audit.specs.IncomingDeals.{AreIncomingDeals}
+use Rattle.continuous_audit.specs.Scans.{IsLeftRefreshed, IsSplitAt, deal_index_at, number_in}
 use Rattle.continuous_audit.proofs.RecordLemmas.{traded-resting}
 use Rattle.continuous_audit.proofs.PassLemmas.{located}
 
@@ -19,7 +19,7 @@ names-resting : (orders : List Order) (d : Deal) → names_order (resting_order 
 names-resting orders d = cond_both (nat_lt (place_at orders d.bid) (place_at orders d.ask)) d.bid d.ask (λ x. names_order x d ≡ true)
     (λ t. or_left (d.bid == d.bid) (d.ask == d.bid) (eq-eqb d.bid d.bid refl)) (λ t. or_right (d.bid == d.ask) (d.ask == d.ask) (eq-eqb d.ask d.ask refl))
 
-module _ (orders : List Order) (list : IsOrderList orders) (deals : List Deal) (deal_list : IsDealList orders deals) (incoming_deals : List Cause) (are : AreCauses orders deals incoming_deals) (n : ℕ) (n_inside : n < length orders)
+module _ (orders : List Order) (list : IsOrderList orders) (deals : List Deal) (deal_list : IsDealList orders deals) (incoming_deals : List IncomingDeal) (are : AreIncomingDeals orders deals incoming_deals) (n : ℕ) (n_inside : n < length orders)
     (start end : ℕ) (within : end ≤ length incoming_deals) (split : IsSplitAt incoming_deals n start) (later : IsSplitAt incoming_deals (suc n) end) where
   abbrev p : ℕ
   p = place_at orders n
@@ -37,7 +37,7 @@ module _ (orders : List Order) (list : IsOrderList orders) (deals : List Deal) (
           | inl some ↦
               let t = traded-resting orders list deals deal_list.named n n_inside x (λ e. omega arith) some in
               let l = located orders list deals deal_list incoming_deals are n n_inside start end within split later t.0 t.1.inside t.1.at in
-              let named : names_order x (deal_at deals (cause_deal_at incoming_deals l.0)) ≡ true = ap (λ (j : ℕ). names_order x (deal_at deals j)) l.3 ∙ subst (λ (y : ℕ). names_order y (deal_at deals t.0) ≡ true) t.2 (names-resting orders (deal_at deals t.0)) in
+              let named : names_order x (deal_at deals (deal_index_at incoming_deals l.0)) ≡ true = ap (λ (j : ℕ). names_order x (deal_at deals j)) l.3 ∙ subst (λ (y : ℕ). names_order y (deal_at deals t.0) ≡ true) t.2 (names-resting orders (deal_at deals t.0)) in
               absurd (both_ways _ (kept.1 l.0 l.1 l.2) named)
         ]
   ]

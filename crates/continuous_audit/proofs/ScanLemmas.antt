@@ -22,15 +22,15 @@ use Rattle.audit_base.specs.ContinuousOffences.{continuous_inactive_finding, con
 use Rattle.audit_base.proofs.OrderLemmas.{not_both_sides}
 use Rattle.audit_base.proofs.LeastLemmas.{least-none, least-at}
 use Rattle.audit_base.proofs.OffenceLemmas.{get_or-default}
-use Rattle.continuous_audit.specs.declared.incoming_deals.Cause.{Cause}
+use Rattle.continuous_audit.specs.declared.incoming_deals.IncomingDeal.{IncomingDeal}
 use Rattle.continuous_audit.specs.declared.checking.Account.{Account}
 use Rattle.continuous_audit.specs.declared.checking.Accounts.{Accounts}
-use Rattle.continuous_audit.specs.declared.checking.Arrival.{Arrival}
-use Rattle.continuous_audit.specs.declared.order_numbers.Sheet.{Sheet}
-use Rattle.continuous_audit.specs.IncomingDeals.{AreCauses, cause_of, running_total}
+use Rattle.continuous_audit.specs.declared.checking.RecordOfDeal.{RecordOfDeal}
+use Rattle.continuous_audit.specs.declared.order_numbers.OrderNumbers.{OrderNumbers}
+use Rattle.continuous_audit.specs.IncomingDeals.{AreIncomingDeals, incoming_deal_of, running_total}
 use Rattle.continuous_audit.specs.Flaws.{order_with_shown}
 use Rattle.continuous_audit.specs.Records.{IsKnownBeforeDeals}
-use Rattle.continuous_audit.specs.Scans.{AreRunningTotals, IsSplitAt, cause_deal_at, cause_past_end, number_in, cause_order_at}
+use Rattle.continuous_audit.specs.Scans.{AreRunningTotals, IsSplitAt, deal_index_at, incoming_deal_past_end, number_in, incoming_order_at}
 use Rattle.continuous_audit.specs.DealFindings as by_deal
 use Rattle.continuous_audit.proofs.FlawLemmas.{IsDealUpto, upto-n, deal-upto}
 use Rattle.continuous_audit.proofs.IncomingLemmas.{incoming-cause, running-upto}
@@ -83,13 +83,13 @@ picked-inside : (n : ℕ) (t : Bool) (x y : Account) → x.shown.index < n → y
 picked-inside n true x y first second = first
 picked-inside n false x y first second = second
 
-evidence-inside : (orders : List Order) (d : Deal) (bid ask : Order) (deal_record : Arrival) (known : Accounts) → known.bid.shown.index < length orders → known.ask.shown.index < length orders → IfSome (by_deal.deal_evidence d bid ask deal_record known) (IsEvidenceInside orders)
+evidence-inside : (orders : List Order) (d : Deal) (bid ask : Order) (deal_record : RecordOfDeal) (known : Accounts) → known.bid.shown.index < length orders → known.ask.shown.index < length orders → IfSome (by_deal.deal_evidence d bid ask deal_record known) (IsEvidenceInside orders)
 evidence-inside orders d bid ask deal_record known buys sells =
     let earlier = nat_lt bid.place ask.place in
     broken-inside orders (by_deal.resting_account bid ask known).shown (by_deal.incoming_account bid ask known).shown known.bid.shown known.ask.shown (by_deal.resting_waits bid ask deal_record.place known) deal_record.entered (is_price_within bid ask d) (by_deal.is_over_size known.bid) (by_deal.is_over_size known.ask)
     (picked-inside (length orders) earlier known.bid known.ask buys sells) (picked-inside (length orders) earlier known.ask known.bid sells buys) buys sells
 
-module _ (orders : List Order) (list : IsOrderList orders) (deals : List Deal) (deal_list : IsDealList orders deals) (incoming_deals : List Cause) (are : AreCauses orders deals incoming_deals) (n : ℕ) (n_inside : n < length orders) where
+module _ (orders : List Order) (list : IsOrderList orders) (deals : List Deal) (deal_list : IsDealList orders deals) (incoming_deals : List IncomingDeal) (are : AreIncomingDeals orders deals incoming_deals) (n : ℕ) (n_inside : n < length orders) where
   abbrev p : ℕ
   p = place_at orders n
 
@@ -113,27 +113,27 @@ module _ (orders : List Order) (list : IsOrderList orders) (deals : List Deal) (
       (rests_before_in_ledger orders past p (resting_order orders (deal_at deals k))) (has_entered orders deals (incoming_order orders (deal_at deals k))) (keeps_limits orders (deal_at deals k))
       (nat_lt (size_of_order orders deals (deal_at deals k).bid) (traded_upto orders deals p k (deal_at deals k).bid)) (nat_lt (size_of_order orders deals (deal_at deals k).ask) (traded_upto orders deals p k (deal_at deals k).ask))
 
-  module _ (entered : Bool) (order_numbers : Sheet) (known : IsKnownBeforeDeals orders deals n entered order_numbers) (at : ℕ) (lt : at < length incoming_deals) (of : cause_order_at incoming_deals at ≡ n) where
+  module _ (entered : Bool) (order_numbers : OrderNumbers) (known : IsKnownBeforeDeals orders deals n entered order_numbers) (at : ℕ) (lt : at < length incoming_deals) (of : incoming_order_at incoming_deals at ≡ n) where
     abbrev k : ℕ
-    k = cause_deal_at incoming_deals at
+    k = deal_index_at incoming_deals at
 
     abbrev d : Deal
     d = deal_at deals k
 
     k_inside : k < length deals
-    k_inside = (are.only at cause_past_end lt).0
+    k_inside = (are.only at incoming_deal_past_end lt).0
 
     named_here : NamesOrders orders d
     named_here = deal_list.named k deal_past_end k_inside
 
     incoming_here : incoming_order orders d ≡ n
-    incoming_here = sym (ap (λ (c : Cause). c.order) (are.only at cause_past_end lt).1) ∙ of
+    incoming_here = sym (ap (λ (c : IncomingDeal). c.order) (are.only at incoming_deal_past_end lt).1) ∙ of
 
     cause_here : cause orders d ≡ p
     cause_here = sym (incoming-cause orders d) ∙ ap (place_at orders) incoming_here
 
     running_here : (x : ℕ) → running_total deals incoming_deals (at + 1) x ≡ traded_upto orders deals p k x
-    running_here x = ap (λ (m : ℕ). running_total deals incoming_deals m x) (add-one at) ∙ running-upto orders list deals deal_list.named incoming_deals are at cause_past_end lt x
+    running_here x = ap (λ (m : ℕ). running_total deals incoming_deals m x) (add-one at) ∙ running-upto orders list deals deal_list.named incoming_deals are at incoming_deal_past_end lt x
         ∙ ap (λ (m : ℕ). traded_before orders deals (place_at orders m) x + traded_at orders (take (k + 1) deals) (place_at orders m) x) of
 
     below-n : (x : ℕ) → x < length orders → place_at orders x < p → x < n
@@ -187,19 +187,19 @@ module _ (orders : List Order) (list : IsOrderList orders) (deals : List Deal) (
         ∙ sym (λ i. option_map (finding_by d) (first_broken (rest i) (come i) (bid i) (ask i) (waits-here bt at' i) (a i) (keeps_limits orders d) (nat_lt (zb i) (tb i)) (nat_lt (za i) (ta i))))
 
   -- deals of other causes have no finding, and those of this one are among the incoming deals
-  module _ (start at : ℕ) (split : IsSplitAt incoming_deals n start) (clean : (i : ℕ) → start ≤ i → i < at → conservation_finding orders deals p (cause_deal_at incoming_deals i) ≡ None) where
+  module _ (start at : ℕ) (split : IsSplitAt incoming_deals n start) (clean : (i : ℕ) → start ≤ i → i < at → conservation_finding orders deals p (deal_index_at incoming_deals i) ≡ None) where
     -- a deal with a finding is this incoming deal or a later one
-    later-cause : (j : ℕ) → j < length deals → (conservation_finding orders deals p j ≡ None) ⊎ ((i : ℕ) × (at ≤ i) × (i < length incoming_deals) × (cause_order_at incoming_deals i ≡ n) × (cause_deal_at incoming_deals i ≡ j))
+    later-cause : (j : ℕ) → j < length deals → (conservation_finding orders deals p j ≡ None) ⊎ ((i : ℕ) × (at ≤ i) × (i < length incoming_deals) × (incoming_order_at incoming_deals i ≡ n) × (deal_index_at incoming_deals i ≡ j))
     later-cause j lt = elim (cases_eq (cause orders (deal_at deals j)) p) [
       | inr away ↦ inl (cond-false (cause orders (deal_at deals j) == p) _ None (ne_eqb _ _ away))
       | inl here ↦
           let has = are.each j lt in
           let i = has.0 in
-          let is : get_or incoming_deals i cause_past_end ≡ cause_of orders deals j = get_or-default incoming_deals i cause_past_end (cause_of orders deals j) has.1 ∙ has.2 in
-          let deal_is : cause_deal_at incoming_deals i ≡ j = ap (λ (c : Cause). c.deal) is in
+          let is : get_or incoming_deals i incoming_deal_past_end ≡ incoming_deal_of orders deals j = get_or-default incoming_deals i incoming_deal_past_end (incoming_deal_of orders deals j) has.1 ∙ has.2 in
+          let deal_is : deal_index_at incoming_deals i ≡ j = ap (λ (c : IncomingDeal). c.deal) is in
           let named_j = deal_list.named j deal_past_end lt in
           let e = ends orders list deals deal_list.named n n_inside (deal_at deals j) named_j here in
-          let order_is : cause_order_at incoming_deals i ≡ n = ap (λ (c : Cause). c.order) is ∙ e.1.incoming_is in
+          let order_is : incoming_order_at incoming_deals i ≡ n = ap (λ (c : IncomingDeal). c.order) is ∙ e.1.incoming_is in
           let from : start ≤ i = elim (cases_lt i start) [ inr ok ↦ ok | inl early ↦ let l = split.early i early has.1 in absurd (omega arith) ] in
           elim (cases_lt i at) [
             | inl done ↦ inl (subst (λ m. conservation_finding orders deals p m ≡ None) deal_is (clean i from done))
@@ -207,7 +207,7 @@ module _ (orders : List Order) (list : IsOrderList orders) (deals : List Deal) (
           ]
     ]
 
-    pub all-clean : (at < length incoming_deals → cause_order_at incoming_deals at ≢ n) → start ≤ at → least_answer (conservation_finding orders deals p) (length deals) ≡ None
+    pub all-clean : (at < length incoming_deals → incoming_order_at incoming_deals at ≢ n) → start ≤ at → least_answer (conservation_finding orders deals p) (length deals) ≡ None
     all-clean stop from = least-none (conservation_finding orders deals p) (length deals) (λ j lt. elim (later-cause j lt) [
       | inl none ↦ none
       | inr found ↦
@@ -215,25 +215,25 @@ module _ (orders : List Order) (list : IsOrderList orders) (deals : List Deal) (
           let inside : at < length incoming_deals = omega (arith, found.1, found.2) in
           let low = split.late at from inside in
           elim (cases_eq i at) [
-            | inl e ↦ absurd (stop inside (ap (cause_order_at incoming_deals) (sym e) ∙ found.3))
-            | inr ne ↦ elim (are.rising at i cause_past_end (omega (arith, ne, found.1)) found.2) [
+            | inl e ↦ absurd (stop inside (ap (incoming_order_at incoming_deals) (sym e) ∙ found.3))
+            | inr ne ↦ elim (are.rising at i incoming_deal_past_end (omega (arith, ne, found.1)) found.2) [
               | inl less ↦ let same = found.3 in absurd (omega arith)
               | inr tie ↦ absurd (stop inside (tie.0 ∙ found.3))
             ]
           ]
     ])
 
-    pub first-finding : (f : Finding) → at < length incoming_deals → cause_order_at incoming_deals at ≡ n → conservation_finding orders deals p (cause_deal_at incoming_deals at) ≡ Some f → least_answer (conservation_finding orders deals p) (length deals) ≡ Some f
+    pub first-finding : (f : Finding) → at < length incoming_deals → incoming_order_at incoming_deals at ≡ n → conservation_finding orders deals p (deal_index_at incoming_deals at) ≡ Some f → least_answer (conservation_finding orders deals p) (length deals) ≡ Some f
     first-finding f inside of e =
-        let k = cause_deal_at incoming_deals at in
-        let k_in : k < length deals = (are.only at cause_past_end inside).0 in
+        let k = deal_index_at incoming_deals at in
+        let k_in : k < length deals = (are.only at incoming_deal_past_end inside).0 in
         least-at (conservation_finding orders deals p) (length deals) k f k_in (least-none (conservation_finding orders deals p) k (λ j lt. elim (later-cause j (omega arith)) [
           | inl none ↦ none
           | inr found ↦
               let i = found.0 in
               elim (cases_eq i at) [
-                | inl same ↦ let d : k ≡ j = ap (cause_deal_at incoming_deals) (sym same) ∙ found.4 in absurd (omega arith)
-                | inr ne ↦ elim (are.rising at i cause_past_end (omega (arith, ne, found.1)) found.2) [
+                | inl same ↦ let d : k ≡ j = ap (deal_index_at incoming_deals) (sym same) ∙ found.4 in absurd (omega arith)
+                | inr ne ↦ elim (are.rising at i incoming_deal_past_end (omega (arith, ne, found.1)) found.2) [
                   | inl less ↦ let o = found.3 in absurd (omega arith)
                   | inr tie ↦ let d = found.4 in let l = tie.1 in absurd (omega arith)
                 ]
@@ -242,8 +242,8 @@ module _ (orders : List Order) (list : IsOrderList orders) (deals : List Deal) (
 
 -- One deal more is added.
 
-module _ (orders : List Order) (deals : List Deal) (incoming_deals : List Cause) (at : ℕ) (lt : at < length incoming_deals) (xs : List ℕ) (is : AreRunningTotals orders deals incoming_deals at xs)
-    (d : Deal) (d_is : d ≡ deal_at deals (cause_deal_at incoming_deals at)) (named : NamesOrders orders d) (q : ℕ) (q_is : q ≡ d.quantity) (q_most : q ≤ 10 ^ 12) where
+module _ (orders : List Order) (deals : List Deal) (incoming_deals : List IncomingDeal) (at : ℕ) (lt : at < length incoming_deals) (xs : List ℕ) (is : AreRunningTotals orders deals incoming_deals at xs)
+    (d : Deal) (d_is : d ≡ deal_at deals (deal_index_at incoming_deals at)) (named : NamesOrders orders d) (q : ℕ) (q_is : q ≡ d.quantity) (q_most : q ≤ 10 ^ 12) where
   abbrev ys : List ℕ
   ys = slice_set (slice_set xs d.bid (get_or xs d.bid 0 + q)) d.ask (get_or xs d.ask 0 + q)
 
@@ -282,7 +282,7 @@ module _ (orders : List Order) (deals : List Deal) (incoming_deals : List Cause)
   ]
 
   more : (x : ℕ) → running_total deals incoming_deals (at + 1) x ≡ running_total deals incoming_deals at x + quantity_traded_by x d
-  more x = sum_by_more (λ (c : Cause). quantity_traded_by x (deal_at deals c.deal)) incoming_deals at cause_past_end lt ∙ ap (λ (e : Deal). running_total deals incoming_deals at x + quantity_traded_by x e) (sym d_is)
+  more x = sum_by_more (λ (c : IncomingDeal). quantity_traded_by x (deal_at deals c.deal)) incoming_deals at incoming_deal_past_end lt ∙ ap (λ (e : Deal). running_total deals incoming_deals at x + quantity_traded_by x e) (sym d_is)
 
   bid-now : get_or xs d.bid 0 + q ≡ running_total deals incoming_deals (at + 1) d.bid
   bid-now = sym at_bid ∙ (added-at d.bid).0 ∙ ap (λ (m : ℕ). m + quantity_traded_by d.bid d) (is.sums d.bid named.bid_inside) ∙ sym (more d.bid)
@@ -299,26 +299,26 @@ module _ (orders : List Order) (deals : List Deal) (incoming_deals : List Cause)
   })
 
 -- the same, in the words of the code: the deal and the orders that it reads, and what it adds
-module _ (orders : List Order) (list : IsOrderList orders) (deals : List Deal) (deal_list : IsDealList orders deals) (incoming_deals : List Cause) (are : AreCauses orders deals incoming_deals) (n : ℕ) (n_inside : n < length orders)
+module _ (orders : List Order) (list : IsOrderList orders) (deals : List Deal) (deal_list : IsDealList orders deals) (incoming_deals : List IncomingDeal) (are : AreIncomingDeals orders deals incoming_deals) (n : ℕ) (n_inside : n < length orders)
     (at : ℕ) (lt : at < length incoming_deals) (xs : List ℕ) (run : AreRunningTotals orders deals incoming_deals at xs)
-    (d : Deal) (d_read : d ≡ get_or deals (cause_deal_at incoming_deals at) d) (q : ℕ) (q_is : q ≡ d.quantity) (q_most : d.quantity ≤ 10 ^ 12) where
-  k_in : cause_deal_at incoming_deals at < length deals
-  k_in = (are.only at cause_past_end lt).0
+    (d : Deal) (d_read : d ≡ get_or deals (deal_index_at incoming_deals at) d) (q : ℕ) (q_is : q ≡ d.quantity) (q_most : d.quantity ≤ 10 ^ 12) where
+  k_in : deal_index_at incoming_deals at < length deals
+  k_in = (are.only at incoming_deal_past_end lt).0
 
-  d_is : d ≡ deal_at deals (cause_deal_at incoming_deals at)
-  d_is = d_read ∙ get_or-default deals (cause_deal_at incoming_deals at) d deal_past_end k_in
+  d_is : d ≡ deal_at deals (deal_index_at incoming_deals at)
+  d_is = d_read ∙ get_or-default deals (deal_index_at incoming_deals at) d deal_past_end k_in
 
   named : NamesOrders orders d
-  named = subst (NamesOrders orders) (sym d_is) (deal_list.named (cause_deal_at incoming_deals at) deal_past_end k_in)
+  named = subst (NamesOrders orders) (sym d_is) (deal_list.named (deal_index_at incoming_deals at) deal_past_end k_in)
 
   pub running-read : (zs : List ℕ) → zs ≡ slice_set (slice_set xs d.bid (get_or xs d.bid 0 + q)) d.ask (get_or xs d.ask 0 + q) → AreRunningTotals orders deals incoming_deals (at + 1) zs
   running-read zs made = running-after orders deals incoming_deals at lt xs run d d_is named q q_is (omega arith) zs made
 
-  pub finding-read : (of : cause_order_at incoming_deals at ≡ n) (deal_record : Arrival) (order_numbers : Sheet) (known : IsKnownBeforeDeals orders deals n deal_record.entered order_numbers) (own bid ask : Order) → own ≡ order_at orders n → bid ≡ order_at orders d.bid → ask ≡ order_at orders d.ask → deal_record.place ≡ own.place
+  pub finding-read : (of : incoming_order_at incoming_deals at ≡ n) (deal_record : RecordOfDeal) (order_numbers : OrderNumbers) (known : IsKnownBeforeDeals orders deals n deal_record.entered order_numbers) (own bid ask : Order) → own ≡ order_at orders n → bid ≡ order_at orders d.bid → ask ≡ order_at orders d.ask → deal_record.place ≡ own.place
       → (accounts : Accounts) (bt at' : ℕ) → accounts.bid ≡ by_deal.account_of order_numbers d.bid bt → accounts.ask ≡ by_deal.account_of order_numbers d.ask at' → bt ≡ get_or xs d.bid 0 + q → at' ≡ get_or xs d.ask 0 + q
-      → conservation_finding orders deals (place_at orders n) (cause_deal_at incoming_deals at) ≡ option_map (finding_by orders list deals deal_list incoming_deals are n n_inside d) (by_deal.deal_evidence d bid ask deal_record accounts)
+      → conservation_finding orders deals (place_at orders n) (deal_index_at incoming_deals at) ≡ option_map (finding_by orders list deals deal_list incoming_deals are n n_inside d) (by_deal.deal_evidence d bid ask deal_record accounts)
   finding-read of deal_record order_numbers known own bid ask own_read bid_read ask_read p_is accounts bt at' b_is a_is bt_is at_is =
-      let e = deal_at deals (cause_deal_at incoming_deals at) in
+      let e = deal_at deals (deal_index_at incoming_deals at) in
       let place : deal_record.place ≡ place_at orders n = p_is ∙ ap (λ (o : Order). o.place) own_read in
       let b : bid ≡ order_at orders e.bid = bid_read ∙ ap (λ (x : Deal). order_at orders x.bid) d_is in
       let a : ask ≡ order_at orders e.ask = ask_read ∙ ap (λ (x : Deal). order_at orders x.ask) d_is in
@@ -330,7 +330,7 @@ module _ (orders : List Order) (list : IsOrderList orders) (deals : List Deal) (
       ∙ sym (λ i. option_map (finding_by orders list deals deal_list incoming_deals are n n_inside (d_is i)) (by_deal.deal_evidence (d_is i) (b i) (a i) (record { place = place i; entered = deal_record.entered }) (record { bid = kb i; ask = ka i })))
 
   -- the orders that it shows are in the list
-  pub inside-read : (bid ask : Order) (deal_record : Arrival) (order_numbers : Sheet) (accounts : Accounts) (bt at' : ℕ) → accounts.bid ≡ by_deal.account_of order_numbers d.bid bt → accounts.ask ≡ by_deal.account_of order_numbers d.ask at' → IfSome (by_deal.deal_evidence d bid ask deal_record accounts) (IsEvidenceInside orders)
+  pub inside-read : (bid ask : Order) (deal_record : RecordOfDeal) (order_numbers : OrderNumbers) (accounts : Accounts) (bt at' : ℕ) → accounts.bid ≡ by_deal.account_of order_numbers d.bid bt → accounts.ask ≡ by_deal.account_of order_numbers d.ask at' → IfSome (by_deal.deal_evidence d bid ask deal_record accounts) (IsEvidenceInside orders)
   inside-read bid ask deal_record order_numbers accounts bt at' b_is a_is = evidence-inside orders d bid ask deal_record accounts
       (subst (λ (x : Account). x.shown.index < length orders) (sym b_is) named.bid_inside)
       (subst (λ (x : Account). x.shown.index < length orders) (sym a_is) named.ask_inside)

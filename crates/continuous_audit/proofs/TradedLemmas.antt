@@ -16,7 +16,7 @@ use Rattle.continuous_audit.specs.declared.fills.Fill.{Fill}
 use Rattle.continuous_audit.specs.declared.pairs.FillPair.{FillPair}
 use Rattle.continuous_audit.specs.declared.matching.TradesSoFar.{TradesSoFar}
 use Rattle.continuous_audit.specs.Books.{AreBooksOfAmounts, book_list, resting_count, books_with_list}
-use Rattle.continuous_audit.specs.Chains.{HasChainEnded, IsKnownBeforeOpening}
+use Rattle.continuous_audit.specs.Chains.{HasChainEnded, IsKnownBeforeArrival}
 use Rattle.continuous_audit.specs.Fills.{quantity_filled, fills_of, resting_after_fills, total_filled}
 use Rattle.continuous_audit.specs.Holding.{resting_left_before, resting_left_after_deals}
 use Rattle.continuous_audit.specs.Matching.{AreFillsApplied, AreExpectedDeals, AreTradesSoFar, IsMatchedUnder}
@@ -177,7 +177,7 @@ traded-read orders n q rest b old new own own_is made first second mid_traded mi
 
 module _ (orders : List Order) (list : IsOrderList orders) (n : ℕ) (n_inside : n < length orders) (old : TradesSoFar) where
   pub first-read : (deals : List Deal) → AreExpectedDeals orders deals → IsMatchedUnder orders deals n (place_at orders n) (resting_left_before orders (traded_before orders deals) (place_at orders n)) old
-      → (traded : List ℕ) → traded ≡ old.traded.items → IsKnownBeforeOpening orders deals n traded old.order_numbers
+      → (traded : List ℕ) → traded ≡ old.traded.items → IsKnownBeforeArrival orders deals n traded old.order_numbers
   first-read deals is old_is traded t_is = arrival-is orders list n n_inside deals is traded old.order_numbers (λ x lt. ap (λ (xs : List ℕ). number_in xs x) t_is ∙ old_is.traded_is x lt) old_is.chain_traded_is old_is.left_is
 
   pub first-inside : AreTradesSoFar orders n 0 old → (deals : List Deal) → AreExpectedDeals orders deals → IsMatchedUnder orders deals n (place_at orders n) (resting_left_before orders (traded_before orders deals) (place_at orders n)) old

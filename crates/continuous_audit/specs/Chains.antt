@@ -6,7 +6,7 @@ use Rattle.audit_base.specs.Orders.{order_at, place_at}
 use Rattle.audit_base.specs.Continuous.{chain, traded_before, chain_traded_quantity, left_before}
 use Rattle.audit_base.specs.Deals.{NamesOrders}
 use Rattle.audit_base.specs.ContinuousRules.{ConformsAt}
-use Rattle.continuous_audit.specs.declared.order_numbers.Sheet.{Sheet}
+use Rattle.continuous_audit.specs.declared.order_numbers.OrderNumbers.{OrderNumbers}
 use Rattle.continuous_audit.specs.Scans.{number_in}
 
 -- a record up to a place ends an order
@@ -30,23 +30,23 @@ pub record HaveChainsEnded (orders : List Order) (m : ℕ) (chain_ended : List B
   pub is : (order : ℕ) → order < m → flag_in chain_ended order ≡ true → HasChainEnded orders order
 
 -- Before of an order is at most 2^72 for each order ahead of it in the list
-abbrev pub IsBeforeBounded : List ℕ → Type 0
-IsBeforeBounded chain_traded = (order : ℕ) → number_in chain_traded order ≤ order * 2 ^ 72
+abbrev pub IsChainTradedBounded : List ℕ → Type 0
+IsChainTradedBounded chain_traded = (order : ℕ) → number_in chain_traded order ≤ order * 2 ^ 72
 
 -- whatever the deals are, there are numbers of each order, no Before is too great, and of the first
 -- m orders those whose flag is set have such a chain
-pub record IsOpenSheet (orders : List Order) (m : ℕ)
-    (order_numbers : Sheet) : Type 0 where
+pub record AreNumbersInBounds (orders : List Order) (m : ℕ)
+    (order_numbers : OrderNumbers) : Type 0 where
   pub chain_traded_count : length order_numbers.chain_traded.items ≡ length orders
   pub sizes_count : length order_numbers.sizes.items ≡ length orders
   pub left_count : length order_numbers.left.items ≡ length orders
   pub chain_ended : HaveChainsEnded orders m order_numbers.chain_ended.items
-  pub bounded : IsBeforeBounded order_numbers.chain_traded.items
+  pub bounded : IsChainTradedBounded order_numbers.chain_traded.items
 
 -- before an order arrives, where the rule holds at each earlier place: what the orders have traded,
 -- and of the earlier ones Before and what is left
-pub record IsKnownBeforeOpening (orders : List Order) (deals : List Deal) (order : ℕ)
-    (traded : List ℕ) (order_numbers : Sheet) : Type 0 where
+pub record IsKnownBeforeArrival (orders : List Order) (deals : List Deal) (order : ℕ)
+    (traded : List ℕ) (order_numbers : OrderNumbers) : Type 0 where
   pub conforms : (place : ℕ) → place < place_at orders order → ConformsAt orders deals place
   pub named : All (NamesOrders orders) deals
   pub traded_is : (other : ℕ) → other < length orders

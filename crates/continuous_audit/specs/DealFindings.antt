@@ -11,8 +11,8 @@ use Rattle.audit_base.specs.Deals.{is_price_within}
 use Rattle.audit_base.specs.Continuous.{is_cancelled_at_place}
 use Rattle.continuous_audit.specs.declared.checking.Account.{Account}
 use Rattle.continuous_audit.specs.declared.checking.Accounts.{Accounts}
-use Rattle.continuous_audit.specs.declared.checking.Arrival.{Arrival}
-use Rattle.continuous_audit.specs.declared.order_numbers.Sheet.{Sheet}
+use Rattle.continuous_audit.specs.declared.checking.RecordOfDeal.{RecordOfDeal}
+use Rattle.continuous_audit.specs.declared.order_numbers.OrderNumbers.{OrderNumbers}
 pub use Rattle.audit_base.specs.Orders.{may_rest}
 pub use Rattle.audit_base.specs.Continuous.{uncancelled_before}
 
@@ -40,7 +40,7 @@ is_over_size account = nat_lt account.size account.traded
 
 -- the first property that a deal does not keep: 7 its resting order rests, and its incoming one
 -- entered; 8 its price is within the limits; 10 and 11 neither order trades more than its Size
-abbrev pub deal_evidence : Deal → Order → Order → Arrival → Accounts → Option Evidence
+abbrev pub deal_evidence : Deal → Order → Order → RecordOfDeal → Accounts → Option Evidence
 deal_evidence deal bid ask deal_record known = first_answer
     (only_if (not (resting_waits bid ask deal_record.place known))
     (Inactive (resting_account bid ask known).shown)
@@ -50,7 +50,7 @@ deal_evidence deal bid ask deal_record known = first_answer
     ∷ only_if (is_over_size known.ask) (Quantity Sell known.ask.shown) ∷ [])
 
 -- what is known of an order that has traded this much
-abbrev pub account_of : Sheet → ℕ → ℕ → Account
+abbrev pub account_of : OrderNumbers → ℕ → ℕ → Account
 account_of order_numbers order traded = record {
   shown = record
       { index = order; traded = traded + slice_index_or order_numbers.chain_traded.items order 0 };

@@ -7,18 +7,18 @@ use Rattle.audit_base.specs.Continuous.{resting_order, traded_before}
 use Rattle.order_book.specs.declared.books.Resting.{Resting}
 use Rattle.continuous_audit.specs.declared.market.Market.{Market}
 use Rattle.continuous_audit.specs.declared.scanning.RunningTotals.{RunningTotals}
-use Rattle.continuous_audit.specs.IncomingDeals.{AreCauses}
+use Rattle.continuous_audit.specs.IncomingDeals.{AreIncomingDeals}
 use Rattle.continuous_audit.specs.Endings.{AreEndings}
 use Rattle.continuous_audit.specs.Holding.{IsFilledInFront, resting_left_before, resting_left_after_deals}
 use Rattle.continuous_audit.specs.Records.{ConformsBelow, conservation_at}
-use Rattle.continuous_audit.specs.Scans.{AreRunningTotals, IsLeftRefreshed, IsSplitAt, cause_deal_at}
+use Rattle.continuous_audit.specs.Scans.{AreRunningTotals, IsLeftRefreshed, IsSplitAt, deal_index_at}
 
 -- the deals are over the order list, and each deal and each order that is ended
 -- belongs to its record
 pub record IsMarket (m : Market) : Type 0 where
   pub list : IsOrderList m.orders.now
   pub deal_list : IsDealList m.orders.now m.deals.now
-  pub incoming_deals : AreCauses m.orders.now m.deals.now m.incoming_deals.now
+  pub incoming_deals : AreIncomingDeals m.orders.now m.deals.now m.incoming_deals.now
   pub endings : AreEndings m.orders.now m.endings.now
 
 -- the rule holds at each place before that of an order
@@ -43,11 +43,11 @@ IsLeftRefreshedIn m start running sizes old new =
     sizes running.traded.items old new
 
 -- the deal at an index of the incoming deals, and its resting order
-abbrev pub caused_deal_at : Market → ℕ → Deal
-caused_deal_at m index = deal_at m.deals.now (cause_deal_at m.incoming_deals.now index)
+abbrev pub incoming_deal_at : Market → ℕ → Deal
+incoming_deal_at m index = deal_at m.deals.now (deal_index_at m.incoming_deals.now index)
 
 abbrev pub resting_order_at : Market → ℕ → ℕ
-resting_order_at m index = resting_order m.orders.now (caused_deal_at m index)
+resting_order_at m index = resting_order m.orders.now (incoming_deal_at m index)
 
 -- an order in a book that is before this one in the order list, and is of the other side
 pub record IsOpposite (m : Market) (order : ℕ) (r : Resting) : Type 0 where

@@ -9,11 +9,11 @@ use Rattle.audit_base.specs.Expected.{IsExpectedContinuous}
 use Rattle.continuous_audit.specs.declared.matching.TradesSoFar.{TradesSoFar}
 use Rattle.continuous_audit.specs.Holding.{resting_left_before, resting_left_after_deals}
 use Rattle.continuous_audit.specs.Books.{AreEmptyBooks, AreBooksOfAmounts, resting_count}
-use Rattle.continuous_audit.specs.Chains.{IsOpenSheet}
+use Rattle.continuous_audit.specs.Chains.{AreNumbersInBounds}
 use Rattle.continuous_audit.specs.Fills.{quantity_filled}
 use Rattle.continuous_audit.specs.Pairs.{AreSharedPairs, IsFillPairInRange}
 use Rattle.continuous_audit.specs.Scans.{number_in}
-use Rattle.continuous_audit.specs.OrderNumbers.{IsBlankSheet}
+use Rattle.continuous_audit.specs.OrderNumbers.{AreBlankNumbers}
 use Rattle.continuous_audit.specs.declared.fills.Fill.{Fill}
 
 -- these deals are the Expected trades, and they conform
@@ -35,7 +35,7 @@ pub record AreFillsApplied (fills : List Fill)
 -- the pairs, the orders in the books and the one that waits to enter are together at most n
 pub record AreTradesSoFar (orders : List Order) (n waiting : ℕ) (t : TradesSoFar) : Type 0 where
   pub traded_count : length t.traded.items ≡ length orders
-  pub order_numbers : IsOpenSheet orders n t.order_numbers
+  pub order_numbers : AreNumbersInBounds orders n t.order_numbers
   pub traded_fits : (order : ℕ) → number_in t.traded.items order ≤ n * 10 ^ 12
   pub dealt : All (IsFillPairInRange (length orders)) t.pairs.items
   pub few : length t.pairs.items + resting_count t.books_so_far.books + waiting ≤ n
@@ -67,6 +67,6 @@ MatchedAfter orders order t = (deals : List Deal) → AreExpectedDeals orders de
 -- before the first of this many orders
 pub record AreTradesAtStart (count : ℕ) (t : TradesSoFar) : Type 0 where
   pub traded : t.traded.items ≡ replicate count 0
-  pub order_numbers : IsBlankSheet count t.order_numbers
+  pub order_numbers : AreBlankNumbers count t.order_numbers
   pub books_so_far : AreEmptyBooks t.books_so_far
   pub pairs : t.pairs.items ≡ []

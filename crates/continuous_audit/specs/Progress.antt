@@ -8,13 +8,13 @@ use Rattle.continuous_audit.specs.Books.{AreEmptyBooks, AreBooksAfterDeals, AreB
 use Rattle.continuous_audit.specs.Chains.{HaveChainsEnded}
 use Rattle.continuous_audit.specs.Endings.{AreEndingsDropped}
 use Rattle.continuous_audit.specs.Markets.{HaveTraded, IsConserved}
-use Rattle.continuous_audit.specs.Records.{AreBeforeNumbers, AreLeftBefore, AreSizes, AreTradedBefore, ConformsAndIsUncrossed, priority_at}
+use Rattle.continuous_audit.specs.Records.{AreChainTradedNumbers, AreLeftBefore, AreSizes, AreTradedBefore, ConformsAndIsUncrossed, priority_at}
 use Rattle.continuous_audit.specs.Scans.{IsSplitAt}
-use Rattle.continuous_audit.specs.OrderNumbers.{IsBlankSheet}
+use Rattle.continuous_audit.specs.OrderNumbers.{AreBlankNumbers}
 
 -- the numbers of the first n orders before a place
 pub record AreNumbers (m : Market) (n place : ℕ) (numbers : Numbers) : Type 0 where
-  pub chain_traded : AreBeforeNumbers m.orders.now m.deals.now n
+  pub chain_traded : AreChainTradedNumbers m.orders.now m.deals.now n
       numbers.order_numbers.chain_traded.items
   pub chain_ended : HaveChainsEnded m.orders.now n numbers.order_numbers.chain_ended.items
   pub sizes : AreSizes m.orders.now m.deals.now n numbers.order_numbers.sizes.items
@@ -62,7 +62,7 @@ IsReadyNext m order state = IsReadyAt m order (next_order_place m.orders.now ord
 
 -- before the first of this many orders
 pub record AreNumbersAtStart (count : ℕ) (numbers : Numbers) : Type 0 where
-  pub order_numbers : IsBlankSheet count numbers.order_numbers
+  pub order_numbers : AreBlankNumbers count numbers.order_numbers
   pub traded : numbers.running.traded.items ≡ replicate count 0
   pub added : numbers.running.added ≡ 0
 

@@ -8,9 +8,9 @@ use Rattle.audit_base.specs.Continuous.{traded_before, chain_traded_quantity, ha
 use Rattle.audit_base.specs.ContinuousRules.{ConformsAt}
 use Rattle.audit_base.specs.Least.{least_answer}
 use Rattle.audit_base.specs.ContinuousOffences.{conservation_finding, resting_priority_finding}
-use Rattle.continuous_audit.specs.declared.order_numbers.Sheet.{Sheet}
+use Rattle.continuous_audit.specs.declared.order_numbers.OrderNumbers.{OrderNumbers}
 use Rattle.continuous_audit.specs.Holding.{IsUncrossedBefore}
-use Rattle.continuous_audit.specs.Chains.{IsBeforeBounded}
+use Rattle.continuous_audit.specs.Chains.{IsChainTradedBounded}
 use Rattle.continuous_audit.specs.Scans.{AreTotalsSmall, number_in}
 
 -- the rule holds at each place below this one
@@ -24,13 +24,13 @@ pub record ConformsAndIsUncrossed (orders : List Order) (deals : List Deal)
   pub apart : IsUncrossedBefore orders (traded_before orders deals) place
 
 -- Before of each of the first m orders
-pub record AreBeforeNumbers (orders : List Order) (deals : List Deal) (m : ℕ)
+pub record AreChainTradedNumbers (orders : List Order) (deals : List Deal) (m : ℕ)
     (chain_traded : List ℕ) : Type 0 where
   pub count : length chain_traded ≡ length orders
   pub is : (order : ℕ) → order < m → number_in chain_traded order
       ≡ chain_traded_quantity orders deals order
   pub fits : (order : ℕ) → number_in chain_traded order ≤ 2 ^ 126
-  pub bounded : IsBeforeBounded chain_traded
+  pub bounded : IsChainTradedBounded chain_traded
 
 -- Size of each of the first m orders
 pub record AreSizes (orders : List Order) (deals : List Deal) (m : ℕ)
@@ -48,9 +48,9 @@ pub record AreLeftBefore (orders : List Order) (deals : List Deal) (m place : �
 -- what
 -- is left of the earlier ones
 pub record IsKnownBeforeDeals (orders : List Order) (deals : List Deal) (order : ℕ) (entered : Bool)
-    (order_numbers : Sheet) : Type 0 where
+    (order_numbers : OrderNumbers) : Type 0 where
   pub arrived : entered ≡ has_entered orders deals order
-  pub chain_traded : AreBeforeNumbers orders deals (suc order) order_numbers.chain_traded.items
+  pub chain_traded : AreChainTradedNumbers orders deals (suc order) order_numbers.chain_traded.items
   pub sizes : AreSizes orders deals (suc order) order_numbers.sizes.items
   pub left : AreLeftBefore orders deals order (place_at orders order) order_numbers.left.items
 

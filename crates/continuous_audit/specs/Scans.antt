@@ -3,7 +3,7 @@ use Rattle.std.specs.Prelude.{◌≡◌, ◌<◌, ◌≤◌, ◌-◌, ◌*◌, �
 use Rattle.audit_base.specs.declared.orders.Order.{Order}
 use Rattle.audit_base.specs.declared.orders.Deal.{Deal}
 use Rattle.audit_base.specs.Deals.{names_order, deal_at}
-use Rattle.continuous_audit.specs.declared.incoming_deals.Cause.{Cause}
+use Rattle.continuous_audit.specs.declared.incoming_deals.IncomingDeal.{IncomingDeal}
 use Rattle.continuous_audit.specs.IncomingDeals.{running_total}
 
 -- the number at an index of a list
@@ -12,20 +12,20 @@ number_in numbers index = slice_index_or numbers index 0
 
 -- what is given past the end of the incoming deals; and of the one at an index, the incoming order
 -- and the index of the deal
-abbrev pub cause_past_end : Cause
-cause_past_end = record { order = 0; deal = 0 }
+abbrev pub incoming_deal_past_end : IncomingDeal
+incoming_deal_past_end = record { order = 0; deal = 0 }
 
-abbrev pub cause_order_at : List Cause → ℕ → ℕ
-cause_order_at incoming_deals index =
-    (slice_index_or incoming_deals index cause_past_end).order
+abbrev pub incoming_order_at : List IncomingDeal → ℕ → ℕ
+incoming_order_at incoming_deals index =
+    (slice_index_or incoming_deals index incoming_deal_past_end).order
 
-abbrev pub cause_deal_at : List Cause → ℕ → ℕ
-cause_deal_at incoming_deals index =
-    (slice_index_or incoming_deals index cause_past_end).deal
+abbrev pub deal_index_at : List IncomingDeal → ℕ → ℕ
+deal_index_at incoming_deals index =
+    (slice_index_or incoming_deals index incoming_deal_past_end).deal
 
 -- what each order has traded in the first of the incoming deals
 pub record AreRunningTotals (orders : List Order) (deals : List Deal)
-    (incoming_deals : List Cause) (added : ℕ) (traded : List ℕ) : Type 0 where
+    (incoming_deals : List IncomingDeal) (added : ℕ) (traded : List ℕ) : Type 0 where
   pub inside : added ≤ length incoming_deals
   pub count : length traded ≡ length orders
   pub sums : (order : ℕ) → order < length orders → number_in traded order
@@ -33,11 +33,11 @@ pub record AreRunningTotals (orders : List Order) (deals : List Deal)
   pub fits : (order : ℕ) → order < length orders → number_in traded order ≤ added * 10 ^ 12
 
 -- the incoming deals before an index are those of the orders before this one
-pub record IsSplitAt (incoming_deals : List Cause) (order index : ℕ) : Type 0 where
+pub record IsSplitAt (incoming_deals : List IncomingDeal) (order index : ℕ) : Type 0 where
   pub early : (i : ℕ) → i < index → i < length incoming_deals
-      → cause_order_at incoming_deals i < order
+      → incoming_order_at incoming_deals i < order
   pub late : (i : ℕ) → index ≤ i → i < length incoming_deals
-      → order ≤ cause_order_at incoming_deals i
+      → order ≤ incoming_order_at incoming_deals i
 
 -- how many steps lead back from a target at most
 abbrev pub steps_of : Option ℕ → ℕ
@@ -45,23 +45,23 @@ steps_of None = 0
 steps_of (Some target) = suc target
 
 -- the incoming deals are deals of the list, and these name orders below a count
-pub record HasDeals (deals : List Deal) (incoming_deals : List Cause)
+pub record HasDeals (deals : List Deal) (incoming_deals : List IncomingDeal)
     (count : ℕ) : Type 0 where
   pub deal : (index : ℕ) → index < length incoming_deals
-      → cause_deal_at incoming_deals index < length deals
+      → deal_index_at incoming_deals index < length deals
   pub bid : (index : ℕ) → index < length incoming_deals
-      → (deal_at deals (cause_deal_at incoming_deals index)).bid < count
+      → (deal_at deals (deal_index_at incoming_deals index)).bid < count
   pub ask : (index : ℕ) → index < length incoming_deals
-      → (deal_at deals (cause_deal_at incoming_deals index)).ask < count
+      → (deal_at deals (deal_index_at incoming_deals index)).ask < count
 
 -- what is left of the orders of these deals is their size less what they have traded, and of the
 -- others what it was
-pub record IsLeftRefreshed (deals : List Deal) (incoming_deals : List Cause) (start end : ℕ)
+pub record IsLeftRefreshed (deals : List Deal) (incoming_deals : List IncomingDeal) (start end : ℕ)
     (sizes traded old new : List ℕ) : Type 0 where
   pub count : length new ≡ length old
   pub each : (order : ℕ) → (number_in new order ≡ number_in sizes order - number_in traded order)
       ⊎ ((number_in new order ≡ number_in old order) × ((index : ℕ) → start ≤ index → index < end
-      → names_order order (deal_at deals (cause_deal_at incoming_deals index)) ≡ false))
+      → names_order order (deal_at deals (deal_index_at incoming_deals index)) ≡ false))
 
 -- what each order has traded is there, and at most 2^72
 pub record AreTotalsSmall (orders : List Order) (traded : List ℕ) : Type 0 where

@@ -2,14 +2,14 @@
 ghost use Rattle.std.specs.Prelude.{◌≡◌, ◌<◌, ◌≤◌, ◌^◌, ℕ, List, None, Some, true, length};
 ghost use Rattle.audit_base.specs.Orders.{IsOrderList};
 ghost use Rattle.audit_base.specs.declared.orders.Deal.{Deal as ADeal};
-ghost use Rattle.continuous_audit.specs.Chains.{IsKnownBeforeOpening, IsOpenSheet};
+ghost use Rattle.continuous_audit.specs.Chains.{IsKnownBeforeArrival, AreNumbersInBounds};
 ghost use Rattle.continuous_audit.specs.DealFindings.{enters, size_left, waits_in};
-ghost use Rattle.continuous_audit.specs.OrderNumbers.{FitsOrder, IsOpeningOfOrder};
+ghost use Rattle.continuous_audit.specs.OrderNumbers.{IsArrivalBounded, IsArrivalOfOrder};
 ghost use Rattle.continuous_audit.specs.Scans.{AreTotalsSmall};
 
 use super::chains::{is_chain_ended, traded_by_chain};
 use super::checking::waits;
-use super::order_numbers::Sheet;
+use super::order_numbers::OrderNumbers;
 use audit_base::numbers::Quantity;
 use order_list::listed::ListedOrder;
 use order_list::lists::OrderList;
@@ -25,7 +25,11 @@ fn enters(order: &ListedOrder<'_>, target_rests: bool) -> bool
 }
 
 /// Whether the target of an order rests before its place, or there is none.
-fn target_rests(orders: &OrderList<'_>, order_numbers: &Sheet, order: &ListedOrder<'_>) -> bool
+fn target_rests(
+    orders: &OrderList<'_>,
+    order_numbers: &OrderNumbers,
+    order: &ListedOrder<'_>,
+) -> bool
     requires inside { (t : ℕ) → order.now.target ≡ Some t → t < length orders.now }
     requires count { length order_numbers.now.left.items ≡ length orders.now }
     ensures none { order.now.target ≡ None → result ≡ true }
@@ -54,7 +58,7 @@ fn size_left(entered: bool, quantity: Quantity, chain_traded: u128) -> u64
 /// The arrival of an order: whether it enters, its Before (what its chain has traded), whether it
 /// is known that its record, or an earlier one, ends each order of its chain, and its Size.
 #[derive(Clone, Copy, Debug, Drop)]
-pub struct Opening {
+pub struct Arrival {
     pub entered: bool,
     pub chain_traded: u128,
     pub chain_ended: bool,
@@ -65,22 +69,22 @@ pub struct Opening {
 pub fn arrive_order(
     orders: &OrderList<'_>,
     traded: &[u128],
-    order_numbers: &Sheet,
+    order_numbers: &OrderNumbers,
     order: usize,
-) -> Opening
+) -> Arrival
     requires list { IsOrderList orders.now }
     requires order { order < length orders.now }
     requires traded { AreTotalsSmall orders.now traded.now }
-    requires order_numbers { IsOpenSheet orders.now order order_numbers.now }
+    requires order_numbers { AreNumbersInBounds orders.now order order_numbers.now }
     ensures arrived { (deals : List ADeal)
-        → IsKnownBeforeOpening orders.now deals order traded.now order_numbers.now
-        → IsOpeningOfOrder orders.now deals order result }
-    ensures fits { FitsOrder orders.now order result }
+        → IsKnownBeforeArrival orders.now deals order traded.now order_numbers.now
+        → IsArrivalOfOrder orders.now deals order result }
+    ensures fits { IsArrivalBounded orders.now order result }
 {
     let chain_traded = traded_by_chain(orders, traded, order_numbers, order);
     let arrived = orders.at(order);
     let entered = enters(&arrived, target_rests(orders, order_numbers, &arrived));
-    Opening {
+    Arrival {
         entered,
         chain_traded,
         chain_ended: is_chain_ended(orders, order_numbers, order),

@@ -3,10 +3,10 @@ ghost use Rattle.std.specs.Prelude.{◌≡◌, ◌<◌, ◌≤◌, ◌*◌, ◌^
 ghost use Rattle.audit_base.specs.declared.orders.Deal.{Deal as ADeal};
 ghost use Rattle.audit_base.specs.Orders.{IsOrderList};
 ghost use Rattle.audit_base.specs.Continuous.{chain_traded_quantity, chain};
-ghost use Rattle.continuous_audit.specs.Chains.{HasChainEnded, IsOpenSheet, IsKnownBeforeOpening, ends_by};
+ghost use Rattle.continuous_audit.specs.Chains.{HasChainEnded, AreNumbersInBounds, IsKnownBeforeArrival, ends_by};
 ghost use Rattle.continuous_audit.specs.Scans.{AreTotalsSmall, number_in};
 
-use super::order_numbers::Sheet;
+use super::order_numbers::OrderNumbers;
 use order_list::lists::OrderList;
 
 /// What the orders of the chain of an order have traded: its target, the target's
@@ -32,15 +32,15 @@ fn chain_total(orders: &OrderList<'_>, traded: &[u128], order: usize) -> u128
 pub fn traded_by_chain(
     orders: &OrderList<'_>,
     traded: &[u128],
-    order_numbers: &Sheet,
+    order_numbers: &OrderNumbers,
     order: usize,
 ) -> u128
     requires list { IsOrderList orders.now }
     requires order { order < length orders.now }
     requires traded { AreTotalsSmall orders.now traded.now }
-    requires order_numbers { IsOpenSheet orders.now order order_numbers.now }
+    requires order_numbers { AreNumbersInBounds orders.now order order_numbers.now }
     ensures chain_traded { (deals : List ADeal)
-        → IsKnownBeforeOpening orders.now deals order traded.now order_numbers.now
+        → IsKnownBeforeArrival orders.now deals order traded.now order_numbers.now
         → result ≡ chain_traded_quantity orders.now deals order }
     ensures bounded { result ≤ order * 2 ^ 72 }
 {
@@ -64,10 +64,10 @@ fn ends_by(cancelled: Option<u32>, place: u32) -> bool
 
 /// Whether the record of an order, or an earlier one, ends each order of its chain: false also
 /// where that is not known.
-pub fn is_chain_ended(orders: &OrderList<'_>, order_numbers: &Sheet, order: usize) -> bool
+pub fn is_chain_ended(orders: &OrderList<'_>, order_numbers: &OrderNumbers, order: usize) -> bool
     requires list { IsOrderList orders.now }
     requires order { order < length orders.now }
-    requires order_numbers { IsOpenSheet orders.now order order_numbers.now }
+    requires order_numbers { AreNumbersInBounds orders.now order order_numbers.now }
     ensures { result ≡ true → HasChainEnded orders.now order }
 {
     let own = orders.at(order);

@@ -56,7 +56,7 @@ pub struct Accounts {
 
 /// The record that a deal belongs to: its place, and whether its order enters there.
 #[derive(Clone, Copy, Debug)]
-pub struct Arrival {
+pub struct RecordOfDeal {
     pub place: u32,
     pub entered: bool,
 }
@@ -100,7 +100,7 @@ pub fn deal_evidence(
     deal: &Deal,
     bid: &ListedOrder<'_>,
     ask: &ListedOrder<'_>,
-    deal_record: Arrival,
+    deal_record: RecordOfDeal,
     known: Accounts,
 ) -> Option<Evidence>
     ensures { result ≡ by_deal.deal_evidence deal.now bid.now ask.now deal_record known }

@@ -12,7 +12,7 @@ ghost use Rattle.continuous_audit.specs.Matching.{AreTradesAtStart, AreTradesSoF
 use super::books::BooksSoFar;
 use super::endings::{Ending, sort_endings};
 use super::matching::{TradesSoFar, match_record};
-use super::order_numbers::Sheet;
+use super::order_numbers::OrderNumbers;
 use super::pairs::{number_pairs, sort_pairs};
 use audit_base::faults::NoMemory;
 use audit_base::orders::Deal;
@@ -25,7 +25,7 @@ fn no_trades(alloc: Global, count: usize) -> Result<TradesSoFar, NoMemory>
     ensures { IfOk result (AreTradesAtStart count) }
 {
     let traded = zeros(alloc, count)?;
-    let order_numbers = Sheet::new(alloc, count)?;
+    let order_numbers = OrderNumbers::new(alloc, count)?;
     Ok(TradesSoFar {
         traded,
         order_numbers,

@@ -3,7 +3,7 @@ ghost use Rattle.std.specs.Prelude.{◌≡◌, ◌<◌, ◌^◌, All, IfOk, leng
 ghost use Rattle.audit_base.specs.Orders.{order_at, place_at};
 ghost use Rattle.audit_base.specs.Deals.{NamesOrders, IsDealList};
 ghost use Rattle.audit_base.specs.Continuous.{incoming_order, resting_order};
-ghost use Rattle.continuous_audit.specs.IncomingDeals.{AreCauses, causes_upto};
+ghost use Rattle.continuous_audit.specs.IncomingDeals.{AreIncomingDeals, incoming_deals_upto};
 
 use audit_base::faults::NoMemory;
 use audit_base::orders::Deal;
@@ -12,7 +12,7 @@ use std::alloc::Global;
 
 /// A deal by the index of its incoming order and its own index.
 #[derive(Clone, Copy, Debug, PartialEq, Eq, PartialOrd, Ord)]
-pub struct Cause {
+pub struct IncomingDeal {
     pub order: u32,
     pub deal: u32,
 }
@@ -48,16 +48,16 @@ fn collect_incoming_deals(
     alloc: Global,
     orders: &OrderList<'_>,
     deals: &[Deal],
-) -> Result<Vec<Cause>, NoMemory>
+) -> Result<Vec<IncomingDeal>, NoMemory>
     requires few_orders { length orders.now < 2 ^ 32 }
     requires few_deals { length deals.now < 2 ^ 32 }
     requires named { All (NamesOrders orders.now) deals.now }
     ensures { IfOk result (λ incoming_deals.
-        incoming_deals.items ≡ causes_upto orders.now deals.now (length deals.now)) }
+        incoming_deals.items ≡ incoming_deals_upto orders.now deals.now (length deals.now)) }
 {
     let mut incoming_deals = Vec::with_capacity(alloc, deals.len())?;
     for (index, deal) in deals.iter().enumerate() {
-        let incoming_deal = Cause {
+        let incoming_deal = IncomingDeal {
             order: incoming(orders, deal) as u32,
             deal: index as u32,
         };
@@ -71,12 +71,12 @@ pub fn sort_incoming_deals(
     alloc: Global,
     orders: &OrderList<'_>,
     deals: &[Deal],
-) -> Result<Vec<Cause>, NoMemory>
+) -> Result<Vec<IncomingDeal>, NoMemory>
     requires few_orders { length orders.now < 2 ^ 32 }
     requires few_deals { length deals.now < 2 ^ 32 }
     requires named { All (NamesOrders orders.now) deals.now }
     ensures { IfOk result (λ incoming_deals.
-        AreCauses orders.now deals.now incoming_deals.items) }
+        AreIncomingDeals orders.now deals.now incoming_deals.items) }
 {
     let mut incoming_deals = collect_incoming_deals(alloc, orders, deals)?;
     incoming_deals.sort_unstable();

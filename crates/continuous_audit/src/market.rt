@@ -1,6 +1,6 @@
 //! What is judged: the orders and the deals, and which of them belong to which record.
 use super::endings::Ending;
-use super::incoming_deals::Cause;
+use super::incoming_deals::IncomingDeal;
 use audit_base::orders::Deal;
 use order_list::lists::OrderList;
 
@@ -10,7 +10,7 @@ pub struct Market<'a> {
     pub orders: &'a OrderList<'a>,
     pub deals: &'a [Deal],
     /// The deals by their incoming orders.
-    pub incoming_deals: &'a [Cause],
+    pub incoming_deals: &'a [IncomingDeal],
     /// The orders that records end, by the places of these records.
     pub endings: &'a [Ending],
 }

@@ -13,7 +13,7 @@ use super::books::{Books, BooksSoFar};
 use super::endings::Ending;
 use super::fills::{Fill, take_fills};
 use super::leaving::set_amount;
-use super::order_numbers::Sheet;
+use super::order_numbers::OrderNumbers;
 use super::pairs::{FillPair, push_pairs};
 use super::spreading::enter_own;
 use audit_base::faults::NoMemory;
@@ -27,7 +27,7 @@ use order_list::lists::OrderList;
 #[derive(Drop)]
 pub struct TradesSoFar {
     pub traded: Vec<u128>,
-    pub order_numbers: Sheet,
+    pub order_numbers: OrderNumbers,
     pub books_so_far: BooksSoFar,
     /// What the last order trades.
     pub fills: Vec<Fill>,

@@ -9,7 +9,7 @@ ghost use Rattle.continuous_audit.specs.Scans.{number_in};
 use super::arrival::arrive_order;
 use super::leaving::{left_at, refresh_left, set_amount};
 use super::market::Market;
-use super::order_numbers::Sheet;
+use super::order_numbers::OrderNumbers;
 use super::scanning::{RunningTotals, check_deals};
 use audit_base::faults::NoMemory;
 use audit_base::flaws::{Flaw, TradedOrder};
@@ -19,7 +19,7 @@ use std::alloc::Global;
 /// What is known of the orders, and at which of the incoming deals those of the last one begin.
 #[derive(Drop)]
 pub struct Numbers {
-    pub order_numbers: Sheet,
+    pub order_numbers: OrderNumbers,
     pub running: RunningTotals,
     pub start: usize,
 }
@@ -29,7 +29,7 @@ impl Numbers {
     pub fn new(alloc: Global, count: usize) -> Result<Numbers, NoMemory>
         ensures { IfOk result (AreNumbersAtStart count) }
     {
-        let order_numbers = Sheet::new(alloc, count)?;
+        let order_numbers = OrderNumbers::new(alloc, count)?;
         let traded = zeros(alloc, count)?;
         let running = RunningTotals { traded, added: 0 };
         Ok(Numbers {

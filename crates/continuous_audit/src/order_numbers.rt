@@ -3,9 +3,9 @@ ghost use Rattle.std.specs.Prelude.{◌≡◌, ◌<◌, ◌+◌, ◌^◌, IfOk, 
 ghost use Rattle.continuous_audit.specs.Chains.{flag_in};
 ghost use Rattle.continuous_audit.specs.DealFindings.{account_of};
 ghost use Rattle.continuous_audit.specs.Scans.{number_in};
-ghost use Rattle.continuous_audit.specs.OrderNumbers.{IsBlankSheet, IsOpeningNoted};
+ghost use Rattle.continuous_audit.specs.OrderNumbers.{AreBlankNumbers, IsArrivalNoted};
 
-use super::arrival::Opening;
+use super::arrival::Arrival;
 use super::checking::Account;
 use audit_base::faults::NoMemory;
 use audit_base::flaws::TradedOrder;
@@ -14,7 +14,7 @@ use std::alloc::Global;
 
 /// What is known of each order that has arrived, by its index.
 #[derive(Drop)]
-pub struct Sheet {
+pub struct OrderNumbers {
     /// Before of each order: what its chain has traded.
     pub chain_traded: Vec<u128>,
     /// Set only where the record of the order, or an earlier one, ends each order of its chain.
@@ -23,12 +23,12 @@ pub struct Sheet {
     pub left: Vec<u64>,
 }
 
-impl Sheet {
+impl OrderNumbers {
     /// The numbers of this many orders, of which none has arrived.
-    pub fn new(alloc: Global, count: usize) -> Result<Sheet, NoMemory>
-        ensures { IfOk result (IsBlankSheet count) }
+    pub fn new(alloc: Global, count: usize) -> Result<OrderNumbers, NoMemory>
+        ensures { IfOk result (AreBlankNumbers count) }
     {
-        Ok(Sheet {
+        Ok(OrderNumbers {
             chain_traded: zeros(alloc, count)?,
             chain_ended: vec![in alloc; false; count]?,
             sizes: vec![in alloc; 0u64; count]?,
@@ -37,11 +37,11 @@ impl Sheet {
     }
 
     /// Notes the arrival of an order at its own record.
-    pub fn note(&mut self, order: usize, arrival: &Opening)
+    pub fn note(&mut self, order: usize, arrival: &Arrival)
         requires chain_traded { order < vec_len self.old.chain_traded }
         requires chain_ended { order < vec_len self.old.chain_ended }
         requires sizes { order < vec_len self.old.sizes }
-        ensures { IsOpeningNoted order arrival.now self.old self.new }
+        ensures { IsArrivalNoted order arrival.now self.old self.new }
     {
         self.chain_traded[order] = arrival.chain_traded;
         self.chain_ended[order] = arrival.chain_ended;

@@ -7,7 +7,7 @@ ghost use Rattle.order_book.specs.declared.books.Resting.{Resting as RestingOrde
 ghost use Rattle.order_book.specs.Books.{best_resting};
 ghost use Rattle.continuous_audit.specs.Books.{AreBooksAfterDeals, AreBooksBefore};
 ghost use Rattle.continuous_audit.specs.Flaws.{HasShownNumber, IsFindingOfFlaw, priority_flaw, shown_number};
-ghost use Rattle.continuous_audit.specs.Markets.{IsFilledAgainst, IsMarket, IsOpposite, caused_deal_at, resting_order_at};
+ghost use Rattle.continuous_audit.specs.Markets.{IsFilledAgainst, IsMarket, IsOpposite, incoming_deal_at, resting_order_at};
 ghost use Rattle.continuous_audit.specs.Progress.{HasDealt};
 ghost use Rattle.continuous_audit.specs.Records.{priority_at};
 
@@ -42,7 +42,7 @@ fn priority_flaw(market: &Market<'_>, numbers: &Numbers, over: usize, at: usize)
     requires over { HasShownNumber numbers.now over }
     requires resting { HasShownNumber numbers.now (resting_order_at market.now at) }
     ensures { result ≡ priority_flaw market.now.orders.now (shown_number numbers.now)
-        (caused_deal_at market.now at) over }
+        (incoming_deal_at market.now at) over }
 {
     let (orders, deals, incoming_deals) = (market.orders, market.deals, market.incoming_deals);
     let deal = &deals[incoming_deals[at].deal as usize];

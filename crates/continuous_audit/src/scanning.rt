@@ -4,9 +4,9 @@ ghost use Rattle.continuous_audit.specs.Flaws.{IsFindingOfFlaw};
 ghost use Rattle.continuous_audit.specs.Markets.{HaveTraded, IsMarket};
 ghost use Rattle.continuous_audit.specs.Records.{IsKnownBeforeDeals, conservation_at};
 
-use super::checking::{Accounts, Arrival, deal_evidence};
+use super::checking::{Accounts, RecordOfDeal, deal_evidence};
 use super::market::Market;
-use super::order_numbers::Sheet;
+use super::order_numbers::OrderNumbers;
 use audit_base::flaws::Flaw;
 use matching_core::checking::add_deal;
 
@@ -21,7 +21,7 @@ pub struct RunningTotals {
 /// Adds what the deals of the order at `order` trade, up to the first that has a flaw.
 pub fn check_deals(
     market: &Market<'_>,
-    order_numbers: &Sheet,
+    order_numbers: &OrderNumbers,
     order: usize,
     entered: bool,
     running: &mut RunningTotals,
@@ -37,7 +37,7 @@ pub fn check_deals(
         (conservation_at market.now.orders.now market.now.deals.now order) }
 {
     let (orders, deals, incoming_deals) = (market.orders, market.deals, market.incoming_deals);
-    let deal_record = Arrival {
+    let deal_record = RecordOfDeal {
         place: orders.at(order).place(),
         entered,
     };

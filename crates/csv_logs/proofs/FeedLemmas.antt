@@ -16,7 +16,7 @@ use Rattle.log_source.specs.Handing.{HandsOnMore}
 use Rattle.log_source.specs.Sources.{longest_read}
 use Rattle.csv_logs.specs.Lines.{Line, is_nonempty_line, nonempty_lines, cut_lines, lines_with_offsets, without_cr}
 use Rattle.csv_logs.specs.Steps.{EndsLine, EndsLines, TakesPiece, HasLine, HasLines, MovesPastLine, TakesFields, fields_say, line_at, line_says}
-use Rattle.csv_logs.specs.Logs.{is_header, line_entry, read_lines, read_csv_log}
+use Rattle.csv_logs.specs.Logs.{is_header, line_meaning, read_lines, read_csv_log}
 use Rattle.csv_logs.specs.Feeds.{AnswersCollected, AreGoodLines, HasNoBadLine, AnswersLogRecords, HasLogRecords, StopsAtBadLine, AreCsvFeedFields, IsCsvFeedOf, HasCsvFeedFields, is_lf, are_whole_lines}
 use Rattle.csv_logs.specs.declared.feeds.CsvFeed.{CsvFeed}
 use Rattle.csv_logs.specs.Columns.{line_fields, has_bad_byte_or_open_quote}
@@ -339,7 +339,7 @@ module _ {R : Type 0} (names : List (List ℕ)) (entry : List (List ℕ) → Res
 
   -- what a line that is not broken says, by its fields
   pub unbroken-says : (header : Bool) (text : List ℕ) → has_bad_byte_or_open_quote text ≡ false → line_says names entry header text ≡ fields_say names entry header (line_fields text)
-  unfolding is_header line_entry
+  unfolding is_header line_meaning
   unbroken-says true text unbroken = rw unbroken refl
   unbroken-says false text unbroken = rw unbroken refl
 

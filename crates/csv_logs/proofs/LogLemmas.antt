@@ -7,7 +7,7 @@ use Rattle.audit_base.specs.declared.faults.Reason.{Reason}
 use Rattle.audit_base.specs.declared.faults.Reason.TheVariants as reason
 use Rattle.audit_base.specs.declared.faults.BadPlace.{BadPlace}
 use Rattle.csv_logs.specs.Lines.{Line, is_nonempty_line}
-use Rattle.csv_logs.specs.Logs.{is_header, line_entry, with_record_of_line, after_line, read_entries, read_lines}
+use Rattle.csv_logs.specs.Logs.{is_header, line_meaning, with_record_of_line, after_line, read_entries, read_lines}
 use Rattle.csv_logs.specs.Feeds.{AreGoodLines}
 use Rattle.csv_logs.specs.Steps.{header_says, line_says, entry_says}
 
@@ -51,10 +51,10 @@ module _ {R : Type 0} (entry : List (List ℕ) → Result R Reason) where
       let none : entries ≡ [] = cc in
       rw none (sym (with_front-nil (read_entries entry (before + 0) more) ∙ ap (λ (n : ℕ). read_entries entry n more) (omega arith)))
   read_entries-more before (line ∷ lines) more entries e =
-      let q = after_line-ok before line.start (line_entry entry line.text) (read_entries entry (before + 1) lines) entries e in
+      let q = after_line-ok before line.start (line_meaning entry line.text) (read_entries entry (before + 1) lines) entries e in
       let h = read_entries-more (before + 1) lines more q.1 q.3 in
       subst (λ (es : List R). read_entries entry before (line ∷ (lines ++ more)) ≡ with_front es (read_entries entry (before + length es) more)) (sym q.4)
-      (after-more before line.start (line_entry entry line.text) (read_entries entry (before + 1) (lines ++ more)) q.0 q.1 (read_entries entry (before + 1 + length q.1) more) q.2 h
+      (after-more before line.start (line_meaning entry line.text) (read_entries entry (before + 1) (lines ++ more)) q.0 q.1 (read_entries entry (before + 1 + length q.1) more) q.2 h
       ∙ ap (λ (n : ℕ). with_front (q.0 ∷ q.1) (read_entries entry n more)) (omega arith))
 
   -- lines after a bad line
@@ -62,7 +62,7 @@ module _ {R : Type 0} (entry : List (List ℕ) → Result R Reason) where
       → read_entries entry before (lines ++ more) ≡ Err bad
   read_entries-stop before [] more bad e = absurd (cc e)
   read_entries-stop before (line ∷ lines) more bad e =
-      elim (after_line-err before line.start (line_entry entry line.text) (read_entries entry (before + 1) lines) bad e) [
+      elim (after_line-err before line.start (line_meaning entry line.text) (read_entries entry (before + 1) lines) bad e) [
         | inl here ↦ rw (here.1, here.2) refl
         | inr later ↦ rw (later.1, read_entries-stop (before + 1) lines more bad later.2) refl
       ]
@@ -72,14 +72,14 @@ module _ {R : Type 0} (entry : List (List ℕ) → Result R Reason) where
       → read_entries entry before (lines ++ filter is_nonempty_line (line ∷ [])) ≡ Err bad → (bad.offset ≡ line.start) ⊎ (read_entries entry before lines ≡ Err bad)
   read_entries-cases before [] line bad e = elim (cases_Bool (is_nonempty_line line)) [
     | inl full ↦
-        elim (after_line-err before line.start (line_entry entry line.text) (read_entries entry (before + 1) []) bad (rw full at e)) [
+        elim (after_line-err before line.start (line_meaning entry line.text) (read_entries entry (before + 1) []) bad (rw full at e)) [
           | inl here ↦ inl (ap (λ (b : BadPlace). b.offset) here.2)
           | inr later ↦ absurd (cc later.2)
         ]
     | inr none ↦ absurd (cc (rw none at e))
   ]
   read_entries-cases before (first ∷ lines) line bad e =
-      elim (after_line-err before first.start (line_entry entry first.text) (read_entries entry (before + 1) (lines ++ filter is_nonempty_line (line ∷ []))) bad e) [
+      elim (after_line-err before first.start (line_meaning entry first.text) (read_entries entry (before + 1) (lines ++ filter is_nonempty_line (line ∷ []))) bad e) [
         | inl here ↦ inr (rw (here.1, here.2) refl)
         | inr later ↦ elim (read_entries-cases (before + 1) lines line bad later.2) [
           | inl there ↦ inl there
@@ -89,12 +89,12 @@ module _ {R : Type 0} (entry : List (List ℕ) → Result R Reason) where
 
   -- a record more
   pub read_entries-line : (before : ℕ) (lines : List Line) (line : Line) (entries : List R) (new : R) → read_entries entry before lines ≡ Ok entries
-      → line_entry entry line.text ≡ Ok new → read_entries entry before (lines ++ line ∷ []) ≡ Ok (entries ++ new ∷ [])
+      → line_meaning entry line.text ≡ Ok new → read_entries entry before (lines ++ line ∷ []) ≡ Ok (entries ++ new ∷ [])
   read_entries-line before lines line entries new e is = rw (read_entries-more before lines (line ∷ []) entries e, is) refl
 
   -- a bad line, whatever comes after it
   pub read_entries-bad : (before : ℕ) (lines : List Line) (line : Line) (more : List Line) (entries : List R) (why : Reason)
-      → read_entries entry before lines ≡ Ok entries → line_entry entry line.text ≡ Err why
+      → read_entries entry before lines ≡ Ok entries → line_meaning entry line.text ≡ Err why
       → read_entries entry before (lines ++ line ∷ more) ≡ Err (record { place = before + length entries + 1; offset = line.start; reason = why })
   read_entries-bad before lines line more entries why e is = rw (read_entries-more before lines (line ∷ more) entries e, is) refl
 
@@ -127,7 +127,7 @@ module _ {R : Type 0} (names : List (List ℕ)) (entry : List (List ℕ) → Res
       → line_says names entry header line.text ≡ Ok new → AreGoodLines names entry true (entries ++ option_to_list new) (lines ++ line ∷ [])
   passed-line true entries [] line new is says = absurd (cc is)
   passed-line true entries (first ∷ lines) line new is says =
-      let q = entry_says-ok (line_entry entry line.text) new says in
+      let q = entry_says-ok (line_meaning entry line.text) new says in
       let p = passed-header (is_header names first.text) (Ok entries) (read_entries entry 0 lines) _ entries is in
       rw (q.2, p.0) (read_entries-line entry 0 lines line entries q.0 p.1 q.1)
   passed-line false entries lines line new is says =
@@ -140,7 +140,7 @@ module _ {R : Type 0} (names : List (List ℕ)) (entry : List (List ℕ) → Res
       → read_lines names entry size (lines ++ line ∷ more) ≡ Err (record { place = length entries + 1; offset = line.start; reason = why })
   passed-bad true entries [] line more why size is says = absurd (cc is)
   passed-bad true entries (first ∷ lines) line more why size is says =
-      let q = entry_says-err (line_entry entry line.text) why says in
+      let q = entry_says-err (line_meaning entry line.text) why says in
       let p = passed-header (is_header names first.text) (Ok entries) (read_entries entry 0 lines) _ entries is in
       rw p.0 (read_entries-bad entry 0 lines line more entries why p.1 q
       ∙ ap (λ (n : ℕ). let bad : Result (List R) BadPlace = Err (record { place = n + 1; offset = line.start; reason = why }) in bad) (zero-add (length entries)))

@@ -7,12 +7,12 @@ use Rattle.audit_base.specs.declared.faults.BadPlace.{BadPlace}
 use Rattle.std.specs.Prelude.{All, IfOk}
 use Rattle.csv_logs.specs.Columns.{has_bad_byte_or_open_quote, line_fields}
 use Rattle.csv_logs.specs.Lines.{Line, nonempty_lines}
-use Rattle.csv_logs.specs.Logs.{is_header, line_entry, read_entries, read_lines, read_csv_log, IsGoodCsvLog, IsBadCsvLog, IsOnlyCsvReading}
+use Rattle.csv_logs.specs.Logs.{is_header, line_meaning, read_entries, read_lines, read_csv_log, IsGoodCsvLog, IsBadCsvLog, IsOnlyCsvReading}
 use Rattle.csv_logs.proofs.LogLemmas.{after_line-ok, after_line-err, read_entries-bad}
 
 module _ {R : Type 0} (entry : List (List ℕ) → Result R Reason) where
   abbrev entry_of : Line → Result R Reason
-  entry_of line = line_entry entry line.text
+  entry_of line = line_meaning entry line.text
 
   -- lines that are records are read as these
   records-read : (before : ℕ) (lines : List Line) (entries : List R) → map entry_of lines ≡ map Ok entries → read_entries entry before lines ≡ Ok entries
@@ -75,7 +75,7 @@ module _ {R : Type 0} (entry : List (List ℕ) → Result R Reason) where
 
 module _ {R : Type 0} (names : List (List ℕ)) (entry : List (List ℕ) → Result R Reason) where
   lines-good : (size : ℕ) (lines : List Line) (entries : List R) → read_lines names entry size lines ≡ Ok entries
-      → (header : Line) × (later : List Line) × (lines ≡ header ∷ later) × (is_header names header.text ≡ true) × (map (λ line. line_entry entry line.text) later ≡ map Ok entries)
+      → (header : Line) × (later : List Line) × (lines ≡ header ∷ later) × (is_header names header.text ≡ true) × (map (λ line. line_meaning entry line.text) later ≡ map Ok entries)
   lines-good size [] entries e = absurd (cc e)
   lines-good size (header ∷ lines) entries e = elim (cases_Bool (is_header names header.text)) [
     | inl named ↦ (header, lines, refl, named, read-records entry 0 lines entries (rw named at e))
@@ -139,8 +139,8 @@ module _ {R : Type 0} (names : List (List ℕ)) (entry : List (List ℕ) → Res
 
 -- What each record of a line has, each record of a log has.
 module _ {R : Type 0} (entry : List (List ℕ) → Result R Reason) (P : R → Type 0) (each : (fields : List (List ℕ)) (new : R) → entry fields ≡ Ok new → P new) where
-  line-has : (line : List ℕ) (new : R) → line_entry entry line ≡ Ok new → P new
-  unfolding line_entry
+  line-has : (line : List ℕ) (new : R) → line_meaning entry line ≡ Ok new → P new
+  unfolding line_meaning
   line-has line new e = elim (cases_Bool (has_bad_byte_or_open_quote line)) [
     | inl broken ↦ absurd (cc (rw broken at e))
     | inr sound ↦ elim (cases_Bool (length (line_fields line) == 9)) [
@@ -152,7 +152,7 @@ module _ {R : Type 0} (entry : List (List ℕ) → Result R Reason) (P : R → T
   entries-have : (before : ℕ) (lines : List Line) (entries : List R) → read_entries entry before lines ≡ Ok entries → All P entries
   entries-have before [] entries e = let none : entries ≡ [] = cc in rw none (λ k d h. absurd (omega (arith, h)))
   entries-have before (line ∷ lines) entries e =
-      let q = after_line-ok before line.start (line_entry entry line.text) (read_entries entry (before + 1) lines) entries e in
+      let q = after_line-ok before line.start (line_meaning entry line.text) (read_entries entry (before + 1) lines) entries e in
       subst (All P) (sym q.4) (have-first q.0 q.1 (line-has line.text q.0 q.2) (entries-have (before + 1) lines q.1 q.3))
     where
       have-first : (first : R) (rest : List R) → P first → All P rest → All P (first ∷ rest)

@@ -17,7 +17,7 @@ use Rattle.log_source.specs.Sources.{longest_read}
 use Rattle.csv_logs.specs.Columns.{has_bad_byte_or_open_quote, is_printable, line_fields}
 use Rattle.csv_logs.specs.Feeds.{HasLogRecords, AreGoodLines}
 use Rattle.csv_logs.specs.Lines.{Line, cut_lines, nonempty_lines, is_nonempty_line, join_first, mark_size, lines_with_offsets, without_cr}
-use Rattle.csv_logs.specs.Logs.{fields_entry, is_header, line_entry, read_entries, read_lines, read_csv_log}
+use Rattle.csv_logs.specs.Logs.{meaning_of_fields, is_header, line_meaning, read_entries, read_lines, read_csv_log}
 use Rattle.csv_logs.proofs.ClosedLemmas.{unbroken-printable}
 use Rattle.csv_logs.proofs.LineLemmas.{extent}
 use Rattle.csv_logs.proofs.LogLemmas.{after_line-ok, passed-header}
@@ -115,15 +115,15 @@ full-extent log =
 
 -- How many bytes records have.
 module _ {R : Type 0} (entry : List (List ℕ) → Result R Reason) where
-  nine-fields : (fields : List (List ℕ)) (new : R) → fields_entry entry fields ≡ Ok new → length fields ≡ 9
+  nine-fields : (fields : List (List ℕ)) (new : R) → meaning_of_fields entry fields ≡ Ok new → length fields ≡ 9
   nine-fields fields new e = elim (cases_Bool (length fields == 9)) [
     | inl nine ↦ eqb-true (length fields) 9 nine
     | inr other ↦ absurd (cc (rw other at e))
   ]
 
   -- nine fields have eight commas
-  pub record-size : (line : List ℕ) (new : R) → line_entry entry line ≡ Ok new → 8 ≤ length line
-  unfolding line_entry
+  pub record-size : (line : List ℕ) (new : R) → line_meaning entry line ≡ Ok new → 8 ≤ length line
+  unfolding line_meaning
   record-size line new e = elim (cases_Bool (has_bad_byte_or_open_quote line)) [
     | inl broken ↦ absurd (cc (rw broken at e))
     | inr unbroken ↦
@@ -134,7 +134,7 @@ module _ {R : Type 0} (entry : List (List ℕ) → Result R Reason) where
   read_entries-size : (before : ℕ) (lines : List Line) (entries : List R) → read_entries entry before lines ≡ Ok entries → 9 * length entries ≤ text_extent lines
   read_entries-size before [] entries e = let none : entries ≡ [] = cc in rw none (omega arith)
   read_entries-size before (line ∷ lines) entries e =
-      let q = after_line-ok before line.start (line_entry entry line.text) (read_entries entry (before + 1) lines) entries e in
+      let q = after_line-ok before line.start (line_meaning entry line.text) (read_entries entry (before + 1) lines) entries e in
       omega (arith, ap length q.4, record-size line.text q.0 q.2, read_entries-size (before + 1) lines q.1 q.3)
 
   -- good lines of a text of this size have each nine bytes of it

@@ -10,7 +10,7 @@ use Rattle.audit_base.specs.Names.{is_name_byte}
 use Rattle.audit_base.specs.declared.faults.Reason.{Reason}
 use Rattle.csv.proofs.RoundTrip.{read-write-many}
 use Rattle.csv_logs.specs.Columns.{line_fields, is_unquoted_byte}
-use Rattle.csv_logs.specs.Logs.{is_header, line_entry, read_csv_log}
+use Rattle.csv_logs.specs.Logs.{is_header, line_meaning, read_csv_log}
 use Rattle.csv_logs.specs.Feeds.{HasNoBadLine}
 use Rattle.csv_logs.specs.Steps.{header_says, line_says, entry_says}
 use Rattle.csv_logs.specs.Written.{csv_line_text, log_text}
@@ -107,8 +107,8 @@ unfolding is_header
 header-again names nine unquoted = rw (unquoted-unbroken (join_with_byte 44 names) (join-unquoted names unquoted), fields-again names nine unquoted) (fields-equal names)
 
 entry-again : {R : Type 0} (meaning : List (List ℕ) → Result R Reason) (fields : List (List ℕ)) (entry : R) → length fields ≡ 9 → have_name_bytes fields ≡ true → meaning fields ≡ Ok entry
-    → line_entry meaning (join_with_byte 44 fields) ≡ Ok entry
-unfolding line_entry
+    → line_meaning meaning (join_with_byte 44 fields) ≡ Ok entry
+unfolding line_meaning
 entry-again meaning fields entry nine unquoted again =
     rw (unquoted-unbroken (join_with_byte 44 fields) (join-unquoted fields unquoted), fields-again fields nine unquoted, nine, again) refl
 

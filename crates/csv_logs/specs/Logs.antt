@@ -14,15 +14,15 @@ use Rattle.csv_logs.specs.OrderLines.{order_of_row}
 use Rattle.csv_logs.specs.TradeLines.{trade_of_row}
 
 -- nine fields mean a record, or the first column that is not in its form
-abbrev pub fields_entry : {R : Type 0} → RowMeaning R → Row → Result R Reason
-fields_entry meaning fields = if length fields == 9 then meaning fields else Err reason.Columns
+abbrev pub meaning_of_fields : {R : Type 0} → RowMeaning R → Row → Result R Reason
+meaning_of_fields meaning fields = if length fields == 9 then meaning fields else Err reason.Columns
 
 -- a line that is not empty is a record, or the first test that it fails: its bytes and quotes,
 -- its nine fields, each column in turn
-unfoldable pub line_entry : {R : Type 0} → RowMeaning R → List ℕ → Result R Reason
-line_entry meaning line =
+unfoldable pub line_meaning : {R : Type 0} → RowMeaning R → List ℕ → Result R Reason
+line_meaning meaning line =
     if has_bad_byte_or_open_quote line then Err reason.Break
-    else fields_entry meaning (line_fields line)
+    else meaning_of_fields meaning (line_fields line)
 
 -- this is the symbol of the record that was read, if one was
 abbrev pub IsSymbolOf : {R : Type 0} → (R → List ℕ) → Result R Reason → List ℕ → Type 0
@@ -56,7 +56,7 @@ after_line before start (Err why) later =
 abbrev pub read_entries : {R : Type 0} → RowMeaning R → ℕ → List Line → LogResult R
 read_entries meaning before [] = Ok []
 read_entries meaning before (line ∷ lines) =
-    after_line before line.start (line_entry meaning line.text)
+    after_line before line.start (line_meaning meaning line.text)
     (read_entries meaning (before + 1) lines)
 
 -- the header, and the records of the lines after it; `size` is the log's length
@@ -85,7 +85,7 @@ pub record IsGoodCsvLog {R : Type 0} (names : Row) (meaning : RowMeaning R) (log
   pub lines : List Line
   pub cut : nonempty_lines log ≡ header ∷ lines
   pub named : IsTrue (is_header names header.text)
-  pub records : map (λ line. line_entry meaning line.text) lines ≡ map Ok entries
+  pub records : map (λ line. line_meaning meaning line.text) lines ≡ map Ok entries
 
 -- Every line of the log is empty: the header is missing at its end.
 pub record LacksHeader (log : List ℕ) (bad : BadPlace) : Type 0 where
@@ -112,8 +112,8 @@ pub record HasBadLine {R : Type 0} (names : Row) (meaning : RowMeaning R) (log :
   pub why : Reason
   pub cut : nonempty_lines log ≡ header ∷ (good ++ line ∷ after)
   pub named : IsTrue (is_header names header.text)
-  pub records : map (λ line. line_entry meaning line.text) good ≡ map Ok entries
-  pub fails : line_entry meaning line.text ≡ Err why
+  pub records : map (λ line. line_meaning meaning line.text) good ≡ map Ok entries
+  pub fails : line_meaning meaning line.text ≡ Err why
   pub place : bad ≡ record { place = length entries + 1; offset = line.start; reason = why }
 
 -- the log is bad there

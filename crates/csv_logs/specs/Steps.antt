@@ -10,7 +10,7 @@ use Rattle.csv_logs.specs.declared.feeds.CsvFeed.{CsvFeed}
 use Rattle.csv_logs.specs.Columns.{RowMeaning, Row}
 use Rattle.csv_logs.specs.Feeds.{HasNoBadLine, IsCsvFeedOf, HasCsvFeedFields, TakenRecords, TakenRecordsBy}
 use Rattle.csv_logs.specs.Lines.{Line, mark_size, without_cr}
-use Rattle.csv_logs.specs.Logs.{fields_entry, is_header, line_entry, same_fields}
+use Rattle.csv_logs.specs.Logs.{meaning_of_fields, is_header, line_meaning, same_fields}
 
 -- the line that starts at an offset: the first one loses the mark
 abbrev pub line_at : ℕ → List ℕ → Line
@@ -37,13 +37,13 @@ header_says test = if test then Ok None else Err reason.Header
 
 -- what the fields of a line say, where the header has come or is to come
 abbrev pub fields_say : {R : Type 0} → Row → RowMeaning R → Bool → Row → Says R
-fields_say names meaning true fields = entry_says (fields_entry meaning fields)
+fields_say names meaning true fields = entry_says (meaning_of_fields meaning fields)
 fields_say names meaning false fields = header_says (same_fields fields names)
 
 -- what a line that is not empty says: nothing but the header as the first one, then a record; or
 -- the first test that it fails
 abbrev pub line_says : {R : Type 0} → Row → RowMeaning R → Bool → List ℕ → Says R
-line_says names meaning true text = entry_says (line_entry meaning text)
+line_says names meaning true text = entry_says (line_meaning meaning text)
 line_says names meaning false text = header_says (is_header names text)
 
 -- Fields that say this were taken: a record that they mean was handed on, and the result is the

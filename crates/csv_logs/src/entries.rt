@@ -189,7 +189,7 @@ pub(crate) fn take_fields<R: CsvRecord, K: Collector<Entry = R>>(
 }
 
 /// Takes a line that is not empty.
-#[tactic(auto, unfolding(crate::specs::Logs::line_entry, crate::specs::Logs::is_header))]
+#[tactic(auto, unfolding(crate::specs::Logs::line_meaning, crate::specs::Logs::is_header))]
 pub(crate) fn take_text<R: CsvRecord, K: Collector<Entry = R>>(
     alloc: Global,
     entries: &mut K,

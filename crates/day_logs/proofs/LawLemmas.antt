@@ -19,9 +19,9 @@ use Rattle.day_verdicts.specs.DayVerdicts.{counts_of, day_lines_of, IsJudgedDay}
 use Rattle.day_verdicts.specs.declared.day_verdicts.JudgedSymbols.{JudgedSymbols}
 use Rattle.log_verdict.specs.LogVerdicts.{records_of_order_log, trades_of_trade_log}
 use Rattle.record_verdict.specs.Judgements.{IsRecordVerdict, question}
-use Rattle.record_verdict.specs.Laws.{OneJudgement}
+use Rattle.record_verdict.specs.Laws.{RecordVerdictIsOne}
 
-pub shares-have-verdicts : OneJudgement → SharesHaveTheVerdicts
+pub shares-have-verdicts : RecordVerdictIsOne → SharesHaveTheVerdicts
 shares-have-verdicts one rule table entries trades share other symbol a b in_one in_other =
     one (question rule symbol table) entries (Ok trades) a b
     (in_one.are.each in_one.place symbol a in_one.symbol_there in_one.verdict_there)
@@ -46,7 +46,7 @@ same-for-each P one (s ∷ ss) (x ∷ xs) (y ∷ ys) a b =
       each = λ i symbol kept got_symbol got. are.each (suc i) symbol kept got_symbol got;
     }
 
-module _ (one : OneJudgement) (q : DayQuestion) (judged_by : List ℕ) where
+module _ (one : RecordVerdictIsOne) (q : DayQuestion) (judged_by : List ℕ) where
   -- two judged days of the same records
   same-days : (entries : List OrderRecord) (trades : List TradeRecord) (symbols : List (List ℕ)) (a b : JudgedSymbols)
       → IsJudgedDay q.rule q.table entries trades symbols a → IsJudgedDay q.rule q.table entries trades symbols b
@@ -85,6 +85,6 @@ module _ (one : OneJudgement) (q : DayQuestion) (judged_by : List ℕ) where
   same-logs (Ok entries) (Err bad) a b is-a is-b = same-place Trades bad a b is-a is-b
   same-logs (Ok entries) (Ok paired) a b is-a is-b = same-records entries paired a b is-a is-b
 
-pub one-day-answer : OneJudgement → OneDayAnswer
+pub one-day-answer : RecordVerdictIsOne → OneDayAnswer
 one-day-answer one q orders trades judged_by a b is-a is-b =
     same-logs one q judged_by (records_of_order_log orders.form orders.bytes) (trades_of_trade_log trades.form trades.bytes) a b is-a is-b

@@ -2,19 +2,19 @@
 //! has its contract.
 ghost use Rattle.day_logs.specs.Laws.{OneDayAnswer, SharesHaveTheVerdicts};
 
-use record_verdict::laws::one_judgement;
+use record_verdict::laws::record_verdict_is_one;
 
 /// A symbol has the same verdict in every share of a day that has it, the whole day among them: so
 /// its lines are there those that it has without a share.
 pub fn shares_have_the_verdicts()
     ensures { SharesHaveTheVerdicts }
 {
-    one_judgement();
+    record_verdict_is_one();
 }
 
 /// Two answers to a question about two logs say the same, and are written as the same text.
 pub fn one_day_answer()
     ensures { OneDayAnswer }
 {
-    one_judgement();
+    record_verdict_is_one();
 }

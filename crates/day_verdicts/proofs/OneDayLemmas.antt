@@ -4,7 +4,7 @@ use Rattle.std.specs.Prelude.{slice_get}
 use Rattle.std.proofs.lemmas.Option.{slice_get_within, slice_get-get_or}
 use Rattle.audit_report.specs.declared.verdicts.Verdict.{Verdict}
 use Rattle.record_verdict.specs.Judgements.{question}
-use Rattle.record_verdict.specs.Laws.{OneJudgement}
+use Rattle.record_verdict.specs.Laws.{RecordVerdictIsOne}
 use Rattle.day_symbols.specs.Kept.{AreForEach}
 use Rattle.day_verdicts.specs.DayVerdicts.{counts_of, day_lines_of}
 use Rattle.day_verdicts.specs.Laws.{OneDay}
@@ -28,7 +28,7 @@ one-for-each {X} P symbols xs ys one are-x are-y =
     let got : slice_get symbols i ≡ Some (get_or symbols i []) = slice_get-get_or symbols i [] lt in
     one (get_or symbols i []) x y (are-x.each i (get_or symbols i []) x got got-x) (are-y.each i (get_or symbols i []) y got got-y))
 
-pub one-day : OneJudgement → OneDay
+pub one-day : RecordVerdictIsOne → OneDay
 one-day one rule table entries trades symbols a b is-a is-b =
     let same : is-a.verdicts ≡ is-b.verdicts =
     one-for-each _ symbols is-a.verdicts is-b.verdicts (λ symbol v w is-v is-w. one (question rule symbol table) entries (Ok trades) v w is-v is-w) is-a.verdicts_are is-b.verdicts_are in

@@ -11,7 +11,7 @@ use Rattle.audit_report.specs.declared.verdicts.Verdict.{Verdict}
 use Rattle.record_verdict.specs.declared.before_rule.BeforeRule.{BeforeRule}
 use Rattle.record_verdict.specs.declared.questions.Question.{Question}
 use Rattle.record_verdict.specs.Scopes.{scope_of}
-use Rattle.record_verdict.specs.Stages.{IsVerdictUpToRule}
+use Rattle.record_verdict.specs.Stages.{IsVerdictAfterStages}
 use Rattle.log_verdict.specs.declared.sources.Source.{Source}
 use Rattle.log_verdict.specs.BothLogs.{ReadsAfterOrders, ReadsLogs, ReadsUpToRule, ReadsVerdict}
 use Rattle.log_verdict.specs.LogVerdicts.{records_of_order_log, trades_of_trade_log}
@@ -32,7 +32,7 @@ reads-more r orders trades P P' B B' records bads is = record { bytes = is.bytes
     of_orders (Err bad) holds = (bads Orders bad holds.0, holds.1)
 
 -- the verdict on what both logs give is the verdict on both
-pub reads-verdict : (r : Reading) (q : Question) (orders trades : Source) (reached : BeforeRule) (v : Verdict) → ReadsUpToRule r (scope_of q) orders trades reached → IsVerdictUpToRule q reached v
+pub reads-verdict : (r : Reading) (q : Question) (orders trades : Source) (reached : BeforeRule) (v : Verdict) → ReadsUpToRule r (scope_of q) orders trades reached → IsVerdictAfterStages q reached v
     → ReadsVerdict r q orders trades v
 reads-verdict r q orders trades reached v read is =
     reads-more r orders trades _ _ _ _ is.of_records is.of_place read

@@ -6,15 +6,15 @@ ghost use Rattle.log_verdict.specs.Ranges.{OrderLogsAreInRange, OrderLogsHaveNin
 
 use csv_logs::laws as csv_laws;
 use fix_messages::reading_laws as fix_laws;
-use record_verdict::existence::a_judgement_exists;
-use record_verdict::laws::one_judgement;
+use record_verdict::existence::a_record_verdict_exists;
+use record_verdict::laws::record_verdict_is_one;
 
 /// Two verdicts on one question about one pair of logs are the same verdict,
 /// so that its status and its text are.
 pub fn one_verdict()
     ensures { OneVerdict }
 {
-    one_judgement();
+    record_verdict_is_one();
 }
 
 /// Two pairs of logs, in whatever forms, whose order logs have the same records and whose trade
@@ -22,7 +22,7 @@ pub fn one_verdict()
 pub fn forms_agree()
     ensures { FormsAgree }
 {
-    one_judgement();
+    record_verdict_is_one();
 }
 
 /// The records of a good log, in either form and of any length, have quantities from 1 to 10^12
@@ -51,7 +51,7 @@ pub fn two_logs_have_a_verdict()
     ensures { LogVerdictExists }
 {
     one_verdict();
-    a_judgement_exists();
+    a_record_verdict_exists();
     records_are_in_range();
     order_logs_have_nine_bytes();
 }

@@ -35,7 +35,7 @@ use Rattle.call_laws.specs.Optimum.{MaximumTradesAreExpected, UniformTradesAreEx
 use Rattle.continuous_laws.specs.Laws.{OnlyPairs}
 use Rattle.verdict_laws.specs.Existence.{VerdictExists, VerdictIsTheOnlyOne}
 use Rattle.record_verdict.specs.declared.questions.Question.{Question}
-use Rattle.record_verdict.specs.Existence.{JudgementExists}
+use Rattle.record_verdict.specs.Existence.{RecordVerdictExists}
 use Rattle.record_verdict.specs.Judgements.{AreOnlyQuantities, IsAcceptance, IsReportedBound, IsRecordVerdict, table_lines}
 
 -- the laws on which this rests
@@ -136,5 +136,5 @@ module _ (laws : Laws) where
     judged : (the_verdict : Verdict) × IsRecordVerdict q entries paired the_verdict
     judged = let v = laws.exists q.rule q.symbol entries paired few (orders-range q.symbol entries records) trades in judged-as v.0 v.1
 
-  pub judgement : JudgementExists
+  pub judgement : RecordVerdictExists
   judgement q entries paired few records trades = judged q entries paired few records trades

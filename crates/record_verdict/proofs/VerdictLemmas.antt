@@ -23,10 +23,10 @@ use Rattle.record_verdict.specs.declared.before_rule.BeforeRule.TheVariants as b
 use Rattle.record_verdict.specs.declared.scopes.Admission.TheVariants as admission
 use Rattle.record_verdict.specs.declared.questions.Question.{Question}
 use Rattle.record_verdict.specs.BeforeRule.{AreResolvedTradesInRange, IsResolvedWithoutFinding}
-use Rattle.record_verdict.specs.Laws.{SoundTradesAreJudged}
+use Rattle.record_verdict.specs.Laws.{SoundTradesHaveVerdict}
 use Rattle.record_verdict.specs.Judgements.{IsRecordVerdict, IsVerdictOfFinding}
 use Rattle.record_verdict.specs.Scopes.{admission_of, finding_before_rule_in_scope, scope_of, unadmitted_order_finding}
-use Rattle.record_verdict.specs.Stages.{VerdictFollowsDeals, IsVerdictUpToRule}
+use Rattle.record_verdict.specs.Stages.{VerdictFollowsDeals, IsVerdictAfterStages}
 
 -- what a rule does not admit is what it finds of the orders before it is looked at
 admitted-by : (the_rule : Rule) (orders : List Order) → unadmitted_order_finding (admission_of the_rule) orders ≡ instant_finding_of_rule the_rule orders
@@ -41,7 +41,7 @@ pub early-is : (q : Question) (entries : List OrderRecord) (paired : Result (Lis
 early-is q entries paired = rw (admitted-by q.rule (order_list q.symbol entries)) refl
 
 -- a bad place is the verdict
-pub malformed_is : (q : Question) (log : Which) (bad : BadPlace) → IsVerdictUpToRule q (before_rule.Malformed log bad) (verdict.Malformed log bad)
+pub malformed_is : (q : Question) (log : Which) (bad : BadPlace) → IsVerdictAfterStages q (before_rule.Malformed log bad) (verdict.Malformed log bad)
 malformed_is q log bad = record {
   of_place = same;
   of_finding = λ finding e. absurd (no_finding finding e);
@@ -68,7 +68,7 @@ found_judged q entries paired finding found = record {
 }
 
 -- a finding is the verdict
-pub found_is : (q : Question) (finding : Finding) → IsVerdictUpToRule q (before_rule.Found finding) (verdict.Rejected finding)
+pub found_is : (q : Question) (finding : Finding) → IsVerdictAfterStages q (before_rule.Found finding) (verdict.Rejected finding)
 found_is q finding = record {
   of_place = λ other place e. absurd (apart other place e);
   of_finding = same;
@@ -106,7 +106,7 @@ sound_judged q entries paired resolved v numbers judged sound =
     }
 
 -- the verdict on sound trades is that of the logs
-pub sound_is : (q : Question) (resolved : ResolvedTrades) (v : Verdict) → AreResolvedTradesInRange resolved → VerdictFollowsDeals q resolved.history resolved.deals.items resolved.count v → IsVerdictUpToRule q (before_rule.Sound resolved) v
+pub sound_is : (q : Question) (resolved : ResolvedTrades) (v : Verdict) → AreResolvedTradesInRange resolved → VerdictFollowsDeals q resolved.history resolved.deals.items resolved.count v → IsVerdictAfterStages q (before_rule.Sound resolved) v
 sound_is q resolved v judgeable judged = record {
   of_place = λ other place e. absurd (apart other place e);
   of_finding = λ finding e. absurd (no_finding finding e);
@@ -127,7 +127,7 @@ sound_is q resolved v judgeable judged = record {
     apart other place e = cc
 
 -- the verdict on the deals of sound trades is that on the records
-pub sound-trades : SoundTradesAreJudged
+pub sound-trades : SoundTradesHaveVerdict
 sound-trades q entries trades deals v none same numbers judged =
     let orders : List Order = order_list q.symbol entries in
     let by_deals : IsRuleFinding q.rule orders (deals_of_symbol orders q.symbol trades) (length trades) judged.found =

@@ -12,8 +12,8 @@ use Rattle.record_verdict.specs.Judgements.{IsRecordVerdict}
 
 -- under each of the five rules the records of two logs have a verdict: a finding, or what is
 -- reported of an accepted log, with its bound, its table and its only quantities
-abbrev pub JudgementExists : Type 0
-JudgementExists = (q : Question) (entries : List OrderRecord)
+abbrev pub RecordVerdictExists : Type 0
+RecordVerdictExists = (q : Question) (entries : List OrderRecord)
     (paired : Result (List TradeRecord) Finding) → length entries < 2 ^ 32
     → RecordsInRange entries
     → TradesInRange (paired_trades paired)

@@ -14,15 +14,15 @@ use Rattle.record_verdict.specs.Judgements.{IsRecordVerdict}
 use Rattle.record_verdict.specs.Stages.{VerdictFollowsDeals}
 
 -- the records of two logs have one verdict on a question
-abbrev pub OneJudgement : Type 0
-OneJudgement = (q : Question) (entries : List OrderRecord)
+abbrev pub RecordVerdictIsOne : Type 0
+RecordVerdictIsOne = (q : Question) (entries : List OrderRecord)
     (paired : Result (List TradeRecord) Finding) (a b : Verdict)
     → IsRecordVerdict q entries paired a → IsRecordVerdict q entries paired b → a ≡ b
 
 -- where nothing is found before the rule, the verdict on the deals of the trades
 -- is that on the records
-abbrev pub SoundTradesAreJudged : Type 0
-SoundTradesAreJudged = (q : Question) (entries : List OrderRecord) (trades : List TradeRecord)
+abbrev pub SoundTradesHaveVerdict : Type 0
+SoundTradesHaveVerdict = (q : Question) (entries : List OrderRecord) (trades : List TradeRecord)
     (deals : List Deal) (the_verdict : Verdict)
     → finding_before_rule q.rule q.symbol entries (Ok trades) ≡ None
     → deals ≡ deals_of_symbol (order_list q.symbol entries) q.symbol trades → DealsInRange deals

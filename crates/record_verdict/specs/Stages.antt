@@ -69,7 +69,7 @@ pub record VerdictFollowsDeals (q : Question) (orders : List Order) (deals : Lis
 
 -- The verdict on what two logs give before the rule is looked at: their first bad place, the
 -- finding, or that of the rule on sound trades; and so it is that on whatever records give this.
-pub record IsVerdictUpToRule (q : Question) (given : BeforeRule) (the_verdict : Verdict)
+pub record IsVerdictAfterStages (q : Question) (given : BeforeRule) (the_verdict : Verdict)
     : Type 0 where
   pub of_place : (log : Which) (bad : BadPlace) → given ≡ before_rule.Malformed log bad
       → the_verdict ≡ verdict.Malformed log bad

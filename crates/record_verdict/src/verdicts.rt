@@ -2,7 +2,7 @@
 ghost use Rattle.std.specs.Prelude.{IfOk};
 ghost use Rattle.audit_report.specs.Texts.{IsVerdictInRange};
 ghost use Rattle.record_verdict.specs.BeforeRule.{IsJudgeable};
-ghost use Rattle.record_verdict.specs.Stages.{IsVerdictUpToRule};
+ghost use Rattle.record_verdict.specs.Stages.{IsVerdictAfterStages};
 
 use crate::before_rule::BeforeRule;
 use crate::questions::Question;
@@ -19,7 +19,7 @@ pub fn verdict_after(
     given: &BeforeRule,
 ) -> Result<Verdict, NoMemory>
     requires { IsJudgeable given.now }
-    ensures verdict { IfOk result (IsVerdictUpToRule question.now given.now) }
+    ensures verdict { IfOk result (IsVerdictAfterStages question.now given.now) }
     ensures in_range { IfOk result IsVerdictInRange }
 {
     match given {

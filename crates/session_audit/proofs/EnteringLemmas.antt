@@ -14,7 +14,7 @@ use Rattle.session_audit.specs.declared.phases.Phase.{Phase}
 use Rattle.session_audit.specs.Phases.{first_place, end_place}
 use Rattle.session_audit.specs.PhaseOrders.{RoleInPhase, target_takes_part, roles_in_phase, role_in_phase, role_in_phase_at, phase_order, order_count_upto, phase_list, traded_before_phase, chain_before_phase, left_after_phases, phase_list_at}
 use Rattle.session_audit.specs.Numbers.{number_at, WithinQuantities, total_of_chain, AreChainTotals}
-use Rattle.session_audit.specs.Entering.{amount_in_phase, order_by_amount, own_amount, target_has_amount, amount_by_earlier, amounts_below, phase_list_by_amounts}
+use Rattle.session_audit.specs.Entering.{amount_in_phase, role_of_amount, own_amount, target_has_amount, amount_by_earlier, amounts_below, phase_list_by_amounts}
 use Rattle.session_audit.specs.Progress.{IsDaySoFar}
 use Rattle.session_audit.proofs.ListBelowLemmas.{length-list_below, list_below-at, list_below-more, list_below-same}
 use Rattle.session_audit.proofs.InPhaseLemmas.{carried-amount, own-amount, is-carried, is-own, in-phase-le, amount-takes, by-amount, target-stays}
@@ -112,9 +112,9 @@ module _ (phases : List Phase) (orders : List Order) (list : IsOrderList orders)
       let amount : ℕ → ℕ = λ i. amount_in_phase (role_in_phase orders first (number_at rest) (number_at spent) i) in
       let long : length amounts_list ≡ n = ap length are ∙ length-list_below amount n in
       ap (phase_list_by_amounts orders first last amounts_list) long
-      ∙ list_below-same (λ i. phase_order last (order_at orders i) (order_by_amount first (number_at amounts_list i) (order_at orders i))) (λ i. phase_order last (order_at orders i) (there i)) n
+      ∙ list_below-same (λ i. phase_order last (order_at orders i) (role_of_amount first (number_at amounts_list i) (order_at orders i))) (λ i. phase_order last (order_at orders i) (there i)) n
       (λ i lt.
       let at : number_at amounts_list i ≡ amount_in_phase (there i) = ap (λ (ns : List ℕ). number_at ns i) are ∙ list_below-at amount n i 0 lt
       ∙ (λ j. amount_in_phase (role_in_phase orders first (rests j) (chains j) i)) in
-      ap (λ (a : ℕ). phase_order last (order_at orders i) (order_by_amount first a (order_at orders i))) at
+      ap (λ (a : ℕ). phase_order last (order_at orders i) (role_of_amount first a (order_at orders i))) at
       ∙ ap (phase_order last (order_at orders i)) (by-amount orders first (left_after_phases phases orders deals k) (chain_before_phase phases orders deals k) i))

@@ -6,7 +6,7 @@ use Rattle.audit_base.specs.declared.orders.Order.{Order}
 use Rattle.audit_base.specs.Orders.{order_at, place_at, quantity_at}
 use Rattle.audit_base.specs.Continuous.{is_placed_order}
 use Rattle.session_audit.specs.PhaseOrders.{RoleInPhase, Carried, Own, Gone, takes_part, carried_or_gone, target_takes_part, own_or_gone, roles_in_phase, role_in_phase, list_below}
-use Rattle.session_audit.specs.Entering.{amount_in_phase, order_by_amount}
+use Rattle.session_audit.specs.Entering.{amount_in_phase, role_of_amount}
 use Rattle.session_audit.proofs.ListBelowLemmas.{list_below-at}
 
 -- its number isn't 0, unless it is gone
@@ -66,10 +66,10 @@ pub own-amount : (placed there : Bool) (n : ℕ) → cond (placed && there) n 0 
 own-amount placed there n = own-if placed there (nat_lt 0 n) n refl
 
 -- by its number an order is what it was
-carried-by : (first left : ℕ) (o : Order) → o.place < first → order_by_amount first left o ≡ carried_or_gone left
+carried-by : (first left : ℕ) (o : Order) → o.place < first → role_of_amount first left o ≡ carried_or_gone left
 carried-by first left o lt = ap (λ (x : RoleInPhase). cond (nat_lt 0 left) x Gone) (cond-true (nat_lt o.place first) (Carried left) (Own left) (lt-ltb _ _ lt))
 
-own-by : (first n : ℕ) (o : Order) (b : Bool) → (b ≡ true → 0 < n) → first ≤ o.place → order_by_amount first (amount_in_phase (cond b (Own n) Gone)) o ≡ cond b (Own n) Gone
+own-by : (first n : ℕ) (o : Order) (b : Bool) → (b ≡ true → 0 < n) → first ≤ o.place → role_of_amount first (amount_in_phase (cond b (Own n) Gone)) o ≡ cond b (Own n) Gone
 own-by first n o true some le = ap (λ (b : Bool). cond b (cond (nat_lt o.place first) (Carried n) (Own n)) Gone) (lt-ltb 0 n (some refl)) ∙ cond-false (nat_lt o.place first) (Carried n) (Own n) (le-ltb _ _ le)
 own-by first n o false some le = refl
 
@@ -128,11 +128,11 @@ module _ (orders : List Order) (first : ℕ) (rest spent : ℕ → ℕ) where
   pub amount-takes : (i : ℕ) → nat_lt 0 (amount_in_phase (here i)) ≡ takes_part (here i)
   amount-takes i = takes-amount (here i) (in-phase-some i)
 
-  pub by-amount : (i : ℕ) → order_by_amount first (amount_in_phase (here i)) (order_at orders i) ≡ here i
+  pub by-amount : (i : ℕ) → role_of_amount first (amount_in_phase (here i)) (order_at orders i) ≡ here i
   by-amount i = elim (cases_lt (place_at orders i) first) [
-    | inl lt ↦ ap (λ (n : ℕ). order_by_amount first n (order_at orders i)) (ap amount_in_phase (is-carried i lt) ∙ carried-amount (rest i))
+    | inl lt ↦ ap (λ (n : ℕ). role_of_amount first n (order_at orders i)) (ap amount_in_phase (is-carried i lt) ∙ carried-amount (rest i))
         ∙ carried-by first (rest i) (order_at orders i) lt ∙ sym (is-carried i lt)
-    | inr le ↦ ap (λ (x : RoleInPhase). order_by_amount first (amount_in_phase x) (order_at orders i)) (is-own i le)
+    | inr le ↦ ap (λ (x : RoleInPhase). role_of_amount first (amount_in_phase x) (order_at orders i)) (is-own i le)
         ∙ own-by first (quantity i) (order_at orders i) (tests i) (tests-some i) le ∙ sym (is-own i le)
   ]
 

@@ -14,7 +14,7 @@ use Rattle.session_audit.specs.Phases.{rule_of}
 use Rattle.session_audit.specs.Judging.{IsConformingPhase}
 use Rattle.session_audit.specs.Leaving.{EndsBy}
 use Rattle.session_audit.specs.Numbers.{number_at}
-use Rattle.session_audit.specs.Progress.{HasPhaseTotals, AddsNumbers, AddsPhase, rest_after_phase}
+use Rattle.session_audit.specs.Progress.{HasPhaseTotals, AddsNumbers, AddsPhase, left_numbers_after_phase}
 
 -- no deal names an order past the end of the list
 pub traded-past : (orders : List Order) (deals : List Deal) → All (NamesOrders orders) deals → (i : ℕ) → length orders ≤ i → traded deals i ≡ 0
@@ -31,7 +31,7 @@ traded-past orders deals named i le = sum_by-none (quantity_traded_by i) deals (
 
 pub passed : (kind : PhaseKind) (orders : List Order) (deals : List Deal) (last : ℕ) (reached : Reached) (numbers before after rest : List ℕ)
     → All (NamesOrders orders) deals → EndsBy orders deals last → IsConformingPhase (rule_of kind) orders deals reached → numbers ≡ reached.traded.0
-    → (HasPhaseTotals kind orders deals last numbers → rest ≡ rest_after_phase kind orders deals last) → AddsNumbers before numbers after
+    → (HasPhaseTotals kind orders deals last numbers → rest ≡ left_numbers_after_phase kind orders deals last) → AddsNumbers before numbers after
     → AddsPhase kind orders deals last before after rest
 passed kind orders deals last reached numbers before after rest named ends is same left added = record {
   conforms = is.conforms;

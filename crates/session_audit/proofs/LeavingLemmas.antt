@@ -11,7 +11,7 @@ use Rattle.audit_base.proofs.ContinuousLemmas.{target-below, entered-none, enter
 use Rattle.audit_base.proofs.SumLemmas.{sum_by-same}
 use Rattle.session_audit.specs.Numbers.{number_at, total_of_chain}
 use Rattle.session_audit.specs.PhaseOrders.{left_after_continuous}
-use Rattle.session_audit.specs.Leaving.{HasContinuousTotals, EndsBy, rests_before_with, target_rests_before, has_resting_target, size_by, sizes_below, continuous_leaves, rest_after_continuous}
+use Rattle.session_audit.specs.Leaving.{HasContinuousTotals, EndsBy, rests_before_with, target_rests_before, has_resting_target, size_if_target_rests, sizes_below, continuous_leaves, left_numbers_after_continuous}
 use Rattle.session_audit.proofs.ListBelowLemmas.{list_below-at, list_below-more}
 use Rattle.session_audit.proofs.EndedLemmas.{IsEnded, target-ended, chain-ended, chain-traded, before-whole, traded-all}
 
@@ -49,7 +49,7 @@ module _ (orders : List Order) (list : IsOrderList orders) (regular : Regular or
   entered-by i sizes (Some t) lt are e = entered-some orders list past i t lt e ∙ ap (λ (b : Bool). is_placed_order orders i && b) (target-size i sizes lt are t e)
 
   size-by : (i : ℕ) (sizes : List ℕ) → i < length orders → sizes ≡ sizes_below orders deals i
-      → size_by (order_at orders i) (has_resting_target orders numbers sizes i) (total_of_chain orders numbers i) ≡ size_of_order orders deals i
+      → size_if_target_rests (order_at orders i) (has_resting_target orders numbers sizes i) (total_of_chain orders numbers i) ≡ size_of_order orders deals i
   size-by i sizes lt are =
       let e = entered-by i sizes (order_at orders i).target lt are refl in
       let b = chain-total i lt in
@@ -58,9 +58,9 @@ module _ (orders : List Order) (list : IsOrderList orders) (regular : Regular or
   -- one size more, in the words of the code
   pub sizes-more : (i : ℕ) (sizes : List ℕ) (o : Order) (there : Bool) (spent : ℕ) → i < length orders → sizes ≡ sizes_below orders deals i → o ≡ order_at orders i
       → there ≡ has_resting_target orders numbers sizes i → spent ≡ total_of_chain orders numbers i
-      → sizes ++ size_by o there spent ∷ [] ≡ sizes_below orders deals (i + 1)
+      → sizes ++ size_if_target_rests o there spent ∷ [] ≡ sizes_below orders deals (i + 1)
   sizes-more i sizes o there spent lt are o_is there_is spent_is =
-      let one : size_by o there spent ≡ size_of_order orders deals i = (λ j. size_by (o_is j) (there_is j) (spent_is j)) ∙ size-by i sizes lt are in
+      let one : size_if_target_rests o there spent ≡ size_of_order orders deals i = (λ j. size_if_target_rests (o_is j) (there_is j) (spent_is j)) ∙ size-by i sizes lt are in
       (λ j. are j ++ one j ∷ []) ∙ sym (list_below-more (size_of_order orders deals) i)
 
   pub left-by : (last : ℕ) → EndsBy orders deals last → (i size_in_ledger traded_i : ℕ) → i < length orders → size_in_ledger ≡ size_of_order orders deals i → traded_i ≡ number_at numbers i
@@ -72,9 +72,9 @@ module _ (orders : List Order) (list : IsOrderList orders) (regular : Regular or
       (λ j. cond (rests_before_with (order_at orders i) (next j) (size_is j) (t j)) (size_is j - t j) 0)
       ∙ ap (λ (b : Bool). cond b (size_in_ledger orders past i - past (suc last) i) 0) (sym (rests-by (suc last) i))
 
-  pub lefts-more : (last : ℕ) → EndsBy orders deals last → (i : ℕ) (left : List ℕ) (o : Order) (size_i traded_i : ℕ) → i < length orders → left ≡ rest_after_continuous orders deals last i → o ≡ order_at orders i
+  pub lefts-more : (last : ℕ) → EndsBy orders deals last → (i : ℕ) (left : List ℕ) (o : Order) (size_i traded_i : ℕ) → i < length orders → left ≡ left_numbers_after_continuous orders deals last i → o ≡ order_at orders i
       → size_i ≡ size_of_order orders deals i → traded_i ≡ number_at numbers i
-      → left ++ continuous_leaves o last size_i traded_i ∷ [] ≡ rest_after_continuous orders deals last (i + 1)
+      → left ++ continuous_leaves o last size_i traded_i ∷ [] ≡ left_numbers_after_continuous orders deals last (i + 1)
   lefts-more last ends i left o size_i traded_i lt are o_is size_is traded_is =
       let one : continuous_leaves o last size_i traded_i ≡ left_after_continuous orders deals last i = ap (λ (p : Order). continuous_leaves p last size_i traded_i) o_is ∙ left-by last ends i size_i traded_i lt size_is traded_is in
       (λ j. are j ++ one j ∷ []) ∙ sym (list_below-more (left_after_continuous orders deals last) i)

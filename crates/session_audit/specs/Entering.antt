@@ -14,8 +14,8 @@ amount_in_phase (Own quantity) = quantity
 amount_in_phase Gone = 0
 
 -- what an order is in the phase that begins at `first`, by its number
-abbrev pub order_by_amount : ℕ → ℕ → Order → RoleInPhase
-order_by_amount first amount o = if nat_lt 0 amount
+abbrev pub role_of_amount : ℕ → ℕ → Order → RoleInPhase
+role_of_amount first amount o = if nat_lt 0 amount
     then (if nat_lt o.place first then Carried amount else Own amount)
     else Gone
 
@@ -46,4 +46,4 @@ amounts_below orders first left chain_traded n =
 abbrev pub phase_list_by_amounts : List Order → ℕ → ℕ → List ℕ → ℕ → List Order
 phase_list_by_amounts orders first last amounts n =
     list_below (λ i. let o = order_at orders i in
-    phase_order last o (order_by_amount first (number_at amounts i) o)) n
+    phase_order last o (role_of_amount first (number_at amounts i) o)) n

@@ -14,8 +14,8 @@ abbrev pub call_leaves : Order → ℕ → ℕ
 call_leaves o traded = if is_some o.cancelled then 0 else o.quantity - traded
 
 -- what a call leaves of the first n orders, which have traded this much
-abbrev pub rest_after_call : List Order → List ℕ → ℕ → List ℕ
-rest_after_call orders traded n =
+abbrev pub left_numbers_after_call : List Order → List ℕ → ℕ → List ℕ
+left_numbers_after_call orders traded n =
     list_below (λ i. call_leaves (order_at orders i) (number_at traded i)) n
 
 -- a continuous phase that conforms, with what each order traded in it
@@ -49,8 +49,8 @@ has_resting_target orders traded sizes i =
     target_rests_before orders traded sizes (place_at orders i) (order_at orders i).target
 
 -- the size of an order, where it is known whether its target rests
-abbrev pub size_by : Order → Bool → ℕ → ℕ
-size_by o target_rests chain_traded =
+abbrev pub size_if_target_rests : Order → Bool → ℕ → ℕ
+size_if_target_rests o target_rests chain_traded =
     if not (is_cancelled_at_place o.cancelled o.place) && target_rests
     then o.quantity - chain_traded else 0
 
@@ -65,6 +65,6 @@ continuous_leaves o last size traded =
     if rests_before_with o (last + 1) size traded then size - traded else 0
 
 -- what such a phase leaves of the first n orders
-abbrev pub rest_after_continuous : List Order → List Deal → ℕ → ℕ → List ℕ
-rest_after_continuous orders deals last n =
+abbrev pub left_numbers_after_continuous : List Order → List Deal → ℕ → ℕ → List ℕ
+left_numbers_after_continuous orders deals last n =
     list_below (left_after_continuous orders deals last) n

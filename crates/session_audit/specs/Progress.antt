@@ -29,8 +29,8 @@ pub record HasPhaseTotals (kind : PhaseKind) (orders : List Order) (deals : List
   pub ends : EndsBy orders deals last
 
 -- what a phase of a kind that ends at `last` leaves of each of its orders
-abbrev pub rest_after_phase : PhaseKind → List Order → List Deal → ℕ → List ℕ
-rest_after_phase kind orders deals last =
+abbrev pub left_numbers_after_phase : PhaseKind → List Order → List Deal → ℕ → List ℕ
+left_numbers_after_phase kind orders deals last =
     list_below (left_after_phase kind orders deals last) (length orders)
 
 -- each number is the one before, with that of the phase added
@@ -48,4 +48,4 @@ pub record AddsPhase (kind : PhaseKind) (orders : List Order) (deals : List Deal
   pub count : length after ≡ length before
   pub added : (i : ℕ) → i < length before
       → number_at after i ≡ number_at before i + traded deals i
-  pub left_is : left ≡ rest_after_phase kind orders deals last
+  pub left_is : left ≡ left_numbers_after_phase kind orders deals last

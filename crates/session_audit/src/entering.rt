@@ -146,7 +146,7 @@ fn own_target(order: &ListedOrder<'_>, first: u32) -> Option<usize>
 fn phase_terms(order: &ListedOrder<'_>, first: u32, last: u32, amount: u64) -> ChangedTerms
     requires { amount ≤ order.now.quantity }
     ensures order { with_terms result.quantity result.cancelled result.target order.now
-        ≡ spec.phase_order last order.now (entering.order_by_amount first amount order.now) }
+        ≡ spec.phase_order last order.now (entering.role_of_amount first amount order.now) }
     ensures small { IfSome result.target (λ t. t < 4294967295) }
 {
     order.in_range();

@@ -35,7 +35,7 @@ pub fn leave_call(
 ) -> Result<Vec<u64>, NoMemory>
     requires { length traded.now ≡ length orders.now }
     ensures { IfOk result (λ left.
-        left.items ≡ spec.rest_after_call orders.now traded.now (length orders.now)) }
+        left.items ≡ spec.left_numbers_after_call orders.now traded.now (length orders.now)) }
 {
     let mut left = Vec::with_capacity(alloc, orders.len())?;
     for index in 0..orders.len() {
@@ -90,7 +90,7 @@ fn has_resting_target(orders: &OrderList<'_>, traded: &[u128], sizes: &[u64], in
 
 /// The size of an order: its quantity less what its chain traded, if it entered.
 fn size_of(order: &ListedOrder<'_>, target_rests: bool, chain_traded: u128) -> u64
-    ensures { result ≡ spec.size_by order.now target_rests chain_traded }
+    ensures { result ≡ spec.size_if_target_rests order.now target_rests chain_traded }
 {
     if was_placed(order) && target_rests {
         left_of(order.quantity().value(), chain_traded)
@@ -152,7 +152,7 @@ pub fn leave_continuous(
         → spec.HasContinuousTotals orders.now deals traded.now
         → spec.EndsBy orders.now deals last
         → left.items
-        ≡ spec.rest_after_continuous orders.now deals last (length orders.now)) }
+        ≡ spec.left_numbers_after_continuous orders.now deals last (length orders.now)) }
 {
     let before = chain_totals(alloc, orders, traded)?;
     let sizes = sizes_of(alloc, orders, traded, &before)?;

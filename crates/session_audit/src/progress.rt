@@ -11,7 +11,7 @@ ghost use Rattle.session_audit.specs.Leaving.{EndsBy};
 ghost use Rattle.session_audit.specs.Numbers.{AreBoundedTotals, WithinQuantities};
 ghost use Rattle.session_audit.specs.PhaseOrders.{phase_list_at};
 ghost use Rattle.session_audit.specs.Phases as spec;
-ghost use Rattle.session_audit.specs.Progress.{AddsNumbers, AddsPhase, HasPhaseTotals, IsDaySoFar, rest_after_phase};
+ghost use Rattle.session_audit.specs.Progress.{AddsNumbers, AddsPhase, HasPhaseTotals, IsDaySoFar, left_numbers_after_phase};
 
 use super::chains::chain_totals;
 use super::entering::{amounts_of, list_orders, order_count_upto};
@@ -119,7 +119,7 @@ pub fn leave_phase(
     requires totals_bounded { AreBoundedTotals traded.now }
     ensures { IfOk result (λ left. (deals : List ADeal)
         → HasPhaseTotals kind orders.now deals last traded.now
-        → left.items ≡ rest_after_phase kind orders.now deals last) }
+        → left.items ≡ left_numbers_after_phase kind orders.now deals last) }
 {
     match kind {
         PhaseKind::Uniform | PhaseKind::Maximum => leave_call(alloc, orders, traded),

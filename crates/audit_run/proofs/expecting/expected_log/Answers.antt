@@ -12,7 +12,7 @@ returns c =
       least_cut = c.extremes_exist.ensures.cut;
       maximum = c.maximum_trades_are_expected.ensures;
       quantities = c.only_quantities.ensures;
-      judged = c.sound_trades_are_judged.ensures;
+      judged = c.sound_trades_have_verdict.ensures;
       pairs = c.continuous_uniqueness.ensures.only;
     }) c.args.orders.now c.requires.order_list c.requires.regular c.requires.numbers c.requires.keys c.args.rule c.args.symbol.now c.requires.admits text.items is)
     c.conforming_log.ensures

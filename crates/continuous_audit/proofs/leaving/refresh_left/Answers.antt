@@ -3,7 +3,7 @@ use Rattle.std.specs.Prelude.{slice_set}
 use Rattle.audit_base.specs.declared.orders.Deal.{Deal}
 use Rattle.audit_base.specs.Deals.{deal_at, deal_past_end}
 use Rattle.audit_base.proofs.OffenceLemmas.{get_or-default}
-use Rattle.continuous_audit.specs.Scans.{cause_deal_at, number_in}
+use Rattle.continuous_audit.specs.Scans.{deal_index_at, number_in}
 use Rattle.continuous_audit.proofs.LeftLemmas.{refreshed-more}
 use Rattle.continuous_audit.proofs.leaving.refresh_left.Goals as goal
 
@@ -14,7 +14,7 @@ loop-at-preserved c =
     let at = c.loop-at.at in
     let inside : at < length incoming_deals = let e = c.requires.ends in omega arith in
     let d = c.index-deals-incoming_deals.result in
-    let d_is : d ≡ deal_at deals (cause_deal_at incoming_deals at) = c.index-deals-incoming_deals.is ∙ get_or-default deals (cause_deal_at incoming_deals at) d deal_past_end (c.requires.deals.deal at inside) in
+    let d_is : d ≡ deal_at deals (deal_index_at incoming_deals at) = c.index-deals-incoming_deals.is ∙ get_or-default deals (deal_index_at incoming_deals at) d deal_past_end (c.requires.deals.deal at inside) in
     let long = c.loop-at.invariant.count in
     let bid : d.bid < length c.loop-at.left.items = subst (λ (x : Deal). x.bid < length c.loop-at.left.items) (sym d_is) (let b = c.requires.deals.bid at inside in omega arith) in
     let ask : d.ask < length c.loop-at.left.items = subst (λ (x : Deal). x.ask < length c.loop-at.left.items) (sym d_is) (let b = c.requires.deals.ask at inside in omega arith) in

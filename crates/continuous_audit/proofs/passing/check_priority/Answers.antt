@@ -4,7 +4,7 @@ use Rattle.audit_base.specs.declared.flaws.Flaw.{Flaw}
 use Rattle.audit_base.specs.Flaws.{IsEvidenceInside, finding_of}
 use Rattle.audit_base.specs.Orders.{order_at}
 use Rattle.audit_base.specs.Priority.{better}
-use Rattle.continuous_audit.specs.Markets.{caused_deal_at, resting_order_at}
+use Rattle.continuous_audit.specs.Markets.{incoming_deal_at, resting_order_at}
 use Rattle.continuous_audit.proofs.FlawLemmas.{priority-after, shown-there}
 use Rattle.continuous_audit.proofs.PassLemmas.{pass-none-first, pass-found-first, resting-opposite, resting-upto}
 use Rattle.continuous_audit.proofs.passing.check_priority.Goals as goal
@@ -34,7 +34,7 @@ returns-then-outranks c ys e s =
     let over_upto : c.args.best.index ≤ c.args.order = let b = c.requires.best.earlier in omega arith in
     let resting_upto = resting-upto orders c.requires.market.list c.args.market.now.deals.now c.requires.market.deal_list c.args.market.now.incoming_deals.now c.requires.market.incoming_deals c.args.order c.requires.order
     c.args.numbers.now.start c.args.numbers.now.running.added c.requires.dealt.known.running.totals.inside c.requires.dealt.split c.requires.dealt.known.running.split c.loop-at.at c.loop-at.auto.at c.loop-at-test.true in
-    let flaw_is = c.priority_flaw.ensures ∙ priority-after c.args.market.now c.args.order c.requires.order c.args.numbers.now c.requires.dealt (caused_deal_at c.args.market.now c.loop-at.at) c.args.best.index over_upto resting_upto in
+    let flaw_is = c.priority_flaw.ensures ∙ priority-after c.args.market.now c.args.order c.requires.order c.args.numbers.now c.requires.dealt (incoming_deal_at c.args.market.now c.loop-at.at) c.args.best.index over_upto resting_upto in
     record {
       inside = subst (λ (f : Flaw). IsEvidenceInside orders f.evidence) (sym flaw_is) (let inside = c.requires.order in omega arith, let inside = c.requires.order in omega arith);
       same = pass-found-first orders c.requires.market.list c.args.market.now.deals.now c.requires.market.deal_list c.args.market.now.incoming_deals.now c.requires.market.incoming_deals c.args.order c.requires.order

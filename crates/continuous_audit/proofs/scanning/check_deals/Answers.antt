@@ -5,9 +5,9 @@ use Rattle.audit_base.specs.Flaws.{IsEvidenceInside}
 use Rattle.audit_base.specs.Orders.{place_at}
 use Rattle.audit_base.specs.ContinuousOffences.{conservation_finding}
 use Rattle.continuous_audit.specs.declared.checking.Accounts.{Accounts}
-use Rattle.continuous_audit.specs.declared.checking.Arrival.{Arrival}
+use Rattle.continuous_audit.specs.declared.checking.RecordOfDeal.{RecordOfDeal}
 use Rattle.continuous_audit.specs.DealFindings as by_deal
-use Rattle.continuous_audit.specs.Scans.{cause_deal_at, cause_order_at}
+use Rattle.continuous_audit.specs.Scans.{deal_index_at, incoming_order_at}
 use Rattle.continuous_audit.proofs.ScanLemmas.{all-clean, finding_by, finding-read, first-finding, inside-read, running-read}
 use Rattle.continuous_audit.proofs.scanning.check_deals.Goals as goal
 
@@ -30,7 +30,7 @@ returns-in-Some-clause-found c =
     let orders = c.args.market.now.orders.now in
     let at = c.loop-running.running.added in
     let d = c.index-deals-incoming.result in
-    let deal_record : Arrival = record { place = c.place.result; entered = c.args.entered } in
+    let deal_record : RecordOfDeal = record { place = c.place.result; entered = c.args.entered } in
     let accounts : Accounts = record { bid = c.account.result; ask = c.account-in-loop-running.result } in
     let is = finding-read orders c.requires.market.list c.args.market.now.deals.now c.requires.market.deal_list c.args.market.now.incoming_deals.now c.requires.market.incoming_deals c.args.order c.requires.order at c.loop-running-test.true c.loop-running.running.traded.items c.loop-running.invariant.totals d c.index-deals-incoming.is c.value-quantity.result c.value-quantity.ensures.same c.value-quantity.ensures.in_range
     c.if-incoming-order.false deal_record c.args.order_numbers.now c.requires.known c.at.result c.at-bid.result c.at-ask.result c.at.ensures c.at-bid.ensures c.at-ask.ensures c.place.ensures
@@ -52,7 +52,7 @@ loop-running-preserved c =
     let deals = c.args.market.now.deals.now in
     let at = c.loop-running.running.added in
     let d = c.index-deals-incoming.result in
-    let deal_record : Arrival = record { place = c.place.result; entered = c.args.entered } in
+    let deal_record : RecordOfDeal = record { place = c.place.result; entered = c.args.entered } in
     let accounts : Accounts = record { bid = c.account.result; ask = c.account-in-loop-running.result } in
     let is = finding-read orders c.requires.market.list deals c.requires.market.deal_list c.args.market.now.incoming_deals.now c.requires.market.incoming_deals c.args.order c.requires.order at c.loop-running-test.true c.loop-running.running.traded.items c.loop-running.invariant.totals d c.index-deals-incoming.is c.value-quantity.result c.value-quantity.ensures.same c.value-quantity.ensures.in_range
     c.if-incoming-order.false deal_record c.args.order_numbers.now c.requires.known c.at.result c.at-bid.result c.at-ask.result c.at.ensures c.at-bid.ensures c.at-ask.ensures c.place.ensures
@@ -60,17 +60,17 @@ loop-running-preserved c =
     let run = running-read orders c.requires.market.list deals c.requires.market.deal_list c.args.market.now.incoming_deals.now c.requires.market.incoming_deals c.args.order c.requires.order at c.loop-running-test.true c.loop-running.running.traded.items c.loop-running.invariant.totals d c.index-deals-incoming.is c.value-quantity.result c.value-quantity.ensures.same c.value-quantity.ensures.in_range
     c.add_deal-bid_traded.new.traded.items c.add_deal-bid_traded.ensures.added in
     let h : c.deal_evidence.result ≡ by_deal.deal_evidence d c.at-bid.result c.at-ask.result deal_record accounts = search rules in
-    let none : conservation_finding orders deals (place_at orders c.args.order) (cause_deal_at c.args.market.now.incoming_deals.now at) ≡ None =
+    let none : conservation_finding orders deals (place_at orders c.args.order) (deal_index_at c.args.market.now.incoming_deals.now at) ≡ None =
     is ∙ ap (option_map (finding_by orders c.requires.market.list deals c.requires.market.deal_list c.args.market.now.incoming_deals.now c.requires.market.incoming_deals c.args.order c.requires.order d)) (sym h ∙ c.in_default.is) in
     record {
       from = let l = c.loop-running.invariant.from in omega arith;
       own = λ i le lt. elim (cases_eq i at) [
-        | inl e ↦ ap (cause_order_at c.args.market.now.incoming_deals.now) e ∙ c.if-incoming-order.false
+        | inl e ↦ ap (incoming_order_at c.args.market.now.incoming_deals.now) e ∙ c.if-incoming-order.false
         | inr ne ↦ c.loop-running.invariant.own i le (omega (arith, ne))
       ];
       totals = run;
       clean = λ i le lt. elim (cases_eq i at) [
-        | inl e ↦ subst (λ j. conservation_finding orders deals (place_at orders c.args.order) (cause_deal_at c.args.market.now.incoming_deals.now j) ≡ None) (sym e) none
+        | inl e ↦ subst (λ j. conservation_finding orders deals (place_at orders c.args.order) (deal_index_at c.args.market.now.incoming_deals.now j) ≡ None) (sym e) none
         | inr ne ↦ c.loop-running.invariant.clean i le (omega (arith, ne))
       ];
     }

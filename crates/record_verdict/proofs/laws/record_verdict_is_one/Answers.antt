@@ -1,5 +1,5 @@
 use Rattle.record_verdict.proofs.LawLemmas.{one-judged}
-use Rattle.record_verdict.proofs.laws.one_judgement.Goals as goal
+use Rattle.record_verdict.proofs.laws.record_verdict_is_one.Goals as goal
 
 pub returns : goal.returns
 returns c = one-judged

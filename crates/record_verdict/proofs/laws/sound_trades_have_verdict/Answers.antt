@@ -1,5 +1,5 @@
 use Rattle.record_verdict.proofs.VerdictLemmas.{sound-trades}
-use Rattle.record_verdict.proofs.laws.sound_trades_are_judged.Goals as goal
+use Rattle.record_verdict.proofs.laws.sound_trades_have_verdict.Goals as goal
 
 pub returns : goal.returns
 returns c = sound-trades

@@ -1,5 +1,5 @@
 use Rattle.record_verdict.proofs.ExistenceLemmas.{judgement}
-use Rattle.record_verdict.proofs.existence.a_judgement_exists.Goals as goal
+use Rattle.record_verdict.proofs.existence.a_record_verdict_exists.Goals as goal
 
 pub returns : goal.returns
 returns c = judgement (record {
