@@ -46,9 +46,9 @@ GivesDayBeforeRuleOrStop r share admission orders trades result =
 -- What functions pass on: the trade log alone.
 
 -- the trade log was read, and comes to this after these records of the order log
-abbrev pub IsDayAfterOrders : Reading → DayShare → Admission → Source → List OrderRecord
+abbrev pub IsDayReadAfterOrders : Reading → DayShare → Admission → Source → List OrderRecord
     → DayBeforeRule → Type 0
-IsDayAfterOrders r share admission trades entries reached =
+IsDayReadAfterOrders r share admission trades entries reached =
     ReadsTrades r trades (λ paired. IsDayBeforeRule share admission entries paired reached)
     (λ bad. reached ≡ upto.Malformed Trades bad)
 
@@ -56,7 +56,7 @@ IsDayAfterOrders r share admission trades entries reached =
 abbrev pub GivesDayTradesOrStop : Reading → DayShare → Admission → Source → List OrderRecord
     → Result DayBeforeRule Stop → Type 0
 GivesDayTradesOrStop r share admission trades entries result =
-    MatchResult result (IsDayAfterOrders r share admission trades entries)
+    MatchResult result (IsDayReadAfterOrders r share admission trades entries)
     (IsLogStop r Trades trades.name.now)
 
 -- what is answered of a day where a log was not read into records
