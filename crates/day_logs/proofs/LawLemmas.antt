@@ -11,7 +11,7 @@ use Rattle.day_report.specs.DayTexts.{day_line}
 use Rattle.day_logs.specs.declared.answers.DayAnswer.{DayAnswer}
 use Rattle.day_logs.specs.declared.answers.DayAnswer.TheVariants as answer
 use Rattle.day_logs.specs.declared.answers.DayQuestion.{DayQuestion}
-use Rattle.day_logs.specs.DayAnswers.{IsAnswerToRecords}
+use Rattle.day_logs.specs.DayAnswers.{IsAnswerToRecords, JudgesTrades}
 use Rattle.day_logs.specs.DayAnswerTexts.{day_answer_text}
 use Rattle.day_logs.specs.Laws.{OneDayAnswer, SharesHaveTheVerdicts}
 use Rattle.day_symbols.specs.Kept.{AreForEach}
@@ -61,7 +61,7 @@ module _ (one : OneJudgement) (q : DayQuestion) (judged_by : List ℕ) where
   same-unpaired : (x y : Finding) (paired : Result (List TradeRecord) Finding) → paired ≡ Err x → paired ≡ Err y → x ≡ y
   same-unpaired x y paired is-x is-y = cc (is-x, is-y)
 
-  same-records : (entries : List OrderRecord) (paired : Result (List TradeRecord) Finding) (a b : DayAnswer) → IsAnswerToRecords q entries paired a → IsAnswerToRecords q entries paired b
+  same-records : (entries : List OrderRecord) (paired : Result (List TradeRecord) Finding) (a b : DayAnswer) → IsAnswerToRecords (JudgesTrades q) entries paired a → IsAnswerToRecords (JudgesTrades q) entries paired b
       → day_answer_text judged_by a ≡ day_answer_text judged_by b
   same-records entries (Ok trades) (answer.Judged a) (answer.Judged b) is-a is-b = same-days entries trades _ a b is-a is-b
   same-records entries (Err finding) (answer.Judged a) b is-a is-b = absurd is-a
@@ -78,8 +78,8 @@ module _ (one : OneJudgement) (q : DayQuestion) (judged_by : List ℕ) where
 
   -- two answers to what two logs say
   same-logs : (said : Result (List OrderRecord) BadPlace) (trades : Result (Result (List TradeRecord) Finding) BadPlace) (a b : DayAnswer)
-      → MatchResult said (λ entries. MatchResult trades (λ paired. IsAnswerToRecords q entries paired a) (λ bad. a ≡ answer.Malformed Trades bad)) (λ bad. a ≡ answer.Malformed Orders bad)
-      → MatchResult said (λ entries. MatchResult trades (λ paired. IsAnswerToRecords q entries paired b) (λ bad. b ≡ answer.Malformed Trades bad)) (λ bad. b ≡ answer.Malformed Orders bad)
+      → MatchResult said (λ entries. MatchResult trades (λ paired. IsAnswerToRecords (JudgesTrades q) entries paired a) (λ bad. a ≡ answer.Malformed Trades bad)) (λ bad. a ≡ answer.Malformed Orders bad)
+      → MatchResult said (λ entries. MatchResult trades (λ paired. IsAnswerToRecords (JudgesTrades q) entries paired b) (λ bad. b ≡ answer.Malformed Trades bad)) (λ bad. b ≡ answer.Malformed Orders bad)
       → day_answer_text judged_by a ≡ day_answer_text judged_by b
   same-logs (Err bad) trades a b is-a is-b = same-place Orders bad a b is-a is-b
   same-logs (Ok entries) (Err bad) a b is-a is-b = same-place Trades bad a b is-a is-b

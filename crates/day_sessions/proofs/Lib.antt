@@ -1,2 +1,3 @@
 mod SessionLemmas
 mod SessionSteps
+mod SessionAnswerLemmas

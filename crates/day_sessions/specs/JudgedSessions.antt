@@ -2,6 +2,7 @@
 use Rattle.std.specs.Prelude.{◌≡◌, ◌+◌, ℕ, Bool, not, List, [], ◌∷◌, ◌++◌, length, take, count_by, if◌then◌else◌}
 use Rattle.audit_base.specs.declared.records.OrderRecord.{OrderRecord}
 use Rattle.audit_base.specs.declared.records.TradeRecord.{TradeRecord}
+use Rattle.day_logs.specs.DayAnswers.{DayMeaning}
 use Rattle.day_report.specs.declared.day_line.DayCounts.{DayCounts}
 use Rattle.day_report.specs.DayTexts.{symbol_lines}
 use Rattle.day_sessions.specs.declared.symbol_sessions.SymbolSession.{SymbolSession}
@@ -86,4 +87,10 @@ JudgesSessions phases table share ended judged =
     (entries : List OrderRecord) (trades : List TradeRecord)
     → HasTradesOf share admission.All entries ended trades
     → AreJudgedSessions phases table entries trades
+    (symbols_in share (symbols_of_day entries trades)) judged
+
+-- what the counts and lines of the sessions of the symbols of a share mean
+abbrev pub JudgesDaySessions : List Phase → Bool → DayShare → DayMeaning
+JudgesDaySessions phases table share entries judged trades =
+    AreJudgedSessions phases table entries trades
     (symbols_in share (symbols_of_day entries trades)) judged

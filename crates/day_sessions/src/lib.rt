@@ -2,5 +2,6 @@
 //! itself, and what it took is given back before the next.
 #![tactic(auto)]
 
+pub mod answers;
 pub mod judged_sessions;
 pub mod symbol_sessions;
