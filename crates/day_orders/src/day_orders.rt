@@ -16,9 +16,10 @@ use seeded_hash::seed::HashSeed;
 use std::alloc::Global;
 use std::marker::{Brand, PhantomData};
 
-/// The share of a day that is audited, for proofs alone. What hands records to collectors of any kind can say of
-/// one only which records it has been handed, and not which share it was made for. So the type of a day says
-/// that. Whoever makes one picks the share, at `Brand`, and nothing of it is there when the program runs.
+/// The share of a day that is audited, for proofs alone. What hands records to collectors of any
+/// kind can say of one only which records it has been handed, and not which share it was made for.
+/// So the type of a day says that. Whoever makes one picks the share, at `Brand`, and nothing of it
+/// is there when the program runs.
 pub trait AuditedShare {
     ghost share: { DayShare };
 }
@@ -27,8 +28,8 @@ impl AuditedShare for Brand {
     ghost share = { whole_day };
 }
 
-/// What is known of the order log of a day after some of its records: its symbols, and the history of each that
-/// is in the share.
+/// What is known of the order log of a day after some of its records: its symbols, and the history
+/// of each that is in the share.
 #[derive(Drop)]
 pub struct DayOrders<D> {
     alloc: Global,

@@ -1,5 +1,5 @@
-//! Tests of a whole day: the verdicts on the symbols of its shares, as they are written. They stand in a crate of
-//! their own, so that no crate of a day is proved once more with its tests.
+//! Tests of a whole day: the verdicts on the symbols of its shares, as they are written. They stand
+//! in a crate of their own, so that no crate of a day is proved once more with its tests.
 #![tactic(auto)]
 
 #[cfg(test)]

@@ -24,11 +24,10 @@ use seeded_hash::seed::HashSeed;
 use std::alloc::Global;
 use std::marker::{Brand, PhantomData};
 
-/// The share of a day that is audited, which orders its rule admits, and which order records it may have, for proofs
-/// alone. What
-/// hands records to collectors of any kind can say of one only which records it has been handed, and not which day
-/// it was made for. So the type of a day says that. Whoever makes one picks them, at `Brand`, and nothing of them
-/// is there when the program runs.
+/// The share of a day that is audited, which orders its rule admits, and which order records it may
+/// have, for proofs alone. What hands records to collectors of any kind can say of one only which
+/// records it has been handed, and not which day it was made for. So the type of a day says that.
+/// Whoever makes one picks them, at `Brand`, and nothing of them is there when the program runs.
 pub trait AuditedDay {
     ghost share: { DayShare };
 
@@ -45,8 +44,8 @@ impl AuditedDay for Brand {
     ghost may_have = { λ _. ⊤ };
 }
 
-/// What is known of a day after its order log and some records of its trade log: its symbols, and of each that is in
-/// the share what its orders and trades come to so far.
+/// What is known of a day after its order log and some records of its trade log: its symbols, and
+/// of each that is in the share what its orders and trades come to so far.
 #[derive(Drop)]
 pub struct DayTrades<M> {
     alloc: Global,
@@ -89,7 +88,8 @@ fn begin(
 }
 
 impl<M: AuditedDay> DayTrades<M> {
-    /// No trades, behind these orders of the share. Symbols, keys and ids are found by hashes of this seed.
+    /// No trades, behind these orders of the share. Symbols, keys and ids are found by hashes of
+    /// this seed.
     pub fn after(
         alloc: Global,
         seed: HashSeed,

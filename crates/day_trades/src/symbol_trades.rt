@@ -60,8 +60,8 @@ impl SymbolTrades {
         }
     }
 
-    /// Takes the next trade of the symbol, at its place in the log. After `NoMemory` nothing is known of the
-    /// symbol.
+    /// Takes the next trade of the symbol, at its place in the log. After `NoMemory` nothing is
+    /// known of the symbol.
     pub fn take(&mut self, trade: &TradeRecord, place: u32) -> Result<(), NoMemory>
         ensures { OnOk result (TakesTradeOf self.old self.new place trade.now) }
     {
@@ -71,8 +71,8 @@ impl SymbolTrades {
         }
     }
 
-    /// What the symbol comes to before its rule is looked at. `count` is how many trades the log has, of all
-    /// symbols. Takes no memory.
+    /// What the symbol comes to before its rule is looked at. `count` is how many trades the log
+    /// has, of all symbols. Takes no memory.
     pub fn end(self, count: u32) -> BeforeRule
         requires { HasFewOfSymbol count self }
         ensures comes_to { ComesTo count self result }

@@ -1,1 +1,2 @@
 pub mod VerdictSteps
+pub mod OneDayLemmas

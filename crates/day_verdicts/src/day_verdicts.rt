@@ -95,7 +95,8 @@ impl JudgedSymbols {
         let verdict = verdict_of(alloc, question, part, count)?;
         self.add(alloc, &question.symbol, &verdict)
     }
-    /// The text of the day: the line that counts its symbols, with what they were judged by, and their lines.
+    /// The text of the day: the line that counts its symbols, with what they were judged by, and
+    /// their lines.
     pub fn text(&self, alloc: Global, judged_by: &[u8]) -> Result<Vec<u8>, NoMemory>
         ensures { let line = day_line self.now.counts judged_by.now in
             IfOk result (λ text. text.items ≡ line ++ self.now.lines.items) }
@@ -107,9 +108,9 @@ impl JudgedSymbols {
     }
 }
 
-/// The verdicts of a rule on the symbols of a share, in their order: how many there are, and their lines, each with
-/// its symbol before it. `table` asks for the tables of accepted symbols. What a symbol took is given back before
-/// the next is judged.
+/// The verdicts of a rule on the symbols of a share, in their order: how many there are, and their
+/// lines, each with its symbol before it. `table` asks for the tables of accepted symbols. What a
+/// symbol took is given back before the next is judged.
 pub fn judge_day(
     alloc: Global,
     rule: Rule,

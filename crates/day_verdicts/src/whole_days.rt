@@ -95,8 +95,9 @@ fn trades_of<M: AuditedDay>(
     Ok(day.end())
 }
 
-/// The verdicts of a rule on the symbols of a share of these records, in one pass over each list: of each symbol the
-/// verdict that it has by itself, counted and written in the order of the symbols.
+/// The verdicts of a rule on the symbols of a share of these records, in one pass over each list:
+/// of each symbol the verdict that it has by itself, counted and written in the order of the
+/// symbols.
 pub fn judge_records_of_day(
     alloc: Global,
     rule: Rule,

@@ -12,6 +12,6 @@ loop-history-preserved c =
       append_assoc c.loop-history.yielded (c.in-Some.history ∷ []) c.next.new.self.rest.items
           ∙ ap (λ (xs : List SymbolHistory). c.loop-history.yielded ++ xs) (sym rest)
           ∙ c.loop-history.invariant.0,
-      subst (λ (parts : List SymbolTrades). AreBegun c.args.admission (c.loop-history.yielded ++ c.in-Some.history ∷ []) parts) (sym c.in_ok-push.ensures.items)
+      subst (λ (parts : List SymbolTrades). AreBegun c.args.admission (c.loop-history.yielded ++ c.in-Some.history ∷ []) parts) (sym {A = List SymbolTrades} c.in_ok-push.ensures.items)
           (begun-more c.args.admission c.loop-history.yielded c.loop-history.parts.items c.in-Some.history c.of.result c.loop-history.invariant.1 c.of.ensures),
     )
