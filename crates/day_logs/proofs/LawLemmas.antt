@@ -1,5 +1,5 @@
 -- One answer to a day, whatever share a symbol is in.
-use Rattle.std.proofs.Common.{suc, ◌≡◌, ◌++◌, ◌∙◌, sym, ap, refl, arith, ℕ, List, [], ◌∷◌, Result, Ok, Err}
+use Rattle.std.proofs.Common.{◌≡◌, ◌++◌, ◌∙◌, sym, ap, ℕ, List, Result, Ok, Err}
 use Rattle.std.specs.Prelude.{MatchResult}
 use Rattle.audit_base.specs.declared.faults.BadPlace.{BadPlace}
 use Rattle.audit_base.specs.declared.findings.Finding.{Finding}
@@ -11,14 +11,14 @@ use Rattle.day_report.specs.DayTexts.{day_line}
 use Rattle.day_logs.specs.declared.answers.DayAnswer.{DayAnswer}
 use Rattle.day_logs.specs.declared.answers.DayAnswer.TheVariants as answer
 use Rattle.day_logs.specs.declared.answers.DayQuestion.{DayQuestion}
-use Rattle.day_logs.specs.DayAnswers.{IsAnswerToRecords}
+use Rattle.day_logs.specs.DayAnswers.{IsAnswerToRecords, JudgesTrades}
 use Rattle.day_logs.specs.DayAnswerTexts.{day_answer_text}
 use Rattle.day_logs.specs.Laws.{OneDayAnswer, SharesHaveTheVerdicts}
-use Rattle.day_symbols.specs.Kept.{AreForEach}
-use Rattle.day_verdicts.specs.DayVerdicts.{counts_of, day_lines_of, IsJudgedDay}
+use Rattle.day_verdicts.specs.DayVerdicts.{IsJudgedDay}
+use Rattle.day_verdicts.specs.Laws.{OneDay}
 use Rattle.day_verdicts.specs.declared.day_verdicts.JudgedSymbols.{JudgedSymbols}
 use Rattle.log_verdict.specs.LogVerdicts.{records_of_order_log, trades_of_trade_log}
-use Rattle.record_verdict.specs.Judgements.{IsRecordVerdict, question}
+use Rattle.record_verdict.specs.Judgements.{question}
 use Rattle.record_verdict.specs.Laws.{RecordVerdictIsOne}
 
 pub shares-have-verdicts : RecordVerdictIsOne → SharesHaveTheVerdicts
@@ -27,41 +27,19 @@ shares-have-verdicts one rule table entries trades share other symbol a b in_one
     (in_one.are.each in_one.place symbol a in_one.symbol_there in_one.verdict_there)
     (in_other.are.each in_other.place symbol b in_other.symbol_there in_other.verdict_there)
 
--- two lists, one for each of the same symbols, are one where what is kept of a symbol is
-pub same-for-each : {X : Type 0} (P : List ℕ → X → Type 0) → ((symbol : List ℕ) (x y : X) → P symbol x → P symbol y → x ≡ y)
-    → (symbols : List (List ℕ)) (xs ys : List X) → AreForEach P symbols xs → AreForEach P symbols ys → xs ≡ ys
-same-for-each P one [] [] [] a b = refl
-same-for-each P one [] (x ∷ xs) ys a b = absurd (omega (arith, a.same_length))
-same-for-each P one [] [] (y ∷ ys) a b = absurd (omega (arith, b.same_length))
-same-for-each P one (s ∷ ss) [] ys a b = absurd (omega (arith, a.same_length))
-same-for-each P one (s ∷ ss) (x ∷ xs) [] a b = absurd (omega (arith, b.same_length))
-same-for-each P one (s ∷ ss) (x ∷ xs) (y ∷ ys) a b =
-    let head : x ≡ y = one s x y (a.each 0 s x refl refl) (b.each 0 s y refl refl) in
-    let tail : xs ≡ ys = same-for-each P one ss xs ys (behind x xs a) (behind y ys b) in
-    (λ i. head i ∷ tail i)
-  where
-    behind : (z : _) (zs : List _) → AreForEach P (s ∷ ss) (z ∷ zs) → AreForEach P ss zs
-    behind z zs are = record {
-      same_length = omega (arith, are.same_length);
-      each = λ i symbol kept got_symbol got. are.each (suc i) symbol kept got_symbol got;
-    }
-
-module _ (one : RecordVerdictIsOne) (q : DayQuestion) (judged_by : List ℕ) where
+module _ (one : OneDay) (q : DayQuestion) (judged_by : List ℕ) where
   -- two judged days of the same records
   same-days : (entries : List OrderRecord) (trades : List TradeRecord) (symbols : List (List ℕ)) (a b : JudgedSymbols)
       → IsJudgedDay q.rule q.table entries trades symbols a → IsJudgedDay q.rule q.table entries trades symbols b
       → day_answer_text judged_by (answer.Judged a) ≡ day_answer_text judged_by (answer.Judged b)
   same-days entries trades symbols a b is-a is-b =
-      let same : is-a.verdicts ≡ is-b.verdicts = same-for-each (λ symbol v. IsRecordVerdict (question q.rule symbol q.table) entries (Ok trades) v) (λ symbol v w. one (question q.rule symbol q.table) entries (Ok trades) v w)
-      symbols is-a.verdicts is-b.verdicts is-a.verdicts_are is-b.verdicts_are in
-      let counts : a.counts ≡ b.counts = is-a.counts_are ∙ ap counts_of same ∙ sym is-b.counts_are in
-      let lines : a.lines.items ≡ b.lines.items = is-a.lines_are ∙ ap (day_lines_of symbols) same ∙ sym is-b.lines_are in
-      λ i. day_line (counts i) judged_by ++ lines i
+      let same = one q.rule q.table entries trades symbols a b is-a is-b in
+      λ i. day_line (same.counts_same i) judged_by ++ same.lines_same i
 
   same-unpaired : (x y : Finding) (paired : Result (List TradeRecord) Finding) → paired ≡ Err x → paired ≡ Err y → x ≡ y
   same-unpaired x y paired is-x is-y = cc (is-x, is-y)
 
-  same-records : (entries : List OrderRecord) (paired : Result (List TradeRecord) Finding) (a b : DayAnswer) → IsAnswerToRecords q entries paired a → IsAnswerToRecords q entries paired b
+  same-records : (entries : List OrderRecord) (paired : Result (List TradeRecord) Finding) (a b : DayAnswer) → IsAnswerToRecords (JudgesTrades q) entries paired a → IsAnswerToRecords (JudgesTrades q) entries paired b
       → day_answer_text judged_by a ≡ day_answer_text judged_by b
   same-records entries (Ok trades) (answer.Judged a) (answer.Judged b) is-a is-b = same-days entries trades _ a b is-a is-b
   same-records entries (Err finding) (answer.Judged a) b is-a is-b = absurd is-a
@@ -78,13 +56,13 @@ module _ (one : RecordVerdictIsOne) (q : DayQuestion) (judged_by : List ℕ) whe
 
   -- two answers to what two logs say
   same-logs : (said : Result (List OrderRecord) BadPlace) (trades : Result (Result (List TradeRecord) Finding) BadPlace) (a b : DayAnswer)
-      → MatchResult said (λ entries. MatchResult trades (λ paired. IsAnswerToRecords q entries paired a) (λ bad. a ≡ answer.Malformed Trades bad)) (λ bad. a ≡ answer.Malformed Orders bad)
-      → MatchResult said (λ entries. MatchResult trades (λ paired. IsAnswerToRecords q entries paired b) (λ bad. b ≡ answer.Malformed Trades bad)) (λ bad. b ≡ answer.Malformed Orders bad)
+      → MatchResult said (λ entries. MatchResult trades (λ paired. IsAnswerToRecords (JudgesTrades q) entries paired a) (λ bad. a ≡ answer.Malformed Trades bad)) (λ bad. a ≡ answer.Malformed Orders bad)
+      → MatchResult said (λ entries. MatchResult trades (λ paired. IsAnswerToRecords (JudgesTrades q) entries paired b) (λ bad. b ≡ answer.Malformed Trades bad)) (λ bad. b ≡ answer.Malformed Orders bad)
       → day_answer_text judged_by a ≡ day_answer_text judged_by b
   same-logs (Err bad) trades a b is-a is-b = same-place Orders bad a b is-a is-b
   same-logs (Ok entries) (Err bad) a b is-a is-b = same-place Trades bad a b is-a is-b
   same-logs (Ok entries) (Ok paired) a b is-a is-b = same-records entries paired a b is-a is-b
 
-pub one-day-answer : RecordVerdictIsOne → OneDayAnswer
+pub one-day-answer : OneDay → OneDayAnswer
 one-day-answer one q orders trades judged_by a b is-a is-b =
     same-logs one q judged_by (records_of_order_log orders.form orders.bytes) (trades_of_trade_log trades.form trades.bytes) a b is-a is-b

@@ -1,4 +1,4 @@
 mod JoinLemmas
 mod TradeLogLemmas
-mod AnswerLemmas
+pub mod AnswerLemmas
 mod LawLemmas

@@ -13,7 +13,7 @@ use Rattle.day_logs.specs.declared.answers.DayQuestion.{DayQuestion}
 use Rattle.day_logs.specs.declared.before_rule.DayBeforeRule.{DayBeforeRule}
 use Rattle.day_logs.specs.declared.before_rule.DayBeforeRule.TheVariants as upto
 use Rattle.day_logs.specs.DayBeforeRule.{IsDayBeforeRule}
-use Rattle.day_symbols.specs.Shares.{symbols_in}
+use Rattle.day_symbols.specs.Shares.{DayShare, symbols_in}
 use Rattle.day_symbols.specs.Symbols.{symbols_of_day}
 use Rattle.day_verdicts.specs.DayVerdicts.{IsJudgedDay}
 use Rattle.day_verdicts.specs.declared.day_verdicts.JudgedSymbols.{JudgedSymbols}
@@ -24,40 +24,45 @@ use Rattle.log_verdict.specs.declared.stops.Stop.TheVariants as stop
 use Rattle.log_verdict.specs.BothLogs.{IsStopOfTwoLogs, ReadsLogs}
 use Rattle.log_verdict.specs.LogVerdicts.{Log, log_in, OfLogs}
 use Rattle.log_verdict.specs.Steps.{Reading}
-use Rattle.record_verdict.specs.Scopes.{admission_of}
+use Rattle.record_verdict.specs.declared.scopes.Admission.{Admission}
+
+-- what the counts and lines of a day mean, of some order records and some trades
+abbrev pub DayMeaning : Type 1
+DayMeaning = List OrderRecord → JudgedSymbols → List TradeRecord → Type 0
 
 -- these are the counts and lines of the verdicts on the symbols of the share, in these records
-abbrev pub JudgesTrades : DayQuestion → List OrderRecord → JudgedSymbols → List TradeRecord → Type 0
+abbrev pub JudgesTrades : DayQuestion → DayMeaning
 JudgesTrades q entries judged trades =
     IsJudgedDay q.rule q.table entries trades
     (symbols_in q.share (symbols_of_day entries trades)) judged
 
--- the answer to the records of both logs: the verdicts on the symbols of the share; or finding 4
+-- the answer to the records of both logs: counts and lines that mean this of them; or finding 4
 -- alone, exactly where the reports of the trade log do not pair
-abbrev pub IsAnswerToRecords : DayQuestion → List OrderRecord → Result (List TradeRecord) Finding
+abbrev pub IsAnswerToRecords : DayMeaning → List OrderRecord → Result (List TradeRecord) Finding
     → DayAnswer → Type 0
-IsAnswerToRecords q entries paired (answer.Judged judged) =
-    IsOkAnd paired (JudgesTrades q entries judged)
-IsAnswerToRecords q entries paired (answer.Unpaired finding) = paired ≡ Err finding
-IsAnswerToRecords q entries paired (answer.Malformed log bad) = ⊥
+IsAnswerToRecords judges entries paired (answer.Judged judged) =
+    IsOkAnd paired (judges entries judged)
+IsAnswerToRecords judges entries paired (answer.Unpaired finding) = paired ≡ Err finding
+IsAnswerToRecords judges entries paired (answer.Malformed log bad) = ⊥
 
 -- the answer to two logs: that to their records, or the first bad place
-abbrev pub IsAnswerToLogs : DayQuestion → Log → Log → DayAnswer → Type 0
-IsAnswerToLogs q orders trades the_answer =
-    OfLogs (λ entries paired. IsAnswerToRecords q entries paired the_answer)
+abbrev pub IsAnswerToLogs : DayMeaning → Log → Log → DayAnswer → Type 0
+IsAnswerToLogs judges orders trades the_answer =
+    OfLogs (λ entries paired. IsAnswerToRecords judges entries paired the_answer)
     (λ log bad. the_answer ≡ answer.Malformed log bad) orders trades
 
 -- both logs were read, and this is the answer to them
-abbrev pub ReadsDayAnswer : Reading → DayQuestion → Source → Source → DayAnswer → Type 0
-ReadsDayAnswer r q orders trades the_answer =
-    ReadsLogs r orders trades (λ entries paired. IsAnswerToRecords q entries paired the_answer)
+abbrev pub ReadsDayAnswer : Reading → DayMeaning → Source → Source → DayAnswer → Type 0
+ReadsDayAnswer r judges orders trades the_answer =
+    ReadsLogs r orders trades
+    (λ entries paired. IsAnswerToRecords judges entries paired the_answer)
     (λ log bad. the_answer ≡ answer.Malformed log bad)
 
 -- the answer to both logs, or why there is none
-abbrev pub GivesDayAnswerOrStop : Reading → DayQuestion → Source → Source
-    → Result DayAnswer Stop → Type 0
-GivesDayAnswerOrStop r q orders trades result =
-    MatchResult result (ReadsDayAnswer r q orders trades) (IsStopOfTwoLogs r orders trades)
+abbrev pub GivesDayAnswerOrStop : Reading → DayMeaning → Source → Source → Result DayAnswer Stop
+    → Type 0
+GivesDayAnswerOrStop r judges orders trades result =
+    MatchResult result (ReadsDayAnswer r judges orders trades) (IsStopOfTwoLogs r orders trades)
 
 -- The shelf is known and has both logs under their names, each within the limit, and no fault of
 -- it was counted in the call.
@@ -72,21 +77,22 @@ pub record HoldsDay (r : Reading) (orders trades : Source) (orders_bytes trades_
 
 -- completeness: where the shelf has both logs and nothing fails, the answer is the one to these
 -- logs, or memory ran out
-abbrev pub AnswersHeldDay : Reading → DayQuestion → Source → Source → Result DayAnswer Stop → Type 0
-AnswersHeldDay r q orders trades result = (orders_bytes trades_bytes : List ℕ)
+abbrev pub AnswersHeldDay : Reading → DayMeaning → Source → Source → Result DayAnswer Stop
+    → Type 0
+AnswersHeldDay r judges orders trades result = (orders_bytes trades_bytes : List ℕ)
     → HoldsDay r orders trades orders_bytes trades_bytes
     → MatchResult result
-    (IsAnswerToLogs q (log_in orders.form orders_bytes) (log_in trades.form trades_bytes))
+    (IsAnswerToLogs judges (log_in orders.form orders_bytes) (log_in trades.form trades_bytes))
     (λ why. why ≡ stop.Memory)
 
 -- What functions pass on.
 
 -- The answer to what two logs come to before the rule is looked at: their first bad place; and of
 -- whatever records come to this, the answer to them.
-pub record IsAnswerUpToRule (q : DayQuestion) (reached : DayBeforeRule) (the_answer : DayAnswer)
-    : Type 0 where
+pub record IsAnswerUpToRule (share : DayShare) (admission : Admission)
+    (judges : DayMeaning) (reached : DayBeforeRule) (the_answer : DayAnswer) : Type 0 where
   pub of_place : (log : Which) (bad : BadPlace) → reached ≡ upto.Malformed log bad
       → the_answer ≡ answer.Malformed log bad
   pub of_records : (entries : List OrderRecord) (paired : Result (List TradeRecord) Finding)
-      → IsDayBeforeRule q.share (admission_of q.rule) entries paired reached
-      → IsAnswerToRecords q entries paired the_answer
+      → IsDayBeforeRule share admission entries paired reached
+      → IsAnswerToRecords judges entries paired the_answer

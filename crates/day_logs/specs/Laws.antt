@@ -6,7 +6,7 @@ use Rattle.audit_base.specs.declared.terms.Rule.{Rule}
 use Rattle.audit_report.specs.declared.verdicts.Verdict.{Verdict}
 use Rattle.day_logs.specs.declared.answers.DayAnswer.{DayAnswer}
 use Rattle.day_logs.specs.declared.answers.DayQuestion.{DayQuestion}
-use Rattle.day_logs.specs.DayAnswers.{IsAnswerToLogs}
+use Rattle.day_logs.specs.DayAnswers.{IsAnswerToLogs, JudgesTrades}
 use Rattle.day_logs.specs.DayAnswerTexts.{day_answer_text}
 use Rattle.day_symbols.specs.Shares.{DayShare, symbols_in}
 use Rattle.day_symbols.specs.Symbols.{symbols_of_day}
@@ -36,5 +36,6 @@ SharesHaveTheVerdicts = (rule : Rule) (table : Bool) (entries : List OrderRecord
 -- one text
 abbrev pub OneDayAnswer : Type 0
 OneDayAnswer = (q : DayQuestion) (orders trades : Log) (judged_by : List ℕ) (a b : DayAnswer)
-    → IsAnswerToLogs q orders trades a → IsAnswerToLogs q orders trades b
+    → IsAnswerToLogs (JudgesTrades q) orders trades a
+    → IsAnswerToLogs (JudgesTrades q) orders trades b
     → day_answer_text judged_by a ≡ day_answer_text judged_by b

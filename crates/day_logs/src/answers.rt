@@ -3,7 +3,8 @@ ghost use Rattle.std.specs.Prelude.{IfOk};
 ghost use Rattle.log_verdict.specs.BothLogs.{HaveOneLimit, StaysWithin};
 ghost use Rattle.log_verdict.specs.Steps.{reading_by, KeepsShelfLogs, FaultsNeverFall};
 ghost use Rattle.record_verdict.specs.Scopes.{admission_of};
-ghost use Rattle.day_logs.specs.DayAnswers.{AnswersHeldDay, GivesDayAnswerOrStop, IsAnswerUpToRule};
+ghost use Rattle.day_logs.specs.DayAnswers.{AnswersHeldDay, GivesDayAnswerOrStop};
+ghost use Rattle.day_logs.specs.DayAnswers.{IsAnswerUpToRule, JudgesTrades};
 ghost use Rattle.day_logs.specs.DayBeforeRule.{IsDayWithFewTrades};
 
 use crate::before_rule::DayBeforeRule;
@@ -47,7 +48,8 @@ fn answer_after(
     reached: DayBeforeRule,
 ) -> Result<DayAnswer, NoMemory>
     requires { IsDayWithFewTrades question.now.share (admission_of question.now.rule) reached }
-    ensures { IfOk result (IsAnswerUpToRule question.now reached) }
+    ensures { let admission = admission_of question.now.rule in IfOk result
+        (IsAnswerUpToRule question.now.share admission (JudgesTrades question.now) reached) }
 {
     match reached {
         DayBeforeRule::Malformed { log, bad } => Ok(DayAnswer::Malformed { log, bad }),
@@ -71,7 +73,7 @@ fn answer_to<F: Shelf>(
     ensures logs { KeepsShelfLogs F.Shelf shelf.old shelf.new }
     ensures later { FaultsNeverFall (reading_by orders.now F.Shelf shelf.old shelf.new) }
     ensures decides { GivesDayAnswerOrStop (reading_by orders.now F.Shelf shelf.old shelf.new)
-        question.now orders.now trades.now result }
+        (JudgesTrades question.now) orders.now trades.now result }
     ensures within { StaysWithin (reading_by orders.now F.Shelf shelf.old shelf.new) result }
 {
     let admission = Admission::of(question.rule);
@@ -102,9 +104,9 @@ pub fn verdicts_on<F: Shelf>(
     ensures logs { KeepsShelfLogs F.Shelf shelf.old shelf.new }
     ensures later { FaultsNeverFall (reading_by orders.now F.Shelf shelf.old shelf.new) }
     ensures decides { GivesDayAnswerOrStop (reading_by orders.now F.Shelf shelf.old shelf.new)
-        question.now orders.now trades.now result }
+        (JudgesTrades question.now) orders.now trades.now result }
     ensures complete { AnswersHeldDay (reading_by orders.now F.Shelf shelf.old shelf.new)
-        question.now orders.now trades.now result }
+        (JudgesTrades question.now) orders.now trades.now result }
     ensures within { StaysWithin (reading_by orders.now F.Shelf shelf.old shelf.new) result }
 {
     answer_to(alloc, shelf, question, orders, trades)

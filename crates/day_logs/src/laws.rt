@@ -2,6 +2,7 @@
 //! has its contract.
 ghost use Rattle.day_logs.specs.Laws.{OneDayAnswer, SharesHaveTheVerdicts};
 
+use day_verdicts::laws::one_day;
 use record_verdict::laws::record_verdict_is_one;
 
 /// A symbol has the same verdict in every share of a day that has it, the whole day among them: so
@@ -16,5 +17,5 @@ pub fn shares_have_the_verdicts()
 pub fn one_day_answer()
     ensures { OneDayAnswer }
 {
-    record_verdict_is_one();
+    one_day();
 }

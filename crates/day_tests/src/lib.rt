@@ -5,4 +5,6 @@
 #[cfg(test)]
 mod days;
 #[cfg(test)]
+mod sessions;
+#[cfg(test)]
 mod two_logs;

@@ -14,7 +14,7 @@ use std::alloc::Global;
 use std::test::Fail;
 
 /// Y conforms, and the bid of Z trades more than its quantity.
-const ORDERS: &[u8] = b"kind,firm,id,time,symbol,side,quantity,price,target\n\
+pub(crate) const ORDERS: &[u8] = b"kind,firm,id,time,symbol,side,quantity,price,target\n\
     N,A,y1,20240102-09:00:00,Y,B,5,7,\n\
     N,B,y2,20240102-09:00:00,Y,S,5,7,\n\
     N,A,b1,20240102-09:00:00,Z,B,10,10,\n\
@@ -30,7 +30,7 @@ const LONE_REPORT: &[u8] = b"8=FIX.4.4\x019=78\x0135=8\x0149=X\x0156=A\x0111=1\x
 
 /// A shelf with two logs, which gives at most `piece` bytes at once and fails at the call of this
 /// number.
-fn shelf_of(
+pub(crate) fn shelf_of(
     alloc: Global,
     orders: &[u8],
     trades: &[u8],

@@ -1,0 +1,3 @@
+mod SessionLemmas
+mod SessionSteps
+mod SessionAnswerLemmas

@@ -1,0 +1,95 @@
+//! The sessions of the symbols of two logs of a shelf.
+ghost use Rattle.std.specs.Prelude.{IfOk};
+ghost use Rattle.day_logs.specs.DayAnswers.{AnswersHeldDay, GivesDayAnswerOrStop};
+ghost use Rattle.day_logs.specs.DayAnswers.{IsAnswerUpToRule};
+ghost use Rattle.day_logs.specs.DayBeforeRule.{IsDayWithFewTrades};
+ghost use Rattle.day_sessions.specs.JudgedSessions.{JudgesDaySessions};
+ghost use Rattle.log_verdict.specs.BothLogs.{HaveOneLimit, StaysWithin};
+ghost use Rattle.log_verdict.specs.Steps.{reading_by, KeepsShelfLogs, FaultsNeverFall};
+ghost use Rattle.record_verdict.specs.declared.scopes.Admission.TheVariants.{All as AdmitsAll};
+ghost use Rattle.session_audit.specs.Phases.{ArePhases};
+
+use crate::judged_sessions::judge_sessions;
+use audit_base::faults::NoMemory;
+use day_logs::answers::DayAnswer;
+use day_logs::before_rule::DayBeforeRule;
+use day_logs::reading::read_day;
+use day_symbols::shares::Share;
+use log_source::shelf::Shelf;
+use log_verdict::sources::Source;
+use log_verdict::stops::Stop;
+use record_verdict::scopes::Admission;
+use session_audit::phases::Phase;
+use std::alloc::Global;
+
+/// The answer to what two logs come to before any phase is looked at.
+fn sessions_after(
+    alloc: Global,
+    phases: &[Phase],
+    table: bool,
+    share: Share,
+    reached: DayBeforeRule,
+) -> Result<DayAnswer, NoMemory>
+    requires phases { ArePhases phases.now }
+    requires few { IsDayWithFewTrades share AdmitsAll reached }
+    ensures { let judges = JudgesDaySessions phases.now table share in
+        IfOk result (IsAnswerUpToRule share AdmitsAll judges reached) }
+{
+    match reached {
+        DayBeforeRule::Malformed { log, bad } => Ok(DayAnswer::Malformed { log, bad }),
+        DayBeforeRule::Unpaired(finding) => Ok(DayAnswer::Unpaired(finding)),
+        DayBeforeRule::Read(ended) => {
+            let judged = judge_sessions(alloc, phases, table, share, ended)?;
+            Ok(DayAnswer::Judged(judged))
+        }
+    }
+}
+
+/// The answer to two logs, by what they come to.
+fn sessions_of_logs<F: Shelf>(
+    alloc: Global,
+    shelf: &mut F,
+    phases: &[Phase],
+    table: bool,
+    share: Share,
+    orders: &Source<'_>,
+    trades: &Source<'_>,
+) -> Result<DayAnswer, Stop>
+    requires phases { ArePhases phases.now }
+    requires limit { HaveOneLimit orders.now trades.now }
+    ensures logs { KeepsShelfLogs F.Shelf shelf.old shelf.new }
+    ensures later { FaultsNeverFall (reading_by orders.now F.Shelf shelf.old shelf.new) }
+    ensures decides { GivesDayAnswerOrStop (reading_by orders.now F.Shelf shelf.old shelf.new)
+        (JudgesDaySessions phases.now table share) orders.now trades.now result }
+    ensures within { StaysWithin (reading_by orders.now F.Shelf shelf.old shelf.new) result }
+{
+    match read_day(alloc, shelf, share, Admission::All, orders, trades) {
+        Ok(reached) => Ok(sessions_after(alloc, phases, table, share, reached)?),
+        Err(stop) => Err(stop),
+    }
+}
+
+/// The sessions of the symbols of a share of two logs, or why there are none, as `verdicts_on`
+/// answers for a rule. The reading admits every order: whether a call admits its own orders is for
+/// the day to say.
+pub fn sessions_on<F: Shelf>(
+    alloc: Global,
+    shelf: &mut F,
+    phases: &[Phase],
+    table: bool,
+    share: Share,
+    orders: &Source<'_>,
+    trades: &Source<'_>,
+) -> Result<DayAnswer, Stop>
+    requires phases { ArePhases phases.now }
+    requires limit { HaveOneLimit orders.now trades.now }
+    ensures logs { KeepsShelfLogs F.Shelf shelf.old shelf.new }
+    ensures later { FaultsNeverFall (reading_by orders.now F.Shelf shelf.old shelf.new) }
+    ensures decides { GivesDayAnswerOrStop (reading_by orders.now F.Shelf shelf.old shelf.new)
+        (JudgesDaySessions phases.now table share) orders.now trades.now result }
+    ensures complete { AnswersHeldDay (reading_by orders.now F.Shelf shelf.old shelf.new)
+        (JudgesDaySessions phases.now table share) orders.now trades.now result }
+    ensures within { StaysWithin (reading_by orders.now F.Shelf shelf.old shelf.new) result }
+{
+    sessions_of_logs(alloc, shelf, phases, table, share, orders, trades)
+}

@@ -1,0 +1,7 @@
+//! The sessions of a day: each symbol of a share is judged by the phases of a trading day, as by
+//! itself, and what it took is given back before the next.
+#![tactic(auto)]
+
+pub mod answers;
+pub mod judged_sessions;
+pub mod symbol_sessions;
