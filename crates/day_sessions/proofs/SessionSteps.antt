@@ -95,7 +95,7 @@ sessions-next phases table share ended n part symbol old new next one is = λ en
     }
 
 -- there is room to count one symbol more
-pub room-for-session : (phases : List Phase) (table : Bool) (share : DayShare) (ended : EndedTrades) (n : ℕ) (judged : JudgedSymbols) → n < length ended.parts.items → length ended.parts.items < 2 ^ 64 → HasFewDayTrades share admission.All ended → AreJudgedSessionsUpTo phases table share ended n judged
+pub room-for-session : (phases : List Phase) (table : Bool) (share : DayShare) (ended : EndedTrades) (n : ℕ) (judged : JudgedSymbols) → n < length ended.symbols_trades.items → length ended.symbols_trades.items < 2 ^ 64 → HasFewDayTrades share admission.All ended → AreJudgedSessionsUpTo phases table share ended n judged
     → HasRoomForOne judged.counts
 room-for-session phases table share ended n judged lt few_parts few is =
     let before = is few.entries few.trades few.has in
@@ -111,10 +111,10 @@ room-for-session phases table share ended n judged lt few_parts few is =
     }
 
 -- all symbols were judged
-pub sessions-all : (phases : List Phase) (table : Bool) (share : DayShare) (ended : EndedTrades) (n : ℕ) (before rest : List SymbolTrades) (judged : JudgedSymbols) → before ++ rest ≡ ended.parts.items → length rest ≡ 0 → n ≡ length before
+pub sessions-all : (phases : List Phase) (table : Bool) (share : DayShare) (ended : EndedTrades) (n : ℕ) (before rest : List SymbolTrades) (judged : JudgedSymbols) → before ++ rest ≡ ended.symbols_trades.items → length rest ≡ 0 → n ≡ length before
     → AreJudgedSessionsUpTo phases table share ended n judged → JudgesSessions phases table share ended judged
 sessions-all phases table share ended n before rest judged parts none at is = λ entries trades has.
     let symbols : List (List ℕ) = shared_symbols share entries trades in
-    let size : length before + length rest ≡ length ended.parts.items = sym (length-append before rest) ∙ ap length parts in
+    let size : length before + length rest ≡ length ended.symbols_trades.items = sym (length-append before rest) ∙ ap length parts in
     let whole : take n symbols ≡ symbols = take_all n symbols (omega (arith, size, none, at, has.parts_are.same_length)) in
     subst (λ (ss : List (List ℕ)). AreJudgedSessions phases table entries trades ss judged) whole (is entries trades has)

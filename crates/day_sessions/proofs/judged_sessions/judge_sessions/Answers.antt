@@ -10,7 +10,7 @@ use Rattle.day_sessions.proofs.judged_sessions.judge_sessions.Goals as goal
 
 pub judge_symbol-requires-clause-few : goal.judge_symbol-requires-clause-few
 judge_symbol-requires-clause-few c =
-    let parts : c.loop-part.yielded ++ c.in-Some.part ∷ c.next.new.self.rest.items ≡ c.args.ended.parts.items =
+    let parts : c.loop-part.yielded ++ c.in-Some.part ∷ c.next.new.self.rest.items ≡ c.args.ended.symbols_trades.items =
     ap (λ (xs : List SymbolTrades). c.loop-part.yielded ++ xs) (sym c.in-Some.ensures.steps.0) ∙ c.loop-part.invariant.0 in
     let got : slice_get (symbols_in c.args.share c.args.ended.symbols) c.loop-part.place ≡ Some c.in-Some-symbol_at.symbol.now =
     sym c.symbol_at.ensures ∙ ap (option_map (λ name. name.now)) c.in-Some-symbol_at.is in
@@ -19,17 +19,17 @@ judge_symbol-requires-clause-few c =
 
 pub judge_symbol-requires-clause-room : goal.judge_symbol-requires-clause-room
 judge_symbol-requires-clause-room c =
-    let parts : c.loop-part.yielded ++ c.in-Some.part ∷ c.next.new.self.rest.items ≡ c.args.ended.parts.items =
+    let parts : c.loop-part.yielded ++ c.in-Some.part ∷ c.next.new.self.rest.items ≡ c.args.ended.symbols_trades.items =
     ap (λ (xs : List SymbolTrades). c.loop-part.yielded ++ xs) (sym c.in-Some.ensures.steps.0) ∙ c.loop-part.invariant.0 in
     let got : slice_get (symbols_in c.args.share c.args.ended.symbols) c.loop-part.place ≡ Some c.in-Some-symbol_at.symbol.now =
     sym c.symbol_at.ensures ∙ ap (option_map (λ name. name.now)) c.in-Some-symbol_at.is in
     let next = next-at c.args.share c.args.ended c.loop-part.place c.in-Some.part c.in-Some-symbol_at.symbol.now c.loop-part.yielded c.next.new.self.rest.items parts c.loop-part.invariant.1 got in
     room-for-session c.args.phases.now c.args.table c.args.share c.args.ended c.loop-part.place c.loop-part.judged
-    (slice_get_within c.args.ended.parts.items c.loop-part.place c.in-Some.part next.part_there) (omega (arith, c.args.ended.parts.ok.0, c.args.ended.parts.ok.1, c.args.ended.parts.small)) c.requires.few c.loop-part.invariant.2
+    (slice_get_within c.args.ended.symbols_trades.items c.loop-part.place c.in-Some.part next.part_there) (omega (arith, c.args.ended.symbols_trades.ok.0, c.args.ended.symbols_trades.ok.1, c.args.ended.symbols_trades.small)) c.requires.few c.loop-part.invariant.2
 
 pub loop-part-preserved : goal.loop-part-preserved
 loop-part-preserved c =
-    let parts : c.loop-part.yielded ++ c.in-Some.part ∷ c.next.new.self.rest.items ≡ c.args.ended.parts.items =
+    let parts : c.loop-part.yielded ++ c.in-Some.part ∷ c.next.new.self.rest.items ≡ c.args.ended.symbols_trades.items =
     ap (λ (xs : List SymbolTrades). c.loop-part.yielded ++ xs) (sym c.in-Some.ensures.steps.0) ∙ c.loop-part.invariant.0 in
     let got : slice_get (symbols_in c.args.share c.args.ended.symbols) c.loop-part.place ≡ Some c.in-Some-symbol_at.symbol.now =
     sym c.symbol_at.ensures ∙ ap (option_map (λ name. name.now)) c.in-Some-symbol_at.is in
