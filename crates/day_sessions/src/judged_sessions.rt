@@ -96,12 +96,12 @@ pub fn judge_sessions(
 {
     let EndedTrades {
         symbols,
-        parts,
+        symbols_trades,
         count,
     } = ended;
     let mut judged = no_sessions(alloc);
     let mut place: usize = 0;
-    for part in parts {
+    for part in symbols_trades {
         let Some(symbol) = share.symbol_at(&symbols, place) else {
             unreachable!();
         };
