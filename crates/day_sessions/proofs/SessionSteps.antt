@@ -62,7 +62,7 @@ counts-more sessions v = λ i. record {
 pub next-known : (share : DayShare) (ended : EndedTrades) (n : ℕ) (part : SymbolTrades) (symbol : List ℕ) → IsNext share ended n part symbol → (entries : List OrderRecord) (trades : List TradeRecord)
     → HasTradesOf share admission.All entries ended trades → IsSymbolTrades admission.All entries trades symbol part
 next-known share ended n part symbol next entries trades has =
-    has.parts_are.each n symbol part (ap (λ (s : List (List ℕ)). slice_get (symbols_in share s) n) (sym has.symbols_are) ∙ next.symbol_there) next.part_there
+    has.symbols_trades_are.each n symbol part (ap (λ (s : List (List ℕ)). slice_get (symbols_in share s) n) (sym has.symbols_are) ∙ next.symbol_there) next.symbol_trades_there
 
 pub next-few : (share : DayShare) (ended : EndedTrades) (n : ℕ) (part : SymbolTrades) (symbol : List ℕ) → IsNext share ended n part symbol → HasFewDayTrades share admission.All ended → HasFewOfSymbol ended.count part
 next-few share ended n part symbol next few = record {
@@ -100,7 +100,7 @@ pub room-for-session : (phases : List Phase) (table : Bool) (share : DayShare) (
 room-for-session phases table share ended n judged lt few_parts few is =
     let before = is few.entries few.trades few.has in
     let symbols : List (List ℕ) = shared_symbols share few.entries few.trades in
-    let count : length (take n symbols) ≡ n = length-take-le n symbols (omega (arith, lt, few.has.parts_are.same_length)) in
+    let count : length (take n symbols) ≡ n = length-take-le n symbols (omega (arith, lt, few.has.symbols_trades_are.same_length)) in
     let symbols_are : judged.counts.symbols ≡ length before.sessions = ap (λ (counts : DayCounts). counts.symbols) before.counts_are in
     let accepted_are : judged.counts.accepted ≡ count_by (λ (w : SymbolSession). w.conforms) before.sessions = ap (λ (counts : DayCounts). counts.accepted) before.counts_are in
     let rejected_are : judged.counts.rejected ≡ count_by (λ (w : SymbolSession). not w.conforms) before.sessions = ap (λ (counts : DayCounts). counts.rejected) before.counts_are in
@@ -116,5 +116,5 @@ pub sessions-all : (phases : List Phase) (table : Bool) (share : DayShare) (ende
 sessions-all phases table share ended n before rest judged parts none at is = λ entries trades has.
     let symbols : List (List ℕ) = shared_symbols share entries trades in
     let size : length before + length rest ≡ length ended.symbols_trades.items = sym (length-append before rest) ∙ ap length parts in
-    let whole : take n symbols ≡ symbols = take_all n symbols (omega (arith, size, none, at, has.parts_are.same_length)) in
+    let whole : take n symbols ≡ symbols = take_all n symbols (omega (arith, size, none, at, has.symbols_trades_are.same_length)) in
     subst (λ (ss : List (List ℕ)). AreJudgedSessions phases table entries trades ss judged) whole (is entries trades has)

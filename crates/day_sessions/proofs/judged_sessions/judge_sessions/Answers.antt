@@ -25,7 +25,7 @@ judge_symbol-requires-clause-room c =
     sym c.symbol_at.ensures ∙ ap (option_map (λ name. name.now)) c.in-Some-symbol_at.is in
     let next = next-at c.args.share c.args.ended c.loop-part.place c.in-Some.part c.in-Some-symbol_at.symbol.now c.loop-part.yielded c.next.new.self.rest.items parts c.loop-part.invariant.1 got in
     room-for-session c.args.phases.now c.args.table c.args.share c.args.ended c.loop-part.place c.loop-part.judged
-    (slice_get_within c.args.ended.symbols_trades.items c.loop-part.place c.in-Some.part next.part_there) (omega (arith, c.args.ended.symbols_trades.ok.0, c.args.ended.symbols_trades.ok.1, c.args.ended.symbols_trades.small)) c.requires.few c.loop-part.invariant.2
+    (slice_get_within c.args.ended.symbols_trades.items c.loop-part.place c.in-Some.part next.symbol_trades_there) (omega (arith, c.args.ended.symbols_trades.ok.0, c.args.ended.symbols_trades.ok.1, c.args.ended.symbols_trades.small)) c.requires.few c.loop-part.invariant.2
 
 pub loop-part-preserved : goal.loop-part-preserved
 loop-part-preserved c =
