@@ -12,8 +12,8 @@ use Rattle.day_logs.specs.declared.answers.DayAnswer.{DayAnswer}
 use Rattle.day_logs.specs.declared.answers.DayAnswer.TheVariants as answer
 use Rattle.day_logs.specs.declared.answers.DayQuestion.{DayQuestion}
 use Rattle.day_logs.specs.DayAnswers.{IsAnswerToRecords, JudgesTrades}
-use Rattle.day_logs.specs.DayAnswerTexts.{day_answer_text}
-use Rattle.day_logs.specs.Laws.{OneDayAnswer, SharesHaveTheVerdicts}
+use Rattle.day_logs.specs.DayAnswerTexts.{day_answer_status, day_answer_text}
+use Rattle.day_logs.specs.Laws.{AreWrittenAlike, OneDayAnswer, SharesHaveTheVerdicts}
 use Rattle.day_verdicts.specs.DayVerdicts.{IsJudgedDay}
 use Rattle.day_verdicts.specs.Laws.{OneDay}
 use Rattle.day_verdicts.specs.declared.day_verdicts.JudgedSymbols.{JudgedSymbols}
@@ -31,16 +31,26 @@ module _ (one : OneDay) (q : DayQuestion) (judged_by : List ℕ) where
   -- two judged days of the same records
   same-days : (entries : List OrderRecord) (trades : List TradeRecord) (symbols : List (List ℕ)) (a b : JudgedSymbols)
       → IsJudgedDay q.rule q.table entries trades symbols a → IsJudgedDay q.rule q.table entries trades symbols b
-      → day_answer_text judged_by (answer.Judged a) ≡ day_answer_text judged_by (answer.Judged b)
+      → AreWrittenAlike judged_by (answer.Judged a) (answer.Judged b)
   same-days entries trades symbols a b is-a is-b =
       let same = one q.rule q.table entries trades symbols a b is-a is-b in
-      λ i. day_line (same.counts_same i) judged_by ++ same.lines_same i
+      record {
+        text_same = λ i. day_line (same.counts_same i) judged_by ++ same.lines_same i;
+        status_same = λ i. day_answer_status (answer.Judged (record a { counts = same.counts_same i }));
+      }
+
+  -- equal answers are written alike
+  alike : (a b : DayAnswer) → a ≡ b → AreWrittenAlike judged_by a b
+  alike a b same = record {
+    text_same = ap (day_answer_text judged_by) same;
+    status_same = ap day_answer_status same;
+  }
 
   same-unpaired : (x y : Finding) (paired : Result (List TradeRecord) Finding) → paired ≡ Err x → paired ≡ Err y → x ≡ y
   same-unpaired x y paired is-x is-y = cc (is-x, is-y)
 
   same-records : (entries : List OrderRecord) (paired : Result (List TradeRecord) Finding) (a b : DayAnswer) → IsAnswerToRecords (JudgesTrades q) entries paired a → IsAnswerToRecords (JudgesTrades q) entries paired b
-      → day_answer_text judged_by a ≡ day_answer_text judged_by b
+      → AreWrittenAlike judged_by a b
   same-records entries (Ok trades) (answer.Judged a) (answer.Judged b) is-a is-b = same-days entries trades _ a b is-a is-b
   same-records entries (Err finding) (answer.Judged a) b is-a is-b = absurd is-a
   same-records entries paired (answer.Malformed log bad) b is-a is-b = absurd is-a
@@ -49,16 +59,16 @@ module _ (one : OneDay) (q : DayQuestion) (judged_by : List ℕ) where
   same-records entries (Ok trades) (answer.Unpaired a) b is-a is-b = absurd (cc is-a)
   same-records entries (Ok trades) a (answer.Unpaired b) is-a is-b = absurd (cc is-b)
   same-records entries (Err finding) (answer.Unpaired a) (answer.Unpaired b) is-a is-b =
-      ap (λ (f : Finding). day_answer_text judged_by (answer.Unpaired f)) (same-unpaired a b (Err finding) is-a is-b)
+      alike _ _ (ap (λ (f : Finding). answer.Unpaired f) (same-unpaired a b (Err finding) is-a is-b))
 
-  same-place : (log : Which) (bad : BadPlace) (a b : DayAnswer) → a ≡ answer.Malformed log bad → b ≡ answer.Malformed log bad → day_answer_text judged_by a ≡ day_answer_text judged_by b
-  same-place log bad a b is-a is-b = ap (day_answer_text judged_by) (is-a ∙ sym is-b)
+  same-place : (log : Which) (bad : BadPlace) (a b : DayAnswer) → a ≡ answer.Malformed log bad → b ≡ answer.Malformed log bad → AreWrittenAlike judged_by a b
+  same-place log bad a b is-a is-b = alike a b (is-a ∙ sym is-b)
 
   -- two answers to what two logs say
   same-logs : (said : Result (List OrderRecord) BadPlace) (trades : Result (Result (List TradeRecord) Finding) BadPlace) (a b : DayAnswer)
       → MatchResult said (λ entries. MatchResult trades (λ paired. IsAnswerToRecords (JudgesTrades q) entries paired a) (λ bad. a ≡ answer.Malformed Trades bad)) (λ bad. a ≡ answer.Malformed Orders bad)
       → MatchResult said (λ entries. MatchResult trades (λ paired. IsAnswerToRecords (JudgesTrades q) entries paired b) (λ bad. b ≡ answer.Malformed Trades bad)) (λ bad. b ≡ answer.Malformed Orders bad)
-      → day_answer_text judged_by a ≡ day_answer_text judged_by b
+      → AreWrittenAlike judged_by a b
   same-logs (Err bad) trades a b is-a is-b = same-place Orders bad a b is-a is-b
   same-logs (Ok entries) (Err bad) a b is-a is-b = same-place Trades bad a b is-a is-b
   same-logs (Ok entries) (Ok paired) a b is-a is-b = same-records entries paired a b is-a is-b

@@ -7,7 +7,7 @@ use Rattle.audit_report.specs.declared.verdicts.Verdict.{Verdict}
 use Rattle.day_logs.specs.declared.answers.DayAnswer.{DayAnswer}
 use Rattle.day_logs.specs.declared.answers.DayQuestion.{DayQuestion}
 use Rattle.day_logs.specs.DayAnswers.{IsAnswerToLogs, JudgesTrades}
-use Rattle.day_logs.specs.DayAnswerTexts.{day_answer_text}
+use Rattle.day_logs.specs.DayAnswerTexts.{day_answer_status, day_answer_text}
 use Rattle.day_symbols.specs.Shares.{DayShare, symbols_in}
 use Rattle.day_symbols.specs.Symbols.{symbols_of_day}
 use Rattle.day_verdicts.specs.DayVerdicts.{AreVerdicts}
@@ -32,10 +32,14 @@ SharesHaveTheVerdicts = (rule : Rule) (table : Bool) (entries : List OrderRecord
     → HasVerdictInShare rule table entries trades one symbol a
     → HasVerdictInShare rule table entries trades other symbol b → a ≡ b
 
--- one answer: whatever forms two logs are in, the answers to a question about them are written as
--- one text
+-- Two answers are written as one text and have one status.
+pub record AreWrittenAlike (judged_by : List ℕ) (a b : DayAnswer) : Type 0 where
+  pub text_same : day_answer_text judged_by a ≡ day_answer_text judged_by b
+  pub status_same : day_answer_status a ≡ day_answer_status b
+
+-- one answer: whatever forms two logs are in, the answers to a question about them have one text
+-- and one status
 abbrev pub OneDayAnswer : Type 0
 OneDayAnswer = (q : DayQuestion) (orders trades : Log) (judged_by : List ℕ) (a b : DayAnswer)
     → IsAnswerToLogs (JudgesTrades q) orders trades a
-    → IsAnswerToLogs (JudgesTrades q) orders trades b
-    → day_answer_text judged_by a ≡ day_answer_text judged_by b
+    → IsAnswerToLogs (JudgesTrades q) orders trades b → AreWrittenAlike judged_by a b
