@@ -1,4 +1,4 @@
--- What two logs of a day come to: the verdicts on its symbols, finding 4 alone, or a first bad
+-- The answer to two logs of a day: the verdicts on its symbols, finding 4 alone, or a first bad
 -- place.
 use Rattle.std.specs.Prelude.{◌≡◌, ◌≤◌, ℕ, true, List, Some, Result, Err, IsOkAnd, MatchResult, length}
 use Rattle.audit_base.specs.declared.faults.BadPlace.{BadPlace}
@@ -64,8 +64,8 @@ abbrev pub GivesDayAnswerOrStop : Reading → DayMeaning → Source → Source �
 GivesDayAnswerOrStop r judges orders trades result =
     MatchResult result (ReadsDayAnswer r judges orders trades) (IsStopOfTwoLogs r orders trades)
 
--- The shelf is known and has both logs under their names, each within the limit, and no fault of
--- it was counted in the call.
+-- It is known what the shelf has, and it has both logs under their names, each within the limit;
+-- and no fault of it was counted in the call, nor is a count of faults at its greatest value.
 pub record HoldsDay (r : Reading) (orders trades : Source) (orders_bytes trades_bytes : List ℕ)
     : Type 0 where
   pub tells : r.tells ≡ true
@@ -87,8 +87,8 @@ AnswersHeldDay r judges orders trades result = (orders_bytes trades_bytes : List
 
 -- What functions pass on.
 
--- The answer to what two logs come to before the rule is looked at: their first bad place; and of
--- whatever records come to this, the answer to them.
+-- The answer to what two logs give before the rule is looked at: their first bad place; and of
+-- whatever records give this, the answer to them.
 pub record IsAnswerUpToRule (share : DayShare) (admission : Admission)
     (judges : DayMeaning) (reached : DayBeforeRule) (the_answer : DayAnswer) : Type 0 where
   pub of_place : (log : Which) (bad : BadPlace) → reached ≡ upto.Malformed log bad

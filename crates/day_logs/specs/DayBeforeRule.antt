@@ -1,4 +1,4 @@
--- What two logs of a day come to before a rule is looked at, of all symbols of a share at once.
+-- What two logs of a day give before a rule is looked at, of all symbols of a share at once.
 use Rattle.std.specs.Prelude.{◌≡◌, ◌<◌, ◌-◌, ◌^◌, List, Result, Ok, Err, IsOkAnd, MatchResult, length}
 use Rattle.audit_base.specs.declared.findings.Finding.{Finding}
 use Rattle.audit_base.specs.declared.records.OrderRecord.{OrderRecord}
@@ -19,7 +19,7 @@ use Rattle.log_verdict.specs.BothLogs.{IsLogStop, IsStopOfTwoLogs, ReadsLogs, Re
 use Rattle.log_verdict.specs.Steps.{Reading}
 use Rattle.record_verdict.specs.declared.scopes.Admission.{Admission}
 
--- the records of both logs come to this: what is known of each symbol of the share; or finding 4
+-- the records of both logs give this: what is known of each symbol of the share; or finding 4
 -- alone, exactly where the reports of the trade log do not pair
 abbrev pub IsDayBeforeRule : DayShare → Admission → List OrderRecord
     → Result (List TradeRecord) Finding → DayBeforeRule → Type 0
@@ -28,7 +28,7 @@ IsDayBeforeRule share admission entries paired (upto.Read ended) =
 IsDayBeforeRule share admission entries paired (upto.Unpaired finding) = paired ≡ Err finding
 IsDayBeforeRule share admission entries paired (upto.Malformed log bad) = ⊥
 
--- both logs were read, and come to this before a rule is looked at
+-- both logs were read, and give this before a rule is looked at
 abbrev pub ReadsDayUpToRule : Reading → DayShare → Admission → Source → Source → DayBeforeRule
     → Type 0
 ReadsDayUpToRule r share admission orders trades reached =
@@ -36,7 +36,7 @@ ReadsDayUpToRule r share admission orders trades reached =
     (λ entries paired. IsDayBeforeRule share admission entries paired reached)
     (λ log bad. reached ≡ upto.Malformed log bad)
 
--- what both logs of a day come to, or why that is not known
+-- what both logs of a day give, or why that is not known
 abbrev pub GivesDayBeforeRuleOrStop : Reading → DayShare → Admission → Source → Source
     → Result DayBeforeRule Stop → Type 0
 GivesDayBeforeRuleOrStop r share admission orders trades result =
@@ -45,7 +45,7 @@ GivesDayBeforeRuleOrStop r share admission orders trades result =
 
 -- What functions pass on: the trade log alone.
 
--- the trade log was read, and comes to this after these records of the order log
+-- the trade log was read, and gives this after these records of the order log
 abbrev pub IsDayReadAfterOrders : Reading → DayShare → Admission → Source → List OrderRecord
     → DayBeforeRule → Type 0
 IsDayReadAfterOrders r share admission trades entries reached =

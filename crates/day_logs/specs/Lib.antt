@@ -1,4 +1,4 @@
--- What a reader must believe: what two logs of a day come to before a rule is looked at, the
+-- What a reader must believe: what two logs of a day give before a rule is looked at, the
 -- verdicts on its symbols, what is written of them, and the laws.
 pub mod DayBeforeRule
 pub mod DayAnswers

@@ -29,7 +29,7 @@ pub struct DayQuestion {
     pub share: Share,
 }
 
-/// What two logs of a day come to.
+/// The answer to two logs of a day.
 #[derive(Drop)]
 pub enum DayAnswer {
     /// A log is not in its grammar, and this is its first bad place.
@@ -41,7 +41,7 @@ pub enum DayAnswer {
     Judged(JudgedSymbols),
 }
 
-/// The answer to what two logs come to before the rule is looked at.
+/// The answer to what two logs give before the rule is looked at.
 fn answer_after(
     alloc: Global,
     question: &DayQuestion,
@@ -61,7 +61,7 @@ fn answer_after(
     }
 }
 
-/// The answer to two logs, by what they come to.
+/// The answer to two logs, by what they give.
 fn answer_to<F: Shelf>(
     alloc: Global,
     shelf: &mut F,

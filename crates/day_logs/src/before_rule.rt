@@ -1,10 +1,10 @@
-//! What two logs of a day come to before a rule is looked at.
+//! What two logs of a day give before a rule is looked at.
 use audit_base::faults::BadPlace;
 use audit_base::findings::Finding;
 use audit_base::terms::Which;
 use day_trades::day_trades::EndedTrades;
 
-/// What two logs of a day come to before a rule is looked at.
+/// What two logs of a day give before a rule is looked at.
 #[derive(Drop)]
 pub enum DayBeforeRule {
     /// A log is not in its grammar, and this is its first bad place.

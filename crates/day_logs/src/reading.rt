@@ -92,7 +92,7 @@ fn after_orders<M: AuditedDay, F: Shelf>(
     }
 }
 
-/// What two logs of a day come to before a rule is looked at, by the orders of the share.
+/// What two logs of a day give before a rule is looked at, by the orders of the share.
 fn read_share<D: AuditedShare, F: Shelf>(
     alloc: Global,
     shelf: &mut F,
@@ -117,7 +117,7 @@ fn read_share<D: AuditedShare, F: Shelf>(
     }
 }
 
-/// What two logs of a day come to before a rule is looked at, or why that is not known. The order
+/// What two logs of a day give before a rule is looked at, or why that is not known. The order
 /// log is read first, and the trade log only where that is in its grammar; each is read once,
 /// whatever the number of symbols.
 pub fn read_day<F: Shelf>(

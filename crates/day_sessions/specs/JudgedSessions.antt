@@ -70,8 +70,8 @@ pub record JudgesSession (symbol : List ℕ) (phases : List Phase) (table : Bool
   pub is : IsSessionOf symbol phases table count part one
   pub adds : AddsSession old new symbol one
 
--- whatever records the day has, these are the counts and lines of the sessions of the first so
--- many symbols of the share
+-- whatever records the day has, these are the counts and lines of the sessions of this many first
+-- symbols of the share
 abbrev pub AreJudgedSessionsUpTo : List Phase → Bool → DayShare → EndedTrades → ℕ → JudgedSymbols
     → Type 0
 AreJudgedSessionsUpTo phases table share ended n judged =

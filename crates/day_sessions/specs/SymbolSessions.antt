@@ -28,7 +28,7 @@ abbrev pub IsSessionOfRecords : List Phase → Bool → List OrderRecord → Lis
 IsSessionOfRecords phases table entries trades symbol session =
     IsSession (JudgesDayRecords symbol phases table entries (Ok trades)) session
 
--- the same of whatever records come to this before any phase
+-- the same of whatever records give this before any phase
 abbrev pub IsSessionOfReached : List ℕ → List Phase → Bool → BeforeRule → SymbolSession → Type 0
 IsSessionOfReached symbol phases table reached session =
     (entries : List OrderRecord) (trades : List TradeRecord)

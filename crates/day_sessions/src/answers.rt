@@ -22,7 +22,7 @@ use record_verdict::scopes::Admission;
 use session_audit::phases::Phase;
 use std::alloc::Global;
 
-/// The answer to what two logs come to before any phase is looked at.
+/// The answer to what two logs give before any phase is looked at.
 fn sessions_after(
     alloc: Global,
     phases: &[Phase],
@@ -45,7 +45,7 @@ fn sessions_after(
     }
 }
 
-/// The answer to two logs, by what they come to.
+/// The answer to two logs, by what they give.
 fn sessions_of_logs<F: Shelf>(
     alloc: Global,
     shelf: &mut F,
