@@ -21,12 +21,12 @@ use Rattle.command_words.specs.declared.requests.Request.TheVariants.{Expect}
 use Rattle.audit_run.specs.ExpectedTrades.{AuditAcceptsExpectedTrades, ExpectedTradesAreAccepted, WroteExpected}
 use Rattle.audit_run.specs.Laws.{GenerateWrites}
 use Rattle.audit_run.specs.OtherTexts.{orders_finding, ExpectsRecords, IsAcceptedBeside, IsExpectAnswer, IsExpectedLog}
-use Rattle.audit_run.specs.Requests.{IsAnswerTo}
-use Rattle.audit_run.specs.VerdictAnswers.{IsDone, IsVerdictAnswer}
+use Rattle.command_run.specs.Laws.{HeldLogsAreRead}
+use Rattle.audit_run.specs.Requests.{command_of, IsAnswerTo}
+use Rattle.command_run.specs.VerdictAnswers.{IsDone, IsVerdictAnswer}
 use Rattle.record_verdict.specs.Judgements.{question, IsRecordVerdict}
 use Rattle.log_verdict.specs.LogVerdicts.{Log, log_in, records_of_order_log, trades_of_trade_log}
 use Rattle.log_verdict.specs.Laws.{OneVerdict}
-use Rattle.audit_run.proofs.StepLemmas.{held-all}
 
 not_true : false ≡ true → ⊥
 not_true e = cc
@@ -38,14 +38,13 @@ same-added (Some xs) None a b some x y = absurd x
 same-added (Some xs) (Some ys) a b some x y = append_cancel_left xs a b (sym x ∙ y)
 
 -- the text that was written is the answer to the log that is held
-answered : (the_rule : Rule) (symbol : List ℕ) (orders : Log) (text : List ℕ) → WroteExpected the_rule symbol orders text → IsExpectAnswer the_rule symbol orders status.Accepted text
-answered the_rule symbol orders text w =
+answered : ((request : Request) → HeldLogsAreRead (command_of request)) → (the_rule : Rule) (symbol : List ℕ) (orders : Log) (text : List ℕ) → WroteExpected the_rule symbol orders text → IsExpectAnswer the_rule symbol orders status.Accepted text
+answered read the_rule symbol orders text w =
     let request : Request = Expect the_rule symbol w.name orders.form in
     let done = w.answered.causes in
     let same : done.text ≡ text = same-added w.old.wrote w.new.wrote done.text text w.sink_tells done.wrote w.wrote in
-    let logs : done.is.logs ≡ orders.bytes ∷ [] = held-all w.r request [] done.is.steps done.is.logs (orders.bytes ∷ []) w.shelf_tells done.is.read done.is.all w.held in
     subst (λ (t : List ℕ). IsAnswerTo request (orders.bytes ∷ []) status.Accepted t) same
-    (subst (λ (ls : List (List ℕ)). IsAnswerTo request ls status.Accepted done.text) logs done.is.answer)
+    (read request w.r (orders.bytes ∷ []) status.Accepted done.text w.shelf_tells w.held done.is)
 
 not_rejected : status.Accepted ≡ status.Rejected → ⊥
 not_rejected e = cc
@@ -80,18 +79,18 @@ module _ (the_rule : Rule) (symbol : List ℕ) (table : Bool) (text : List ℕ) 
       accepted-by entries (trades_of_trade_log Csv text) (log.accepted table)
   accepted-of (Err bad) is = absurd (not_malformed is.status_is)
 
-pub expected-accepted : OneVerdict → ExpectedTradesAreAccepted
-expected-accepted one the_rule symbol table orders text w =
-    let known = accepted-of the_rule symbol table text (records_of_order_log orders.form orders.bytes) (answered the_rule symbol orders text w) in
+pub expected-accepted : OneVerdict → ((request : Request) → HeldLogsAreRead (command_of request)) → ExpectedTradesAreAccepted
+expected-accepted one read the_rule symbol table orders text w =
+    let known = accepted-of the_rule symbol table text (records_of_order_log orders.form orders.bytes) (answered read the_rule symbol orders text w) in
     record {
       accepted = known.0;
       is = known.1;
       only = λ other is. one (question the_rule symbol table) orders (log_in Csv text) other (verdict.Accepted known.0) is known.1;
     }
 
-pub audit-accepts : OneVerdict → AuditAcceptsExpectedTrades
-audit-accepts one the_rule symbol table orders text answer w audited =
-    let known = expected-accepted one the_rule symbol table orders text w in
+pub audit-accepts : OneVerdict → ((request : Request) → HeldLogsAreRead (command_of request)) → AuditAcceptsExpectedTrades
+audit-accepts one read the_rule symbol table orders text answer w audited =
+    let known = expected-accepted one read the_rule symbol table orders text w in
     ⊎_elim (λ written. inl (written.is.answer.status_is ∙ ap verdict_status (known.only written.is.verdict written.is.is))) (λ none. inr none.status_is)
     (audited.answered.commands (orders.bytes ∷ text ∷ []) audited.ready)
 

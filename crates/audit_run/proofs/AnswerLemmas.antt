@@ -1,4 +1,4 @@
--- What a command that reads one log, or none, answers: from one log to the whole call.
+-- The statuses of answers, what `expect` answers to records, and readings of at most 64 MiB.
 use Rattle.std.proofs.Common.{◌≡◌, sym, subst, refl, inl, inr, ⊎_elim, ℕ, ◌≤◌, Bool, List, [], ◌∷◌, length, Option, None, Some, Result, Ok, Err, arith}
 use Rattle.std.specs.Prelude.{MatchOption, MatchResult}
 use Rattle.audit_base.specs.declared.faults.BadPlace.{BadPlace}
@@ -24,19 +24,20 @@ use Rattle.log_source.specs.declared.shelf.Shelf.{Ghosts as Shelf}
 use Rattle.log_source.specs.Sources.{longest_log, other_log}
 use Rattle.log_verdict.specs.declared.reading.Unread.{Unread}
 use Rattle.log_verdict.specs.declared.reading.Unread.TheVariants as unread
-use Rattle.audit_run.specs.declared.answers.Answer.{Answer}
+use Rattle.command_run.specs.declared.answers.Answer.{Answer}
 use Rattle.command_words.specs.declared.requests.Request.{Request}
 use Rattle.log_verdict.specs.declared.stops.Stop.{Stop}
 use Rattle.log_verdict.specs.declared.stops.Stop.TheVariants as stop
 use Rattle.record_verdict.specs.declared.questions.Question.{Question}
 use Rattle.audit_run.specs.Certificates.{IsCertificateOf, IsCertifyAnswer, IsVerdictAnswerWith, IsVerifyAnswer, VerifiesDeals, VerifiesRecords}
-use Rattle.audit_run.specs.Deciding.{DecidesAnswer, IsAnswerOfKind}
-use Rattle.audit_run.specs.OneLog.{DecidesBytes, DecidesUnread, IsStatusOfLogs}
+use Rattle.command_run.specs.Deciding.{IsAnswerOfKind}
+use Rattle.audit_run.specs.Deciding.{DecidesAnswer}
+use Rattle.command_run.specs.Deciding.{DecidesBytes, DecidesUnread, IsStatusOfLogs}
 use Rattle.audit_run.specs.OtherTexts.{orders_finding, ConvertsTrades, ExpectsRecords, IsConvertAnswer, IsExpectedLog}
 use Rattle.audit_run.specs.Requests.{next_log, IsAnswerTo}
-use Rattle.audit_run.specs.Runs.{IsAnswerToReadLogs, ReadingDecides, ReadsThenStarts}
+use Rattle.command_run.specs.Runs.{IsAnswerToReadLogs, ReadingDecides, ReadsThenStarts}
 use Rattle.audit_run.specs.Sessions.{IsDayText, IsSessionAnswer, JudgesDayDeals, JudgesDayRecords}
-use Rattle.audit_run.specs.VerdictAnswers.{IsAnswerWith, IsAuditAnswer, IsDone, IsVerdictAnswer}
+use Rattle.command_run.specs.VerdictAnswers.{IsAnswerWith, IsAuditAnswer, IsDone, IsVerdictAnswer}
 use Rattle.log_verdict.specs.BothLogs.{StaysWithin, StaysWithinAt}
 use Rattle.log_verdict.specs.Collecting.{step_of, IsUnread, TouchesOnly}
 use Rattle.csv_logs.specs.Written.{csv_orders_text, csv_trades_text}
@@ -134,114 +135,6 @@ trades-status (Err bad) s text is = verdict-status (verdict.Malformed Trades bad
 pub convert-status : (which : Which) (log : Log) (s : Status) (text : List ℕ) → IsConvertAnswer which log s text → IsStatusOfLogs s
 convert-status Orders log s text is = orders-status (records_of_order_log log.form log.bytes) s text is
 convert-status Trades log s text is = trades-status (trades_of_trade_log log.form log.bytes) s text is
-
--- One log that was not read into records.
-
-module _ {R : Type 0} (meaning : List ℕ → Result R BadPlace) (r : Reading) (log : Which) (name : List ℕ) (says : List ℕ → Status → List ℕ → Type 0) where
-  pub decides-unread : ((bytes : List ℕ) (bad : BadPlace) → meaning bytes ≡ Err bad → says bytes (verdict_status (verdict.Malformed log bad)) (verdict_text (verdict.Malformed log bad)))
-      → (why : Unread) (result : Result Answer Stop) → IsUnread meaning r log name why → DecidesUnread log why result → DecidesBytes r log name says result
-  decides-unread refuses (unread.Bad bad) (Ok answer) is made = record {
-    bytes = is.bytes;
-    read = is.read;
-    holds = rw (made.status_is, made.text_is) (refuses is.bytes bad is.holds);
-  }
-  decides-unread refuses (unread.Bad bad) (Err why) is made = rw made tt
-  decides-unread refuses unread.ReadFault result is made = rw made (refl, is)
-  decides-unread refuses unread.TooLong result is made = rw made (refl, is)
-  decides-unread refuses unread.Memory result is made = rw made tt
-
--- where the log was not read into records, it is too long or stays within the longest log
-pub within-unread : (r : Reading) (log : Which) (why : Unread) (result : Result Answer Stop) → DecidesUnread log why result → ((why ≡ unread.TooLong → ⊥) → (r.after log).taken ≤ r.limit)
-    → StaysWithinAt r log result
-within-unread r log (unread.Bad bad) result is within = inr (within (λ e. cc))
-within-unread r log unread.ReadFault result is within = inr (within (λ e. cc))
-within-unread r log unread.TooLong result is within = inl (rw is tt)
-within-unread r log unread.Memory result is within = inr (within (λ e. cc))
-
--- One log, or none, of the whole call.
-
-module _ (r : Reading) (request : Request) where
-  pub text-of : (s : Status) (text : List ℕ) → IsStatusOfLogs s → IsAnswerToReadLogs r request s text → ReadingDecides r request s text
-  text-of status.Accepted text answers is = is
-  text-of status.Rejected text answers is = is
-  text-of status.Malformed text answers is = is
-  text-of status.Usage text answers is = absurd answers
-  text-of status.ReadFault text answers is = absurd answers
-  text-of status.WriteFault text answers is = absurd answers
-  text-of status.TooLong text answers is = absurd answers
-  text-of status.Memory text answers is = absurd answers
-
-  module _ (log : Which) (name : List ℕ) (only : TouchesOnly r log) where
-    abbrev one_step : LogStep
-    one_step = step_of r log name
-
-    one-leads : StepsLead r.before (one_step ∷ []) r.after
-    one-leads = (record { at = refl; later = only.later }, ends log only.other)
-      where
-        ends : (log : Which) → r.after (other_log log) ≡ r.before (other_log log) → (which : Which) → r.after which ≡ with_slot r.before log (r.after log) which
-        ends Orders same Orders = refl
-        ends Orders same Trades = same
-        ends Trades same Orders = same
-        ends Trades same Trades = refl
-
-    pub one-later : FaultsNeverFall r
-    one-later = falls log only.later only.other
-      where
-        falls : (log : Which) → (r.before log).faults ≤ (r.after log).faults → r.after (other_log log) ≡ r.before (other_log log) → FaultsNeverFall r
-        falls Orders own same Orders = own
-        falls Orders own same Trades = rw same (at_most _)
-          where
-            at_most : (n : ℕ) → n ≤ n
-            at_most n = omega arith
-        falls Trades own same Orders = rw same (at_most _)
-          where
-            at_most : (n : ℕ) → n ≤ n
-            at_most n = omega arith
-        falls Trades own same Trades = own
-
-    pub one-within : (result : Result Answer Stop) → ((r.before log).taken ≤ r.limit → StaysWithinAt r log result) → StaysWithin r result
-    one-within result within begins = ⊎_elim (λ stop. inl stop) (λ own. inr (ends log own only.other begins)) (within (begins log))
-      where
-        ends : (log : Which) → (r.after log).taken ≤ r.limit → r.after (other_log log) ≡ r.before (other_log log) → BeginsWithin r → (which : Which) → (r.after which).taken ≤ r.limit
-        ends Orders own same begins Orders = own
-        ends Orders own same begins Trades = rw same (begins Trades)
-        ends Trades own same begins Orders = rw same (begins Orders)
-        ends Trades own same begins Trades = own
-
-    one-reaches : next_log request [] ≡ Some (log, name) → ReadsThenStarts r request one_step
-    one-reaches first = record {
-      steps = [];
-      logs = [];
-      lead = one-leads;
-      read = refl;
-      next = first;
-    }
-
-    -- what is decided of one log is decided of the whole call
-    pub decides-one : (says : List ℕ → Status → List ℕ → Type 0) (result : Result Answer Stop) → next_log request [] ≡ Some (log, name) → ((bytes : List ℕ) → next_log request (bytes ∷ []) ≡ None)
-        → ((bytes : List ℕ) (s : Status) (text : List ℕ) → says bytes s text → IsAnswerTo request (bytes ∷ []) s text)
-        → ((bytes : List ℕ) (s : Status) (text : List ℕ) → says bytes s text → IsStatusOfLogs s)
-        → DecidesBytes r log name says result → DecidesAnswer r request result
-    decides-one says (Ok answer) first last reports answers is =
-        text-of answer.status answer.text.items (answers is.bytes answer.status answer.text.items is.holds)
-        (record {
-          steps = one_step ∷ [];
-          logs = is.bytes ∷ [];
-          lead = one-leads;
-          read = (is.bytes, record { next = first; read = is.read }, refl);
-          all = last is.bytes;
-          answer = reports is.bytes answer.status answer.text.items is.holds;
-        })
-    decides-one says (Err (stop.ReadFault which)) first last reports answers is = rw is.0 (record { last = one_step; reads = one-reaches first; cause = is.1; text_is = refl })
-    decides-one says (Err (stop.TooLong which)) first last reports answers is = rw is.0 (record { last = one_step; reads = one-reaches first; cause = is.1; text_is = refl })
-    decides-one says (Err stop.Memory) first last reports answers is = tt
-
-  -- a command that needs no log answers without one
-  pub decides-none : (result : Result Answer Stop) → ((log : Which) → r.after log ≡ r.before log) → next_log request [] ≡ None
-      → MatchResult result (λ answer. IsAnswerTo request [] answer.status answer.text.items × IsStatusOfLogs answer.status) (λ why. why ≡ stop.Memory) → DecidesAnswer r request result
-  decides-none (Ok answer) same none is =
-      text-of answer.status answer.text.items is.1 (record { steps = []; logs = []; lead = same; read = refl; all = none; answer = is.0 })
-  decides-none (Err why) same none is = rw is tt
 
 -- What `expect` answers to the records of an order log.
 

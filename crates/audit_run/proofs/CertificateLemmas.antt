@@ -13,22 +13,23 @@ use Rattle.record_verdict.specs.declared.before_rule.BeforeRule.TheVariants as b
 use Rattle.record_verdict.specs.declared.scopes.Scope.{Scope}
 use Rattle.record_verdict.specs.Scopes.{call_scope}
 use Rattle.log_verdict.specs.declared.sources.Source.{Source}
-use Rattle.audit_run.specs.declared.answers.Answer.{Answer}
-use Rattle.command_words.specs.declared.requests.Request.{Request}
+use Rattle.command_run.specs.declared.answers.Answer.{Answer}
 use Rattle.log_verdict.specs.declared.stops.Stop.{Stop}
 use Rattle.log_verdict.specs.declared.stops.Stop.TheVariants as stop
 use Rattle.log_verdict.specs.BothLogs.{IsAfterOrders, IsLogStop, ReadsAfterOrders, ReadsUpToRule, StaysWithin, StaysWithinAt}
 use Rattle.audit_run.specs.Certificates.{IsVerifyAnswer}
-use Rattle.audit_run.specs.Deciding.{request_to_verify, DecidesAnswer, IsAnswerOfKind, ReadingStops}
+use Rattle.command_run.specs.Commands.{Command}
+use Rattle.command_run.specs.Deciding.{DecidesAnswer, DecidesBytes, IsAnswerOfKind, ReadingStops}
+use Rattle.command_run.specs.Laws.{ReadLogsDecide}
+use Rattle.audit_run.specs.Deciding.{request_to_verify}
 use Rattle.audit_run.specs.JudgedAnswers.{IsVerifyAnswerOn}
-use Rattle.audit_run.specs.OneLog.{DecidesBytes}
-use Rattle.audit_run.specs.Requests.{next_log}
-use Rattle.audit_run.specs.Runs.{ReadingDecides, ReadsOneByOne, ReadsThenStarts}
+use Rattle.audit_run.specs.Requests.{command_of}
+use Rattle.command_run.specs.Runs.{ReadingDecides, ReadsOneByOne, ReadsThenStarts}
 use Rattle.log_verdict.specs.Collecting.{step_of, IsReadAs, TouchesOnly}
 use Rattle.log_verdict.specs.LogVerdicts.{log_in, records_of_order_log, trades_of_trade_log}
 use Rattle.log_verdict.specs.Steps.{Reading, LogStep, IsRead, IsReadFault, IsTooLong, StepsLead, FaultsNeverFall, with_slot}
 use Rattle.record_verdict.specs.BeforeRule.{is_malformed, IsBeforeRule}
-use Rattle.audit_run.proofs.AnswerLemmas.{text-of, verify-status}
+use Rattle.audit_run.proofs.AnswerLemmas.{verify-status}
 
 -- a reading of the whole, from the reading of a part before and one after
 abbrev joined : Reading → Reading → Reading
@@ -96,8 +97,8 @@ module _ (first second : Reading) (after : Continues first second) (later : Faul
   abbrev asked : Scope
   asked = call_scope symbol
 
-  abbrev request : Request
-  request = request_to_verify symbol orders trades certificate
+  abbrev command : Command
+  command = command_of (request_to_verify symbol orders trades certificate)
 
   abbrev first_step : LogStep
   first_step = step_of first Orders orders.name.now
@@ -129,16 +130,16 @@ module _ (first second : Reading) (after : Continues first second) (later : Faul
   }
 
   module _ (reached : BeforeRule) (both : BothRead first asked orders trades reached) where
-    second_next : next_log request (both.one ∷ []) ≡ Some (Trades, trades.name.now)
+    second_next : command.next (both.one ∷ []) ≡ Some (Trades, trades.name.now)
     second_next = rw both.orders_are refl
 
-    third_next : next_log request (both.one ∷ both.two ∷ []) ≡ Some (Trades, certificate)
+    third_next : command.next (both.one ∷ both.two ∷ []) ≡ Some (Trades, certificate)
     third_next = rw both.trades_are refl
 
-    two_read : ReadsOneByOne whole request [] (first_step ∷ second_step ∷ []) (both.one ∷ both.two ∷ [])
+    two_read : ReadsOneByOne whole command [] (first_step ∷ second_step ∷ []) (both.one ∷ both.two ∷ [])
     two_read = (both.one, record { next = refl; read = read_first first_step both.one both.read_one }, (both.two, record { next = second_next; read = read_first second_step both.two both.read_two }, refl))
 
-    three_read : (bytes : List ℕ) → IsRead second third_step bytes → ReadsOneByOne whole request [] (first_step ∷ second_step ∷ third_step ∷ []) (both.one ∷ both.two ∷ bytes ∷ [])
+    three_read : (bytes : List ℕ) → IsRead second third_step bytes → ReadsOneByOne whole command [] (first_step ∷ second_step ∷ third_step ∷ []) (both.one ∷ both.two ∷ bytes ∷ [])
     three_read bytes read = (
       both.one,
       record { next = refl; read = read_first first_step both.one both.read_one },
@@ -149,11 +150,11 @@ module _ (first second : Reading) (after : Continues first second) (later : Faul
       ),
     )
 
-    certificate_text : (answer : Answer) → IsReadAs second Trades certificate (λ bytes. IsAnswerOfKind (IsVerifyAnswerOn symbol reached bytes) answer) → ReadingDecides whole request answer.status answer.text.items
-    certificate_text answer is =
+    certificate_text : ReadLogsDecide command → (answer : Answer) → IsReadAs second Trades certificate (λ bytes. IsAnswerOfKind (IsVerifyAnswerOn symbol reached bytes) answer) → ReadingDecides whole command answer.status answer.text.items
+    certificate_text decide answer is =
         let verified : IsVerifyAnswer symbol (log_in orders.form both.one) (log_in trades.form both.two) is.bytes answer.status answer.text.items =
         is.holds (log_in orders.form both.one) (log_in trades.form both.two) (rw (both.orders_are, both.trades_are) both.come) in
-        text-of whole request answer.status answer.text.items (verify-status symbol (log_in orders.form both.one) (log_in trades.form both.two) is.bytes answer.status answer.text.items verified)
+        decide whole answer.status answer.text.items (verify-status symbol (log_in orders.form both.one) (log_in trades.form both.two) is.bytes answer.status answer.text.items verified)
         (record {
           steps = first_step ∷ second_step ∷ third_step ∷ [];
           logs = both.one ∷ both.two ∷ is.bytes ∷ [];
@@ -163,7 +164,7 @@ module _ (first second : Reading) (after : Continues first second) (later : Faul
           answer = verified;
         })
 
-    reaches_third : ReadsThenStarts whole request third_step
+    reaches_third : ReadsThenStarts whole command third_step
     reaches_third = record {
       steps = first_step ∷ second_step ∷ [];
       logs = both.one ∷ both.two ∷ [];
@@ -188,15 +189,15 @@ module _ (first second : Reading) (after : Continues first second) (later : Faul
           (subst (λ (o : Option (List ℕ)). IsSomeAnd o (λ bytes. second.limit < length bytes)) (after.logs Trades certificate) (is.longer (after.tells ∙ t)));
     }
 
-    certificate_stop : (the_stop : Stop) → IsLogStop second Trades certificate the_stop → ReadingStops whole request the_stop
+    certificate_stop : (the_stop : Stop) → IsLogStop second Trades certificate the_stop → ReadingStops whole command the_stop
     certificate_stop (stop.ReadFault log) (is, fault) = rw is (record { last = third_step; reads = reaches_third; cause = third_fault fault; text_is = refl })
     certificate_stop (stop.TooLong log) (is, long) = rw is (record { last = third_step; reads = reaches_third; cause = third_long long; text_is = refl })
     certificate_stop stop.Memory is = tt
 
     -- what is decided of the certificate is decided of the whole call
-    pub decides_certificate : (result : Result Answer Stop) → DecidesBytes second Trades certificate (IsVerifyAnswerOn symbol reached) result → DecidesAnswer whole request result
-    decides_certificate (Ok answer) is = certificate_text answer is
-    decides_certificate (Err the_stop) is = certificate_stop the_stop is
+    pub decides_certificate : ReadLogsDecide command → (result : Result Answer Stop) → DecidesBytes second Trades certificate (IsVerifyAnswerOn symbol reached) result → DecidesAnswer whole command result
+    decides_certificate decide (Ok answer) is = certificate_text decide answer is
+    decides_certificate decide (Err the_stop) is = certificate_stop the_stop is
 
   at_most : (a b c : ℕ) → a ≤ b → b ≤ c → a ≤ c
   at_most a b c x y = omega arith

@@ -13,15 +13,21 @@ use Rattle.log_verdict.specs.Laws.{OneVerdict}
 use Rattle.log_verdict.specs.LogVerdicts.{Log, log_in, records_of_order_log, IsLogVerdict}
 use Rattle.log_verdict.specs.Steps.{Reading}
 use Rattle.record_verdict.specs.declared.questions.Question.{Question}
-use Rattle.audit_run.specs.Runs.{AnswersHeldLogs, HoldsLog, HoldsNeededLogs, HoldsNext, NothingFails, RunsOutOfMemory, WritesWhole}
+use Rattle.command_run.specs.Runs.{HoldsLog, HoldsNeededLogs, HoldsNext, NothingFails, RunsOutOfMemory, WritesWhole}
+use Rattle.audit_run.specs.Runs.{AnswersHeldLogs}
+use Rattle.command_run.specs.Commands.{Command}
+use Rattle.audit_run.specs.Requests.{command_of}
 use Rattle.audit_run.specs.TopCall.{audit_of_logs, AnswersVerdict, WritesVerdict}
-use Rattle.audit_run.specs.VerdictAnswers.{IsAuditAnswer}
+use Rattle.command_run.specs.VerdictAnswers.{IsAuditAnswer}
 
 module _ (one : OneVerdict) (r : Reading) (q : Question) (orders trades : Log) (orders_name trades_name : List ℕ)
     (holds_orders : HoldsLog r Orders orders_name orders.bytes) (holds_trades : HoldsLog r Trades trades_name trades.bytes)
     (old new : SinkState) (nothing_fails : NothingFails r old new) (status : Status) where
   abbrev request : Request
   request = audit_of_logs q orders trades orders_name trades_name
+
+  abbrev command : Command
+  command = command_of request
 
   -- the answer by the verdict on the order log and a second log is that by the one verdict on both logs, where
   -- these have the same verdict
@@ -44,14 +50,14 @@ module _ (one : OneVerdict) (r : Reading) (q : Question) (orders trades : Log) (
   by_orders : (said : Result (List OrderRecord) BadPlace) → records_of_order_log orders.form orders.bytes ≡ said
       → AnswersHeldLogs (Some request) r old new status → WritesVerdict q orders trades old new status ⊎ RunsOutOfMemory old new status
   by_orders (Ok entries) e answers =
-      let first : HoldsNext r request [] orders.bytes = record { log = Orders; name = orders_name; next = refl; holds = holds_orders } in
-      let second : HoldsNext r request (orders.bytes ∷ []) trades.bytes = record { log = Trades; name = trades_name; next = rw e refl; holds = holds_trades } in
-      let held : HoldsNeededLogs r request [] (orders.bytes ∷ trades.bytes ∷ []) = (first, (second, refl)) in
+      let first : HoldsNext r command [] orders.bytes = record { log = Orders; name = orders_name; next = refl; holds = holds_orders } in
+      let second : HoldsNext r command (orders.bytes ∷ []) trades.bytes = record { log = Trades; name = trades_name; next = rw e refl; holds = holds_trades } in
+      let held : HoldsNeededLogs r command [] (orders.bytes ∷ trades.bytes ∷ []) = (first, (second, refl)) in
       ⊎_elim (λ written. inl (of_answer trades (λ v is. is) written)) (λ memory. inr memory)
       (answers (orders.bytes ∷ trades.bytes ∷ []) (record { held = held; nothing_fails = nothing_fails }))
   by_orders (Err bad) e answers =
-      let first : HoldsNext r request [] orders.bytes = record { log = Orders; name = orders_name; next = refl; holds = holds_orders } in
-      let held : HoldsNeededLogs r request [] (orders.bytes ∷ []) = (first, rw e refl) in
+      let first : HoldsNext r command [] orders.bytes = record { log = Orders; name = orders_name; next = refl; holds = holds_orders } in
+      let held : HoldsNeededLogs r command [] (orders.bytes ∷ []) = (first, rw e refl) in
       ⊎_elim (λ written. inl (of_answer (log_in trades.form []) (whatever_trades bad e (log_in trades.form [])) written)) (λ memory. inr memory)
       (answers (orders.bytes ∷ []) (record { held = held; nothing_fails = nothing_fails }))
 

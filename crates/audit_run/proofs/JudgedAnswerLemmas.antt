@@ -20,11 +20,11 @@ use Rattle.matching_core.specs.declared.deals_draft.ResolvedTrades.{ResolvedTrad
 use Rattle.record_verdict.specs.declared.before_rule.BeforeRule.{BeforeRule}
 use Rattle.record_verdict.specs.declared.before_rule.BeforeRule.TheVariants as before_rule
 use Rattle.record_verdict.specs.declared.questions.Question.{Question}
-use Rattle.audit_run.specs.declared.answers.Answer.{Answer}
+use Rattle.command_run.specs.declared.answers.Answer.{Answer}
 use Rattle.audit_run.specs.Certificates.{IsCertificateOf, IsVerdictAnswerWith}
-use Rattle.audit_run.specs.Deciding.{IsAnswerOfKind}
+use Rattle.command_run.specs.Deciding.{IsAnswerOfKind}
 use Rattle.audit_run.specs.JudgedAnswers.{IsCertifyAnswerOn, IsDealsCertificate, LogsReach}
-use Rattle.audit_run.specs.VerdictAnswers.{IsVerdictAnswer}
+use Rattle.command_run.specs.VerdictAnswers.{IsVerdictAnswer}
 use Rattle.record_verdict.specs.Judgements.{IsRecordVerdict, IsVerdictOfFinding}
 use Rattle.log_verdict.specs.LogVerdicts.{records_of_order_log, trades_of_trade_log, HaveRecords, IsLogVerdict, Log, OfLogs}
 use Rattle.record_verdict.specs.Scopes.{scope_of}

@@ -1,15 +1,10 @@
 mod ResultLemmas
 mod AnswerLemmas
 mod SessionAnswerLemmas
-mod BothLogsLemmas
 mod JudgedAnswerLemmas
 mod VerifyAnswerLemmas
 mod CertificateLemmas
 mod CertificateLawLemmas
-mod StepLemmas
-mod RunLemmas
-mod RoomLemmas
-mod ReadyLemmas
 mod HeadlineLemmas
 mod ExpectLemmas
 mod AcceptLemmas

@@ -1,6 +1,5 @@
 -- A request and its logs have one answer.
 use Rattle.std.proofs.Common.{◌≡◌, ◌<◌, ◌⊎◌, ◌∙◌, sym, ap, refl, subst, ℕ, Bool, false, List, [], ◌∷◌, ◌++◌, length, Option, None, Some, Result, Ok, Err, arith, inl, inr}
-use Rattle.std.specs.Io.KnownBytes.{Appends}
 use Rattle.std.specs.Prelude.{IfOk, IsSomeAnd, MatchOption, MatchResult}
 use Rattle.std.proofs.lemmas.Grind.{same_number_lists}
 use Rattle.audit_base.specs.declared.faults.BadPlace.{BadPlace}
@@ -51,13 +50,15 @@ use Rattle.session_audit.specs.declared.phases.Phase.{Phase}
 use Rattle.session_audit.specs.OneOffence.{DayOffenceIsOne}
 use Rattle.session_audit.specs.Texts.{day_text}
 use Rattle.verdict_laws.specs.Histories.{ExpectedTradesAreOne}
-use Rattle.audit_run.specs.AnswerIsOne.{AnswerIsOne, RunsAgree, WroteOne}
+use Rattle.command_run.specs.Laws.{CallsAgree}
+use Rattle.command_words.specs.declared.requests.Request.{Request}
+use Rattle.audit_run.specs.Requests.{command_of}
+use Rattle.audit_run.specs.AnswerIsOne.{AnswerIsOne, RunsAgree}
 use Rattle.audit_run.specs.Certificates.{IsCertificateOf, IsCertifyAnswer, IsVerdictAnswerWith, IsVerifyAnswer, VerifiesDeals, VerifiesRecords}
 use Rattle.audit_run.specs.OtherTexts.{orders_finding, ConvertsTrades, ExpectsRecords, IsCallLine, IsContinuousLine, IsConvertAnswer, IsExpectAnswer, IsExpectedLog, IsGeneratedSummary}
-use Rattle.audit_run.specs.Requests.{log_read_at}
-use Rattle.audit_run.specs.Runs.{WritesAnswer}
+use Rattle.command_run.specs.Commands.{log_read_at}
 use Rattle.audit_run.specs.Sessions.{IsDayText, IsSessionAnswer, JudgesDayDeals, JudgesDayRecords}
-use Rattle.audit_run.specs.VerdictAnswers.{IsAnswerWith, IsAuditAnswer, IsDone, IsVerdictAnswer}
+use Rattle.command_run.specs.VerdictAnswers.{IsAnswerWith, IsAuditAnswer, IsDone, IsVerdictAnswer}
 
 -- the laws on which this rests
 pub record Laws : Type 0 where
@@ -285,13 +286,6 @@ module _ (laws : Laws) where
   answer-is-one (Generate start count) logs s t a b x y = done-one (IsGeneratedSummary start count) (summary-one start count) s t a b x y
 
 -- so two calls for which the same logs are there agree, unless memory ran out in one of them
-pub runs-agree : AnswerIsOne → RunsAgree
-runs-agree answer_is_one request logs r s one_old one_new other_old other_new one other x y ready ready_too = both (x logs ready) (y logs ready_too)
-  where
-    both : WritesAnswer request logs one_old one_new one → WritesAnswer request logs other_old other_new other
-        → (one ≡ Memory) ⊎ ((other ≡ Memory) ⊎ WroteOne one_old one_new other_old other_new one other)
-    both (inr p) q = inl p.status_is
-    both (inl p) (inr q) = inr (inl q.status_is)
-    both (inl p) (inl q) =
-        let same = answer_is_one request logs one other p.text q.text p.is q.is in
-        inr (inr (record { status = same.0; text = p.text; wrote = p.wrote; wrote_too = subst (λ (t : List ℕ). Appends other_old.wrote other_new.wrote t) (sym same.1) q.wrote }))
+pub runs-agree : ((request : Request) → CallsAgree (command_of request)) → AnswerIsOne → RunsAgree
+runs-agree agree answer_is_one request logs r s one_old one_new other_old other_new one other x y ready ready_too =
+    agree request (answer_is_one request) logs one_old one_new other_old other_new one other (x logs ready) (y logs ready_too)

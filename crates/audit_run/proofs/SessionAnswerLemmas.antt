@@ -15,12 +15,12 @@ use Rattle.audit_report.specs.declared.verdicts.Verdict.TheVariants as verdict
 use Rattle.matching_core.specs.declared.deals_draft.ResolvedTrades.{ResolvedTrades}
 use Rattle.session_audit.specs.declared.phases.Phase.{Phase}
 use Rattle.record_verdict.specs.declared.before_rule.BeforeRule.TheVariants as before_rule
-use Rattle.audit_run.specs.declared.answers.Answer.{Answer}
+use Rattle.command_run.specs.declared.answers.Answer.{Answer}
 use Rattle.record_verdict.specs.Scopes.{day_scope}
-use Rattle.audit_run.specs.Deciding.{IsAnswerOfKind}
+use Rattle.command_run.specs.Deciding.{IsAnswerOfKind}
 use Rattle.audit_run.specs.JudgedAnswers.{IsSessionAnswerOn}
 use Rattle.audit_run.specs.Sessions.{JudgesDayDeals, JudgesDayRecords}
-use Rattle.audit_run.specs.VerdictAnswers.{IsVerdictAnswer}
+use Rattle.command_run.specs.VerdictAnswers.{IsVerdictAnswer}
 use Rattle.record_verdict.specs.BeforeRule.{IsResolvedWithoutFinding, IsBeforeRule}
 use Rattle.audit_run.proofs.JudgedAnswerLemmas.{of_logs}
 

@@ -12,11 +12,11 @@ use Rattle.audit_report.specs.declared.verdicts.Verdict.{Verdict}
 use Rattle.audit_report.specs.declared.verdicts.Verdict.TheVariants as verdict
 use Rattle.matching_core.specs.declared.deals_draft.ResolvedTrades.{ResolvedTrades}
 use Rattle.record_verdict.specs.declared.before_rule.BeforeRule.TheVariants as before_rule
-use Rattle.audit_run.specs.declared.answers.Answer.{Answer}
+use Rattle.command_run.specs.declared.answers.Answer.{Answer}
 use Rattle.audit_run.specs.Certificates.{VerifiesDeals, VerifiesRecords}
-use Rattle.audit_run.specs.Deciding.{IsAnswerOfKind}
+use Rattle.command_run.specs.Deciding.{IsAnswerOfKind}
 use Rattle.audit_run.specs.JudgedAnswers.{IsVerifyAnswerOn}
-use Rattle.audit_run.specs.VerdictAnswers.{IsVerdictAnswer}
+use Rattle.command_run.specs.VerdictAnswers.{IsVerdictAnswer}
 use Rattle.record_verdict.specs.Scopes.{call_scope}
 use Rattle.record_verdict.specs.BeforeRule.{IsResolvedWithoutFinding, IsBeforeRule}
 use Rattle.audit_run.proofs.JudgedAnswerLemmas.{of_logs}

@@ -20,7 +20,7 @@ use Rattle.audit_report.specs.declared.verdicts.Verdict.TheVariants.{Accepted, R
 use Rattle.audit_report.specs.Certificates.{refused_line, verified_line}
 use Rattle.record_verdict.specs.declared.questions.Question.{Question}
 use Rattle.log_verdict.specs.LogVerdicts.{Log, HaveRecords, IsLogVerdict, OfLogs}
-use Rattle.audit_run.specs.VerdictAnswers.{IsDone, IsVerdictAnswer}
+use Rattle.command_run.specs.VerdictAnswers.{IsDone, IsVerdictAnswer}
 
 -- The logs have orders and deals, and the text is their certificate, which agrees.
 pub record IsCertificateOf (q : Question) (orders trades : Log) (text : List ℕ) : Type 0 where

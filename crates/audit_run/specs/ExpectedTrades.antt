@@ -15,7 +15,9 @@ use Rattle.command_words.specs.declared.requests.Request.{Request}
 use Rattle.command_words.specs.declared.requests.Request.TheVariants.{Expect}
 use Rattle.record_verdict.specs.Judgements.{question}
 use Rattle.log_verdict.specs.LogVerdicts.{Log, log_in, IsLogVerdict}
-use Rattle.audit_run.specs.Runs.{AllIsThere, AnswersHeldLogs, AnswersWithCause, HoldsNeededLogs}
+use Rattle.command_run.specs.Runs.{AllIsThere, HoldsNeededLogs}
+use Rattle.audit_run.specs.Runs.{AnswersHeldLogs, AnswersWithCause}
+use Rattle.audit_run.specs.Requests.{command_of}
 use Rattle.audit_run.specs.TopCall.{audit_of_logs}
 use Rattle.log_verdict.specs.Steps.{Reading}
 
@@ -37,7 +39,8 @@ pub record WroteExpected (the_rule : Rule) (symbol : List ℕ) (orders : Log)
   pub answered : IsAnsweredCall (Expect the_rule symbol name orders.form)
       r old new status.Accepted
   pub shelf_tells : r.tells ≡ true
-  pub held : HoldsNeededLogs r (Expect the_rule symbol name orders.form) [] (orders.bytes ∷ [])
+  pub held : HoldsNeededLogs r (command_of (Expect the_rule symbol name orders.form)) []
+      (orders.bytes ∷ [])
   pub sink_tells : IsSome old.wrote
   pub wrote : Appends old.wrote new.wrote text
 
@@ -64,7 +67,7 @@ pub record AuditedLogs (q : Question) (orders trades : Log) (status : Status) : 
   pub new : SinkState
   pub answered : IsAnsweredCall (audit_of_logs q orders trades orders_name trades_name)
       r old new status
-  pub ready : AllIsThere r (audit_of_logs q orders trades orders_name trades_name)
+  pub ready : AllIsThere r (command_of (audit_of_logs q orders trades orders_name trades_name))
       (orders.bytes ∷ trades.bytes ∷ []) old new
 
 -- so `audit` of the two answers 0, or that memory ran out

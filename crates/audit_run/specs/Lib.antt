@@ -3,18 +3,14 @@
 pub mod TopCall
 pub mod Runs
 pub mod Requests
-pub mod VerdictAnswers
 pub mod OtherTexts
 pub mod Certificates
 pub mod Sessions
 pub mod Laws
 pub mod AnswerIsOne
 pub mod ExpectedTrades
-pub mod InMemory
-pub mod Corollaries
 -- What private functions pass on to one another.
 pub mod Deciding
 pub mod JudgedAnswers
 pub mod OneLog
 pub mod Expecting
-pub mod Writing

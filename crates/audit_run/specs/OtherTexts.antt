@@ -32,7 +32,7 @@ use Rattle.log_maker.specs.Generator.{generated_orders, generated_records}
 use Rattle.record_verdict.specs.declared.questions.Question.{Question}
 use Rattle.record_verdict.specs.Judgements.{question, IsRecordVerdict}
 use Rattle.log_verdict.specs.LogVerdicts.{Log, records_of_order_log, trades_of_trade_log}
-use Rattle.audit_run.specs.VerdictAnswers.{IsAnswerWith, IsDone, IsVerdictAnswer}
+use Rattle.command_run.specs.VerdictAnswers.{IsAnswerWith, IsDone, IsVerdictAnswer}
 
 -- what is found in an order log before any trade is looked at: the history's finding, or an order
 -- that the rule does not admit

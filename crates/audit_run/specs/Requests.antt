@@ -1,6 +1,6 @@
 -- What each command reads, and what it answers to that.
 -- A command is one case of each definition here.
-use Rattle.std.specs.Prelude.{ℕ, false, List, [], ◌∷◌, Option, None, Some, is_ok, slice_index_or}
+use Rattle.std.specs.Prelude.{ℕ, false, List, [], ◌∷◌, Option, None, Some, is_ok}
 use Rattle.audit_base.specs.declared.terms.Form.{Form}
 use Rattle.audit_base.specs.declared.terms.Which.{Which}
 use Rattle.audit_base.specs.declared.terms.Which.TheVariants.{Orders, Trades}
@@ -8,25 +8,13 @@ use Rattle.audit_base.specs.Least.{only_if}
 use Rattle.audit_report.specs.declared.statuses.Status.{Status}
 use Rattle.command_words.specs.declared.requests.Request.{Request}
 use Rattle.command_words.specs.declared.requests.Request.TheVariants.{Audit, Expect, Convert, Generate, Certify, Verify, Session}
+use Rattle.command_run.specs.Commands.{Command, log_read_at, next_of_both_logs, next_of_one_log}
 use Rattle.audit_run.specs.Certificates.{IsCertifyAnswer, IsVerifyAnswer}
 use Rattle.audit_run.specs.OtherTexts.{IsConvertAnswer, IsExpectAnswer, IsGeneratedSummary}
 use Rattle.audit_run.specs.Sessions.{IsSessionAnswer}
-use Rattle.audit_run.specs.VerdictAnswers.{IsAuditAnswer, IsDone}
+use Rattle.command_run.specs.VerdictAnswers.{IsAuditAnswer, IsDone}
 use Rattle.record_verdict.specs.Judgements.{question}
 use Rattle.log_verdict.specs.LogVerdicts.{records_of_order_log, trades_of_trade_log, log_in}
-
--- the next log of a command that needs one: it starts that first, and no other
-abbrev pub next_of_one_log : Which → List ℕ → List (List ℕ) → Option (Which × List ℕ)
-next_of_one_log log name [] = Some (log, name)
-next_of_one_log log name (first ∷ rest) = None
-
--- the next log of a command that needs both: it starts the order log,
--- and where that is good the trade log
-abbrev pub next_of_both_logs : List ℕ → List ℕ → Form → List (List ℕ) → Option (Which × List ℕ)
-next_of_both_logs orders trades orders_form [] = Some (Orders, orders)
-next_of_both_logs orders trades orders_form (first ∷ []) =
-    only_if (is_ok (records_of_order_log orders_form first)) (Trades, trades)
-next_of_both_logs orders trades orders_form (first ∷ second ∷ rest) = None
 
 -- the next log of a command that needs both and a certificate: after both logs, where they are
 -- good, it starts the certificate, in the slot of the trade log
@@ -58,10 +46,6 @@ next_log (Expect rule symbol orders orders_form) logs = next_of_one_log Orders o
 next_log (Convert log form path) logs = next_of_one_log log path logs
 next_log (Generate start count) logs = None
 
--- the bytes of the log that was read after this many others; none where it was not read
-abbrev pub log_read_at : List (List ℕ) → ℕ → List ℕ
-log_read_at logs others = slice_index_or logs others []
-
 -- what a command answers to the logs that it has read, its status and its text: to `audit` that
 -- of their verdict (`VerdictAnswers`); `Certificates` has the answers to `certify` and `verify`,
 -- `Sessions` that to `session`, and `OtherTexts` those to the commands that write logs
@@ -85,3 +69,7 @@ IsAnswerTo (Convert log form path) logs status text =
     IsConvertAnswer log (log_in form (log_read_at logs 0)) status text
 IsAnswerTo (Generate start count) logs status text =
     IsDone (IsGeneratedSummary start count) status text
+
+-- the command that a request asks for
+abbrev pub command_of : Request → Command
+command_of request = record { next = next_log request; is_answer = IsAnswerTo request }

@@ -19,7 +19,7 @@ use Rattle.session_audit.specs.Days.{ConformsDay}
 use Rattle.session_audit.specs.PhaseOrders.{traded_in_phase}
 use Rattle.session_audit.specs.Texts.{day_text}
 use Rattle.log_verdict.specs.LogVerdicts.{Log, OfLogs}
-use Rattle.audit_run.specs.VerdictAnswers.{IsDone, IsVerdictAnswer}
+use Rattle.command_run.specs.VerdictAnswers.{IsDone, IsVerdictAnswer}
 
 -- what each order trades in each phase is the only quantity that it can: all lists of deals under
 -- which the day conforms have it

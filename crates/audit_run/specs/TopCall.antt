@@ -15,7 +15,8 @@ use Rattle.record_verdict.specs.declared.questions.Question.{Question}
 use Rattle.log_verdict.specs.Existence.{IsOnlyVerdict}
 use Rattle.log_verdict.specs.LogVerdicts.{Log}
 use Rattle.log_verdict.specs.Steps.{reading, KeepsShelfLogs, FaultsNeverFall, Reading}
-use Rattle.audit_run.specs.Runs.{AnswersHeldLogs, AnswersTooLong, AnswersWithCause, HoldsLog, NothingFails, RunsOutOfMemory}
+use Rattle.command_run.specs.Runs.{AnswersTooLong, HoldsLog, NothingFails, RunsOutOfMemory}
+use Rattle.audit_run.specs.Runs.{AnswersHeldLogs, AnswersWithCause}
 
 -- the request that asks this question of two logs under these names
 abbrev pub audit_of_logs : Question → Log → Log → List ℕ → List ℕ → Request

@@ -7,15 +7,18 @@ ghost use Rattle.audit_run.specs.Deciding.{request_to_audit, request_to_certify,
 ghost use Rattle.command_words.specs.Words.{MayBeAsked};
 ghost use Rattle.log_verdict.specs.Steps.{reading, reading_by, KeepsShelfLogs, FaultsNeverFall};
 
-use super::answers::{Answer, verdict_answer};
 use super::converting::answer_convert;
 use super::expecting::answer_expect;
 use super::generating::answer_generate;
+use super::given_logs::{GivenBeforeRule, GivenVerdict};
 use super::judged_answers::certify_answer;
+use super::program::Auditor;
 use super::sessions::answer_session;
 use super::verifying::answer_verify;
 use audit_base::names::Name;
 use audit_base::terms::{Form, Rule};
+use command_run::answers::{Answer, verdict_answer};
+use command_run::laws::{both_logs_decide, one_log_decides};
 use command_words::paths::PathText;
 use command_words::requests::Request;
 use log_source::shelf::Shelf;
@@ -42,6 +45,7 @@ fn answer_audit<F: Shelf>(
         (request_to_audit question.now orders.now trades.now) result }
     ensures within { StaysWithin (reading_by orders.now F.Shelf shelf.old shelf.new) result }
 {
+    both_logs_decide::<Auditor, GivenVerdict>();
     // A match and no `?`, as in `verdict_on`.
     match verdict_on(alloc, shelf, question, orders, trades) {
         Ok(verdict) => Ok(verdict_answer(alloc, &verdict)?),
@@ -66,6 +70,7 @@ fn answer_certify<F: Shelf>(
         (request_to_certify rule symbol.now orders.now trades.now) result }
     ensures within { StaysWithin (reading_by orders.now F.Shelf shelf.old shelf.new) result }
 {
+    both_logs_decide::<Auditor, GivenBeforeRule>();
     let question = Question {
         rule,
         symbol: *symbol,
@@ -100,6 +105,8 @@ pub(crate) fn answer_request<F: Shelf>(
     ensures decides { DecidesAnswer (reading F.Shelf shelf.old shelf.new) request.now result }
     ensures within { StaysWithin (reading F.Shelf shelf.old shelf.new) result }
 {
+    // A law that the answers to one log rest on. It computes nothing.
+    one_log_decides::<Auditor>();
     match request {
         Request::Audit {
             rule,

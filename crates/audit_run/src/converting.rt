@@ -4,11 +4,11 @@ ghost use Rattle.audit_base.specs.declared.terms.Which.{Which};
 ghost use Rattle.log_source.specs.Sources.{longest_read};
 ghost use Rattle.log_verdict.specs.BothLogs.{StaysWithinAt};
 ghost use Rattle.log_verdict.specs.Collecting.{TouchesOnly};
-ghost use Rattle.audit_run.specs.OneLog.{DecidesLog};
+ghost use Rattle.command_run.specs.Deciding.{DecidesLog};
 ghost use Rattle.audit_run.specs.OtherTexts.{IsConvertAnswer};
 ghost use Rattle.log_verdict.specs.Steps.{reading_by, KeepsShelfLogs};
 
-use super::answers::{Answer, done_answer, finding_answer, unread_answer};
+use command_run::answers::{Answer, done_answer, finding_answer, unread_answer};
 use audit_base::records::{OrderRecord, TradeRecord};
 use audit_base::terms::Which;
 use csv_logs::log_text::ConvertedLog;

@@ -14,13 +14,13 @@ ghost use Rattle.log_source.specs.Collectors.{HasPlace};
 ghost use Rattle.log_source.specs.Sources.{longest_read};
 ghost use Rattle.log_verdict.specs.BothLogs.{StaysWithinAt};
 ghost use Rattle.log_verdict.specs.Collecting.{TouchesOnly};
-ghost use Rattle.audit_run.specs.Deciding.{IsAnswerOfKind};
+ghost use Rattle.command_run.specs.Deciding.{IsAnswerOfKind};
 ghost use Rattle.audit_run.specs.Expecting.{IsConformingLog, IsLogOfOrders};
-ghost use Rattle.audit_run.specs.OneLog.{DecidesLog};
+ghost use Rattle.command_run.specs.Deciding.{DecidesLog};
 ghost use Rattle.audit_run.specs.OtherTexts.{ExpectsRecords, IsExpectAnswer};
 ghost use Rattle.log_verdict.specs.Steps.{reading_by, KeepsShelfLogs};
 
-use super::answers::{Answer, done_answer, finding_answer, unread_answer};
+use command_run::answers::{Answer, done_answer, finding_answer, unread_answer};
 use audit_base::faults::NoMemory;
 use audit_base::names::Name;
 use audit_base::orders::Deal;

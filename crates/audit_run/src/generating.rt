@@ -5,12 +5,12 @@ ghost use Rattle.audit_base.specs.declared.terms.VolumeRule.TheVariants as of_vo
 ghost use Rattle.audit_base.specs.Histories.{Regular};
 ghost use Rattle.audit_base.specs.Orders.{IsOrderList};
 ghost use Rattle.log_maker.specs.Generator.{IsCount, IsStart, generated_orders, generated_records};
-ghost use Rattle.audit_run.specs.Deciding.{IsAnswerOfKind};
+ghost use Rattle.command_run.specs.Deciding.{IsAnswerOfKind};
 ghost use Rattle.audit_run.specs.OneLog.{AddsLine};
 ghost use Rattle.audit_run.specs.OtherTexts.{IsCallLine, IsContinuousLine, IsGeneratedSummary, IsSummaryOfOrders};
-ghost use Rattle.audit_run.specs.VerdictAnswers.{IsDone};
+ghost use Rattle.command_run.specs.VerdictAnswers.{IsDone};
 
-use super::answers::{Answer, done_answer};
+use command_run::answers::{Answer, done_answer};
 use audit_base::faults::NoMemory;
 use audit_base::orders::Deal;
 use audit_base::terms::Rule;

@@ -2,13 +2,13 @@
 ghost use Rattle.std.specs.Prelude.{IfOk, IsTrue};
 ghost use Rattle.audit_base.specs.RuleKinds.{asks_for_greatest};
 ghost use Rattle.audit_run.specs.Certificates.{IsVerdictAnswerWith};
-ghost use Rattle.audit_run.specs.Deciding.{IsAnswerOfKind};
+ghost use Rattle.command_run.specs.Deciding.{IsAnswerOfKind};
 ghost use Rattle.audit_run.specs.JudgedAnswers.{IsCertifyAnswerOn, IsDealsCertificate};
 ghost use Rattle.audit_report.specs.Texts.{IsVerdictInRange};
 ghost use Rattle.record_verdict.specs.Stages.{VerdictFollowsDeals};
 ghost use Rattle.record_verdict.specs.BeforeRule.{AreResolvedTradesInRange, IsJudgeable};
 
-use super::answers::{Answer, done_answer, verdict_answer};
+use command_run::answers::{Answer, done_answer, verdict_answer};
 use audit_base::faults::NoMemory;
 use audit_certificate::certifying::certify;
 use audit_report::verdicts::Verdict;

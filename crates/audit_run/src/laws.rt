@@ -5,7 +5,9 @@ ghost use Rattle.audit_run.specs.AnswerIsOne.{AnswerIsOne, RunsAgree};
 ghost use Rattle.audit_run.specs.ExpectedTrades.{AuditAcceptsExpectedTrades, ExpectedTradesAreAccepted};
 ghost use Rattle.audit_run.specs.Laws.{CertifiedIsVerified, GenerateWrites};
 
+use super::program::Auditor;
 use audit_certificate::one_answer::{one_answer_for_a_text, one_certificate};
+use command_run::laws::{calls_agree, held_logs_are_answered};
 use log_verdict::laws::records_are_in_range;
 pub use log_verdict::laws::{forms_agree, one_verdict};
 use session_audit::laws::one_day_offence;
@@ -31,6 +33,7 @@ pub fn answer_is_one()
 pub fn runs_agree()
     ensures { RunsAgree }
 {
+    calls_agree::<Auditor>();
     answer_is_one();
 }
 
@@ -43,6 +46,7 @@ pub fn expected_trades_are_accepted()
     ensures verdict { ExpectedTradesAreAccepted }
     ensures audit { AuditAcceptsExpectedTrades }
 {
+    held_logs_are_answered::<Auditor>();
     one_verdict();
 }
 

@@ -1,7 +1,9 @@
 //! The auditor: from the words of a command line and two logs to the answer, a status and a text.
 //!
 //! `running::run` is the top call. It reads the words (`command_words`), makes the whole answer
-//! of the command (`commands`) and writes it, or one line (`writing`). `audit` is the verdict on
+//! of the command (`commands`) and hands it to `command_run`, which writes it, or one line, and
+//! says what follows for every command (`program` and `given_logs` say what the auditor's are).
+//! `audit` is the verdict on
 //! two logs (`log_verdict`); `judged_answers`, `verifying` and `sessions` go their own way from
 //! what is known of two logs before the rule is looked at; `expecting`, `converting` and
 //! `generating` are the commands that write logs. The contract of `run` is the claim of the
@@ -12,19 +14,19 @@
 //! words), `decoding` and `judging`.
 #![tactic(auto)]
 
-pub mod answers;
 mod commands;
 mod converting;
 pub mod corollaries;
 mod expecting;
 mod generating;
+mod given_logs;
 pub mod in_memory;
 mod judged_answers;
 pub mod laws;
+pub mod program;
 pub mod running;
 mod sessions;
 mod verifying;
-mod writing;
 
 pub use command_words::requests;
 pub use log_verdict::decoding;

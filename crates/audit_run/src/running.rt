@@ -3,15 +3,17 @@ ghost use Rattle.std.specs.Prelude.{map};
 ghost use Rattle.std.specs.String.{string_bytes};
 ghost use Rattle.log_source.specs.Sinks.{SinkStays};
 ghost use Rattle.command_words.specs.Words.{MayBeAsked};
-ghost use Rattle.audit_run.specs.Runs.{AnswersRequest, AnswersTooLong};
+ghost use Rattle.command_run.specs.Runs.{AnswersCommand, AnswersTooLong};
+ghost use Rattle.audit_run.specs.Requests.{command_of};
 ghost use Rattle.audit_run.specs.TopCall.{AuditorAnswers};
 ghost use Rattle.log_verdict.specs.Steps.{reading, KeepsShelfLogs, FaultsNeverFall};
 ghost use Rattle.command_words.specs.Words.{request_of};
 
 use super::commands::answer_request;
-use super::writing::{write_stop, write_text};
-use audit_report::reports::usage_text;
+use super::program::Auditor;
 use audit_report::statuses::Status;
+use command_run::laws::held_logs_are_answered;
+use command_run::writing::{write_answer, write_usage};
 use command_words::requests::{Request, WordsFault, read_words};
 use log_source::shelf::Shelf;
 use log_source::sink::Sink;
@@ -31,14 +33,12 @@ fn run_request<F: Shelf, K: Sink>(
     ensures logs { KeepsShelfLogs F.Shelf shelf.old shelf.new }
     ensures later { FaultsNeverFall (reading F.Shelf shelf.old shelf.new) }
     ensures stays { SinkStays (K.state out.old) (K.state out.new) }
-    ensures answers { AnswersRequest (reading F.Shelf shelf.old shelf.new) request.now
+    ensures answers { AnswersCommand (reading F.Shelf shelf.old shelf.new) (command_of request.now)
         (K.state out.old) (K.state out.new) result }
     ensures too_long { AnswersTooLong (reading F.Shelf shelf.old shelf.new) result }
 {
-    match answer_request(alloc, seed, shelf, request) {
-        Ok(answer) => write_text(out, &answer.text, answer.status),
-        Err(stop) => write_stop(out, stop),
-    }
+    let decided = answer_request(alloc, seed, shelf, request);
+    write_answer::<Auditor, K>(out, decided)
 }
 
 /// Runs a command: reads the words, then the logs that they name from the shelf, and writes the
@@ -70,11 +70,12 @@ pub fn run_seeded<F: Shelf, K: Sink>(
     ensures { AuditorAnswers F.Shelf (request_of (map string_bytes words.now)) shelf.old shelf.new
         (K.state out.old) (K.state out.new) result }
 {
-    // A law that the answer rests on. It computes nothing.
+    // Laws that the answer rests on. They compute nothing.
     one_verdict();
+    held_logs_are_answered::<Auditor>();
     match read_words(alloc, words) {
         Ok(request) => run_request(alloc, seed, shelf, out, &request),
-        Err(WordsFault::Usage) => write_text(out, usage_text(), Status::Usage),
+        Err(WordsFault::Usage) => write_usage::<Auditor, K>(out),
         Err(WordsFault::Memory) => Status::Memory,
     }
 }

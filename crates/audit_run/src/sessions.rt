@@ -4,7 +4,8 @@ ghost use Rattle.audit_base.specs.Deals.{DealsInRange};
 ghost use Rattle.audit_base.specs.Histories.{Regular};
 ghost use Rattle.audit_base.specs.Orders.{IsOrderList};
 ghost use Rattle.log_verdict.specs.BothLogs.{HaveOneLimit, StaysWithin};
-ghost use Rattle.audit_run.specs.Deciding.{request_to_judge_day, DecidesAnswer, IsAnswerOfKind};
+ghost use Rattle.command_run.specs.Deciding.{IsAnswerOfKind};
+ghost use Rattle.audit_run.specs.Deciding.{request_to_judge_day, DecidesAnswer};
 ghost use Rattle.audit_run.specs.JudgedAnswers.{IsSessionAnswerOn};
 ghost use Rattle.audit_run.specs.Sessions.{AreOnlyOfDay, JudgesDayDeals};
 ghost use Rattle.log_verdict.specs.Steps.{reading_by, KeepsShelfLogs, FaultsNeverFall};
@@ -12,10 +13,13 @@ ghost use Rattle.record_verdict.specs.BeforeRule.{AreResolvedTradesInRange, IsJu
 ghost use Rattle.session_audit.specs.Days.{ConformsDay};
 ghost use Rattle.session_audit.specs.Phases.{ArePhases};
 
-use super::answers::{Answer, done_answer, finding_answer, malformed_answer};
+use super::given_logs::GivenBeforeRule;
+use super::program::Auditor;
 use audit_base::faults::NoMemory;
 use audit_base::names::Name;
 use audit_base::orders::Deal;
+use command_run::answers::{Answer, done_answer, finding_answer, malformed_answer};
+use command_run::laws::both_logs_decide;
 use log_source::shelf::Shelf;
 use log_verdict::both_logs::read_both;
 use log_verdict::sources::Source;
@@ -107,6 +111,7 @@ pub(crate) fn answer_session<F: Shelf>(
         (request_to_judge_day symbol.now phases.now table orders.now trades.now) result }
     ensures within { StaysWithin (reading_by orders.now F.Shelf shelf.old shelf.new) result }
 {
+    both_logs_decide::<Auditor, GivenBeforeRule>();
     let scope = Scope {
         symbol: *symbol,
         admission: Admission::All,

@@ -6,15 +6,17 @@ ghost use Rattle.audit_report.specs.Certificates.{refused_line, verified_line};
 ghost use Rattle.log_source.specs.Sources.{longest_log};
 ghost use Rattle.log_verdict.specs.BothLogs.{HaveOneLimit, StaysWithin, StaysWithinAt};
 ghost use Rattle.audit_run.specs.Certificates.{VerifiesDeals};
-ghost use Rattle.audit_run.specs.Deciding.{request_to_verify, DecidesAnswer, IsAnswerOfKind};
+ghost use Rattle.command_run.specs.Deciding.{IsAnswerOfKind};
+ghost use Rattle.audit_run.specs.Deciding.{request_to_verify, DecidesAnswer};
 ghost use Rattle.audit_run.specs.JudgedAnswers.{IsVerifyAnswerOn};
-ghost use Rattle.audit_run.specs.OneLog.{DecidesBytes};
-ghost use Rattle.audit_run.specs.VerdictAnswers.{IsAnswerWith};
+ghost use Rattle.command_run.specs.Deciding.{DecidesBytes};
+ghost use Rattle.command_run.specs.VerdictAnswers.{IsAnswerWith};
 ghost use Rattle.log_verdict.specs.Collecting.{TouchesOnly};
 ghost use Rattle.log_verdict.specs.Steps.{reading_by, reading_within, KeepsShelfLogs, FaultsNeverFall};
 ghost use Rattle.record_verdict.specs.BeforeRule.{AreResolvedTradesInRange, IsJudgeable};
 
-use super::answers::{Answer, done_answer, finding_answer, malformed_answer, unread_answer};
+use super::given_logs::GivenBeforeRule;
+use super::program::Auditor;
 use audit_base::faults::NoMemory;
 use audit_base::names::Name;
 use audit_base::terms::{Rule, Which};
@@ -22,6 +24,8 @@ use audit_certificate::faults::VerifyFault;
 use audit_certificate::verifying::verify;
 use audit_report::certificates::{append_refused_line, append_verified_line};
 use audit_report::statuses::Status;
+use command_run::answers::{Answer, done_answer, finding_answer, malformed_answer, unread_answer};
+use command_run::laws::{both_logs_decide, read_logs_decide};
 use log_source::shelf::Shelf;
 use log_source::take::take_log;
 use log_verdict::both_logs::read_both;
@@ -143,6 +147,8 @@ pub(crate) fn answer_verify<F: Shelf>(
         (request_to_verify symbol.now orders.now trades.now certificate.now) result }
     ensures within { StaysWithin (reading_by orders.now F.Shelf shelf.old shelf.new) result }
 {
+    both_logs_decide::<Auditor, GivenBeforeRule>();
+    read_logs_decide::<Auditor>();
     let scope = Scope {
         symbol: *symbol,
         admission: Admission::Resting,

@@ -7,7 +7,7 @@ use Rattle.audit_base.specs.Histories.{order_list}
 use Rattle.audit_base.specs.Trades.{deals_of_symbol}
 use Rattle.audit_report.specs.declared.verdicts.Verdict.TheVariants.{Rejected}
 use Rattle.audit_run.specs.Sessions.{JudgesDayDeals}
-use Rattle.audit_run.specs.VerdictAnswers.{IsVerdictAnswer}
+use Rattle.command_run.specs.VerdictAnswers.{IsVerdictAnswer}
 use Rattle.day_sessions.specs.declared.symbol_sessions.SymbolSession.{SymbolSession}
 use Rattle.day_sessions.specs.SymbolSessions.{session_status, IsSession, IsSessionOfReached}
 use Rattle.matching_core.specs.declared.deals_draft.ResolvedTrades.{ResolvedTrades}

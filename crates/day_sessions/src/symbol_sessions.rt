@@ -6,7 +6,7 @@ ghost use Rattle.audit_base.specs.Orders.{IsOrderList};
 ghost use Rattle.audit_base.specs.declared.findings.Finding.{Finding as AFinding};
 ghost use Rattle.audit_report.specs.declared.verdicts.Verdict.TheVariants.{Rejected};
 ghost use Rattle.audit_run.specs.Sessions.{AreOnlyOfDay, JudgesDayDeals};
-ghost use Rattle.audit_run.specs.VerdictAnswers.{IsVerdictAnswer};
+ghost use Rattle.command_run.specs.VerdictAnswers.{IsVerdictAnswer};
 ghost use Rattle.day_sessions.specs.SymbolSessions.{IsSession, IsSessionOf, IsSessionOfReached};
 ghost use Rattle.day_trades.specs.SymbolTrades.{HasFewOfSymbol};
 ghost use Rattle.record_verdict.specs.BeforeRule.{AreResolvedTradesInRange, IsJudgeable};

@@ -1,5 +1,5 @@
-use Rattle.audit_run.proofs.MemoryLemmas.{never_unread}
+use Rattle.log_source.specs.Sources.{longest_log}
 use Rattle.audit_run.proofs.corollaries.a_quiet_shelf_is_read.Goals as goal
 
 pub returns : goal.returns
-returns c = λ asked old new before after answer runs. never_unread asked old new before after answer runs
+returns c = λ asked old new before after answer runs. c.a_quiet_shelf_is_read.ensures asked longest_log old new before after answer runs

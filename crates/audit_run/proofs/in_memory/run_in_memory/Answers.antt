@@ -1,10 +1,9 @@
-use Rattle.std.proofs.Common.{refl}
-use Rattle.audit_run.proofs.MemoryLemmas.{in_room, never_unread}
+use Rattle.log_source.specs.Sources.{longest_log}
 use Rattle.audit_run.proofs.in_memory.run_in_memory.Goals as goal
 
 pub returns-clause-read : goal.returns-clause-read
-returns-clause-read c = never_unread _ c.args.shelf.now c.run.new.shelf _ _ c.run.result c.run.ensures.causes
+returns-clause-read c = c.a_quiet_shelf_is_read.ensures _ longest_log c.args.shelf.now c.run.new.shelf _ _ c.run.result c.run.ensures.causes
 
 pub returns-clause-answer : goal.returns-clause-answer
 returns-clause-answer c = λ none.
-    in_room _ c.args.shelf.now c.run.new.shelf _ _ c.args.out.now.bytes.items c.args.out.now.fails.items c.args.out.now.room c.run.result refl refl c.run.ensures.sink none c.run.ensures.causes
+    c.a_held_answer_with_room_is_written.ensures _ longest_log c.args.shelf.now c.run.new.shelf c.args.out.now c.run.new.out c.run.result none c.run.ensures.sink c.run.ensures.causes

@@ -3,9 +3,8 @@ use Rattle.std.proofs.Common.{◌≡◌, ◌∙◌, sym, ap, subst, refl, inl, i
 use Rattle.audit_base.specs.declared.terms.Which.{Which}
 use Rattle.audit_base.specs.declared.terms.Which.TheVariants.{Orders, Trades}
 use Rattle.log_source.specs.Sources.{Slot, RoseOrIsFull}
-use Rattle.command_words.specs.declared.requests.Request.{Request}
-use Rattle.audit_run.specs.Requests.{next_log}
-use Rattle.audit_run.specs.Runs.{HoldsLog, HoldsNeededLogs, HoldsNext, ReadsNext, ReadsOneByOne}
+use Rattle.command_run.specs.Commands.{Command}
+use Rattle.command_run.specs.Runs.{HoldsLog, HoldsNeededLogs, HoldsNext, ReadsNext, ReadsOneByOne}
 use Rattle.log_verdict.specs.Steps.{Reading, LogStep, StepsLead, with_slot}
 
 -- what is in a slot after it was changed
@@ -48,45 +47,45 @@ same-bytes : (log : Option (List ℕ)) (a b : List ℕ) → log ≡ Some a → l
 same-bytes log a b x y = cc
 
 -- the log that is held is the log that was read
-held-read : (r : Reading) (request : Request) (read : List (List ℕ)) (step : LogStep) (bytes held : List ℕ) → r.tells ≡ true → ReadsNext r request read step bytes
-    → HoldsNext r request read held → bytes ≡ held
-held-read r request read step bytes held tells reads holds =
-    let same = same-next (next_log request read) (holds.log, holds.name) (step.log, step.name) holds.next reads.next in
+held-read : (r : Reading) (command : Command) (read : List (List ℕ)) (step : LogStep) (bytes held : List ℕ) → r.tells ≡ true → ReadsNext r command read step bytes
+    → HoldsNext r command read held → bytes ≡ held
+held-read r command read step bytes held tells reads holds =
+    let same = same-next (command.next read) (holds.log, holds.name) (step.log, step.name) holds.next reads.next in
     same-bytes (r.log_of step.log step.name) bytes held (reads.read.known tells)
     (subst (λ (p : Which × List ℕ). r.log_of p.0 p.1 ≡ Some held) same holds.holds.there)
 
 -- after logs that were read the shelf holds those that the command needs still
-pub held-after : (r : Reading) (request : Request) (read : List (List ℕ)) (steps : List LogStep) (logs held : List (List ℕ)) → r.tells ≡ true
-    → ReadsOneByOne r request read steps logs → HoldsNeededLogs r request read held → (next : Which × List ℕ) → next_log request logs ≡ Some next
-    → (rest : List (List ℕ)) × HoldsNeededLogs r request logs rest
-held-after r request read [] logs held tells reads holds next is =
-    (held, subst (λ (x : List (List ℕ)). HoldsNeededLogs r request x held) (sym reads) holds)
-held-after r request read (step ∷ steps) logs [] tells reads holds next is =
-    absurd (some-none (next_log request read) (step.log, step.name) holds reads.1.next)
-held-after r request read (step ∷ steps) logs (bytes ∷ held) tells reads holds next is =
-    let same : reads.0 ≡ bytes = held-read r request read step reads.0 bytes tells reads.1 holds.0 in
-    held-after r request (read ++ reads.0 ∷ []) steps logs held tells reads.2
-    (subst (λ (x : List ℕ). HoldsNeededLogs r request (read ++ x ∷ []) held) (sym same) holds.1) next is
+pub held-after : (r : Reading) (command : Command) (read : List (List ℕ)) (steps : List LogStep) (logs held : List (List ℕ)) → r.tells ≡ true
+    → ReadsOneByOne r command read steps logs → HoldsNeededLogs r command read held → (next : Which × List ℕ) → command.next logs ≡ Some next
+    → (rest : List (List ℕ)) × HoldsNeededLogs r command logs rest
+held-after r command read [] logs held tells reads holds next is =
+    (held, subst (λ (x : List (List ℕ)). HoldsNeededLogs r command x held) (sym reads) holds)
+held-after r command read (step ∷ steps) logs [] tells reads holds next is =
+    absurd (some-none (command.next read) (step.log, step.name) holds reads.1.next)
+held-after r command read (step ∷ steps) logs (bytes ∷ held) tells reads holds next is =
+    let same : reads.0 ≡ bytes = held-read r command read step reads.0 bytes tells reads.1 holds.0 in
+    held-after r command (read ++ reads.0 ∷ []) steps logs held tells reads.2
+    (subst (λ (x : List ℕ). HoldsNeededLogs r command (read ++ x ∷ []) held) (sym same) holds.1) next is
 
 -- the next log is held
-pub held-next : (r : Reading) (request : Request) (logs rest : List (List ℕ)) (next : Which × List ℕ) → next_log request logs ≡ Some next → HoldsNeededLogs r request logs rest
+pub held-next : (r : Reading) (command : Command) (logs rest : List (List ℕ)) (next : Which × List ℕ) → command.next logs ≡ Some next → HoldsNeededLogs r command logs rest
     → (bytes : List ℕ) × HoldsLog r next.0 next.1 bytes
-held-next r request logs [] next is holds = absurd (some-none (next_log request logs) next holds is)
-held-next r request logs (bytes ∷ rest) next is holds =
-    let same = same-next (next_log request logs) (holds.0.log, holds.0.name) next holds.0.next is in
+held-next r command logs [] next is holds = absurd (some-none (command.next logs) next holds is)
+held-next r command logs (bytes ∷ rest) next is holds =
+    let same = same-next (command.next logs) (holds.0.log, holds.0.name) next holds.0.next is in
     (bytes, subst (λ (p : Which × List ℕ). HoldsLog r p.0 p.1 bytes) same holds.0.holds)
 
 -- the logs that were read are those that the shelf holds
-pub held-all : (r : Reading) (request : Request) (read : List (List ℕ)) (steps : List LogStep) (logs held : List (List ℕ)) → r.tells ≡ true
-    → ReadsOneByOne r request read steps logs → next_log request logs ≡ None → HoldsNeededLogs r request read held → logs ≡ read ++ held
-held-all r request read [] logs [] tells reads all holds = reads ∙ sym (append-nil read)
-held-all r request read [] logs (bytes ∷ held) tells reads all holds =
-    let none : next_log request read ≡ None = subst (λ (x : List (List ℕ)). next_log request x ≡ None) reads all in
-    absurd (some-none (next_log request read) (holds.0.log, holds.0.name) none holds.0.next)
-held-all r request read (step ∷ steps) logs [] tells reads all holds =
-    absurd (some-none (next_log request read) (step.log, step.name) holds reads.1.next)
-held-all r request read (step ∷ steps) logs (bytes ∷ held) tells reads all holds =
-    let same : reads.0 ≡ bytes = held-read r request read step reads.0 bytes tells reads.1 holds.0 in
-    let rest : logs ≡ (read ++ reads.0 ∷ []) ++ held = held-all r request (read ++ reads.0 ∷ []) steps logs held tells reads.2 all
-    (subst (λ (x : List ℕ). HoldsNeededLogs r request (read ++ x ∷ []) held) (sym same) holds.1) in
+pub held-all : (r : Reading) (command : Command) (read : List (List ℕ)) (steps : List LogStep) (logs held : List (List ℕ)) → r.tells ≡ true
+    → ReadsOneByOne r command read steps logs → command.next logs ≡ None → HoldsNeededLogs r command read held → logs ≡ read ++ held
+held-all r command read [] logs [] tells reads all holds = reads ∙ sym (append-nil read)
+held-all r command read [] logs (bytes ∷ held) tells reads all holds =
+    let none : command.next read ≡ None = subst (λ (x : List (List ℕ)). command.next x ≡ None) reads all in
+    absurd (some-none (command.next read) (holds.0.log, holds.0.name) none holds.0.next)
+held-all r command read (step ∷ steps) logs [] tells reads all holds =
+    absurd (some-none (command.next read) (step.log, step.name) holds reads.1.next)
+held-all r command read (step ∷ steps) logs (bytes ∷ held) tells reads all holds =
+    let same : reads.0 ≡ bytes = held-read r command read step reads.0 bytes tells reads.1 holds.0 in
+    let rest : logs ≡ (read ++ reads.0 ∷ []) ++ held = held-all r command (read ++ reads.0 ∷ []) steps logs held tells reads.2 all
+    (subst (λ (x : List ℕ). HoldsNeededLogs r command (read ++ x ∷ []) held) (sym same) holds.1) in
     rest ∙ ap (λ (x : List ℕ). (read ++ x ∷ []) ++ held) same ∙ append_assoc read (bytes ∷ []) held

@@ -2,9 +2,8 @@
 ghost use Rattle.std.specs.Prelude.{◌≡◌, IfOk};
 ghost use Rattle.audit_report.specs.declared.verdicts.Verdict.TheVariants as verdict;
 ghost use Rattle.audit_report.specs.Texts.{IsVerdictInRange};
-ghost use Rattle.audit_run.specs.Deciding.{IsAnswerOfKind};
-ghost use Rattle.audit_run.specs.OneLog.{DecidesUnread};
-ghost use Rattle.audit_run.specs.VerdictAnswers.{IsVerdictAnswer};
+ghost use Rattle.command_run.specs.Deciding.{DecidesUnread, IsAnswerOfKind};
+ghost use Rattle.command_run.specs.VerdictAnswers.{IsVerdictAnswer};
 
 use audit_base::faults::{BadPlace, NoMemory};
 use audit_base::findings::Finding;
@@ -24,7 +23,7 @@ pub struct Answer {
 }
 
 /// The answer of a verdict: its status and its text.
-pub(crate) fn verdict_answer(alloc: Global, verdict: &Verdict) -> Result<Answer, NoMemory>
+pub fn verdict_answer(alloc: Global, verdict: &Verdict) -> Result<Answer, NoMemory>
     requires { IsVerdictInRange verdict.now }
     ensures { IfOk result (IsAnswerOfKind (IsVerdictAnswer verdict.now)) }
 {
@@ -36,14 +35,14 @@ pub(crate) fn verdict_answer(alloc: Global, verdict: &Verdict) -> Result<Answer,
 }
 
 /// The answer of the verdict that rejects with this finding.
-pub(crate) fn finding_answer(alloc: Global, finding: Finding) -> Result<Answer, NoMemory>
+pub fn finding_answer(alloc: Global, finding: Finding) -> Result<Answer, NoMemory>
     ensures { IfOk result (IsAnswerOfKind (IsVerdictAnswer (verdict.Rejected finding))) }
 {
     verdict_answer(alloc, &Verdict::Rejected(finding))
 }
 
 /// The answer of the verdict that a log is malformed at this place.
-pub(crate) fn malformed_answer(
+pub fn malformed_answer(
     alloc: Global,
     log: Which,
     bad: &BadPlace,
@@ -54,7 +53,7 @@ pub(crate) fn malformed_answer(
 }
 
 /// The answer to a command that was done in full.
-pub(crate) fn done_answer(text: Vec<u8>) -> Answer
+pub fn done_answer(text: Vec<u8>) -> Answer
     ensures status { result.status ≡ Status.Accepted }
     ensures text { result.text.items ≡ text.items }
 {
@@ -65,7 +64,7 @@ pub(crate) fn done_answer(text: Vec<u8>) -> Answer
 }
 
 /// The answer to a log that was not read into records, or why there is none.
-pub(crate) fn unread_answer(alloc: Global, log: Which, unread: Unread) -> Result<Answer, Stop>
+pub fn unread_answer(alloc: Global, log: Which, unread: Unread) -> Result<Answer, Stop>
     ensures { DecidesUnread log unread result }
 {
     match unread {

@@ -7,7 +7,7 @@ use Rattle.audit_report.specs.Lines.{read_fault_line, too_long_line}
 use Rattle.log_source.specs.Sinks.{SinkState, AppendsPart, HasFailureCause}
 use Rattle.log_verdict.specs.declared.stops.Stop.{Stop}
 use Rattle.log_verdict.specs.declared.stops.Stop.TheVariants as stop
-use Rattle.audit_run.specs.Runs.{RunsOutOfMemory}
+use Rattle.command_run.specs.Runs.{RunsOutOfMemory}
 
 -- The whole text was written, and its status is answered.
 pub record AnswersWritten (old new : SinkState) (the_status : Status) (text : List ℕ)

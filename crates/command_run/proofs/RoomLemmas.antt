@@ -5,9 +5,9 @@ use Rattle.std.specs.Io.KnownBytes.{Appends}
 use Rattle.audit_report.specs.declared.statuses.Status.{Status}
 use Rattle.audit_report.specs.declared.statuses.Status.TheVariants as status
 use Rattle.log_source.specs.Sinks.{SinkState, SinkStays}
-use Rattle.command_words.specs.declared.requests.Request.{Request}
-use Rattle.audit_run.specs.Corollaries.{HasRoomForText}
-use Rattle.audit_run.specs.Runs.{AnswersWithCause, IsDecidedText, IsUsageLine, WritesPrefix}
+use Rattle.command_run.specs.Corollaries.{HasRoomForText}
+use Rattle.command_run.specs.Commands.{Command}
+use Rattle.command_run.specs.Runs.{AnswersWithCause, IsDecidedText, IsLine, WritesPrefix}
 use Rattle.log_verdict.specs.Steps.{Reading}
 
 -- a sink that takes as many bytes for sure doesn't fail at a proper prefix
@@ -28,14 +28,15 @@ never_cut is_text old new before room wrote sure stays fits part =
     (fits part.text part.is)
 
 -- where every text has room, none is cut
-pub never_full : (asked : Option Request) (r : Reading) (old new : SinkState) (before : List ℕ) (room : ℕ) (result : Status) → old.wrote ≡ Some before → old.sure ≡ room → SinkStays old new
-    → HasRoomForText asked r (length before) room → AnswersWithCause asked r old new result → result ≡ status.WriteFault → ⊥
-never_full None r old new before room status.WriteFault wrote sure stays fits runs e = never_cut IsUsageLine old new before room wrote sure stays fits runs.0
-never_full (Some request) r old new before room status.WriteFault wrote sure stays fits runs e = never_cut (IsDecidedText r request) old new before room wrote sure stays fits runs
-never_full asked r old new before room status.Accepted wrote sure stays fits runs e = cc
-never_full asked r old new before room status.Rejected wrote sure stays fits runs e = cc
-never_full asked r old new before room status.Usage wrote sure stays fits runs e = cc
-never_full asked r old new before room status.Malformed wrote sure stays fits runs e = cc
-never_full asked r old new before room status.ReadFault wrote sure stays fits runs e = cc
-never_full asked r old new before room status.TooLong wrote sure stays fits runs e = cc
-never_full asked r old new before room status.Memory wrote sure stays fits runs e = cc
+module _ {A : Type 0} (command_of : A → Command) (usage : List ℕ) where
+  pub never_full : (asked : Option A) (r : Reading) (old new : SinkState) (before : List ℕ) (room : ℕ) (result : Status) → old.wrote ≡ Some before → old.sure ≡ room → SinkStays old new
+      → HasRoomForText command_of usage asked r (length before) room → AnswersWithCause command_of usage asked r old new result → result ≡ status.WriteFault → ⊥
+  never_full None r old new before room status.WriteFault wrote sure stays fits runs e = never_cut (IsLine usage) old new before room wrote sure stays fits runs.0
+  never_full (Some request) r old new before room status.WriteFault wrote sure stays fits runs e = never_cut (IsDecidedText r (command_of request)) old new before room wrote sure stays fits runs
+  never_full asked r old new before room status.Accepted wrote sure stays fits runs e = cc
+  never_full asked r old new before room status.Rejected wrote sure stays fits runs e = cc
+  never_full asked r old new before room status.Usage wrote sure stays fits runs e = cc
+  never_full asked r old new before room status.Malformed wrote sure stays fits runs e = cc
+  never_full asked r old new before room status.ReadFault wrote sure stays fits runs e = cc
+  never_full asked r old new before room status.TooLong wrote sure stays fits runs e = cc
+  never_full asked r old new before room status.Memory wrote sure stays fits runs e = cc

@@ -1,0 +1,74 @@
+-- What a command decides: its answer, or why there is none.
+use Rattle.std.specs.Prelude.{◌≡◌, ℕ, List, Result, Err, MatchResult}
+use Rattle.audit_base.specs.declared.terms.Which.{Which}
+use Rattle.audit_report.specs.declared.statuses.Status.{Status}
+use Rattle.audit_report.specs.declared.statuses.Status.TheVariants as status
+use Rattle.audit_report.specs.declared.verdicts.Verdict.TheVariants.{Malformed}
+use Rattle.audit_report.specs.Lines.{read_fault_line, too_long_line}
+use Rattle.log_verdict.specs.declared.reading.Unread.{Unread}
+use Rattle.log_verdict.specs.declared.reading.Unread.TheVariants as unread
+use Rattle.log_verdict.specs.declared.sources.Source.{Source}
+use Rattle.log_verdict.specs.declared.stops.Stop.{Stop}
+use Rattle.log_verdict.specs.declared.stops.Stop.TheVariants as stop
+use Rattle.log_verdict.specs.BothLogs.{IsLogStop}
+use Rattle.log_verdict.specs.Collecting.{IsReadAs}
+use Rattle.log_verdict.specs.LogVerdicts.{Log, log_in}
+use Rattle.log_verdict.specs.Steps.{Reading}
+use Rattle.command_run.specs.declared.answers.Answer.{Answer}
+use Rattle.command_run.specs.Commands.{Command}
+use Rattle.command_run.specs.Runs.{ReadingDecides}
+use Rattle.command_run.specs.VerdictAnswers.{IsVerdictAnswer}
+
+-- the status and the text of this answer are of this kind
+abbrev pub IsAnswerOfKind : (Status → List ℕ → Type 0) → Answer → Type 0
+IsAnswerOfKind is_answer answer = is_answer answer.status answer.text.items
+
+-- reading stopped for this cause: what it decides is the line that says so; where memory ran out
+-- there is nothing to write
+abbrev pub ReadingStops : Reading → Command → Stop → Type 0
+ReadingStops r command (stop.ReadFault log) =
+    ReadingDecides r command status.ReadFault (read_fault_line log)
+ReadingStops r command (stop.TooLong log) =
+    ReadingDecides r command status.TooLong (too_long_line log)
+ReadingStops r command stop.Memory = Unit {0}
+
+-- the answer that the reading decides, or why there is none
+abbrev pub DecidesAnswer : Reading → Command → Result Answer Stop → Type 0
+DecidesAnswer r command result =
+    MatchResult result (IsAnswerOfKind (ReadingDecides r command)) (ReadingStops r command)
+
+-- what is under this name was read to its end, and this is the answer to its bytes; or there is
+-- none for a cause
+abbrev pub DecidesBytes : Reading → Which → List ℕ → (List ℕ → Status → List ℕ → Type 0)
+    → Result Answer Stop → Type 0
+DecidesBytes r which name is_answer result =
+    MatchResult result
+    (λ answer. IsReadAs r which name (λ bytes. IsAnswerOfKind (is_answer bytes) answer))
+    (IsLogStop r which name)
+
+-- a log was read to its end, and this is the answer to it; or there is none for a cause
+abbrev pub DecidesLog : Reading → Which → Source → (Log → Status → List ℕ → Type 0)
+    → Result Answer Stop → Type 0
+DecidesLog r which source is_answer result =
+    DecidesBytes r which source.name.now (λ bytes. is_answer (log_in source.form bytes)) result
+
+-- what is decided where a log was not read into records: the answer is its first bad place, or
+-- there is none for a cause
+abbrev pub DecidesUnread : Which → Unread → Result Answer Stop → Type 0
+DecidesUnread log (unread.Bad bad) result =
+    MatchResult result (IsAnswerOfKind (IsVerdictAnswer (Malformed log bad)))
+    (λ why. why ≡ stop.Memory)
+DecidesUnread log unread.ReadFault result = result ≡ Err (stop.ReadFault log)
+DecidesUnread log unread.TooLong result = result ≡ Err (stop.TooLong log)
+DecidesUnread log unread.Memory result = result ≡ Err stop.Memory
+
+-- the statuses of an answer to logs that were read
+abbrev pub IsStatusOfLogs : Status → Type 0
+IsStatusOfLogs status.Accepted = Unit {0}
+IsStatusOfLogs status.Rejected = Unit {0}
+IsStatusOfLogs status.Malformed = Unit {0}
+IsStatusOfLogs status.Usage = ⊥
+IsStatusOfLogs status.ReadFault = ⊥
+IsStatusOfLogs status.WriteFault = ⊥
+IsStatusOfLogs status.TooLong = ⊥
+IsStatusOfLogs status.Memory = ⊥

@@ -1,0 +1,11 @@
+-- What a reader must believe, in the order in which it is read: what a command is, what a call
+-- that runs one answers and writes, and what a command answers by a verdict.
+pub mod Commands
+pub mod Runs
+pub mod VerdictAnswers
+pub mod Laws
+pub mod InMemory
+pub mod Corollaries
+-- What functions pass on to one another.
+pub mod Deciding
+pub mod Writing

@@ -1,0 +1,46 @@
+//! What holds of every command, whichever it is. Each law is the contract of a call that does
+//! nothing, for the requests of one program.
+ghost use Rattle.command_run.specs.Laws.{BothLogsDecide, BothLogsStop, CallsAgree};
+ghost use Rattle.command_run.specs.Laws.{HeldLogsAreAnswered, HeldLogsAreRead};
+ghost use Rattle.command_run.specs.Laws.{NoLogDecides, OneLogDecides, ReadLogsDecide};
+
+use super::given_logs::GivenByLogs;
+use super::programs::Program;
+
+/// Where the shelf holds all the logs that a command needs, each within the limit, and nothing
+/// fails, whatever was answered with its cause is the command's answer to these logs, written
+/// whole, or memory ran out.
+pub fn held_logs_are_answered<P: Program>()
+    ensures { (request : P.Request) → HeldLogsAreAnswered (P.command request) }
+{}
+
+/// Where a command has one answer to the same logs, two calls that wrote an answer to them answered
+/// the same status and wrote the same text, or one ran out of memory: whatever shelves and sinks
+/// they have, and however the bytes are cut.
+pub fn calls_agree<P: Program>()
+    ensures { (request : P.Request) → CallsAgree (P.command request) }
+{}
+
+/// The answer to all the logs that a command needs, each of which was read to its end, is what
+/// their reading decides.
+pub fn read_logs_decide<P: Program>()
+    ensures { (request : P.Request) → ReadLogsDecide (P.command request) }
+{}
+
+/// What is decided of the one log that a command reads is decided of the whole call.
+pub fn one_log_decides<P: Program>()
+    ensures { (request : P.Request) → OneLogDecides (P.command request) }
+{}
+
+/// A command that needs no log answers without one.
+pub fn no_log_decides<P: Program>()
+    ensures { (request : P.Request) → NoLogDecides (P.command request) }
+{}
+
+/// What both logs give decides a command that reads both, where it answers by the records of both
+/// or by the first bad place; and so does why nothing is known of both.
+pub fn both_logs_decide<P: Program, G: GivenByLogs>()
+    ensures answers { (request : P.Request)
+        → BothLogsDecide G.of_records G.of_bad (P.command request) }
+    ensures stops { (request : P.Request) → BothLogsStop (P.command request) }
+{}

@@ -1,0 +1,6 @@
+-- What a reader must believe, in the order in which it is read: what `run_desk` says, and what
+-- each command reads and answers.
+pub mod TopCall
+pub mod Requests
+-- What private functions pass on to one another.
+pub mod Deciding

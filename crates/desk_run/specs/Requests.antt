@@ -1,0 +1,71 @@
+-- What each command of `desk` reads, and what it answers to that.
+-- A command is one case of each definition here.
+use Rattle.std.specs.Prelude.{ℕ, Bool, List, Option, None, Some}
+use Rattle.audit_base.specs.declared.terms.Rule.{Rule}
+use Rattle.audit_base.specs.declared.terms.Which.{Which}
+use Rattle.audit_base.specs.Words.{rule_word}
+use Rattle.audit_report.specs.declared.statuses.Status.{Status}
+use Rattle.audit_report.specs.declared.statuses.Status.TheVariants.{Accepted}
+use Rattle.command_run.specs.Commands.{Command, log_read_at, next_of_both_logs}
+use Rattle.command_run.specs.VerdictAnswers.{IsAnswerWith}
+use Rattle.day_logs.specs.declared.answers.DayAnswer.{DayAnswer}
+use Rattle.day_logs.specs.declared.answers.DayQuestion.{DayQuestion}
+use Rattle.day_logs.specs.DayAnswers.{DayMeaning, IsAnswerToLogs, JudgesTrades}
+use Rattle.day_logs.specs.DayAnswerTexts.{day_answer_status, day_answer_text}
+use Rattle.day_sessions.specs.JudgedSessions.{JudgesDaySessions}
+use Rattle.day_symbols.specs.Shares.{DayShare, whole_day}
+use Rattle.desk_words.specs.declared.requests.DayLogs.{DayLogs}
+use Rattle.desk_words.specs.declared.requests.DeskRequest.{DeskRequest}
+use Rattle.desk_words.specs.declared.requests.DeskRequest.TheVariants.{Audit, Session, Help, Version}
+use Rattle.desk_words.specs.Texts.{help_text, version_text}
+use Rattle.log_verdict.specs.LogVerdicts.{Log, log_in}
+use Rattle.session_audit.specs.Texts.{phases_text}
+
+-- the share that is asked for; the whole day where none is given
+abbrev pub share_or_whole : Option DayShare → DayShare
+share_or_whole None = whole_day
+share_or_whole (Some share) = share
+
+-- what is asked of a day by a rule
+abbrev pub day_question : Rule → Bool → Option DayShare → DayQuestion
+day_question rule table share =
+    record { rule = rule; table = table; share = share_or_whole share }
+
+-- the log that a command starts after those that it has read, whose bytes these are: its slot and
+-- its name; nothing where it needs no more. `audit` and `session` start both logs, `help` and
+-- `--version` none
+abbrev pub next_log : DeskRequest → List (List ℕ) → Option (Which × List ℕ)
+next_log (Audit rule logs table share) bytes =
+    next_of_both_logs logs.orders logs.trades logs.orders_form bytes
+next_log (Session phases logs table share) bytes =
+    next_of_both_logs logs.orders logs.trades logs.orders_form bytes
+next_log (Help about) bytes = None
+next_log Version bytes = None
+
+-- The answer is that to a day of two logs: its text, with what the symbols were judged by in its
+-- first line, and its status.
+pub record IsDayAnswer (judges : DayMeaning) (judged_by : List ℕ) (orders trades : Log)
+    (status : Status) (text : List ℕ) : Type 0 where
+  pub day : DayAnswer
+  pub is : IsAnswerToLogs judges orders trades day
+  pub answer : IsAnswerWith (day_answer_status day) (day_answer_text judged_by day) status text
+
+-- what a command answers to the logs that it has read, its status and its text: to `audit` and
+-- `session` that of the day, of the symbols of the share that is asked for; to `help` and
+-- `--version` a text of their own
+abbrev pub IsAnswerTo : DeskRequest → List (List ℕ) → Status → List ℕ → Type 0
+IsAnswerTo (Audit rule logs table share) bytes status text =
+    IsDayAnswer (JudgesTrades (day_question rule table share)) (rule_word rule)
+    (log_in logs.orders_form (log_read_at bytes 0))
+    (log_in logs.trades_form (log_read_at bytes 1)) status text
+IsAnswerTo (Session phases logs table share) bytes status text =
+    IsDayAnswer (JudgesDaySessions phases table (share_or_whole share)) (phases_text phases)
+    (log_in logs.orders_form (log_read_at bytes 0))
+    (log_in logs.trades_form (log_read_at bytes 1)) status text
+IsAnswerTo (Help about) bytes status text = IsAnswerWith Accepted (help_text about) status text
+IsAnswerTo Version bytes status text = IsAnswerWith Accepted version_text status text
+
+-- the command that a request asks for
+abbrev pub desk_command_of : DeskRequest → Command
+desk_command_of request =
+    record { next = next_log request; is_answer = IsAnswerTo request }

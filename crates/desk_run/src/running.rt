@@ -1,0 +1,87 @@
+//! The top call of `desk`: from the words of a command line to the text that is written and the
+//! status.
+ghost use Rattle.std.specs.Prelude.{map};
+ghost use Rattle.std.specs.String.{string_bytes};
+ghost use Rattle.command_run.specs.Runs.{AnswersCommand, AnswersTooLong};
+ghost use Rattle.desk_run.specs.Requests.{desk_command_of};
+ghost use Rattle.desk_run.specs.TopCall.{desk_reading, DeskAnswers};
+ghost use Rattle.desk_words.specs.Words.{desk_request_of, MayBeAskedOfDesk};
+ghost use Rattle.log_source.specs.Sinks.{SinkStays};
+ghost use Rattle.log_verdict.specs.Steps.{FaultsNeverFall, KeepsShelfLogs};
+
+use super::commands::answer_request;
+use super::program::Desk;
+use audit_report::statuses::Status;
+use command_run::laws::held_logs_are_answered;
+use command_run::writing::{write_answer, write_usage};
+use command_words::requests::WordsFault;
+use desk_words::requests::{DeskRequest, read_desk_words};
+use log_source::shelf::Shelf;
+use log_source::sink::Sink;
+use seeded_hash::seed::HashSeed;
+use std::alloc::Global;
+
+/// Answers well-formed words: the whole answer is made, and then its text is written.
+fn run_request<F: Shelf, K: Sink>(
+    alloc: Global,
+    seed: HashSeed,
+    shelf: &mut F,
+    out: &mut K,
+    request: &DeskRequest,
+) -> Status
+    requires { MayBeAskedOfDesk request.now }
+    ensures logs { KeepsShelfLogs F.Shelf shelf.old shelf.new }
+    ensures later { FaultsNeverFall (desk_reading F.Shelf shelf.old shelf.new) }
+    ensures stays { SinkStays (K.state out.old) (K.state out.new) }
+    ensures answers { AnswersCommand (desk_reading F.Shelf shelf.old shelf.new)
+        (desk_command_of request.now) (K.state out.old) (K.state out.new) result }
+    ensures too_long { AnswersTooLong (desk_reading F.Shelf shelf.old shelf.new) result }
+{
+    let decided = answer_request(alloc, seed, shelf, request);
+    write_answer::<Desk, K>(out, decided)
+}
+
+/// Runs a command of `desk`: reads the words, then the logs that they name from the shelf, and
+/// writes the text of the answer to them, or one line. The status is answered.
+///
+/// The words are those of the command line without the program's name. `Usage` comes exactly where
+/// they are not well-formed, `ReadFault` only where a log could not be read, `TooLong` where one
+/// has more than 34,359,738,368 bytes, `WriteFault` only where the sink's faults rose, and
+/// `Memory` where memory ran out, with nothing written. `Rejected` comes where a symbol of the
+/// share is rejected, or where the reports of the trade log do not pair. What the shelf has under
+/// its names stays as it was.
+///
+/// The hashes by which names are found begin with the fixed seed: see `run_desk_seeded` for logs
+/// whose names may have been chosen to make this slow.
+pub fn run_desk<F: Shelf, K: Sink>(
+    alloc: Global,
+    words: &[String],
+    shelf: &mut F,
+    out: &mut K,
+) -> Status
+    ensures { DeskAnswers F.Shelf (desk_request_of (map string_bytes words.now))
+        shelf.old shelf.new (K.state out.old) (K.state out.new) result }
+{
+    run_desk_seeded(alloc, HashSeed::fixed(), words, shelf, out)
+}
+
+/// The same as `run_desk`, with hashes of this seed. No answer depends on the seed. One that nobody
+/// knows beforehand keeps who writes the logs from choosing names that hash alike.
+pub fn run_desk_seeded<F: Shelf, K: Sink>(
+    alloc: Global,
+    seed: HashSeed,
+    words: &[String],
+    shelf: &mut F,
+    out: &mut K,
+) -> Status
+    ensures { DeskAnswers F.Shelf (desk_request_of (map string_bytes words.now))
+        shelf.old shelf.new (K.state out.old) (K.state out.new) result }
+{
+    // A law that the answer rests on. It computes nothing.
+    held_logs_are_answered::<Desk>();
+    match read_desk_words(alloc, words) {
+        Ok(request) => run_request(alloc, seed, shelf, out, &request),
+        Err(WordsFault::Usage) => write_usage::<Desk, K>(out),
+        Err(WordsFault::Memory) => Status::Memory,
+    }
+}

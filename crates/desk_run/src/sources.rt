@@ -1,0 +1,36 @@
+//! Which logs and which symbols of a day a request is about.
+ghost use Rattle.std.specs.Prelude.{◌≡◌};
+ghost use Rattle.desk_run.specs.Requests.{share_or_whole};
+ghost use Rattle.log_source.specs.Sources.{longest_read};
+
+use audit_base::terms::Form;
+use command_words::paths::PathText;
+use day_symbols::shares::Share;
+use log_source::limits::LONGEST_READ;
+use log_verdict::sources::Source;
+use seeded_hash::seed::HashSeed;
+
+/// The log of this path, in this form, of at most 34,359,738,368 bytes, read with hashes of this
+/// seed.
+pub(crate) fn day_source(path: &PathText, form: Form, seed: HashSeed) -> Source<'_>
+    ensures name { result.name.now ≡ path.now }
+    ensures form { result.form ≡ form }
+    ensures limit { result.limit ≡ longest_read }
+{
+    Source {
+        name: path.as_str(),
+        form,
+        limit: LONGEST_READ,
+        seed,
+    }
+}
+
+/// The share that is asked for: the whole day where none is given.
+pub(crate) fn share_asked(share: Option<Share>) -> Share
+    ensures { result ≡ share_or_whole share }
+{
+    match share {
+        Some(share) => share,
+        None => Share::whole(),
+    }
+}
