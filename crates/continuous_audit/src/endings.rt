@@ -33,7 +33,7 @@ fn add_ending(
 
 /// The orders that a record ends, in log order.
 fn collect_endings(alloc: Global, orders: &OrderList<'_>) -> Result<Vec<Ending>, NoMemory>
-    requires few { length orders.now < 2 ^ 32 }
+    requires fits_places { length orders.now < 2 ^ 32 }
     ensures { IfOk result (λ endings. endings.items ≡ endings_upto orders.now (length orders.now)) }
 {
     let mut endings = Vec::with_capacity(alloc, orders.len())?;
@@ -45,7 +45,7 @@ fn collect_endings(alloc: Global, orders: &OrderList<'_>) -> Result<Vec<Ending>,
 
 /// The orders that a record ends, by the place of this record.
 pub fn sort_endings(alloc: Global, orders: &OrderList<'_>) -> Result<Vec<Ending>, NoMemory>
-    requires few { length orders.now < 2 ^ 32 }
+    requires fits_places { length orders.now < 2 ^ 32 }
     ensures { IfOk result (λ endings. AreEndings orders.now endings.items) }
 {
     let mut endings = collect_endings(alloc, orders)?;

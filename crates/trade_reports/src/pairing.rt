@@ -64,7 +64,7 @@ fn pair_by<K: Collector<Entry = TradeRecord>>(
     reports: &[Report],
 ) -> Result<Result<K, Finding>, NoMemory>
     requires empty { IsPairingDraft K.has_taken draft [] }
-    requires few { length reports.now < 2 ^ 32 - 1 }
+    requires fits_places { length reports.now < 2 ^ 32 - 1 }
     ensures pairs { IfOk result (IsPairedAs K.has_taken (pairing reports.now)) }
     ensures few { IfOk result (λ paired. IfOk paired (HasPlace K.has_taken)) }
 {
