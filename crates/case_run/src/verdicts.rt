@@ -35,7 +35,7 @@ pub(crate) fn verdict_of<F: Shelf>(
 ) -> Result<Verdict, Halt>
     ensures logs { KeepsShelfLogs F.Shelf shelf.old shelf.new }
     ensures later { FaultsNeverFall (reading F.Shelf shelf.old shelf.new) }
-    ensures judges { GivesFilingVerdictOrHalt (reading F.Shelf shelf.old shelf.new) filing.now
+    ensures decides { GivesFilingVerdictOrHalt (reading F.Shelf shelf.old shelf.new) filing.now
         result }
     ensures within { EndsWithinOrHalts (reading F.Shelf shelf.old shelf.new) result }
     ensures in_range { IfOk result IsVerdictInRange }

@@ -49,8 +49,8 @@ fn collect_incoming_deals(
     orders: &OrderList<'_>,
     deals: &[Deal],
 ) -> Result<Vec<IncomingDeal>, NoMemory>
-    requires few_orders { length orders.now < 2 ^ 32 }
-    requires few_deals { length deals.now < 2 ^ 32 }
+    requires orders_fit_places { length orders.now < 2 ^ 32 }
+    requires deals_fit_places { length deals.now < 2 ^ 32 }
     requires named { All (NamesOrders orders.now) deals.now }
     ensures { IfOk result (λ incoming_deals.
         incoming_deals.items ≡ incoming_deals_upto orders.now deals.now (length deals.now)) }
@@ -72,8 +72,8 @@ pub fn sort_incoming_deals(
     orders: &OrderList<'_>,
     deals: &[Deal],
 ) -> Result<Vec<IncomingDeal>, NoMemory>
-    requires few_orders { length orders.now < 2 ^ 32 }
-    requires few_deals { length deals.now < 2 ^ 32 }
+    requires orders_fit_places { length orders.now < 2 ^ 32 }
+    requires deals_fit_places { length deals.now < 2 ^ 32 }
     requires named { All (NamesOrders orders.now) deals.now }
     ensures { IfOk result (λ incoming_deals.
         AreIncomingDeals orders.now deals.now incoming_deals.items) }

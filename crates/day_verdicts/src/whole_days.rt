@@ -106,8 +106,8 @@ pub fn judge_records_of_day(
     entries: &[OrderRecord],
     trades: &[TradeRecord],
 ) -> Result<JudgedSymbols, NoMemory>
-    requires few_entries { length entries.now < 2 ^ 32 - 1 }
-    requires few_trades { length trades.now < 2 ^ 32 - 1 }
+    requires entries_fit_places { length entries.now < 2 ^ 32 - 1 }
+    requires trades_fit_places { length trades.now < 2 ^ 32 - 1 }
     ensures { let symbols = symbols_in share (symbols_of_day entries.now trades.now) in
         IfOk result (IsJudgedDay rule table entries.now trades.now symbols) }
 {

@@ -95,8 +95,8 @@ fn judge_records(
     entries: &[OrderRecord],
     trades: &Paired,
 ) -> Result<Verdict, NoMemory>
-    requires few_entries { length entries.now < 2 ^ 32 - 1 }
-    requires few_trades { length (paired_trades (result_of_paired trades.now)) < 2 ^ 32 - 1 }
+    requires entries_fit_places { length entries.now < 2 ^ 32 - 1 }
+    requires trades_fit_places { length (paired_trades (result_of_paired trades.now)) < 2 ^ 32 - 1 }
     ensures judged { IfOk result
         (VerdictFollowsRecords question.now entries.now (result_of_paired trades.now)) }
     ensures in_range { IfOk result IsVerdictInRange }
@@ -124,8 +124,8 @@ pub fn judge(
     entries: &[OrderRecord],
     trades: &Paired,
 ) -> Result<Verdict, NoMemory>
-    requires few_entries { length entries.now < 2 ^ 32 - 1 }
-    requires few_trades { length (paired_trades (result_of_paired trades.now)) < 2 ^ 32 - 1 }
+    requires entries_fit_places { length entries.now < 2 ^ 32 - 1 }
+    requires trades_fit_places { length (paired_trades (result_of_paired trades.now)) < 2 ^ 32 - 1 }
     ensures judged { IfOk result
         (IsRecordVerdict (question rule symbol.now table) entries.now
         (result_of_paired trades.now)) }

@@ -10,7 +10,7 @@ use Rattle.day_logs.proofs.reading.read_share.Goals as goal
 
 pub after_orders-requires-clause-some : goal.after_orders-requires-clause-some
 after_orders-requires-clause-some g c =
-    let place = c.in-Ok.ensures.few in
+    let place = c.in-Ok.ensures.fits_places in
     (place.entries, subst (λ (share : DayShare). HasOrders share c.end.result place.entries) (sym c.requires.share) (c.end.ensures place.entries place.has))
 
 pub returns-in-Ok-clause-logs : goal.returns-in-Ok-clause-logs
