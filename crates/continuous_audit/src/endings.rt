@@ -1,6 +1,6 @@
 //! The orders that a record ends, by the place of this record.
 ghost use Rattle.std.specs.Prelude.{◌≡◌, ◌<◌, ◌^◌, ◌++◌, OnOk, IfOk, length};
-ghost use Rattle.continuous_audit.specs.Endings.{AreEndings, endings_of, endings_upto};
+ghost use Rattle.continuous_audit.specs.Endings.{AreEndings, endings_of, endings_below};
 
 use audit_base::faults::NoMemory;
 use order_list::listed::ListedOrder;
@@ -34,7 +34,8 @@ fn add_ending(
 /// The orders that a record ends, in log order.
 fn collect_endings(alloc: Global, orders: &OrderList<'_>) -> Result<Vec<Ending>, NoMemory>
     requires fits_places { length orders.now < 2 ^ 32 }
-    ensures { IfOk result (λ endings. endings.items ≡ endings_upto orders.now (length orders.now)) }
+    ensures { IfOk result
+        (λ endings. endings.items ≡ endings_below orders.now (length orders.now)) }
 {
     let mut endings = Vec::with_capacity(alloc, orders.len())?;
     for index in 0..orders.len() {
